@@ -1,0 +1,6 @@
+-- The siblings of a machine's cores.
+use Rattle.std.proofs.Common.{◌≡◌, ◌≢◌, ◌<◌, ℕ, arith}
+use Rattle.cal_machine.specs.Machine.{IsMachine, sibling_of}
+
+pub pairs : (cores core : ℕ) → IsMachine cores → core < cores → (sibling_of core < cores) × (sibling_of core ≢ core) × (sibling_of (sibling_of core) ≡ core)
+pairs cores core machine lt = let even = machine.even in grind arith

@@ -1,0 +1,9 @@
+pub mod CoreSet
+pub mod Fields
+pub mod Laws
+pub mod Machine
+pub mod Numbering
+pub mod Outcome
+pub mod Reading
+pub mod Table
+pub mod Tasks

@@ -1,0 +1,33 @@
+//! The machine and its tasks.
+//!
+//! A `Machine` is a number of cores, two and two siblings; a `CoreSet` is a set of cores; a `Config` is the accepted
+//! task table, which says for each task what it may have and numbers the kernel threads of all tasks one after the
+//! other. Two small values that several crates speak of stand here too: `Command`, what the scheduler tells a kernel
+//! thread, and `Request`, a piece of work for one.
+//!
+//! Nothing here decides who gets a core: the rules of a pass are cal_policy's.
+#![tactic(auto)]
+
+mod command;
+mod config;
+mod core_set;
+mod fault;
+mod fields;
+pub mod laws;
+mod machine;
+mod numbering;
+mod request;
+mod table;
+mod task;
+mod task_table;
+
+pub use command::Command;
+pub use config::Config;
+pub use core_set::CoreSet;
+pub use fault::ConfigFault;
+pub use machine::Machine;
+pub use request::Request;
+pub use task::{Kind, Task};
+
+#[cfg(test)]
+mod tests;
