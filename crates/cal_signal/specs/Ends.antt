@@ -1,0 +1,88 @@
+-- What a contract sees of the ends of a page, and what the fields of each end keep.
+use Rattle.std.specs.Prelude.{◌≡◌, ℕ, ◌+◌, ◌*◌, ◌%◌, ◌^◌, ◌<◌, ◌≤◌, true, false, List, [], length, take}
+use Rattle.atomic_table.specs.Seated.{TableId}
+use Rattle.atomic_table.specs.declared.shared.Seat.{Seat}
+use Rattle.cal_signal.specs.declared.view.View.{View}
+use Rattle.cal_signal.specs.declared.record.Record.{Record}
+use Rattle.cal_signal.specs.Records.{words_of, MayFollow}
+use Rattle.cal_signal.specs.Pages.{last_of, floor_of}
+use Rattle.cal_signal.specs.Rule.{sees, parts_of}
+
+-- which page, and the records published, in order, without the zero record at place 0
+pub record PublisherView : Type 0 where
+  pub page : TableId
+  pub published : List Record
+
+-- the same while the next record is being written: that record, and how many of its words are stored
+pub record OpenView : Type 0 where
+  pub page : TableId
+  pub published : List Record
+  pub pending : Record
+  pub stored : ℕ
+
+-- which page, each version loaded, and each successful look: its place and its record
+pub record ObserverView : Type 0 where
+  pub page : TableId
+  pub loads : List ℕ
+  pub looks : List (ℕ × Record)
+
+-- the same in the middle of a look: the first version, and how many words are loaded
+pub record LookView : Type 0 where
+  pub page : TableId
+  pub loads : List ℕ
+  pub looks : List (ℕ × Record)
+  pub first : ℕ
+  pub loaded : ℕ
+
+abbrev pub PageSeat : Type 0
+PageSeat = Seat (Unit {0}) (View Record)
+
+abbrev pub publisher_view : PageSeat → PublisherView
+publisher_view s = record { page = s.table_id; published = s.me.0.published }
+
+abbrev pub observer_view : PageSeat → ObserverView
+observer_view s = record { page = s.table_id; loads = s.me.0.loads; looks = s.me.0.looks }
+
+-- a seat at the page z
+pub record Sits (s : PageSeat) (z : TableId) : Type 0 where
+  pub table : s.table_id ≡ z
+  pub words : z.words ≡ 10
+  pub empty : s.me.1 ≡ []
+
+-- its seat has the publisher's part and no other
+pub record IsPublisher (s : PageSeat) (z : TableId) (place : ℕ) (last : Record) : Type 0 where
+  pub sits : Sits s z
+  pub part : parts_of s.me.0 ≡ (true, false, false)
+  pub version : s.me.0.version ≡ 2 * place
+  pub stored : s.me.0.stored ≡ []
+  pub placed : place ≡ length s.me.0.published
+  pub ends : last ≡ last_of s.me.0.published
+  pub bound : place < 2 ^ 62
+
+-- the same while the next record is being written
+pub record IsOpen (s : PageSeat) (z : TableId) (place : ℕ) (pending : Record) (count : ℕ) : Type 0 where
+  pub sits : Sits s z
+  pub part : parts_of s.me.0 ≡ (true, false, false)
+  pub version : s.me.0.version ≡ 2 * place + 1
+  pub some_left : count ≤ 9
+  pub stored : s.me.0.stored ≡ take count (words_of pending)
+  pub placed : place ≡ length s.me.0.published
+  pub bound : place + 1 < 2 ^ 62
+  pub follows : MayFollow (last_of s.me.0.published) pending
+
+-- its seat has an observer's part
+pub record IsObserver (s : PageSeat) (z : TableId) (floor : ℕ) : Type 0 where
+  pub sits : Sits s z
+  pub part : sees s.me.0 ≡ true
+  pub low : floor ≡ floor_of s.me.0.looks
+
+-- the same in the middle of a look
+pub record IsLooking (s : PageSeat) (z : TableId) (floor first : ℕ) (words : List ℕ) (count : ℕ) : Type 0 where
+  pub sits : Sits s z
+  pub part : sees s.me.0 ≡ true
+  pub low : floor ≡ floor_of s.me.0.looks
+  pub even : first % 2 ≡ 0
+  pub begun : s.me.0.first ≡ first
+  pub wide : length words ≡ 9
+  pub some_left : count ≤ 9
+  pub read : s.me.0.read ≡ take count words

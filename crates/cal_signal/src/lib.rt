@@ -1,0 +1,35 @@
+//! The signals of kernel threads: records, and the pages that carry them from the thread that
+//! publishes to one observer or two.
+//!
+//! A page is a seqlock on `atomic_table`: a version word and nine words. The version is `2i` while
+//! record `i` is the last one, and `2i + 1` while the next one is being written. Publishing and looking
+//! wait for nobody, and no lock stands round either. A look gives a whole record that was published,
+//! with its place, and no record older than the last look gave; or it is busy.
+//!
+//! Not promised: that a look beside a publisher succeeds, or any order between two observers.
+#![tactic(auto)]
+
+mod fault;
+mod look;
+mod observer;
+mod open_look;
+mod page;
+mod publication;
+mod publisher;
+mod record;
+mod rule;
+#[cfg(test)]
+mod tests;
+mod view;
+mod words;
+
+pub use fault::PublishFault;
+pub use look::Look;
+pub use observer::Observer;
+pub use open_look::OpenLook;
+pub use page::{
+    PageEnd, WatchEnd, close_page, close_watched, look_open, open_page, open_watched, read_back,
+};
+pub use publication::OpenPage;
+pub use publisher::Publisher;
+pub use record::{Record, later, shaped};

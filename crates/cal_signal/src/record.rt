@@ -1,0 +1,57 @@
+//! The record that a kernel thread publishes.
+ghost use Rattle.std.specs.Prelude.{◌↔◌, IsTrue};
+ghost use Rattle.cal_signal.specs.Records.{IsLater, IsShaped};
+
+/// What a kernel thread shows of itself, nine words in this order (this project's own).
+///
+/// Times are clock ticks as they were handed in.
+#[derive(Clone, Copy, Debug, PartialEq, Eq)]
+pub struct Record {
+    /// Commands taken so far.
+    pub taken: u64,
+    /// 0 off a core, else the core's number plus one.
+    pub running: u64,
+    /// 0 without a queued request.
+    pub queued: u64,
+    /// When the oldest queued request came. Counts only where `queued` is not 0.
+    pub oldest: u64,
+    /// When the current request was begun or resumed, or 0.
+    pub started: u64,
+    /// Cache misses so far.
+    pub misses: u64,
+    /// When the record was published.
+    pub stamp: u64,
+    /// 0 without a suspended request.
+    pub paused: u64,
+    /// When the suspended request came. Counts only where `paused` is not 0.
+    pub since: u64,
+}
+
+/// The record at place 0 of every page.
+pub(crate) const ZERO: Record = Record {
+    taken: 0,
+    running: 0,
+    queued: 0,
+    oldest: 0,
+    started: 0,
+    misses: 0,
+    stamp: 0,
+    paused: 0,
+    since: 0,
+};
+
+/// Whether `next` may stand after `last`: its `taken`, `misses` and `stamp` are not below those of
+/// `last`. The other words may be any numbers (this project's own).
+pub fn later(last: &Record, next: &Record) -> bool
+    ensures { IsTrue result ↔ IsLater last.now next.now }
+{
+    last.taken <= next.taken && last.misses <= next.misses && last.stamp <= next.stamp
+}
+
+/// Whether the record has the right shape: `running` is at most 128 and `misses` at most 2^56. The
+/// other words may be any numbers (this project's own).
+pub fn shaped(rec: &Record) -> bool
+    ensures { IsTrue result ↔ IsShaped rec.now }
+{
+    rec.running <= 128 && rec.misses <= 1 << 56
+}
