@@ -1,0 +1,32 @@
+-- What a contract sees of the two ends of a ring.
+use Rattle.std.specs.Prelude.{Bool, List}
+use denote.RawPtr.{Ptr}
+use Rattle.rtrb.specs.Shared.{Names}
+use Rattle.rtrb.specs.declared.producer.Producer.{Producer}
+use Rattle.rtrb.specs.declared.consumer.Consumer.{Consumer}
+use Rattle.cal_machine.specs.declared.command.Command.{Command}
+
+-- which ring it is: both ends of a ring name the same one
+pub record RingId : Type 0 where
+  pub words : Ptr
+  pub slots : Ptr
+  pub names : Names
+
+-- the ring that an end of `rtrb` belongs to
+module _ {A P : Type 0} where
+  abbrev pub ring_of_producer : Producer Command A P → RingId
+  ring_of_producer p = record { words = p.end.words; slots = p.end.slots; names = p.end.names }
+
+  abbrev pub ring_of_consumer : Consumer Command A P → RingId
+  ring_of_consumer c = record { words = c.end.words; slots = c.end.slots; names = c.end.names }
+
+-- the sending end: every command sent so far, oldest first, and whether a place is known to be free
+pub record SenderView : Type 0 where
+  pub ring : RingId
+  pub sent : List Command
+  pub room : Bool
+
+-- the taking end: every command taken so far, oldest first
+pub record TakerView : Type 0 where
+  pub ring : RingId
+  pub taken : List Command
