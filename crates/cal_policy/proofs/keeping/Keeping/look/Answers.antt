@@ -1,0 +1,9 @@
+use Rattle.std.proofs.Common.{◌∙◌, sym}
+use Rattle.cal_policy.proofs.History.{kept_push, shown_push}
+use Rattle.cal_policy.proofs.keeping.Keeping.look.Goals as goal
+
+pub returns-clause-agrees : goal.returns-clause-agrees
+returns-clause-agrees c = λ looks s. record {
+  kept = λ k lt. rw (s.kept k lt) at (c.keep.ensures k lt) ∙ sym (kept_push looks c.args.seen.now k);
+  shown = λ k lt. rw (s.shown k lt) at (c.note.ensures k lt) ∙ sym (shown_push looks c.args.seen.now k);
+}

@@ -1,0 +1,41 @@
+-- The passes before are legal, and so orderly; a pass after them is one more.
+use Rattle.std.proofs.Common.{◌≡◌, ℕ, ◌≤◌, List, Some, slice_get, length, take, refl, sym, subst, ◌∙◌, arith}
+use Rattle.std.proofs.lemmas.Bool.{both_ways}
+use Rattle.std.proofs.lemmas.List.{take_all}
+use Rattle.std.proofs.lemmas.Option.{get_or_from_slice_get}
+use Rattle.cal_policy.specs.declared.pass_entry.PassEntry.{PassEntry}
+use Rattle.cal_policy.specs.Pass.{IsPass, IsLegal}
+use Rattle.cal_policy.proofs.Each.{each_more_item}
+use Rattle.cal_policy.proofs.Legality.{legal_upto}
+use Rattle.cal_policy.proofs.verdict.audit.Goals as goal
+
+pub is_pass-requires : goal.is_pass-requires
+is_pass-requires c =
+    let history = c.args.history.now in
+    let here : c.loop-p.p ≤ length history = omega arith in
+    c.legal_is_orderly.ensures c.args.config.now (take c.loop-p.p history) c.limits.ensures (legal_upto c.args.config.now history c.loop-p.p here c.loop-p.invariant)
+
+pub loop-p-preserved : goal.loop-p-preserved
+loop-p-preserved c =
+    let history = c.args.history.now in
+    let P : ℕ → PassEntry → Type 0 = λ q entry. IsPass c.args.config.now (take q history) entry in
+    each_more_item P history c.loop-p.p c.index-history-p.result c.index-history-p.is c.loop-p.invariant (c.is_pass.ensures.0 c.if-not-is_pass.false)
+
+pub returns-then-not-is_pass : goal.returns-then-not-is_pass
+returns-then-not-is_pass c =
+    let history = c.args.history.now in
+    let here : c.loop-p.p ≤ length history = omega arith in record {
+      within = c.loop-p-test.true;
+      before = legal_upto c.args.config.now history c.loop-p.p here c.loop-p.invariant;
+      illegal = λ entry e pass.
+          let same : c.index-history-p.result ≡ entry = c.index-history-p.is ∙ get_or_from_slice_get history c.loop-p.p entry c.index-history-p.result e in
+          let P : PassEntry → Type 0 = λ item. IsPass c.args.config.now (take c.loop-p.p history) item in
+          both_ways c.is_pass.result c.if-not-is_pass.true (c.is_pass.ensures.1 (subst P (sym same) pass));
+    }
+
+pub returns : goal.returns
+returns c =
+    let history = c.args.history.now in
+    let here : c.loop-p.p ≤ length history = omega arith in
+    let L : List PassEntry → Type 0 = λ h. IsLegal c.args.config.now h in
+    subst L (take_all c.loop-p.p history c.loop-p-test.false) (legal_upto c.args.config.now history c.loop-p.p here c.loop-p.invariant)

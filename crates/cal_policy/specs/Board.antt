@@ -1,0 +1,126 @@
+-- When the plain data that a pass keeps is what the actions and looks so far say.
+use Rattle.std.specs.Prelude.{◌≡◌, ℕ, ◌<◌, ◌≤◌, ◌^◌, List, min, Option, Some, None, slice_index, slice_index_or, option_map, [], ◌∷◌, ◌++◌, length}
+use Rattle.std.specs.Option.{IfSome}
+use Rattle.cal_machine.specs.Table.{Table}
+use Rattle.cal_machine.specs.declared.core_set.CoreSet.{CoreSet}
+use Rattle.cal_machine.specs.CoreSet.{has}
+use Rattle.cal_policy.specs.Tasks.{threads_of_table}
+use Rattle.cal_policy.specs.declared.pass_action.Action.{Action}
+use Rattle.cal_policy.specs.declared.pass_action.Action.TheVariants.{Free, Unban, Ban, Revoke, Cap, Grant}
+use Rattle.cal_policy.specs.declared.judged_look.Seen.{Seen}
+use Rattle.cal_policy.specs.declared.pass_input.Input.{Input}
+use Rattle.cal_policy.specs.declared.pass_entry.PassEntry.{PassEntry}
+use Rattle.cal_policy.specs.declared.holding.Placement as placements
+use Rattle.cal_policy.specs.declared.holding.Holder.{Holder}
+use Rattle.cal_policy.specs.declared.holding.Holder.TheVariants as holders
+use Rattle.cal_policy.specs.declared.holding.Holding.{Holding}
+use Rattle.cal_policy.specs.declared.banning.Bans.{Bans}
+use Rattle.cal_policy.specs.declared.capping.Caps.{Caps}
+use Rattle.cal_policy.specs.declared.keeping.Keeping.{Keeping}
+use Rattle.cal_policy.specs.declared.board.Board.{Board}
+use Rattle.cal_policy.specs.History.{actions_of, looks_of, holder_of, last_placement, sent_to, ban_of, last_cap}
+use Rattle.cal_policy.specs.Looks.{kept_by, last_shown, zero_record, nothing_shown}
+use Rattle.cal_policy.specs.Setting.{Setting, so_far, kept_now, kept_before}
+use Rattle.cal_policy.specs.Grants.{is_granted_in}
+
+-- a number of commands as it is kept: no record acknowledges 2^64, so what is above need not be told apart
+abbrev pub kept_number : ℕ → ℕ
+kept_number n = min n (2 ^ 64)
+
+abbrev pub kept_placement : placements.Placement → placements.Placement
+kept_placement placement = record { thread = placement.thread; number = kept_number placement.number }
+
+abbrev pub kept_holder : Holder → Holder
+kept_holder holders.Free = holders.Free
+kept_holder (holders.Held placement) = holders.Held (kept_placement placement)
+kept_holder (holders.Leaving placement cause) = holders.Leaving (kept_placement placement) cause
+
+-- what put a thread on a core that is held or being left
+abbrev pub placement_of : Holder → Option placements.Placement
+placement_of holders.Free = None
+placement_of (holders.Held placement) = Some placement
+placement_of (holders.Leaving placement cause) = Some placement
+
+-- cores, threads and numbers of commands are as the actions x say
+pub record HoldingAgrees (h : Holding) (x : List Action) : Type 0 where
+  pub granted : (c : ℕ) → c < 128 → slice_index_or h.granted c None ≡ option_map kept_placement (last_placement x c)
+  pub holders : (c : ℕ) → c < 128 → slice_index_or h.holders c holders.Free ≡ kept_holder (holder_of x c)
+  pub sent : (k : ℕ) → k < 128 → slice_index h.sent k ≡ kept_number (sent_to x k)
+
+-- threads are below this number, and numbers of commands at most 2^64
+pub record HoldingSound (threads : ℕ) (h : Holding) : Type 0 where
+  pub granted : (c : ℕ) → IfSome (slice_index_or h.granted c None) (λ placement. placement.thread < threads)
+  pub holders : (c : ℕ) → IfSome (placement_of (slice_index_or h.holders c holders.Free)) (λ placement. placement.thread < threads)
+  pub sent : (k : ℕ) → slice_index h.sent k ≤ 2 ^ 64
+
+-- bans are as the actions x say
+pub record BansAgree (b : Bans) (x : List Action) : Type 0 where
+  pub bans : (c : ℕ) → c < 128 → slice_index_or b.bans c None ≡ ban_of x c
+
+-- banned threads are below this number
+pub record BansSound (threads : ℕ) (b : Bans) : Type 0 where
+  pub bans : (c : ℕ) → IfSome (slice_index_or b.bans c None) (λ ban. ban.thread < threads)
+
+-- caps are as the actions x say
+pub record CapsAgree (a : Caps) (x : List Action) : Type 0 where
+  pub caps : (t : ℕ) → t < 16 → slice_index_or a.caps t None ≡ last_cap x t
+
+-- records are as all looks so far say, those of the last pass included
+pub record KeepingAgrees (r : Keeping) (looks : List (List Seen)) : Type 0 where
+  pub kept : (k : ℕ) → k < 128 → slice_index_or r.kept k zero_record ≡ kept_by looks k
+  pub shown : (k : ℕ) → k < 128 → slice_index_or r.shown k nothing_shown ≡ last_shown looks k
+
+-- the records kept before the last of these looks
+pub record KeepsBefore (r : Keeping) (looks : List (List Seen)) : Type 0 where
+  pub before : (k : ℕ) → k < 128 → slice_index_or r.before k zero_record ≡ kept_by looks k
+
+-- cores are below this number, and threads below that one; tasks below 16
+abbrev pub NamesCores : ℕ → ℕ → Action → Type 0
+NamesCores cores threads (Free core) = core < cores
+NamesCores cores threads (Unban core) = core < cores
+NamesCores cores threads (Ban core thread started) = (core < cores) × (thread < threads)
+NamesCores cores threads (Revoke core cause) = core < cores
+NamesCores cores threads (Cap task cap) = task < 16
+NamesCores cores threads (Grant core thread class) = (core < cores) × (thread < threads)
+
+-- the board says of cores, bans and caps what the actions x say
+pub record Agrees (b : Board) (x : List Action) : Type 0 where
+  pub holding : HoldingAgrees b.holding x
+  pub bans : BansAgree b.bans x
+  pub caps : CapsAgree b.caps x
+
+-- threads are below this number
+pub record IsSound (threads : ℕ) (b : Board) : Type 0 where
+  pub holding : HoldingSound threads b.holding
+  pub bans : BansSound threads b.bans
+
+-- the action's cores, threads and tasks are the table's
+abbrev pub NamesTable : Table → Action → Type 0
+NamesTable table action = NamesCores table.cores (threads_of_table table) action
+
+-- the board's threads are the table's
+pub record IsReady (table : Table) (b : Board) : Type 0 where
+  pub sound : IsSound 128 b
+  pub own : IsSound (threads_of_table table) b
+
+-- the set has the cores that were granted in this pass
+pub record IsFresh (granted : CoreSet) (acts : List Action) : Type 0 where
+  pub fresh : (c : ℕ) → c < 128 → has granted c ≡ is_granted_in acts c
+
+-- the board stands in a pass, after the actions acts of it
+pub record Stands (b : Board) (s : Setting) (acts : List Action) : Type 0 where
+  pub agrees : Agrees b (so_far s acts)
+  pub fresh : IsFresh b.fresh acts
+  pub kept : (k : ℕ) → k < 128 → slice_index_or b.keeping.kept k zero_record ≡ kept_now s k
+  pub before : (k : ℕ) → k < 128 → slice_index_or b.keeping.before k zero_record ≡ kept_before s k
+  pub shown : (k : ℕ) → k < 128 → slice_index_or b.keeping.shown k nothing_shown ≡ last_shown (looks_of s.history ++ s.input.seen ∷ []) k
+
+-- the board agrees with the history followed by this entry
+pub record AgreesAfter (b : Board) (history : List PassEntry) (entry : PassEntry) : Type 0 where
+  pub actions : Agrees b (actions_of (history ++ entry ∷ []))
+  pub looks : KeepingAgrees b.keeping (looks_of (history ++ entry ∷ []))
+
+-- one look and one answer on room for each thread
+pub record HasSizes (table : Table) (input : Input) : Type 0 where
+  pub looks : length input.seen ≡ threads_of_table table
+  pub rooms : length input.rooms ≡ threads_of_table table

@@ -1,0 +1,108 @@
+//! Lists of actions: one that a pass was, and one with room for all that a pass can be.
+
+ghost use Rattle.std.specs.Prelude.{◌≡◌, ◌<◌, ◌++◌, ◌∷◌, [], length, IfOk};
+
+use crate::pass_action::Action;
+use std::alloc::{AllocError, Global};
+use std::marker::Model;
+
+/// The most actions that a pass can have: 128 frees, 64 unbans, 64 bans and as many revocations for
+/// them, 2 for bandwidth and 16 grants or preemptions.
+pub const MOST_ACTIONS: usize = 338;
+
+/// The actions of a pass that was made.
+#[derive(Drop)]
+pub struct ActionList {
+    items: Vec<Action>,
+}
+
+impl Model for ActionList {
+    ghost use Rattle.std.specs.Prelude.{List};
+    ghost use Rattle.cal_policy.specs.declared.pass_action.Action.{Action};
+
+    ghost Value = { List Action };
+
+    ghost view = { λ list. list.items.items };
+}
+
+impl ActionList {
+    /// The list of these actions.
+    pub fn new(items: Vec<Action>) -> ActionList
+        ensures { result ≡ items.items }
+    {
+        ActionList { items }
+    }
+
+    /// The actions, in the order in which the pass made them.
+    pub fn as_slice(&self) -> &[Action]
+        ensures { result.now ≡ self.now }
+    {
+        self.items.as_slice()
+    }
+}
+
+/// A list of actions that has room for all that a pass can make, so that a pass takes no memory.
+#[derive(Drop)]
+pub struct Actions {
+    items: Vec<Action>,
+}
+
+impl Model for Actions {
+    ghost use Rattle.std.specs.Prelude.{List, ◌≤◌};
+    ghost use Rattle.std.specs.Vec.{vec_capacity};
+    ghost use Rattle.cal_policy.specs.declared.pass_action.Action.{Action};
+
+    ghost Value = { List Action };
+
+    ghost view = { λ list. list.items.items };
+
+    ghost invariant = { λ list. 338 ≤ vec_capacity list.items };
+}
+
+impl Actions {
+    /// An empty list with room for 338 actions. Its error is want of memory alone.
+    pub fn reserved(alloc: Global) -> Result<Actions, AllocError>
+        ensures { IfOk result (λ actions. actions ≡ []) }
+    {
+        let items = Vec::with_capacity(alloc, MOST_ACTIONS)?;
+        Ok(Actions { items })
+    }
+
+    /// Puts an action at the end, in room that is there.
+    pub fn push(&mut self, action: Action)
+        requires { length self.old < 338 }
+        ensures { self.new ≡ self.old ++ action ∷ [] }
+    {
+        self.items.push_reserved(action);
+    }
+
+    /// Empties the list and keeps its room, for the next pass.
+    pub fn clear(&mut self)
+        ensures { self.new ≡ [] }
+    {
+        self.items.clear();
+    }
+
+    /// The actions, in the order in which they were made.
+    pub fn as_slice(&self) -> &[Action]
+        ensures { result.now ≡ self.now }
+    {
+        self.items.as_slice()
+    }
+
+    /// The list itself. Takes no memory; the room stays with it.
+    pub fn list(self) -> ActionList
+        ensures { result ≡ self }
+    {
+        let Actions { items } = self;
+        ActionList::new(items)
+    }
+
+    /// A list of these actions that takes room for itself alone. Its error is want of memory.
+    pub fn to_list(&self, alloc: Global) -> Result<ActionList, AllocError>
+        ensures { IfOk result (λ list. list ≡ self.now) }
+    {
+        let items = Vec::from_slice(alloc, self.items.as_slice())?;
+        Ok(ActionList::new(items))
+    }
+}

@@ -1,0 +1,87 @@
+//! What the actions and looks so far have made of cores, threads and tasks, as plain data.
+
+ghost use Rattle.std.specs.Prelude.{◌≡◌, ℕ, ◌<◌, ◌≤◌, ◌++◌, ◌∷◌, [], List, length};
+ghost use Rattle.cal_policy.specs.declared.pass_action.Action.{Action};
+ghost use Rattle.cal_policy.specs.declared.judged_look.Seen.{Seen};
+ghost use Rattle.cal_policy.specs.Board.{Agrees, IsSound, IsFresh, KeepingAgrees, KeepsBefore, NamesCores};
+
+use crate::banning::Bans;
+use crate::capping::Caps;
+use crate::holding::Holding;
+use crate::judged_look::Seen;
+use crate::keeping::Keeping;
+use crate::pass_action::Action;
+use cal_machine::CoreSet;
+
+/// The state that the actions and looks so far leave. It has no model: what each part means is said
+/// of it by the actions and looks that it agrees with.
+#[derive(Drop)]
+pub struct Board {
+    pub holding: Holding,
+    pub bans: Bans,
+    pub caps: Caps,
+    pub keeping: Keeping,
+    /// The cores granted in this pass.
+    pub fresh: CoreSet,
+}
+
+/// Notes the core of a grant.
+fn note_grant(fresh: &mut CoreSet, action: Action)
+    requires { NamesCores 128 128 action }
+    ensures { (acts : List Action) → IsFresh fresh.old acts → IsFresh fresh.new (acts ++ action ∷ []) }
+{
+    match action {
+        Action::Grant { core, .. } => fresh.insert(core),
+        Action::Free { .. } => {}
+        Action::Unban { .. } => {}
+        Action::Ban { .. } => {}
+        Action::Revoke { .. } => {}
+        Action::Cap { .. } => {}
+    }
+}
+
+impl Board {
+    /// The state before any action and look.
+    pub fn new() -> Board
+        ensures agrees { Agrees result [] }
+        ensures keeping { KeepingAgrees result.keeping [] }
+        ensures before { KeepsBefore result.keeping [] }
+        ensures sound { (threads : ℕ) → IsSound threads result }
+    {
+        Board {
+            holding: Holding::new(),
+            bans: Bans::new(),
+            caps: Caps::new(),
+            keeping: Keeping::new(),
+            fresh: CoreSet::empty(),
+        }
+    }
+
+    /// Brings the state up to one more action.
+    pub fn apply(&mut self, action: Action)
+        requires sound { IsSound 128 self.old }
+        requires names { NamesCores 128 128 action }
+        ensures agrees { (x : List Action) → Agrees self.old x → Agrees self.new (x ++ action ∷ []) }
+        ensures fresh { (acts : List Action) → IsFresh self.old.fresh acts → IsFresh self.new.fresh (acts ++ action ∷ []) }
+        ensures sound { (threads : ℕ) → IsSound threads self.old → NamesCores 128 threads action → IsSound threads self.new }
+        ensures keeping { self.new.keeping ≡ self.old.keeping }
+    {
+        self.holding.apply(action);
+        self.bans.apply(action);
+        self.caps.apply(action);
+        note_grant(&mut self.fresh, action);
+    }
+
+    /// Begins a pass with its looks: no core was granted in it yet.
+    pub fn begin(&mut self, seen: &[Seen])
+        requires { length seen.now ≤ 128 }
+        ensures agrees { (x : List Action) → Agrees self.old x → Agrees self.new x }
+        ensures fresh { IsFresh self.new.fresh [] }
+        ensures sound { (threads : ℕ) → IsSound threads self.old → IsSound threads self.new }
+        ensures keeping { (looks : List (List Seen)) → KeepingAgrees self.old.keeping looks → KeepingAgrees self.new.keeping (looks ++ seen.now ∷ []) }
+        ensures before { (looks : List (List Seen)) → KeepingAgrees self.old.keeping looks → KeepsBefore self.new.keeping looks }
+    {
+        self.fresh = CoreSet::empty();
+        self.keeping.look(seen);
+    }
+}

@@ -1,0 +1,176 @@
+//! Which core a task is to have.
+
+ghost use Rattle.std.specs.Prelude.{◌≡◌, ◌<◌, ◌≤◌, ◌&&◌, not, List, length, Option, Some, None, if◌then◌else◌};
+ghost use Rattle.std.specs.Option.{IfSome, option_map};
+ghost use Rattle.cal_machine.specs.Table.{IsTable};
+ghost use Rattle.cal_machine.specs.Machine.{sibling_of};
+ghost use Rattle.cal_policy.specs.declared.pass_action.Action.{Action};
+ghost use Rattle.cal_policy.specs.declared.pass_entry.PassEntry.{PassEntry};
+ghost use Rattle.cal_policy.specs.Tasks as tasks;
+ghost use Rattle.cal_policy.specs.Tasks.{threads_of_table};
+ghost use Rattle.cal_policy.specs.Setting.{setting, so_far, has_room};
+ghost use Rattle.cal_policy.specs.History.{holder_of, last_thread, is_banned};
+ghost use Rattle.cal_policy.specs.Grants as grants;
+ghost use Rattle.cal_policy.specs.Grants.{class_by, is_granted_in, none_leaves_for};
+ghost use Rattle.cal_policy.specs.Board.{Agrees, Stands, IsReady, placement_of};
+ghost use Rattle.cal_policy.specs.Survey.{Surveys};
+
+use crate::board::Board;
+use crate::choosing::{Candidate, lesser};
+use crate::counting::holds_for;
+use crate::holding::{Holder, Placement};
+use crate::kinds::is_latency_critical;
+use crate::pass_input::Input;
+use crate::surveying::Survey;
+use cal_machine::Config;
+
+/// The class of a core that is free and not banned: 1 beside a core that the task holds, 2 last
+/// granted to the task, else 3.
+fn idle_class(config: &Config, task: usize, beside: Holder, last: Option<Placement>) -> u128
+    requires beside { IfSome (placement_of beside) (λ placement. placement.thread < threads_of_table config.now) }
+    requires last { IfSome last (λ placement. placement.thread < threads_of_table config.now) }
+    ensures class { result ≡ grants.idle_class config.now task beside (option_map (λ placement. placement.thread) last) }
+    ensures few { result ≤ 3 }
+{
+    if holds_for(config, task, beside) {
+        return 1;
+    }
+    match last {
+        Some(placement) if config.task_of(placement.thread as usize) == task => 2,
+        _ => 3,
+    }
+}
+
+/// The class of a core that nobody has, unless it is banned.
+fn free_class(config: &Config, board: &Board, task: usize, core: u8) -> Option<u128>
+    requires table { IsTable config.now }
+    requires ready { IsReady config.now board.now }
+    requires core { core < config.now.cores }
+    ensures class { (x : List Action) → Agrees board.now x →
+        result ≡ (if is_banned x core then None else Some (grants.idle_class config.now task (holder_of x (sibling_of core)) (last_thread x core))) }
+    ensures few { IfSome result (λ class. class ≤ 5) }
+{
+    match board.bans.bans[core as usize] {
+        Some(_) => None,
+        None => {
+            let sibling = config.machine().sibling(core);
+            let beside = board.holding.holders[sibling as usize];
+            let last = board.holding.granted[core as usize];
+            Some(idle_class(config, task, beside, last))
+        }
+    }
+}
+
+/// The class of a core that another task holds, as far as that task goes: 4 of a best-effort one, 5
+/// of a latency-critical one that is over, where the task has booked less than it is guaranteed.
+fn burst_class(config: &Config, survey: &Survey, task: usize, other: usize) -> Option<u128>
+    requires table { IsTable config.now }
+    requires task { task < length config.now.tasks }
+    requires other { other < length config.now.tasks }
+    ensures class { (x : List Action) → Surveys config.now x config.now.cores survey.now → result ≡ grants.burst_class config.now x task other }
+    ensures few { IfSome result (λ class. class ≤ 5) }
+{
+    if !is_latency_critical(config, other) {
+        return Some(4);
+    }
+    let is_short = survey.booked[task] < config.task(task).guaranteed;
+    let is_over = config.task(other).guaranteed < survey.held[other];
+    if is_short && other != task && is_over {
+        Some(5)
+    } else {
+        None
+    }
+}
+
+/// Whether a core that `thread` holds may be revoked for the task: the task is latency-critical, the
+/// thread's ring has room, the core was not granted in this pass, and no core is being left for the
+/// task.
+fn may_preempt(
+    config: &Config,
+    input: &Input,
+    board: &Board,
+    survey: &Survey,
+    task: usize,
+    core: u8,
+    thread: u8,
+) -> bool
+    requires table { IsTable config.now }
+    requires task { task < length config.now.tasks }
+    requires core { core < config.now.cores }
+    requires room { thread < length input.now.rooms }
+    ensures { (h : List PassEntry) (acts : List Action) → Stands board.now (setting config.now h input.entry.now) acts →
+        Surveys config.now (so_far (setting config.now h input.entry.now) acts) config.now.cores survey.now →
+        result ≡ (tasks.is_latency_critical config.now task && has_room (setting config.now h input.entry.now) thread
+        && not (is_granted_in acts core) && none_leaves_for (setting config.now h input.entry.now) (so_far (setting config.now h input.entry.now) acts) task) }
+{
+    let is_critical = is_latency_critical(config, task);
+    let has_room = input.rooms.as_slice()[thread as usize];
+    let granted = board.fresh.has(core);
+    let awaited = survey.awaited.has(task as u8);
+    is_critical && has_room && !granted && !awaited
+}
+
+/// The class of a core by its holder.
+fn class_by_holder(
+    config: &Config,
+    input: &Input,
+    board: &Board,
+    survey: &Survey,
+    task: usize,
+    core: u8,
+    holder: Holder,
+) -> Option<u128>
+    requires table { IsTable config.now }
+    requires ready { IsReady config.now board.now }
+    requires task { task < length config.now.tasks }
+    requires core { core < config.now.cores }
+    requires rooms { length input.now.rooms ≡ threads_of_table config.now }
+    requires holder { IfSome (placement_of holder) (λ placement. placement.thread < threads_of_table config.now) }
+    ensures class { (h : List PassEntry) (acts : List Action) → Stands board.now (setting config.now h input.entry.now) acts →
+        Surveys config.now (so_far (setting config.now h input.entry.now) acts) config.now.cores survey.now →
+        result ≡ class_by (setting config.now h input.entry.now) acts task core holder }
+    ensures few { IfSome result (λ class. class ≤ 5) }
+{
+    match holder {
+        Holder::Free => free_class(config, board, task, core),
+        Holder::Held(placement) => {
+            if may_preempt(config, input, board, survey, task, core, placement.thread) {
+                burst_class(
+                    config,
+                    survey,
+                    task,
+                    config.task_of(placement.thread as usize),
+                )
+            } else {
+                None
+            }
+        }
+        Holder::Leaving(..) => None,
+    }
+}
+
+/// The core of the least class for the task, of those with that class the lowest.
+pub fn choose_core(
+    config: &Config,
+    input: &Input,
+    board: &Board,
+    survey: &Survey,
+    task: usize,
+) -> Option<Candidate>
+    requires table { IsTable config.now }
+    requires ready { IsReady config.now board.now }
+    requires task { task < length config.now.tasks }
+    requires rooms { length input.now.rooms ≡ threads_of_table config.now }
+    ensures choice { (h : List PassEntry) (acts : List Action) → Stands board.now (setting config.now h input.entry.now) acts →
+        Surveys config.now (so_far (setting config.now h input.entry.now) acts) config.now.cores survey.now →
+        result ≡ grants.choice_of (setting config.now h input.entry.now) acts task }
+    ensures below { IfSome result (λ best. (best.number < config.now.cores) × (best.rank < 256)) }
+{
+    let mut best: Option<Candidate> = None;
+    for core in 0..config.machine().cores() {
+        let holder = board.holding.holders[core as usize];
+        let class = class_by_holder(config, input, board, survey, task, core, holder);
+        best = lesser(best, class, core);
+    }
+    best
+}

@@ -1,0 +1,128 @@
+//! Who has each core, and how many commands each thread was sent.
+
+ghost use Rattle.std.specs.Prelude.{◌≡◌, ℕ, ◌+◌, ◌<◌, ◌≤◌, ◌^◌, ◌++◌, ◌∷◌, [], List, min, replicate};
+ghost use Rattle.cal_policy.specs.declared.pass_action.Action.{Action};
+ghost use Rattle.cal_policy.specs.declared.pass_action.Action.TheVariants.{Revoke, Grant};
+ghost use Rattle.cal_policy.specs.Board.{HoldingAgrees, HoldingSound, NamesCores};
+
+use crate::pass_action::{Action, Cause};
+
+/// What put a thread on a core: the thread, and the number of the Run that was sent to it.
+///
+/// A number in the code is the least of the command's number and 2^64: no record acknowledges more.
+#[derive(Clone, Copy, Debug, PartialEq, Eq)]
+pub struct Placement {
+    pub thread: u8,
+    pub number: u128,
+}
+
+/// Who has a core.
+#[derive(Clone, Copy, Debug, PartialEq, Eq)]
+pub enum Holder {
+    /// Nobody.
+    Free,
+    /// A thread that was granted it.
+    Held(Placement),
+    /// A thread that was granted it and was then sent Park, for this cause.
+    Leaving(Placement, Cause),
+}
+
+/// What the actions so far have made of the cores.
+#[derive(Drop)]
+pub struct Holding {
+    /// The last grant of each core.
+    pub granted: [Option<Placement>; 128],
+    /// Who has each core.
+    pub holders: [Holder; 128],
+    /// How many commands each thread was sent, at most 2^64.
+    pub sent: [u128; 128],
+}
+
+fn none_granted() -> [Option<Placement>; 128]
+    ensures { result ≡ replicate 128 None }
+{
+    [None; 128]
+}
+
+fn all_free() -> [Holder; 128]
+    ensures { result ≡ replicate 128 Holder.Free }
+{
+    [Holder::Free; 128]
+}
+
+/// One command more, as numbers are kept.
+fn one_more(number: u128) -> u128
+    requires { number ≤ 2 ^ 64 }
+    ensures { result ≡ min (number + 1) (2 ^ 64) }
+{
+    if number < 1 << 64 { number + 1 } else { number }
+}
+
+impl Holding {
+    /// The state before any action.
+    pub fn new() -> Holding
+        ensures agrees { HoldingAgrees result [] }
+        ensures sound { (threads : ℕ) → HoldingSound threads result }
+    {
+        Holding {
+            granted: none_granted(),
+            holders: all_free(),
+            sent: [0; 128],
+        }
+    }
+
+    /// Brings the state up to one more action.
+    pub fn apply(&mut self, action: Action)
+        requires sound { HoldingSound 128 self.old }
+        requires names { NamesCores 128 128 action }
+        ensures agrees { (x : List Action) → HoldingAgrees self.old x → HoldingAgrees self.new (x ++ action ∷ []) }
+        ensures sound { (threads : ℕ) → HoldingSound threads self.old → NamesCores 128 threads action → HoldingSound threads self.new }
+    {
+        match action {
+            Action::Free { core } => self.holders[core as usize] = Holder::Free,
+            Action::Revoke { core, cause } => self.revoke(core, cause),
+            Action::Grant {
+                core,
+                thread,
+                class,
+            } => self.grant(core, thread, class),
+            Action::Unban { .. } => {}
+            Action::Ban { .. } => {}
+            Action::Cap { .. } => {}
+        }
+    }
+
+    /// A core is revoked: the thread of its last grant is sent Park and is leaving.
+    fn revoke(&mut self, core: u8, cause: Cause)
+        requires sound { HoldingSound 128 self.old }
+        requires core { core < 128 }
+        ensures agrees { (x : List Action) → HoldingAgrees self.old x → HoldingAgrees self.new (x ++ Revoke core cause ∷ []) }
+        ensures sound { (threads : ℕ) → HoldingSound threads self.old → HoldingSound threads self.new }
+    {
+        match self.granted[core as usize] {
+            None => self.holders[core as usize] = Holder::Free,
+            Some(placement) => {
+                let thread = placement.thread;
+                let number = one_more(self.sent[thread as usize]);
+                self.sent[thread as usize] = number;
+                self.holders[core as usize] = Holder::Leaving(placement, cause);
+            }
+        }
+    }
+
+    /// A core is granted: the thread is sent Run and holds it.
+    fn grant(&mut self, core: u8, thread: u8, class: u8)
+        requires sound { HoldingSound 128 self.old }
+        requires core { core < 128 }
+        requires thread { thread < 128 }
+        ensures agrees { (x : List Action) → HoldingAgrees self.old x → HoldingAgrees self.new (x ++ Grant core thread class ∷ []) }
+        ensures sound { (threads : ℕ) → HoldingSound threads self.old → thread < threads → HoldingSound threads self.new }
+    {
+        let _ = class;
+        let number = one_more(self.sent[thread as usize]);
+        let placement = Placement { thread, number };
+        self.sent[thread as usize] = number;
+        self.granted[core as usize] = Some(placement);
+        self.holders[core as usize] = Holder::Held(placement);
+    }
+}

@@ -1,0 +1,112 @@
+//! What the looks so far have shown.
+
+ghost use Rattle.std.specs.Prelude.{◌≡◌, ℕ, ◌<◌, ◌≤◌, ◌++◌, ◌∷◌, [], List, length, replicate, slice_index_or};
+ghost use Rattle.std.specs.Option.{unwrap_or};
+ghost use Rattle.cal_policy.specs.declared.judged_look.Seen.{Seen};
+ghost use Rattle.cal_policy.specs.Looks.{zero_record, nothing_shown, to_keep_at, shown_at};
+ghost use Rattle.cal_policy.specs.Board.{KeepingAgrees, KeepsBefore};
+
+use crate::judged_look::Seen;
+use cal_signal::Record;
+
+/// A record and its place, as a look showed it.
+#[derive(Clone, Copy, Debug, PartialEq, Eq)]
+pub struct Shown {
+    pub number: u64,
+    pub rec: Record,
+}
+
+/// The records of each thread that the looks so far have given.
+#[derive(Drop)]
+pub struct Keeping {
+    /// That of its last whole look.
+    pub kept: [Record; 128],
+    /// The one that was kept before the last pass's look.
+    pub before: [Record; 128],
+    /// That of its last look with a record, whatever was judged of it.
+    pub shown: [Shown; 128],
+}
+
+/// A record whose words are all 0.
+fn zero_words() -> Record
+    ensures { result ≡ zero_record }
+{
+    Record {
+        taken: 0,
+        running: 0,
+        queued: 0,
+        oldest: 0,
+        started: 0,
+        misses: 0,
+        stamp: 0,
+        paused: 0,
+        since: 0,
+    }
+}
+
+fn zero_records() -> [Record; 128]
+    ensures { result ≡ replicate 128 zero_record }
+{
+    let rec = zero_words();
+    [rec; 128]
+}
+
+fn none_shown() -> [Shown; 128]
+    ensures { result ≡ replicate 128 nothing_shown }
+{
+    let rec = zero_words();
+    let shown = Shown { number: 0, rec };
+    [shown; 128]
+}
+
+/// Keeps the record of each whole look.
+fn keep(kept: &mut [Record; 128], seen: &[Seen])
+    requires { length seen.now ≤ 128 }
+    ensures { (k : ℕ) → k < 128 → slice_index_or kept.new k zero_record ≡ unwrap_or (to_keep_at seen.now k) (slice_index_or kept.old k zero_record) }
+{
+    for (k, look) in seen.iter().enumerate() {
+        if let Seen::Whole { rec, .. } = look {
+            kept[k] = *rec;
+        }
+    }
+}
+
+/// Notes what each look with a record showed.
+fn note(shown: &mut [Shown; 128], seen: &[Seen])
+    requires { length seen.now ≤ 128 }
+    ensures { (k : ℕ) → k < 128 → slice_index_or shown.new k nothing_shown ≡ unwrap_or (shown_at seen.now k) (slice_index_or shown.old k nothing_shown) }
+{
+    for (k, look) in seen.iter().enumerate() {
+        match *look {
+            Seen::Whole { number, rec }
+            | Seen::Ahead { number, rec }
+            | Seen::Foreign { number, rec } => shown[k] = Shown { number, rec },
+            Seen::Busy { .. } => {}
+        }
+    }
+}
+
+impl Keeping {
+    /// The zero record for each thread, before any look.
+    pub fn new() -> Keeping
+        ensures agrees { KeepingAgrees result [] }
+        ensures before { KeepsBefore result [] }
+    {
+        Keeping {
+            kept: zero_records(),
+            before: zero_records(),
+            shown: none_shown(),
+        }
+    }
+
+    /// Takes the looks of one more pass.
+    pub fn look(&mut self, seen: &[Seen])
+        requires { length seen.now ≤ 128 }
+        ensures agrees { (looks : List (List Seen)) → KeepingAgrees self.old looks → KeepingAgrees self.new (looks ++ seen.now ∷ []) }
+        ensures before { (looks : List (List Seen)) → KeepingAgrees self.old looks → KeepsBefore self.new looks }
+    {
+        self.before = self.kept;
+        keep(&mut self.kept, seen);
+        note(&mut self.shown, seen);
+    }
+}

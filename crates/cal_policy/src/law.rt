@@ -1,0 +1,32 @@
+//! Laws over the definitions alone, each the contract of a function that does nothing.
+
+ghost use Rattle.cal_policy.specs.Laws.{LegalIsOrderly, LegalIsSteady, LegalIsSound, ChosenHasWaitedLongest, ChosenIsOfLeastClass};
+
+/// A legal history is orderly: so what asks for an orderly history may be called on every legal one.
+pub fn legal_is_orderly()
+    ensures { LegalIsOrderly }
+{}
+
+/// The thread that is chosen for a task has waited longest, of those that may be granted a core; of
+/// those that have waited as long it is the first. None is chosen only where none may be granted one.
+pub fn chosen_has_waited_longest()
+    ensures { ChosenHasWaitedLongest }
+{}
+
+/// The core that is chosen for a task has the least class that any core has for it; of those it is
+/// the lowest. None is chosen only where no core has a class.
+pub fn chosen_is_of_least_class()
+    ensures { ChosenIsOfLeastClass }
+{}
+
+/// After each number of its passes a legal history is steady: each core is with a thread of the table
+/// by its last grant, and no task books more cores than its limit.
+pub fn legal_is_steady()
+    ensures { LegalIsSteady }
+{}
+
+/// Each action of each pass of a legal history is one that a pass makes at its place, and fits the
+/// state there.
+pub fn legal_is_sound()
+    ensures { LegalIsSound }
+{}

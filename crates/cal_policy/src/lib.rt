@@ -1,0 +1,49 @@
+//! The one-thread policy: what a pass of the scheduler does, decided from the whole history so far,
+//! and the audit of a history against it.
+#![tactic(auto)]
+
+mod action_list;
+mod banning;
+mod board;
+mod book;
+mod capping;
+mod choosing;
+mod choosing_core;
+mod choosing_thread;
+mod counting;
+mod deciding;
+mod delays;
+mod holding;
+mod judged_look;
+mod judging;
+mod keeping;
+mod kinds;
+mod law;
+mod order;
+mod parts;
+mod pass_action;
+mod pass_entry;
+mod pass_input;
+mod plain;
+mod replay;
+mod surveying;
+mod verdict;
+
+pub use action_list::{ActionList, Actions, MOST_ACTIONS};
+pub use book::Book;
+pub use cal_signal::{Look, Record, later, shaped};
+pub use judged_look::{Seen, SeenList};
+pub use judging::{is_input, judge};
+pub use law::{
+    chosen_has_waited_longest, chosen_is_of_least_class, legal_is_orderly, legal_is_sound,
+    legal_is_steady,
+};
+pub use order::orderly;
+pub use pass_action::{Action, Cause};
+pub use pass_entry::PassEntry;
+pub use pass_input::{Input, Rooms};
+pub use plain::plain_pass;
+pub use verdict::{Verdict, audit};
+
+#[cfg(test)]
+mod tests;
