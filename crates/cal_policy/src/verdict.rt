@@ -80,6 +80,7 @@ mod tests {
     use crate::order::orderly;
     use crate::pass_input::{Input, Rooms};
     use cal_signal::{Look, Record};
+    use std::process::Abort;
     use std::test::Fail;
 
     // Two cores and one latency-critical task of one thread, congested at a delay above 10.
@@ -170,59 +171,34 @@ mod tests {
         Ok(())
     }
 
+    /// What a whole look at thread 0 comes to before any pass.
+    fn judged_first<R: Abort + AllocGlobal>(rt: &R, config: &Config, rec: Record) -> Seen {
+        let none: [PassEntry; 0] = [];
+        assert!(rt; config.threads() > 0);
+        judge(config, &none, 0, Look::Whole { number: 1, rec })
+    }
+
     #[test]
     fn ahead_and_foreign(rt: HostRuntime) -> Result<(), Fail> {
         let alloc = rt.alloc();
         let config = Config::read(alloc, TABLE)?;
-        let none: [PassEntry; 0] = [];
         let rec = waiting();
         let ahead = Record { taken: 1, ..rec };
         let foreign = Record { running: 1, ..rec };
+        let number = 1;
+        assert_eq!(rt; judged_first(&rt, &config, rec), look(1, rec));
         assert_eq!(rt;
-            judge(&config, &none, 0, Look::Whole { number: 1, rec }),
-            look(1, rec)
+            judged_first(&rt, &config, ahead),
+            Seen::Ahead { number, rec: ahead }
         );
         assert_eq!(rt;
-            judge(
-                &config,
-                &none,
-                0,
-                Look::Whole {
-                    number: 1,
-                    rec: ahead
-                }
-            ),
-            Seen::Ahead {
-                number: 1,
-                rec: ahead
-            }
-        );
-        assert_eq!(rt;
-            judge(
-                &config,
-                &none,
-                0,
-                Look::Whole {
-                    number: 1,
-                    rec: foreign
-                }
-            ),
+            judged_first(&rt, &config, foreign),
             Seen::Foreign {
-                number: 1,
+                number,
                 rec: foreign
             }
         );
-        let busy = Look::Busy {
-            first: 1,
-            second: 1,
-        };
-        assert_eq!(rt;
-            judge(&config, &none, 0, busy),
-            Seen::Busy {
-                first: 1,
-                second: 1
-            }
-        );
+        let none: [PassEntry; 0] = [];
         assert!(rt; is_input(&config, &none, &input(alloc, 111, look(1, rec))?));
         assert!(rt; !is_input(&config, &none, &input(alloc, 111, look(1, ahead))?));
         Ok(())

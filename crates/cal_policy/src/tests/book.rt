@@ -1,9 +1,15 @@
 //! The Book beside the plain pass, over a long history that it makes itself.
 
+ghost use Rattle.std.specs.Prelude.{◌<◌};
+ghost use Rattle.cal_policy.specs.Book.{IsBookOf};
+
 use super::*;
 
 /// A thread's next record: what the thread shows in pass `p`, by whether it was told to run.
-fn next_words(p: u64, k: u64, taken: u64, core: Option<u8>) -> [u64; 9] {
+fn next_words(p: u64, k: u64, taken: u64, core: Option<u8>) -> [u64; 9]
+    requires pass { p < 1000 }
+    requires thread { k < 8 }
+{
     let running = match core {
         Some(core) if (p + k) % 5 != 0 => u64::from(core) + 1,
         _ => 0,
@@ -52,54 +58,88 @@ fn follow(
     }
 }
 
+/// The looks of pass `p`, each as the book judges it.
+fn next_input(
+    alloc: Global,
+    config: &Config,
+    book: &Book,
+    p: u64,
+    taken: &[u64; 128],
+    cores: &[Option<u8>; 128],
+) -> Result<Input, Fail>
+    requires { p < 1000 }
+{
+    let mut seen = Vec::new(alloc);
+    let mut rooms = Vec::new(alloc);
+    for k in 0..config.threads() {
+        if k < 8 {
+            let words = next_words(p, k as u64, taken[k], cores[k]);
+            let look = Look::Whole {
+                number: p,
+                rec: rec(words),
+            };
+            seen.push(book.judge(config, k, look))?;
+            rooms.push((p + k as u64) % 7 != 0)?;
+        }
+    }
+    Ok(Input {
+        now: 10 * p + 5,
+        bandwidth: 400 * (p % 4),
+        seen: SeenList::new(seen),
+        rooms: Rooms::new(rooms),
+    })
+}
+
+/// The next pass, by the plain pass and by the book, which agree.
+fn both<R: Abort + AllocGlobal>(
+    rt: &R,
+    config: &Config,
+    history: &[PassEntry],
+    book: &mut Book,
+    looks: &Input,
+) -> Result<ActionList, Fail>
+    requires { IsBookOf config.now book.old }
+    ensures { IsBookOf config.now book.new }
+{
+    let mut plain = Actions::reserved(rt.alloc())?;
+    let mut made = Actions::reserved(rt.alloc())?;
+    assert!(rt; book.fits(config, looks));
+    assert!(rt; orderly(config, history));
+    assert!(rt; is_input(config, history, looks));
+    plain_pass(config, history, looks, &mut plain);
+    book.step(config, looks, &mut made);
+    assert_eq!(rt; made.as_slice(), plain.as_slice());
+    Ok(made.to_list(rt.alloc())?)
+}
+
+/// So many passes, each by both; how many actions they made.
+fn run_both<R: Abort + AllocGlobal>(rt: &R, config: &Config, passes: u64) -> Result<u64, Fail>
+    requires { passes < 1000 }
+{
+    let alloc = rt.alloc();
+    let mut book = Book::open(alloc, config)?;
+    let mut history: Vec<PassEntry> = Vec::new(alloc);
+    let (mut taken, mut cores, mut holders) = ([0u64; 128], [None; 128], [0u8; 128]);
+    let mut made = 0u64;
+    for p in 1..passes {
+        let input = next_input(alloc, config, &book, p, &taken, &cores)?;
+        let actions = both(rt, config, history.as_slice(), &mut book, &input)?;
+        follow(actions.as_slice(), &mut taken, &mut cores, &mut holders);
+        made = made.wrapping_add(actions.as_slice().len() as u64);
+        history.push(PassEntry { input, actions })?;
+    }
+    Ok(made)
+}
+
 #[test]
 fn decides_as_the_plain_pass(rt: HostRuntime) -> Result<(), Fail> {
-    let alloc = rt.alloc();
-    let config = table(
-        alloc,
-        4,
-        &[
-            ("lc", 1, 3, 10, 20),
-            ("be", 0, 3, 0, 0),
-            ("lc", 0, 2, 5, 30),
-        ],
-    )?;
-    let mut book = Book::open(alloc, &config)?;
-    let mut history: Vec<PassEntry> = Vec::new(alloc);
-    let mut made = Actions::reserved(alloc)?;
-    let (mut taken, mut cores, mut holders) = ([0u64; 128], [None; 128], [0u8; 128]);
-    let mut actions_seen = 0usize;
-    for p in 1..120u64 {
-        let mut words = Vec::new(alloc);
-        for k in 0..8u64 {
-            words.push(next_words(p, k, taken[k as usize], cores[k as usize]))?;
-        }
-        let mut looks = input(alloc, 10 * p + 5, 400 * (p % 4), p, words.as_slice())?;
-        let mut seen = Vec::new(alloc);
-        for (k, look) in looks.seen.as_slice().iter().enumerate() {
-            if let Seen::Whole { number, rec } = *look {
-                assert!(&rt; k < config.threads());
-                seen.push(book.judge(&config, k, Look::Whole { number, rec }))?;
-            }
-        }
-        looks.seen = SeenList::new(seen);
-        assert!(&rt; book.fits(&config, &looks), "pass {p}");
-        assert!(&rt; orderly(&config, history.as_slice()));
-        assert!(&rt; is_input(&config, history.as_slice(), &looks));
-        made.clear();
-        plain_pass(&config, history.as_slice(), &looks, &mut made);
-        let plain = made.to_list(alloc)?;
-        made.clear();
-        book.step(&config, &looks, &mut made);
-        assert_eq!(&rt; made.as_slice(), plain.as_slice(), "pass {p}");
-        actions_seen += plain.as_slice().len();
-        follow(plain.as_slice(), &mut taken, &mut cores, &mut holders);
-        history.push(PassEntry {
-            input: looks,
-            actions: plain,
-        })?;
-    }
-    assert!(&rt; actions_seen > 100);
+    let tasks = [
+        ("lc", 1, 3, 10, 20),
+        ("be", 0, 3, 0, 0),
+        ("lc", 0, 2, 5, 30),
+    ];
+    let config = table(rt.alloc(), 4, &tasks)?;
+    assert!(&rt; run_both(&rt, &config, 120)? > 100);
     Ok(())
 }
 
