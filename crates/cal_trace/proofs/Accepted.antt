@@ -1,0 +1,264 @@
+-- The signals of an accepted file fit: the checks of its rows say so.
+use Rattle.std.proofs.Common.{◌≡◌, ◌≢◌, ◌<◌, ◌≤◌, ◌+◌, ◌==◌, ◌&&◌, nat_lt, ℕ, Bool, true, false, not, List, [], ◌∷◌, ◌++◌, length, take, Option, Some, None, option_to_list, Result, Ok, Err, slice_get, if◌then◌else◌, ◌⊎◌, inl, inr, subst, refl, sym, ap, ◌∙◌, arith, rules, length-append, codes}
+use Rattle.std.proofs.lemmas.List.{append-nil, take-append-le, take_all}
+use Rattle.std.proofs.lemmas.Option.{slice_get_past, slice_get_within, slice_get_read, slice_get-get_or}
+use Rattle.std.proofs.Math.ListN.{get_or-append}
+use Rattle.std.proofs.Math.Seq.{get_or-append_seam}
+use Rattle.std.specs.Option.{unwrap_or}
+use Rattle.std.specs.Result.{result_unwrap_or}
+use Rattle.cal_signal.specs.declared.look.Look.TheVariants as look
+use Rattle.cal_trace.specs.Header.{header_of}
+use Rattle.cal_trace.specs.LookRows.{check, pass_row, whole_row, busy_row, end_row}
+use Rattle.cal_trace.specs.Fields.{has_numbers, number_at}
+use Rattle.cal_trace.specs.Rows.{Fields}
+use Rattle.cal_trace.specs.Shown.{record_of, nothing_shown, is_shaped, is_busy_pair, may_follow}
+use Rattle.cal_trace.specs.Signals.{SoFar, at_start, passes_of, is_full, is_between, next_thread, shown_in, last_answer, last_shown, with_look, one_more, add_look, add_pass, add_end, look_row, following, as_look, look_of_whole, look_of_busy, take_look, take_form, form_of, ending, and_then, signals_from, signals_under, signals_of}
+use Rattle.cal_trace.specs.declared.fault.FaultKind.{FaultKind}
+use Rattle.cal_trace.specs.declared.fault.FaultKind.TheVariants as kinds
+use Rattle.cal_trace.specs.declared.fault.TraceFault.{TraceFault}
+use Rattle.cal_trace.specs.declared.look_rows.WholeRow.{WholeRow}
+use Rattle.cal_trace.specs.declared.look_rows.BusyRow.{BusyRow}
+use Rattle.cal_trace.specs.declared.look_rows.PassRow.{PassRow}
+use Rattle.cal_trace.specs.declared.shown.Shown.{Shown}
+use Rattle.cal_trace.specs.declared.signals.SignalLook.{SignalLook}
+use Rattle.cal_trace.specs.declared.signals.SignalPass.{SignalPass}
+use Rattle.cal_trace.specs.declared.signal_reading.Form.{Form}
+use Rattle.cal_trace.specs.declared.signal_reading.Form.TheVariants as form
+use Rattle.cal_trace.specs.declared.version.Version.{Version}
+use Rattle.cal_trace.specs.Fitting.{IsFitting, AreFitting, IsFittingPass, AreFittingPasses}
+
+-- a check that was passed
+check_passed : {X : Type 0} (b : Bool) (k : FaultKind) (more : Result X FaultKind) (x : X) → check b k more ≡ Ok x → (b ≡ true) × (more ≡ Ok x)
+check_passed true k more x e = (refl, e)
+check_passed false k more x e = absurd (cc)
+
+both_true : (a b : Bool) → (a && b) ≡ true → (a ≡ true) × (b ≡ true)
+both_true true true e = (refl, refl)
+both_true true false e = (refl, e)
+both_true false b e = absurd (cc)
+
+ok_same : {X E : Type 0} (a b : X) → ◌≡◌ {A = Result X E} (Ok a) (Ok b) → a ≡ b
+ok_same a b e = ap (λ r. result_unwrap_or r a) e
+
+some_same : {X : Type 0} (a b : X) → Some a ≡ Some b → a ≡ b
+some_same a b e = ap (λ o. unwrap_or o a) e
+
+-- one place more at the end of a list
+slice_get-last : {X : Type 0} (xs : List X) (x : X) → slice_get (xs ++ x ∷ []) (length xs) ≡ Some x
+slice_get-last xs x =
+    slice_get_read (xs ++ x ∷ []) (length (xs ++ x ∷ [])) (length xs) x refl (omega (arith, length-append xs (x ∷ []))) (sym (get_or-append_seam xs x [] x))
+
+slice_get-before : {X : Type 0} (xs : List X) (x : X) (k : ℕ) → k < length xs → slice_get (xs ++ x ∷ []) k ≡ slice_get xs k
+slice_get-before xs x k lt =
+    slice_get-get_or (xs ++ x ∷ []) k x (omega (arith, length-append xs (x ∷ []))) ∙ ap Some (get_or-append xs (x ∷ []) x k lt) ∙ sym (slice_get-get_or xs k x lt)
+
+-- a place of a list with one more at its end is one of the list, or the last
+last_or_before : {X : Type 0} (xs : List X) (x y : X) (k : ℕ) → slice_get (xs ++ x ∷ []) k ≡ Some y
+    → ((k < length xs) × (slice_get xs k ≡ Some y)) ⊎ ((k ≡ length xs) × (x ≡ y))
+last_or_before xs x y k e = go (nat_lt k (length xs)) refl
+  where
+    go : (b : Bool) → nat_lt k (length xs) ≡ b → ((k < length xs) × (slice_get xs k ≡ Some y)) ⊎ ((k ≡ length xs) × (x ≡ y))
+    go true h = let lt : k < length xs = grind arith in inl (lt, sym (slice_get-before xs x k lt) ∙ e)
+    go false h =
+        let ge : length xs ≤ k = grind arith in
+        let within : k < length (xs ++ x ∷ []) = slice_get_within (xs ++ x ∷ []) k y e in
+        let here : k ≡ length xs = omega (arith, length-append xs (x ∷ [])) in
+        inr (here, some_same x y (sym (slice_get-last xs x) ∙ rw here at e))
+
+-- one look more
+AreFitting-append : (before : List SignalPass) (looks : List SignalLook) (seen : SignalLook) → AreFitting before looks
+    → IsFitting (last_shown (length looks) before) seen.look → AreFitting before (looks ++ seen ∷ [])
+AreFitting-append before looks seen fit next k other e = elim (last_or_before looks seen other k e) [
+  | inl h ↦ fit k other h.1
+  | inr h ↦ rw (h.0, ← h.1) next
+]
+
+-- one pass more
+AreFittingPasses-append : (threads : ℕ) (passes : List SignalPass) (pass : SignalPass) → AreFittingPasses threads passes
+    → IsFittingPass threads passes pass → AreFittingPasses threads (passes ++ pass ∷ [])
+AreFittingPasses-append threads passes pass fit next = record {
+  each = λ p other e. elim (last_or_before passes pass other p e) [
+    | inl h ↦ let lt : p ≤ length passes = omega (arith, h.0) in rw (take-append-le p passes (pass ∷ [])) (fit.each p other h.1)
+    | inr h ↦ let le : length passes ≤ length passes = omega arith in rw (h.0, ← h.1, take-append-le (length passes) passes (pass ∷ []), take_all (length passes) passes le) next
+  ];
+}
+
+AreFittingPasses-none : (threads : ℕ) → AreFittingPasses threads []
+AreFittingPasses-none threads = record { each = λ p pass e. absurd (cc) }
+
+-- a pass without a look at thread k changes nothing of what it showed last
+last_answer-silent : {X Y : Type 0} (f : X → Option Y) (xs : List X) (x : X) → f x ≡ None → last_answer f (xs ++ x ∷ []) ≡ last_answer f xs
+last_answer-silent f [] x e = rw e refl
+last_answer-silent f (y ∷ ys) x e = rw (last_answer-silent f ys x e) refl
+
+last_shown-silent : (k : ℕ) (passes : List SignalPass) (pass : SignalPass) → length pass.looks ≤ k → last_shown k (passes ++ pass ∷ []) ≡ last_shown k passes
+last_shown-silent k passes pass le =
+    let none : slice_get pass.looks k ≡ None = slice_get_past pass.looks k le in
+    let silent : shown_in k pass ≡ None = rw none refl in
+    ap (λ o. unwrap_or o nothing_shown) (last_answer-silent (shown_in k) passes pass silent)
+
+-- the looks at hand fit
+abbrev IsHand : ℕ → List SignalPass → Option SignalPass → Type 0
+IsHand threads before None = Unit {0}
+IsHand threads before (Some pass) = (length pass.looks ≤ threads) × AreFitting before pass.looks
+
+-- what was read so far fits
+record IsFittingSoFar (threads : ℕ) (so_far : SoFar) : Type 0 where
+  before : AreFittingPasses threads so_far.before
+  at_hand : IsHand threads so_far.before so_far.at_hand
+
+-- with all its looks the pass at hand is one more
+all_fit : (threads : ℕ) (before : List SignalPass) (at_hand : Option SignalPass) → AreFittingPasses threads before → IsHand threads before at_hand
+    → is_full threads at_hand ≡ true → AreFittingPasses threads (before ++ option_to_list at_hand)
+all_fit threads before None fit hand full = rw (append-nil before) fit
+all_fit threads before (Some pass) fit hand full =
+    let whole : length pass.looks ≡ threads = grind arith in
+    AreFittingPasses-append threads before pass fit (record { looks = whole; fit = hand.1 })
+
+-- a new pass
+fits_with_pass : (threads : ℕ) (so_far next : SoFar) (row : Result PassRow FaultKind) → AreFittingPasses threads (passes_of so_far)
+    → add_pass so_far row ≡ Ok next → IsFittingSoFar threads next
+fits_with_pass threads so_far next (Err k) fit e = absurd (cc)
+fits_with_pass threads so_far next (Ok row) fit e =
+    let opened : SoFar = record { before = passes_of so_far; at_hand = Some (record { now = row.now; bandwidth = row.bandwidth; looks = [] }); ended = false } in
+    subst (IsFittingSoFar threads) (ok_same opened next e) (record { before = fit; at_hand = (omega arith, λ k seen none. absurd (cc)) })
+
+-- the end
+fits_with_end : (threads : ℕ) (so_far next : SoFar) (count : Result ℕ FaultKind) → AreFittingPasses threads (passes_of so_far)
+    → add_end so_far count ≡ Ok next → IsFittingSoFar threads next
+fits_with_end threads so_far next (Err k) fit e = absurd (cc)
+fits_with_end threads so_far next (Ok n) fit e =
+    let closed : SoFar = record { before = passes_of so_far; at_hand = None; ended = true } in
+    subst (IsFittingSoFar threads) (ok_same closed next e) (record { before = fit; at_hand = tt })
+
+-- the look of an accepted row is shaped, or has a busy pair
+shaped_row : (thread : ℕ) (fields : Fields) (row : WholeRow) → whole_row thread fields ≡ Ok row → is_shaped row.shown.rec ≡ true
+shaped_row thread fields row e =
+    let found : WholeRow = record { room = number_at fields 2 == 1; shown = record { number = number_at fields 3; rec = record_of fields } } in
+    let in_range : Bool = nat_lt (number_at fields 2) 2 && is_shaped (record_of fields) in
+    let after_order : Result WholeRow FaultKind = check in_range kinds.Range (Ok found) in
+    let after_numbers : Result WholeRow FaultKind = check (number_at fields 1 == thread) kinds.Order after_order in
+    let numbers = check_passed (has_numbers fields) kinds.Number after_numbers row e in
+    let order = check_passed (number_at fields 1 == thread) kinds.Order after_order row numbers.1 in
+    let range = check_passed in_range kinds.Range (Ok found) row order.1 in
+    let same : found ≡ row = ok_same found row range.1 in
+    subst (λ (r : WholeRow). is_shaped r.shown.rec ≡ true) same (both_true (nat_lt (number_at fields 2) 2) (is_shaped (record_of fields)) range.0).1
+
+busy_pair_row : (thread : ℕ) (fields : Fields) (row : BusyRow) → busy_row thread fields ≡ Ok row → is_busy_pair row.first row.second ≡ true
+busy_pair_row thread fields row e =
+    let found : BusyRow = record { room = number_at fields 2 == 1; first = number_at fields 3; second = number_at fields 4 } in
+    let in_range : Bool = nat_lt (number_at fields 2) 2 && is_busy_pair (number_at fields 3) (number_at fields 4) in
+    let after_order : Result BusyRow FaultKind = check in_range kinds.Range (Ok found) in
+    let after_numbers : Result BusyRow FaultKind = check (number_at fields 1 == thread) kinds.Order after_order in
+    let numbers = check_passed (has_numbers fields) kinds.Number after_numbers row e in
+    let order = check_passed (number_at fields 1 == thread) kinds.Order after_order row numbers.1 in
+    let range = check_passed in_range kinds.Range (Ok found) row order.1 in
+    let same : found ≡ row = ok_same found row range.1 in
+    subst (λ (r : BusyRow). is_busy_pair r.first r.second ≡ true) same (both_true (nat_lt (number_at fields 2) 2) (is_busy_pair (number_at fields 3) (number_at fields 4)) range.0).1
+
+fitting_whole : (last : Shown) (row : Result WholeRow FaultKind) (seen : SignalLook) → ((r : WholeRow) → row ≡ Ok r → is_shaped r.shown.rec ≡ true)
+    → following last row ≡ Ok seen → IsFitting last seen.look
+fitting_whole last (Err k) seen shaped e = absurd (cc)
+fitting_whole last (Ok row) seen shaped e =
+    let passed = check_passed _ _ _ seen e in
+    let same : look_of_whole row ≡ seen = ok_same (look_of_whole row) seen passed.1 in
+    subst (λ (s : SignalLook). IsFitting last s.look) same (shaped row refl, passed.0)
+
+fitting_busy : (last : Shown) (row : Result BusyRow FaultKind) (seen : SignalLook) → ((r : BusyRow) → row ≡ Ok r → is_busy_pair r.first r.second ≡ true)
+    → as_look row ≡ Ok seen → IsFitting last seen.look
+fitting_busy last (Err k) seen pair e = absurd (cc)
+fitting_busy last (Ok row) seen pair e =
+    let same : look_of_busy row ≡ seen = ok_same (look_of_busy row) seen e in
+    subst (λ (s : SignalLook). IsFitting last s.look) same (pair row refl)
+
+fitting_row : (form : Form) (k : ℕ) (last : Shown) (fields : Fields) (seen : SignalLook) → look_row form k last fields ≡ Ok seen → IsFitting last seen.look
+fitting_row form.Busy k last fields seen e = fitting_busy last (busy_row k fields) seen (busy_pair_row k fields) e
+fitting_row form.Whole k last fields seen e = fitting_whole last (whole_row k fields) seen (shaped_row k fields) e
+fitting_row form.Header k last fields seen e = absurd (cc)
+fitting_row form.Pass k last fields seen e = absurd (cc)
+fitting_row form.End k last fields seen e = absurd (cc)
+
+-- one look more at hand
+fits_with_look : (threads : ℕ) (before : List SignalPass) (pass : SignalPass) (ended : Bool) (next : SoFar) (seen : Result SignalLook FaultKind)
+    → AreFittingPasses threads before → IsHand threads before (Some pass) → length pass.looks < threads
+    → ((s : SignalLook) → seen ≡ Ok s → IsFitting (last_shown (length pass.looks) before) s.look)
+    → add_look (record { before = before; at_hand = Some pass; ended = ended }) seen ≡ Ok next → IsFittingSoFar threads next
+fits_with_look threads before pass ended next (Err k) fit hand lt fits e = absurd (cc)
+fits_with_look threads before pass ended next (Ok seen) fit hand lt fits e =
+    let longer : SoFar = record { before = before; at_hand = Some (with_look seen pass); ended = ended } in
+    subst (IsFittingSoFar threads) (ok_same longer next e) (record {
+      before = fit;
+      at_hand = (omega (arith, length-append pass.looks (seen ∷ [])), AreFitting-append before pass.looks seen hand.1 (fits seen refl));
+    })
+
+-- a look row
+fits_with_row : (threads : ℕ) (before : List SignalPass) (at_hand : Option SignalPass) (ended : Bool) (next : SoFar) (form : Form) (fields : Fields)
+    → AreFittingPasses threads before → IsHand threads before at_hand
+    → take_look (record { before = before; at_hand = at_hand; ended = ended }) form fields (next_thread threads at_hand) ≡ Ok next → IsFittingSoFar threads next
+fits_with_row threads before None ended next form fields fit hand e = absurd (cc)
+fits_with_row threads before (Some pass) ended next form fields fit hand e = go (nat_lt (length pass.looks) threads) refl e
+  where
+    so_far : SoFar
+    so_far = record { before = before; at_hand = Some pass; ended = ended }
+
+    go : (b : Bool) → nat_lt (length pass.looks) threads ≡ b
+        → take_look (record { before = before; at_hand = Some pass; ended = ended }) form fields (if b then Ok (length pass.looks) else Err kinds.Order) ≡ Ok next
+        → IsFittingSoFar threads next
+    go false h e = absurd (cc)
+    go true h e =
+        let lt : length pass.looks < threads = grind arith in
+        let same : last_shown (length pass.looks) (before ++ pass ∷ []) ≡ last_shown (length pass.looks) before =
+        last_shown-silent (length pass.looks) before pass (omega arith) in
+        fits_with_look threads before pass ended next _ fit hand lt
+        (λ s row. rw (← same) (fitting_row form (length pass.looks) (last_shown (length pass.looks) (before ++ pass ∷ [])) fields s row)) e
+
+-- a row that was taken
+fits_with_form : (threads : ℕ) (before : List SignalPass) (at_hand : Option SignalPass) (ended : Bool) (next : SoFar) (form : Option Form) (fields : Fields)
+    → AreFittingPasses threads before → IsHand threads before at_hand
+    → take_form threads (record { before = before; at_hand = at_hand; ended = ended }) form fields ≡ Ok next → IsFittingSoFar threads next
+fits_with_form threads before at_hand ended next None fields fit hand e = absurd (cc)
+fits_with_form threads before at_hand ended next (Some form.Header) fields fit hand e = absurd (cc)
+fits_with_form threads before at_hand ended next (Some form.Whole) fields fit hand e = fits_with_row threads before at_hand ended next form.Whole fields fit hand e
+fits_with_form threads before at_hand ended next (Some form.Busy) fields fit hand e = fits_with_row threads before at_hand ended next form.Busy fields fit hand e
+fits_with_form threads before at_hand ended next (Some form.Pass) fields fit hand e =
+    let passed = check_passed _ _ _ next e in
+    let full = both_true (not ended) (is_full threads at_hand) passed.0 in
+    fits_with_pass threads (record { before = before; at_hand = at_hand; ended = ended }) next _ (all_fit threads before at_hand fit hand full.1) passed.1
+fits_with_form threads before at_hand ended next (Some form.End) fields fit hand e =
+    let passed = check_passed _ _ _ next e in
+    let full = both_true (not ended) (is_full threads at_hand) passed.0 in
+    fits_with_end threads (record { before = before; at_hand = at_hand; ended = ended }) next _ (all_fit threads before at_hand fit hand full.1) passed.1
+
+-- the passes that the rows give in the end
+abbrev ending_where : Bool → List SignalPass → ℕ → Result (List SignalPass) TraceFault
+ending_where ended before row = if ended then Ok before else Err (record { row = row + 1; kind = kinds.Order })
+
+fits_at_end : (threads : ℕ) (ended : Bool) (before passes : List SignalPass) (row : ℕ) → AreFittingPasses threads before
+    → ending_where ended before row ≡ Ok passes → AreFittingPasses threads passes
+fits_at_end threads true before passes row fit e = subst (AreFittingPasses threads) (ok_same before passes e) fit
+fits_at_end threads false before passes row fit e = absurd (cc)
+
+-- a row, and then the others
+fits_after : (threads : ℕ) (row : ℕ) (passes : List SignalPass) (taken : Result SoFar FaultKind) (more : SoFar → Result (List SignalPass) TraceFault)
+    → ((next : SoFar) → taken ≡ Ok next → IsFittingSoFar threads next)
+    → ((next : SoFar) → IsFittingSoFar threads next → more next ≡ Ok passes → AreFittingPasses threads passes)
+    → and_then row taken more ≡ Ok passes → AreFittingPasses threads passes
+fits_after threads row passes (Err k) more fits again e = absurd (cc)
+fits_after threads row passes (Ok next) more fits again e = again next (fits next refl) e
+
+fits_from : (threads : ℕ) (version : Version) (so_far : SoFar) (row : ℕ) (rows : List Fields) (passes : List SignalPass) → IsFittingSoFar threads so_far
+    → signals_from threads version so_far row rows ≡ Ok passes → AreFittingPasses threads passes
+unfolding signals_from
+fits_from threads version so_far row [] passes fit e = fits_at_end threads so_far.ended so_far.before passes row fit.before e
+fits_from threads version so_far row (fields ∷ rows) passes fit e =
+    fits_after threads (row + 1) passes (take_form threads so_far (form_of version fields) fields) (λ next. signals_from threads version next (row + 1) rows)
+    (λ next was. fits_with_form threads so_far.before so_far.at_hand so_far.ended next (form_of version fields) fields fit.before fit.at_hand was)
+    (λ next fits same. fits_from threads version next (row + 1) rows passes fits same) e
+
+-- the signals of an accepted file fit
+pub accepted_fit : (threads : ℕ) (rows : List Fields) (passes : List SignalPass) → signals_of threads rows ≡ Ok passes → AreFittingPasses threads passes
+accepted_fit threads rows passes e = go (header_of (codes "caladan-signals") rows) e
+  where
+    go : (file : Result (Version × List Fields) TraceFault) → signals_under threads file ≡ Ok passes → AreFittingPasses threads passes
+    go (Err fault) e = absurd (cc)
+    go (Ok file) e = fits_from threads file.0 at_start 1 file.1 passes (record { before = AreFittingPasses-none threads; at_hand = tt }) e

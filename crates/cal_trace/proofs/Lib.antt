@@ -1,0 +1,13 @@
+pub mod Counting
+pub mod RowsLeft
+pub mod Numbers
+pub mod LastShown
+pub mod WholeLooks
+pub mod Refusals
+pub mod SignalRows
+pub mod HistoryRows
+pub mod Numbered
+pub mod HistoryLines
+pub mod StandingKept
+pub mod Owners
+pub mod Accepted

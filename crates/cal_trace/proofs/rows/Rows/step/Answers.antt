@@ -1,0 +1,29 @@
+use Rattle.std.proofs.Common.{◌∙◌, refl, inl, arith, ap, length}
+use Rattle.cal_trace.proofs.RowsLeft.{takes_first, takes_none}
+use Rattle.cal_trace.proofs.rows.Rows.step.Goals as goal
+
+pub returns-then-found : goal.returns-then-found
+returns-then-found c =
+    let r = rw c.if-found.true at (c.in-Ok.ensures.reads c.requires.untrimmed c.requires.ready) in
+    let t = takes_first c.args.self.now.reader c.read_byte_record.new.self _ c.requires.plain c.requires.going c.requires.between r in
+    rw c.if-found.true (record {
+      steps = (
+        t.0,
+        refl,
+        record {
+          untrimmed = r.3 ∙ c.requires.untrimmed;
+          ready = inl (c.in-Ok.ensures.ready c.requires.untrimmed);
+          plain = r.2 ∙ c.requires.plain;
+          between = t.1;
+          going = c.in-Ok.ensures.goes ∙ c.requires.going;
+          numbered = let n = c.requires.numbered in let l = ap length t.0 in omega arith;
+        },
+      );
+      refused = tt;
+    })
+
+pub returns-else-found : goal.returns-else-found
+returns-else-found c =
+    let r = rw c.if-found.false at (c.in-Ok.ensures.reads c.requires.untrimmed c.requires.ready) in
+    let t = takes_none c.args.self.now.reader c.read_byte_record.new.self _ c.requires.plain c.requires.going r in
+    rw c.if-found.false (record { steps = (t, refl); refused = tt })

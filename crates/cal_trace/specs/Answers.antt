@@ -1,0 +1,31 @@
+-- What a function that reads answers, against what the rows say.
+use Rattle.std.specs.Prelude.{◌≡◌, Result, Ok, Err, ⊤}
+use Rattle.cal_trace.specs.declared.fault.FaultKind.{FaultKind}
+use Rattle.cal_trace.specs.declared.fault.FaultKind.TheVariants as kind
+use Rattle.cal_trace.specs.declared.fault.TraceFault.{TraceFault}
+
+-- P, but for a fault of memory or of the reader of rows, which no row decides
+abbrev pub Decided : FaultKind → Type 0 → Type 0
+Decided kind.Memory P = ⊤
+Decided kind.Read P = ⊤
+Decided kind.Header P = P
+Decided kind.Fields P = P
+Decided kind.Number P = P
+Decided kind.Order P = P
+Decided kind.Range P = P
+Decided kind.Backwards P = P
+Decided kind.Repeated P = P
+
+-- a fault of memory or of the reader of rows
+abbrev pub IsRefused : FaultKind → Type 0
+IsRefused k = Decided k ⊥
+
+-- the answer, seen by view, is what the row says
+abbrev pub Takes : {X Y : Type 0} → (X → Y) → Result X FaultKind → Result Y FaultKind → Type 0
+Takes view (Ok x) outcome = outcome ≡ Ok (view x)
+Takes view (Err k) outcome = Decided k (outcome ≡ Err k)
+
+-- the answer, seen by view, is what the rows say
+abbrev pub Gives : {X Y : Type 0} → (X → Y) → Result X TraceFault → Result Y TraceFault → Type 0
+Gives view (Ok x) outcome = outcome ≡ Ok (view x)
+Gives view (Err fault) outcome = Decided fault.kind (outcome ≡ Err fault)

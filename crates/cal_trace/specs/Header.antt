@@ -1,0 +1,17 @@
+-- The header row of a file.
+use Rattle.std.specs.Prelude.{ℕ, List, [], ◌∷◌, Option, Some, None, Result, Ok, Err}
+use Rattle.cal_trace.specs.Fields.{version_of}
+use Rattle.cal_trace.specs.Rows.{Fields}
+use Rattle.cal_trace.specs.declared.fault.FaultKind.TheVariants as kind
+use Rattle.cal_trace.specs.declared.fault.TraceFault.{TraceFault}
+use Rattle.cal_trace.specs.declared.version.Version.{Version}
+
+-- a file that has a version, and its rows after the header
+abbrev pub with_version : Option Version → List Fields → Result (Version × List Fields) TraceFault
+with_version None rest = Err (record { row = 1; kind = kind.Header })
+with_version (Some version) rest = Ok (version, rest)
+
+-- the version of a file of this name and its rows after the header, which is its first row
+abbrev pub header_of : List ℕ → List Fields → Result (Version × List Fields) TraceFault
+header_of name [] = Err (record { row = 1; kind = kind.Header })
+header_of name (header ∷ rest) = with_version (version_of name header) rest

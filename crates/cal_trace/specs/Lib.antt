@@ -1,0 +1,17 @@
+pub mod Number
+pub mod Rows
+pub mod Fields
+pub mod Shown
+pub mod LookRows
+pub mod Answers
+pub mod Header
+pub mod Signals
+pub mod SignalReading
+pub mod ActionRows
+pub mod Histories
+pub mod HistoryReading
+pub mod Texts
+pub mod HistoryText
+pub mod Standing
+pub mod ReportText
+pub mod Fitting

@@ -1,0 +1,68 @@
+//! Why a file cannot be read.
+
+ghost use Rattle.std.specs.Prelude.{◌≡◌};
+ghost use Rattle.cal_trace.specs.declared.fault.FaultKind.TheVariants.{Memory};
+
+use std::alloc::{AllocError, AllocFailed};
+use thiserror::Error;
+
+/// What is wrong with a row. `kind as u8` is its number, 1 to 9.
+#[derive(Clone, Copy, Debug, PartialEq, Eq, Error)]
+pub enum FaultKind {
+    /// The reader of rows answered an error other than memory. A text in memory gives none.
+    #[error("cannot be read")]
+    Read = 1,
+    /// The first row is not the file's header, or there is none.
+    #[error("is not the header")]
+    Header = 2,
+    /// The first field is none that the file knows, or the row has another number of fields.
+    #[error("has the wrong fields")]
+    Fields = 3,
+    /// A field is not a number: `0`, or digits with no zero in front, below 2^64.
+    #[error("has a field that is no number")]
+    Number = 4,
+    /// The row cannot stand here, is missing, comes after the end row or counts wrongly.
+    #[error("cannot stand here")]
+    Order = 5,
+    /// A number is out of its range.
+    #[error("is out of range")]
+    Range = 6,
+    /// A whole look does not follow the thread's earlier ones.
+    #[error("goes back")]
+    Backwards = 7,
+    /// Memory ran out.
+    #[error("could not be kept, for want of memory")]
+    Memory = 8,
+    /// An identity came before.
+    #[error("repeats an identity")]
+    Repeated = 9,
+}
+
+/// Why a file cannot be read: the row, from 1, and what is wrong with it.
+///
+/// Rows are counted as `csv` gives records, so blank lines are none. A missing row has the number
+/// after the last.
+#[derive(Clone, Copy, Debug, PartialEq, Eq, Error)]
+#[error("row {row} {kind}")]
+pub struct TraceFault {
+    /// The row's number, from 1.
+    pub row: u64,
+    /// What is wrong with it.
+    pub kind: FaultKind,
+}
+
+impl From<AllocError> for FaultKind {
+    ghost from_gives = { λ _ e. e ≡ Memory };
+
+    fn from(_e: AllocError) -> FaultKind {
+        FaultKind::Memory
+    }
+}
+
+impl<T: Drop> From<AllocFailed<T>> for FaultKind {
+    ghost from_gives = { λ _ e. e ≡ Memory };
+
+    fn from(_e: AllocFailed<T>) -> FaultKind {
+        FaultKind::Memory
+    }
+}

@@ -1,0 +1,60 @@
+//! The fields of a row.
+
+ghost use Rattle.std.specs.Prelude.{◌≡◌};
+ghost use Rattle.cal_trace.specs.Fields.{number_in, number_at, is_number_at, has_numbers, is_word, is_row};
+ghost use Rattle.csv.specs.Records.{field_at, fields_of};
+
+use crate::number::number;
+use csv::ByteRecord;
+
+/// Whether the field at a place is this word.
+pub(crate) fn is_word_at(row: &ByteRecord, place: usize, word: &[u8]) -> bool
+    ensures { result ≡ is_word (field_at (fields_of row.now) place) word.now }
+{
+    match row.get(place) {
+        Some(field) => field == word,
+        None => false,
+    }
+}
+
+/// Whether a row begins with this word and has so many fields.
+pub(crate) fn is_row(row: &ByteRecord, word: &[u8], count: usize) -> bool
+    ensures { result ≡ is_row word.now count (fields_of row.now) }
+{
+    row.len() == count && is_word_at(row, 0, word)
+}
+
+fn number_in(row: &ByteRecord, place: usize) -> Option<u64>
+    ensures { result ≡ number_in (fields_of row.now) place }
+{
+    match row.get(place) {
+        Some(field) => number(field),
+        None => None,
+    }
+}
+
+/// Whether the field at a place is a number.
+pub(crate) fn is_number_at(row: &ByteRecord, place: usize) -> bool
+    ensures { result ≡ is_number_at (fields_of row.now) place }
+{
+    number_in(row, place).is_some()
+}
+
+/// The number at a place, 0 where there is none.
+pub(crate) fn number_at(row: &ByteRecord, place: usize) -> u64
+    ensures { result ≡ number_at (fields_of row.now) place }
+{
+    number_in(row, place).unwrap_or(0)
+}
+
+/// Whether all fields after the first are numbers.
+pub(crate) fn has_numbers(row: &ByteRecord) -> bool
+    ensures { result ≡ has_numbers (fields_of row.now) }
+{
+    for place in 1..row.len() {
+        if !is_number_at(row, place) {
+            return false;
+        }
+    }
+    true
+}

@@ -1,0 +1,31 @@
+//! The header row of a file.
+
+ghost use Rattle.std.specs.Prelude.{◌≡◌, OnOk};
+ghost use Rattle.cal_trace.specs.Answers.{Gives};
+ghost use Rattle.cal_trace.specs.Header.{header_of};
+ghost use Rattle.cal_trace.specs.Rows.{IsReading, rest_of};
+
+use crate::fault::{FaultKind, TraceFault};
+use crate::rows::Rows;
+use crate::version::Version;
+
+/// Takes the header row of a file of this name, and gives its version.
+pub(crate) fn take_header(rows: &mut Rows, name: &[u8]) -> Result<Version, TraceFault>
+    requires reading { IsReading rows.old }
+    requires first { rows.old.number ≡ 0 }
+    ensures gives { Gives (λ version. (version, rest_of rows.new)) result (header_of name.now (rest_of rows.old)) }
+    ensures reading { OnOk result (IsReading rows.new) }
+    ensures number { OnOk result (rows.new.number ≡ 1) }
+{
+    let missing = TraceFault {
+        row: 1,
+        kind: FaultKind::Header,
+    };
+    if !rows.step()? {
+        return Err(missing);
+    }
+    match Version::of_header(rows.row(), name) {
+        Some(version) => Ok(version),
+        None => Err(missing),
+    }
+}

@@ -1,0 +1,71 @@
+//! Files of histories.
+
+ghost use Rattle.std.specs.Prelude.{◌≡◌, codes};
+ghost use Rattle.cal_trace.specs.Answers.{Gives};
+ghost use Rattle.cal_trace.specs.Rows.{IsReading, rest_of, rows_of};
+ghost use Rattle.cal_trace.specs.HistoryReading.{so_far, extent_of};
+ghost use Rattle.cal_trace.specs.Histories.{history_from, history_of};
+
+use crate::action_rows::Extent;
+use crate::fault::{FaultKind, TraceFault};
+use crate::header::take_header;
+use crate::history_reading::HistoryReading;
+use crate::rows::Rows;
+use cal_machine::Config;
+use cal_policy::PassEntry;
+use std::alloc::Global;
+
+fn extent_of(config: &Config) -> Extent
+    ensures { result ≡ extent_of config.now }
+{
+    Extent {
+        cores: config.machine().cores(),
+        threads: config.threads() as u8,
+        tasks: config.tasks() as u8,
+    }
+}
+
+/// Reads a history, of version 1 or 2, for a table (this project's own format).
+///
+/// The error is the first check that fails, in the order of the rows and of the checks of a row.
+/// `Memory` comes only where memory was refused. `Read` comes only where `csv` fails to read, which
+/// it does not on a text in memory. `Backwards` and `Repeated` never come: whether the history is
+/// the policy's is for the audit to say.
+pub fn read_history(
+    alloc: Global,
+    config: &Config,
+    text: &[u8],
+) -> Result<Vec<PassEntry>, TraceFault>
+    ensures { Gives (λ history. history.items) result (history_of (extent_of config.now) (rows_of text.now)) }
+{
+    let mut rows = Rows::open(alloc, text);
+    let version = take_header(&mut rows, b"caladan-history".as_slice())?;
+    take_rows(
+        &mut rows,
+        HistoryReading::new(alloc, version, extent_of(config)),
+    )
+}
+
+// The history of the rows so far and of those still to come.
+fn take_rows(rows: &mut Rows, mut reading: HistoryReading) -> Result<Vec<PassEntry>, TraceFault>
+    requires { IsReading rows.old }
+    ensures { Gives (λ history. history.items) result (history_from reading.extent reading.version (so_far reading) rows.old.number (rest_of rows.old)) }
+{
+    while rows.step()? {
+        if let Err(kind) = reading.take_row(rows.row()) {
+            return Err(TraceFault {
+                row: rows.number(),
+                kind,
+            });
+        }
+    }
+    match reading.end() {
+        Some(history) => Ok(history),
+        None => {
+            Err(TraceFault {
+                row: rows.number() + 1,
+                kind: FaultKind::Order,
+            })
+        }
+    }
+}

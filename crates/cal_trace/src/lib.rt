@@ -1,0 +1,33 @@
+//! The files of a run: signals and histories are read, histories and reports are written.
+#![tactic(auto)]
+
+mod action_rows;
+mod fault;
+mod fields;
+mod header;
+mod history_file;
+mod history_reading;
+mod history_text;
+mod look_rows;
+mod number;
+mod report;
+mod rows;
+mod shown;
+mod signal_file;
+mod signal_reading;
+mod signals;
+mod standing;
+mod version;
+mod write_fault;
+
+pub use fault::{FaultKind, TraceFault};
+pub use history_file::read_history;
+pub use history_text::write_history;
+pub use look_rows::MOST_PASSES;
+pub use report::write_report;
+pub use signal_file::read_signals;
+pub use signals::{SignalLook, SignalLooks, SignalPass, SignalPasses, Signals};
+pub use write_fault::WriteFault;
+
+#[cfg(test)]
+mod tests;

@@ -1,0 +1,119 @@
+//! Pass rows, look rows and end rows, as signals and histories have them.
+
+ghost use Rattle.std.specs.Prelude.{◌≡◌, ◌==◌};
+ghost use Rattle.cal_trace.specs.Fields.{number_at};
+ghost use Rattle.cal_trace.specs.LookRows.{pass_row, whole_row, busy_row, end_row};
+ghost use Rattle.csv.specs.Records.{fields_of};
+
+use crate::fault::FaultKind;
+use crate::fields::{has_numbers, number_at};
+use crate::shown::{Shown, is_busy_pair, is_shaped, record_of};
+use csv::ByteRecord;
+
+/// The most passes that a file may have.
+pub const MOST_PASSES: usize = 1_048_576;
+
+/// The clock and the bandwidth figure of a pass row.
+#[derive(Clone, Copy, Debug, PartialEq, Eq)]
+pub(crate) struct PassRow {
+    pub now: u64,
+    pub bandwidth: u64,
+}
+
+/// A row of a look that found a whole record.
+#[derive(Clone, Copy, Debug, PartialEq, Eq)]
+pub(crate) struct WholeRow {
+    pub room: bool,
+    pub shown: Shown,
+}
+
+/// A row of a look that found a page busy.
+#[derive(Clone, Copy, Debug, PartialEq, Eq)]
+pub(crate) struct BusyRow {
+    pub room: bool,
+    pub first: u64,
+    pub second: u64,
+}
+
+/// Reads a pass row that comes after so many passes.
+pub(crate) fn pass_row(row: &ByteRecord, passes: usize) -> Result<PassRow, FaultKind>
+    ensures { result ≡ pass_row passes (fields_of row.now) }
+{
+    if !has_numbers(row) {
+        return Err(FaultKind::Number);
+    }
+    if passes >= MOST_PASSES {
+        return Err(FaultKind::Range);
+    }
+    Ok(PassRow {
+        now: number_at(row, 1),
+        bandwidth: number_at(row, 2),
+    })
+}
+
+// Whether a look row is of this thread.
+fn names_thread(row: &ByteRecord, thread: usize) -> bool
+    ensures { result ≡ (number_at (fields_of row.now) 1 == thread) }
+{
+    number_at(row, 1) == thread as u64
+}
+
+/// Reads a row of a whole record, where the next look is this thread's.
+pub(crate) fn whole_row(row: &ByteRecord, thread: usize) -> Result<WholeRow, FaultKind>
+    ensures { result ≡ whole_row thread (fields_of row.now) }
+{
+    if !has_numbers(row) {
+        return Err(FaultKind::Number);
+    }
+    if !names_thread(row, thread) {
+        return Err(FaultKind::Order);
+    }
+    let room = number_at(row, 2);
+    let rec = record_of(row);
+    if room >= 2 || !is_shaped(&rec) {
+        return Err(FaultKind::Range);
+    }
+    Ok(WholeRow {
+        room: room == 1,
+        shown: Shown {
+            number: number_at(row, 3),
+            rec,
+        },
+    })
+}
+
+/// Reads a row of a busy look, where the next look is this thread's.
+pub(crate) fn busy_row(row: &ByteRecord, thread: usize) -> Result<BusyRow, FaultKind>
+    ensures { result ≡ busy_row thread (fields_of row.now) }
+{
+    if !has_numbers(row) {
+        return Err(FaultKind::Number);
+    }
+    if !names_thread(row, thread) {
+        return Err(FaultKind::Order);
+    }
+    let room = number_at(row, 2);
+    let first = number_at(row, 3);
+    let second = number_at(row, 4);
+    if room >= 2 || !is_busy_pair(first, second) {
+        return Err(FaultKind::Range);
+    }
+    Ok(BusyRow {
+        room: room == 1,
+        first,
+        second,
+    })
+}
+
+/// Reads an end row that comes after so many passes.
+pub(crate) fn end_row(row: &ByteRecord, passes: usize) -> Result<usize, FaultKind>
+    ensures { result ≡ end_row passes (fields_of row.now) }
+{
+    if !has_numbers(row) {
+        return Err(FaultKind::Number);
+    }
+    if number_at(row, 1) != passes as u64 {
+        return Err(FaultKind::Order);
+    }
+    Ok(passes)
+}

@@ -1,0 +1,166 @@
+//! The report of a history: its passes, what they did, and the tasks at its end.
+
+ghost use Rattle.std.specs.Prelude.{◌<◌, ◌++◌, List, length, OnOk};
+ghost use Rattle.std.specs.List.{flat_map};
+ghost use Rattle.std.specs.Io.KnownBytes.{Appends};
+ghost use Rattle.cal_policy.specs.History.{actions_of};
+ghost use Rattle.cal_policy.specs.declared.pass_action.Action.{Action};
+ghost use Rattle.cal_trace.specs.ReportText.{action_line, end_line, kept_line, kept_lines, pass_text, passes_text, report_text, revocation_line, task_line, task_lines};
+ghost use Rattle.cal_trace.specs.Standing.{Agrees};
+
+use crate::standing::Standing;
+use crate::write_fault::WriteFault;
+use cal_machine::{Config, Kind};
+use cal_policy::{Action, Cause, PassEntry, Seen};
+use std::io;
+use std::io::Write;
+
+/// Writes the report of a history (this project's own format): a line for each pass, for each look
+/// that was not kept and for each action, then how many passes there are and a line for each task
+/// with the cores that it holds and leaves after the last pass.
+///
+/// The error is what the writer answered; then nothing is said of how much was written. It takes no
+/// memory of its own.
+pub fn write_report<W: Write>(
+    config: &Config,
+    history: &[PassEntry],
+    writer: &mut W,
+) -> Result<(), WriteFault>
+    ensures { OnOk result (Appends (W.contents writer.old) (W.contents writer.new) (report_text config.now history.now)) }
+{
+    write_passes(history, writer)?;
+    write_end(config, history, writer)?;
+    Ok(())
+}
+
+fn write_passes<W: Write>(history: &[PassEntry], writer: &mut W) -> io::Result<()>
+    ensures { OnOk result (Appends (W.contents writer.old) (W.contents writer.new) (passes_text history.now)) }
+{
+    for pass in 0..history.len() {
+        write_pass(pass, &history[pass], writer)?;
+    }
+    Ok(())
+}
+
+fn write_pass<W: Write>(pass: usize, entry: &PassEntry, writer: &mut W) -> io::Result<()>
+    ensures { OnOk result (Appends (W.contents writer.old) (W.contents writer.new) (pass_text pass entry.now)) }
+{
+    let now = entry.input.now;
+    let bandwidth = entry.input.bandwidth;
+    writeln!(writer, "pass {pass} now {now} bandwidth {bandwidth}")?;
+    write_kept(entry.input.seen.as_slice(), writer)?;
+    write_actions(entry.actions.as_slice(), writer)
+}
+
+// The looks that left the kept record as it was.
+fn write_kept<W: Write>(seen: &[Seen], writer: &mut W) -> io::Result<()>
+    ensures { OnOk result (Appends (W.contents writer.old) (W.contents writer.new) (kept_lines seen.now)) }
+{
+    for thread in 0..seen.len() {
+        write_look(thread, seen[thread], writer)?;
+    }
+    Ok(())
+}
+
+fn write_look<W: Write>(thread: usize, look: Seen, writer: &mut W) -> io::Result<()>
+    ensures { OnOk result (Appends (W.contents writer.old) (W.contents writer.new) (kept_line thread look)) }
+{
+    match look {
+        Seen::Whole { .. } => Ok(()),
+        Seen::Busy { .. } => writeln!(writer, "  kept {thread} busy"),
+        Seen::Ahead { .. } => writeln!(writer, "  kept {thread} ahead"),
+        Seen::Foreign { .. } => writeln!(writer, "  kept {thread} foreign"),
+    }
+}
+
+fn write_actions<W: Write>(actions: &[Action], writer: &mut W) -> io::Result<()>
+    ensures { OnOk result (Appends (W.contents writer.old) (W.contents writer.new) (flat_map action_line actions.now)) }
+{
+    for action in actions {
+        write_action(*action, writer)?;
+    }
+    Ok(())
+}
+
+fn write_action<W: Write>(action: Action, writer: &mut W) -> io::Result<()>
+    ensures { OnOk result (Appends (W.contents writer.old) (W.contents writer.new) (action_line action)) }
+{
+    match action {
+        Action::Free { core } => writeln!(writer, "  free core {core}"),
+        Action::Unban { core } => writeln!(writer, "  unban core {core}"),
+        Action::Ban {
+            core,
+            thread,
+            started,
+        } => {
+            writeln!(
+                writer,
+                "  ban core {core} for thread {thread} started {started}"
+            )
+        }
+        Action::Revoke { core, cause } => write_revocation(core, cause, writer),
+        Action::Cap { task, cap } => writeln!(writer, "  cap task {task} at {cap}"),
+        Action::Grant {
+            core,
+            thread,
+            class,
+        } => {
+            writeln!(
+                writer,
+                "  grant core {core} to thread {thread} class {class}"
+            )
+        }
+    }
+}
+
+fn write_revocation<W: Write>(core: u8, cause: Cause, writer: &mut W) -> io::Result<()>
+    ensures { OnOk result (Appends (W.contents writer.old) (W.contents writer.new) (revocation_line core cause)) }
+{
+    match cause {
+        Cause::Ban { by } => writeln!(writer, "  revoke core {core} for ban by core {by}"),
+        Cause::Bandwidth => writeln!(writer, "  revoke core {core} for bandwidth"),
+        Cause::Preempt { task } => writeln!(writer, "  revoke core {core} for task {task}"),
+    }
+}
+
+fn write_end<W: Write>(config: &Config, history: &[PassEntry], writer: &mut W) -> io::Result<()>
+    ensures { OnOk result (Appends (W.contents writer.old) (W.contents writer.new) (end_line (length history.now) ++ task_lines config.now (actions_of history.now) (length config.now.tasks))) }
+{
+    let passes = history.len();
+    writeln!(writer, "end {passes} passes")?;
+    write_tasks(config, &Standing::after(history), writer)
+}
+
+fn write_tasks<W: Write>(config: &Config, standing: &Standing, writer: &mut W) -> io::Result<()>
+    ensures { (x : List Action) → Agrees standing.now x → OnOk result (Appends (W.contents writer.old) (W.contents writer.new) (task_lines config.now x (length config.now.tasks))) }
+{
+    for task in 0..config.tasks() {
+        write_task(config, standing, task, writer)?;
+    }
+    Ok(())
+}
+
+fn write_task<W: Write>(
+    config: &Config,
+    standing: &Standing,
+    task: usize,
+    writer: &mut W,
+) -> io::Result<()>
+    requires { task < length config.now.tasks }
+    ensures { (x : List Action) → Agrees standing.now x → OnOk result (Appends (W.contents writer.old) (W.contents writer.new) (task_line config.now x task)) }
+{
+    let held = standing.held(config, task);
+    let leaving = standing.booked(config, task).saturating_sub(held);
+    match config.task(task).kind {
+        Kind::LatencyCritical => {
+            writeln!(writer, "task {task} lc held {held} leaving {leaving}")
+        }
+        Kind::BestEffort => {
+            let cap = standing.cap(config, task);
+            writeln!(
+                writer,
+                "task {task} be held {held} leaving {leaving} cap {cap}"
+            )
+        }
+    }
+}

@@ -1,0 +1,254 @@
+//! Reading signals, row by row.
+
+ghost use Rattle.std.specs.Prelude.{◌≡◌};
+ghost use Rattle.cal_trace.specs.Signals.{form_of};
+ghost use Rattle.csv.specs.Records.{fields_of};
+
+use crate::fault::FaultKind;
+use crate::fields::is_row;
+use crate::look_rows::{busy_row, end_row, pass_row, whole_row};
+use crate::shown::{Shown, may_follow};
+use crate::signals::{SignalLook, SignalLooks, SignalPass};
+use crate::version::Version;
+use cal_signal::Look;
+use csv::ByteRecord;
+use std::alloc::Global;
+
+/// What a row of a file of signals is, by its first field and its number of fields.
+#[derive(Clone, Copy, Debug, PartialEq, Eq)]
+pub(crate) enum Form {
+    Header,
+    Pass,
+    Whole,
+    Busy,
+    End,
+}
+
+fn form_of(row: &ByteRecord, version: Version) -> Option<Form>
+    ensures { result ≡ form_of version (fields_of row.now) }
+{
+    if is_row(row, b"pass".as_slice(), 3) {
+        Some(Form::Pass)
+    } else if is_row(row, b"whole".as_slice(), version.record_fields()) {
+        Some(Form::Whole)
+    } else if is_row(row, b"busy".as_slice(), 5) {
+        Some(Form::Busy)
+    } else if is_row(row, b"end".as_slice(), 2) {
+        Some(Form::End)
+    } else if is_row(row, b"caladan-signals".as_slice(), 2) {
+        Some(Form::Header)
+    } else {
+        None
+    }
+}
+
+/// A pass whose looks are still being read.
+#[derive(Drop)]
+struct OpenPass {
+    now: u64,
+    bandwidth: u64,
+    looks: Vec<SignalLook>,
+}
+
+/// What the rows so far have given.
+#[derive(Drop)]
+pub(crate) struct SignalReading {
+    alloc: Global,
+    version: Version,
+    threads: usize,
+    before: Vec<SignalPass>,
+    at_hand: Option<OpenPass>,
+    ended: bool,
+    // What each thread showed last.
+    shown: Vec<Shown>,
+}
+
+impl SignalReading {
+    ghost use Rattle.std.specs.Prelude.{◌≡◌, length, Ok, OnOk, IfOk, IfErr, Some, None, option_map, if◌then◌else◌};
+    ghost use Rattle.csv.specs.Records.{fields_of};
+    ghost use Rattle.cal_trace.specs.Answers.{Takes};
+    ghost use Rattle.cal_trace.specs.Signals.{at_start, passes_of, is_between, next_thread, take_row, take_form, take_look, look_row, one_more};
+    ghost use Rattle.cal_trace.specs.SignalReading.{so_far, IsKept, IsSameFile};
+    ghost use Rattle.cal_trace.specs.declared.fault.FaultKind.TheVariants as kind;
+    ghost use Rattle.cal_trace.specs.declared.signal_reading.Form.TheVariants as form;
+
+    /// Before the first row after the header of a file for so many threads.
+    pub(crate) fn new(
+        alloc: Global,
+        version: Version,
+        threads: usize,
+    ) -> Result<SignalReading, FaultKind>
+        ensures start { IfOk result (λ reading. so_far reading ≡ at_start) }
+        ensures kept { IfOk result IsKept }
+        ensures version { IfOk result (λ reading. reading.version ≡ version) }
+        ensures threads { IfOk result (λ reading. reading.threads ≡ threads) }
+        ensures memory { IfErr result (λ k. k ≡ kind.Memory) }
+    {
+        let shown = vec![in alloc; Shown::nothing(); threads]?;
+        Ok(SignalReading {
+            alloc,
+            version,
+            threads,
+            before: Vec::new(alloc),
+            at_hand: None,
+            ended: false,
+            shown,
+        })
+    }
+
+    /// Takes one more row.
+    pub(crate) fn take_row(&mut self, row: &ByteRecord) -> Result<(), FaultKind>
+        requires { IsKept self.old }
+        ensures takes { Takes (λ _. so_far self.new) result (take_row self.old.threads self.old.version (so_far self.old) (fields_of row.now)) }
+        ensures kept { OnOk result (IsKept self.new) }
+        ensures file { IsSameFile self.old self.new }
+    {
+        match form_of(row, self.version) {
+            None => Err(FaultKind::Fields),
+            Some(Form::Header) => Err(FaultKind::Order),
+            Some(Form::Pass) => self.take_pass(row),
+            Some(Form::End) => self.take_end(row),
+            Some(Form::Whole) => self.take_whole(row),
+            Some(Form::Busy) => self.take_busy(row),
+        }
+    }
+
+    // How many passes there are, the one at hand with them.
+    fn passes(&self) -> usize
+        ensures { result ≡ length (passes_of (so_far self.now)) }
+    {
+        match &self.at_hand {
+            Some(_) => self.before.len() + 1,
+            None => self.before.len(),
+        }
+    }
+
+    // Whether a pass row or the end row can stand here.
+    fn is_between(&self) -> bool
+        ensures { result ≡ is_between self.now.threads (so_far self.now) }
+    {
+        match &self.at_hand {
+            Some(pass) => !self.ended && pass.looks.len() == self.threads,
+            None => !self.ended,
+        }
+    }
+
+    // The thread whose look comes next, where a look can stand here.
+    fn next_thread(&self) -> Result<usize, FaultKind>
+        ensures { result ≡ next_thread self.now.threads (so_far self.now).at_hand }
+    {
+        match &self.at_hand {
+            Some(pass) if pass.looks.len() < self.threads => Ok(pass.looks.len()),
+            _ => Err(FaultKind::Order),
+        }
+    }
+
+    // Puts the pass at hand with those before it.
+    fn close(&mut self) -> Result<(), FaultKind>
+        ensures closed { OnOk result (so_far self.new ≡ record { before = passes_of (so_far self.old); at_hand = None; ended = self.old.ended }) }
+        ensures shown { self.new.shown ≡ self.old.shown }
+        ensures file { IsSameFile self.old self.new }
+        ensures memory { IfErr result (λ k. k ≡ kind.Memory) }
+    {
+        if let Some(pass) = self.at_hand.take() {
+            self.before.push(SignalPass {
+                now: pass.now,
+                bandwidth: pass.bandwidth,
+                looks: SignalLooks::new(pass.looks),
+            })?;
+        }
+        Ok(())
+    }
+
+    fn take_pass(&mut self, row: &ByteRecord) -> Result<(), FaultKind>
+        requires { IsKept self.old }
+        ensures takes { Takes (λ _. so_far self.new) result (take_form self.old.threads (so_far self.old) (Some form.Pass) (fields_of row.now)) }
+        ensures kept { OnOk result (IsKept self.new) }
+        ensures file { IsSameFile self.old self.new }
+    {
+        if !self.is_between() {
+            return Err(FaultKind::Order);
+        }
+        let pass = pass_row(row, self.passes())?;
+        self.close()?;
+        self.at_hand = Some(OpenPass {
+            now: pass.now,
+            bandwidth: pass.bandwidth,
+            looks: Vec::with_capacity(self.alloc, self.threads)?,
+        });
+        Ok(())
+    }
+
+    fn take_end(&mut self, row: &ByteRecord) -> Result<(), FaultKind>
+        requires { IsKept self.old }
+        ensures takes { Takes (λ _. so_far self.new) result (take_form self.old.threads (so_far self.old) (Some form.End) (fields_of row.now)) }
+        ensures kept { OnOk result (IsKept self.new) }
+        ensures file { IsSameFile self.old self.new }
+    {
+        if !self.is_between() {
+            return Err(FaultKind::Order);
+        }
+        end_row(row, self.passes())?;
+        self.close()?;
+        self.ended = true;
+        Ok(())
+    }
+
+    fn take_whole(&mut self, row: &ByteRecord) -> Result<(), FaultKind>
+        requires { IsKept self.old }
+        ensures takes { Takes (λ _. so_far self.new) result (take_form self.old.threads (so_far self.old) (Some form.Whole) (fields_of row.now)) }
+        ensures kept { OnOk result (IsKept self.new) }
+        ensures file { IsSameFile self.old self.new }
+    {
+        let thread = self.next_thread()?;
+        let whole = whole_row(row, thread)?;
+        if !may_follow(&self.shown[thread], &whole.shown) {
+            return Err(FaultKind::Backwards);
+        }
+        self.add_look(SignalLook {
+            look: Look::Whole {
+                number: whole.shown.number,
+                rec: whole.shown.rec,
+            },
+            room: whole.room,
+        })?;
+        self.shown[thread] = whole.shown;
+        Ok(())
+    }
+
+    fn take_busy(&mut self, row: &ByteRecord) -> Result<(), FaultKind>
+        requires { IsKept self.old }
+        ensures takes { Takes (λ _. so_far self.new) result (take_form self.old.threads (so_far self.old) (Some form.Busy) (fields_of row.now)) }
+        ensures kept { OnOk result (IsKept self.new) }
+        ensures file { IsSameFile self.old self.new }
+    {
+        let thread = self.next_thread()?;
+        let busy = busy_row(row, thread)?;
+        self.add_look(SignalLook {
+            look: Look::Busy {
+                first: busy.first,
+                second: busy.second,
+            },
+            room: busy.room,
+        })
+    }
+
+    fn add_look(&mut self, look: SignalLook) -> Result<(), FaultKind>
+        ensures added { OnOk result (so_far self.new ≡ one_more (so_far self.old) look) }
+        ensures shown { self.new.shown ≡ self.old.shown }
+        ensures file { IsSameFile self.old self.new }
+        ensures memory { IfErr result (λ k. k ≡ kind.Memory) }
+    {
+        if let Some(pass) = &mut self.at_hand {
+            pass.looks.push(look)?;
+        }
+        Ok(())
+    }
+
+    /// The passes, after the last row: none without an end row.
+    pub(crate) fn end(self) -> Option<Vec<SignalPass>>
+        ensures { option_map (λ passes. passes.items) result ≡ (if self.ended then Some (so_far self).before else None) }
+    {
+        if self.ended { Some(self.before) } else { None }
+    }
+}
