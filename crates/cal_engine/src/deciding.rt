@@ -1,0 +1,122 @@
+//! Deciding the passes of a signal trace.
+
+ghost use Rattle.std.specs.Prelude.{◌≡◌, ◌≢◌, IfOk, IfErr, IfSome};
+ghost use Rattle.cal_machine.specs.Tasks.{threads_in};
+ghost use Rattle.cal_policy.specs.Pass.{IsLegal};
+ghost use Rattle.cal_trace.specs.Fitting.{AreFittingPasses};
+ghost use Rattle.cal_engine.specs.Deciding.{decided, judged_input};
+ghost use Rattle.cal_engine.specs.Outcome.{run_of, run_of_input, Gives, Refuses};
+
+use crate::fault::RunFault;
+use crate::input::read_input;
+use crate::separator::split_input;
+use cal_machine::Config;
+use cal_policy::{Actions, Book, Input, PassEntry, Rooms, SeenList};
+use cal_trace::{SignalPass, read_signals, write_report};
+use std::alloc::{AllocError, Global};
+use std::io::{Read, Write};
+
+/// Reads an input of a task table and a signal trace to its end, decides each of its passes, and writes the report and
+/// nothing else. Nothing is written before the whole input was read and accepted and the report is made.
+///
+/// The faults come in this order: `Read` or `Length` as met, `Separator`, `Config`, `Trace`, `Write`. `Memory` may come
+/// at any place, and only where memory was refused.
+pub fn decide<R: Read + Drop, W: Write>(
+    alloc: Global,
+    mut reader: R,
+    writer: &mut W,
+) -> Result<(), RunFault>
+    // The input asks for a run, or the fault is its first.
+    ensures exact { IfSome (R.remaining reader) (λ input. Refuses result (run_of_input input)) }
+    // Nothing is written before the input was accepted.
+    ensures untouched { IfErr result (λ fault. fault ≢ RunFault.Write → writer.new ≡ writer.old) }
+{
+    let input = read_input(alloc, &mut reader)?;
+    let report = report_of(alloc, input.as_slice())?;
+    match writer.write_all(report.as_slice()) {
+        Ok(()) => Ok(()),
+        Err(_) => Err(RunFault::Write),
+    }
+}
+
+/// The report of an input.
+fn report_of(alloc: Global, input: &[u8]) -> Result<Vec<u8>, RunFault>
+    ensures { Refuses result (run_of input.now) }
+{
+    let (config, history) = run(alloc, input)?;
+    let mut report = Vec::new(alloc);
+    match write_report(&config, history.as_slice(), &mut report) {
+        Ok(()) => Ok(report),
+        // A list in memory refuses nothing but memory.
+        Err(_) => Err(RunFault::Memory),
+    }
+}
+
+/// The task table of an input, and the history that its signals lead to.
+fn run(alloc: Global, input: &[u8]) -> Result<(Config, Vec<PassEntry>), RunFault>
+    ensures exact { Gives (λ r. record { table = r.0; history = r.1.items }) result (run_of input.now) }
+    ensures legal { IfOk result (λ r. IsLegal r.0 r.1.items) }
+{
+    let Some((table, trace)) = split_input(input) else {
+        return Err(RunFault::Separator);
+    };
+    let config = Config::read(alloc, table)?;
+    let signals = read_signals(alloc, &config, trace)?;
+    let history = decide_passes(alloc, &config, signals.passes.as_slice())?;
+    Ok((config, history))
+}
+
+/// The history that signals lead to: each pass is decided after all before it.
+fn decide_passes(
+    alloc: Global,
+    config: &Config,
+    passes: &[SignalPass],
+) -> Result<Vec<PassEntry>, AllocError>
+    requires { AreFittingPasses (threads_in config.now.tasks) passes.now }
+    ensures decided { IfOk result (λ history. history.items ≡ decided config.now passes.now) }
+    ensures legal { IfOk result (λ history. IsLegal config.now history.items) }
+{
+    let mut book = Book::open(alloc, config)?;
+    let mut actions = Actions::reserved(alloc)?;
+    let mut history = Vec::with_capacity(alloc, passes.len())?;
+    for pass in passes {
+        let input = judge_looks(alloc, config, &book, pass)?;
+        actions.clear();
+        book.step(config, &input, &mut actions);
+        let actions = actions.to_list(alloc)?;
+        history.push(PassEntry { input, actions })?;
+    }
+    Ok(history)
+}
+
+ghost use Rattle.std.specs.Prelude.{length, List};
+ghost use Rattle.cal_policy.specs.Tasks.{threads_of_table};
+ghost use Rattle.cal_policy.specs.Book.{AgreesWith};
+ghost use Rattle.cal_policy.specs.Board.{HasSizes};
+ghost use Rattle.cal_policy.specs.declared.pass_entry.PassEntry.{PassEntry};
+
+/// The input of the next pass of a book: each look as it is judged, and the rooms.
+fn judge_looks(
+    alloc: Global,
+    config: &Config,
+    book: &Book,
+    pass: &SignalPass,
+) -> Result<Input, AllocError>
+    requires { length pass.now.looks ≡ threads_of_table config.now }
+    ensures judged { IfOk result (λ input. (h : List PassEntry) → AgreesWith book.now h → input ≡ judged_input config.now h pass.entry.now) }
+    ensures sizes { IfOk result (HasSizes config.now) }
+{
+    let looks = pass.looks.as_slice();
+    let mut seen = Vec::with_capacity(alloc, looks.len())?;
+    let mut rooms = Vec::with_capacity(alloc, looks.len())?;
+    for k in 0..looks.len() {
+        seen.push(book.judge(config, k, looks[k].look))?;
+        rooms.push(looks[k].room)?;
+    }
+    Ok(Input {
+        now: pass.now,
+        bandwidth: pass.bandwidth,
+        seen: SeenList::new(seen),
+        rooms: Rooms::new(rooms),
+    })
+}

@@ -1,0 +1,21 @@
+//! The engines of the program `caladan_sim`: what it does between its standard input and its standard output.
+//!
+//! An engine takes any reader and any writer. It reads one input to its end, and writes its answer and nothing else,
+//! once the whole input was read and accepted. What the words of a command line ask for is `words`, and what the program
+//! says and exits with after a fault are `fault_line` and `status`.
+#![tactic(auto)]
+
+mod command_line;
+mod deciding;
+mod fault;
+mod input;
+mod separator;
+
+pub use command_line::{Job, words};
+pub use deciding::decide;
+pub use fault::{RunFault, fault_line, status};
+pub use input::{INPUT_LIMIT, read_input};
+pub use separator::split_input;
+
+#[cfg(test)]
+mod tests;

@@ -1,0 +1,33 @@
+//! The words of the command line.
+
+use crate::{Job, words};
+use clap::error::ErrorKind;
+use std::test::Fail;
+
+#[test]
+fn words_of_each_job(rt: HostRuntime) -> Result<(), Fail> {
+    assert_eq!(rt; words(rt.alloc(), &[])?, Job::Decide);
+    assert_eq!(rt; words(rt.alloc(), &["decide"])?, Job::Decide);
+    Ok(())
+}
+
+#[test]
+fn other_words_are_refused(rt: HostRuntime) -> Result<(), Fail> {
+    for (given, kind) in [
+        (["frobnicate"].as_slice(), ErrorKind::InvalidSubcommand),
+        (["decide", "decide"].as_slice(), ErrorKind::UnknownArgument),
+        (
+            ["decide", "--summary"].as_slice(),
+            ErrorKind::UnknownArgument,
+        ),
+        (["--summary"].as_slice(), ErrorKind::UnknownArgument),
+        (["--help"].as_slice(), ErrorKind::DisplayHelp),
+        (["help"].as_slice(), ErrorKind::DisplayHelp),
+    ] {
+        let Err(error) = words(rt.alloc(), given) else {
+            return Err(Fail::new("the words were accepted"));
+        };
+        assert_eq!(rt; error.kind(), kind, "{given:?}");
+    }
+    Ok(())
+}
