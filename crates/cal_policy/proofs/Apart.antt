@@ -1,6 +1,6 @@
 -- After an orderly history no core is banned while its sibling is.
-use Rattle.std.proofs.Common.{◌≡◌, ℕ, ◌+◌, ◌-◌, ◌%◌, ◌<◌, suc, zero, Bool, true, false, cond, not, ◌&&◌, List, [], ◌∷◌, ◌++◌, take, slice_get, IsTrue, Option, Some, None, refl, ap, sym, subst, ◌∙◌, ◌⊎◌, inl, inr, ⊎_elim, arith, append_assoc, eqb, ltb}
-use Rattle.std.specs.Option.{unwrap_or, is_some}
+use Rattle.std.proofs.Common.{◌≡◌, ℕ, suc, zero, Bool, true, false, cond, not, ◌&&◌, List, [], ◌∷◌, ◌++◌, take, slice_get, IsTrue, Option, Some, None, refl, ap, sym, subst, ◌∙◌, ⊎_elim, arith, append_assoc, eqb, ltb}
+use Rattle.std.specs.Option.{is_some}
 use Rattle.std.proofs.lemmas.List.{append-nil}
 use Rattle.std.proofs.lemmas.Grind.{flat_map-append}
 use Rattle.std.proofs.lemmas.Bool.{and_parts, not-true}
@@ -13,14 +13,13 @@ use Rattle.cal_policy.specs.declared.pass_action.Action.TheVariants.{Free, Unban
 use Rattle.cal_policy.specs.declared.pass_entry.PassEntry.{PassEntry}
 use Rattle.cal_policy.specs.declared.banning.BannedFor.{BannedFor}
 use Rattle.cal_policy.specs.Lists.{in_turn}
-use Rattle.cal_policy.specs.History.{actions_of, ban_of, ban_made, is_banned}
+use Rattle.cal_policy.specs.History.{actions_of, ban_of, is_banned}
 use Rattle.cal_policy.specs.Orderly.{IsOrderly, IsOrderlyEntry, fits_state}
-use Rattle.cal_policy.specs.Setting.{Setting, so_far, kept_now}
-use Rattle.cal_policy.specs.Frees.{free_at, frees, shows_left}
+use Rattle.cal_policy.specs.Setting.{Setting, so_far}
+use Rattle.cal_policy.specs.Frees.{free_at}
 use Rattle.cal_policy.specs.Bans.{NoPairBanned}
 use Rattle.cal_policy.proofs.Lists.{unwrap_if}
 use Rattle.cal_policy.proofs.History.{ban_push}
-use Rattle.cal_policy.proofs.Turns.{in_turn_more}
 use Rattle.cal_policy.proofs.Pairs.{after_end, none_if_unbanned, so_far_more}
 
 -- a sibling is another core, and its sibling is the core itself

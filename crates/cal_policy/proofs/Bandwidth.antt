@@ -1,12 +1,17 @@
 -- What the bandwidth part looks for, one place more.
-use Rattle.std.proofs.Common.{◌≡◌, ℕ, ◌+◌, ◌-◌, ◌<◌, ◌≤◌, length, suc, zero, Bool, true, false, cond, List, [], ◌∷◌, Option, Some, None, refl, ap, sym, ◌∙◌, arith, add-one, eqb}
+use Rattle.std.proofs.Common.{◌≡◌, ℕ, ◌+◌, ◌-◌, ◌<◌, ◌≤◌, length, suc, zero, Bool, true, false, cond, List, [], ◌∷◌, Option, Some, None, refl, ap, subst, eqb, ◌∙◌, arith, add-one}
 use Rattle.std.specs.Option.{IfSome}
-use Rattle.std.proofs.lemmas.Bool.{lt-ltb, le-ltb}
+use Rattle.std.proofs.lemmas.Bool.{lt-ltb, le-ltb, eqb-true}
+use Rattle.cal_machine.specs.Table.{Table}
+use Rattle.cal_policy.specs.declared.board.Board.{Board}
+use Rattle.cal_policy.specs.Counts.{is_held_for}
+use Rattle.cal_policy.specs.Board.{holder_in}
+use Rattle.cal_policy.specs.Losing.{HoldsCore}
 use Rattle.cal_policy.specs.declared.pass_action.Action.{Action}
 use Rattle.cal_policy.specs.Tasks.{is_latency_critical}
 use Rattle.cal_policy.specs.Choice.{sum_below, highest_below, lowest_below, first_or}
 use Rattle.cal_policy.specs.Setting.{Setting}
-use Rattle.cal_policy.specs.Bandwidth.{is_capped, core_to_lose, task_misses, victim_rank, victim_of, cut_of, rise_of, bandwidth_after}
+use Rattle.cal_policy.specs.Bandwidth.{is_number, is_capped, core_to_lose, task_misses, victim_rank, victim_of, cut_of, rise_of, bandwidth_after}
 
 pub sum_more : (f : ℕ → ℕ) (n sum next : ℕ) → sum ≡ sum_below f n → next ≡ f n → sum + next ≡ sum_below f (n + 1)
 sum_more f n sum next e g = rw (add-one n, e, g) refl
@@ -43,9 +48,17 @@ pub rise_missing : (s : Setting) (x : List Action) (b : Bool) (t : ℕ) → [] �
 rise_missing s x true t e = cc
 rise_missing s x false t e = refl
 
-pub cond_if_some : (P : ℕ → Type 0) (b : Bool) (n : ℕ) (o : Option ℕ) → P n → IfSome o P → IfSome (cond b (Some n) o) P
-cond_if_some P true n o p h = p
+cond_if_some : (P : ℕ → Type 0) (b : Bool) (n : ℕ) (o : Option ℕ) → (b ≡ true → P n) → IfSome o P → IfSome (cond b (Some n) o) P
+cond_if_some P true n o p h = p refl
 cond_if_some P false n o p h = h
+
+-- the next core, where the task can lose it, else the one so far
+pub held_more : (table : Table) (b : Board) (t core : ℕ) (task o : Option ℕ) → core < table.cores →
+    IfSome task (λ k. is_held_for table k (holder_in b.holding core) ≡ true) → HoldsCore table b t o → HoldsCore table b t (cond (is_number t task) (Some core) o)
+held_more table b t core None o lt e h = h
+held_more table b t core (Some k) o lt e h =
+    cond_if_some (λ c. (c < table.cores) × (is_held_for table t (holder_in b.holding c) ≡ true)) (eqb k t) core o
+    (λ yes. (lt, subst (λ i. is_held_for table i (holder_in b.holding core) ≡ true) (eqb-true k t yes) e)) h
 
 -- over the limit, and not over it
 pub over_limit : (s : Setting) (x : List Action) → s.table.bandwidth_limit < s.input.bandwidth → bandwidth_after s x ≡ cut_of s x (victim_of s x)

@@ -1,5 +1,5 @@
 -- What a branch gives once its tests are known.
-use Rattle.std.proofs.Common.{◌≡◌, Bool, true, false, ◌&&◌, cond, List, [], refl}
+use Rattle.std.proofs.Common.{◌≡◌, Bool, true, false, ◌&&◌, cond, refl}
 
 pub when_true : {X : Type 0} (b : Bool) (x y : X) → true ≡ b → x ≡ cond b x y
 when_true true x y e = refl

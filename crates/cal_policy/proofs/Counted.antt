@@ -1,6 +1,6 @@
 -- How counts and choices among the numbers below n go with their tests.
-use Rattle.std.proofs.Common.{◌≡◌, ℕ, ◌+◌, ◌<◌, ◌≤◌, ◌⊎◌, Bool, true, false, cond, Option, Some, None, refl, sym, ap, ◌∙◌, arith, inl, inr, ⊎_elim, zero, suc}
-use Rattle.std.proofs.lemmas.Bool.{cases_lt, cases_eq}
+use Rattle.std.proofs.Common.{◌≡◌, ℕ, ◌+◌, ◌<◌, ◌≤◌, ◌⊎◌, Bool, true, false, cond, Option, Some, None, refl, arith, inl, inr, zero, suc}
+use Rattle.std.proofs.lemmas.Bool.{cases_eq}
 use Rattle.cal_policy.specs.Choice.{count_below, best_below, better, highest_below, lowest_below, first_or}
 use Rattle.cal_policy.specs.declared.choosing.Candidate.{Candidate}
 

@@ -1,5 +1,5 @@
 -- Each action that is made fits the state at its place, and leaves a steady one.
-use Rattle.std.proofs.Common.{◌≡◌, ℕ, ◌+◌, ◌-◌, ◌<◌, ◌≤◌, ◌⊎◌, Bool, true, false, ◌&&◌, ◌||◌, not, cond, eqb, ltb, leb, nat_lt, List, [], ◌∷◌, ◌++◌, length, Option, Some, None, refl, sym, ap, ◌∙◌, arith, inl, inr, subst, append_assoc, if◌then◌else◌}
+use Rattle.std.proofs.Common.{◌≡◌, ℕ, ◌<◌, ◌≤◌, Bool, true, false, ◌&&◌, ◌||◌, not, cond, eqb, ltb, leb, nat_lt, List, [], ◌∷◌, ◌++◌, length, Option, Some, None, refl, sym, ap, ◌∙◌, arith, inl, inr, subst, append_assoc}
 use Rattle.std.proofs.lemmas.Bool.{lt-ltb, le-leb}
 use Rattle.std.proofs.lemmas.Bool.Decides.{nat_tests}
 use Rattle.cal_machine.specs.Table.{Table, IsTable}
@@ -15,24 +15,22 @@ use Rattle.cal_policy.specs.declared.choosing.Candidate.{Candidate}
 use Rattle.cal_policy.specs.declared.holding.Placement as placements
 use Rattle.cal_policy.specs.declared.holding.Holder.{Holder}
 use Rattle.cal_policy.specs.declared.holding.Holder.TheVariants as holders
-use Rattle.cal_policy.specs.declared.pass_entry.PassEntry.{PassEntry}
-use Rattle.cal_policy.specs.History.{actions_of, holder_of, last_thread, is_banned, ban_of}
+use Rattle.cal_policy.specs.History.{actions_of, holder_of, last_thread, is_banned}
 use Rattle.cal_policy.specs.Counts.{is_free, is_held, is_held_for, is_booked_for, held_by, booked_by, cores_of_thread, cap_of, is_over}
-use Rattle.cal_policy.specs.Choice.{best_below, highest_below, lowest_below}
 use Rattle.cal_policy.specs.Setting.{Setting, so_far, kept_now, has_room, is_held_with_room}
-use Rattle.cal_policy.specs.Frees.{has_left, shows_left}
-use Rattle.cal_policy.specs.Bans.{too_long_on, runs_too_long, may_ban_beside, may_be_emptied, ban_due}
-use Rattle.cal_policy.specs.Bandwidth.{can_lose, core_to_lose, victim_of, victim_rank, is_capped}
-use Rattle.cal_policy.specs.Grants.{class_of, class_by, idle_class, burst_class, may_preempt, is_thread_for, choice_of, thread_choice, thread_rank, thread_delay, may_book}
+use Rattle.cal_policy.specs.Frees.{shows_left}
+use Rattle.cal_policy.specs.Bans.{too_long_on, may_ban_beside, may_be_emptied, ban_due}
+use Rattle.cal_policy.specs.Bandwidth.{can_lose, victim_rank, is_capped}
+use Rattle.cal_policy.specs.Grants.{class_of, class_by, idle_class, burst_class, may_preempt, is_thread_for, choice_of, thread_choice, thread_rank, thread_delay}
 use Rattle.cal_policy.specs.Orderly.{fits_state, names_table}
 use Rattle.cal_policy.specs.Board.{placement_of}
-use Rattle.cal_policy.specs.Made.{IsMade, IsFreed, IsUnbanned, IsBanned, IsRevokedForBan, IsRevokedForBandwidth, IsPreempted, IsCapCut, IsCapRise, IsGranted, IsBanDue, IsCut, IsChosen}
+use Rattle.cal_policy.specs.Made.{IsMade, IsFreed, IsUnbanned, IsBanned, IsRevokedForBan, IsPreempted, IsCapCut, IsCapRise, IsGranted, IsCut}
 use Rattle.cal_policy.specs.Steady.{IsSteady}
 use Rattle.cal_policy.proofs.Numbering.{pairs, task_there, next_le}
 use Rattle.cal_policy.proofs.Booleans.{both_true, and_true, not_true, not_false, some_then, some_else}
 use Rattle.cal_policy.proofs.Counted.{count_le, highest_passes, lowest_passes, best_ranked}
 use Rattle.cal_policy.proofs.History.{holder_push}
-use Rattle.cal_policy.proofs.Steady.{Shrinks, Shrinks_ban, Shrinks_unban, Shrinks_cap, Shrinks_free, Shrinks_revoke, Steady_shrinks, Steady_grant}
+use Rattle.cal_policy.proofs.Steady.{Shrinks_ban, Shrinks_unban, Shrinks_cap, Shrinks_free, Shrinks_revoke, Steady_shrinks, Steady_grant}
 
 -- the actions so far, with one more
 pub so_far_push : (s : Setting) (acts : List Action) (a : Action) → so_far s (acts ++ a ∷ []) ≡ so_far s acts ++ a ∷ []

@@ -1,5 +1,5 @@
 -- What a holder as it is kept says of the holder that the actions give.
-use Rattle.std.proofs.Common.{◌≡◌, ℕ, refl, sym, ap, ◌∙◌}
+use Rattle.std.proofs.Common.{◌≡◌, ℕ, refl, sym, ap}
 use Rattle.cal_policy.specs.declared.pass_action.Cause.{Cause}
 use Rattle.cal_policy.specs.declared.holding.Placement as placements
 use Rattle.cal_policy.specs.declared.holding.Holder.{Holder}

@@ -1,6 +1,6 @@
 -- A legal history is orderly, and steady at each point.
-use Rattle.std.proofs.Common.{◌≡◌, ℕ, ◌+◌, ◌<◌, ◌≤◌, zero, suc, true, List, [], ◌∷◌, ◌++◌, length, take, get_or, Some, refl, sym, ap, ◌∙◌, arith, subst, append_assoc, ⊎_elim}
-use Rattle.std.specs.List.{flat_map, slice_get}
+use Rattle.std.proofs.Common.{◌≡◌, ℕ, ◌+◌, ◌<◌, ◌≤◌, zero, suc, List, [], ◌∷◌, ◌++◌, length, take, get_or, Some, sym, ap, ◌∙◌, arith, subst, append_assoc, ⊎_elim}
+use Rattle.std.specs.List.{slice_get}
 use Rattle.std.proofs.lemmas.List.{take_more, append-nil}
 use Rattle.std.proofs.lemmas.Grind.{flat_map-append}
 use Rattle.std.proofs.lemmas.Option.{slice_get_cases, slice_get_within, get_or_from_slice_get}
@@ -9,7 +9,7 @@ use Rattle.cal_policy.specs.declared.pass_action.Action.{Action}
 use Rattle.cal_policy.specs.declared.pass_entry.PassEntry.{PassEntry}
 use Rattle.cal_policy.specs.History.{actions_of}
 use Rattle.cal_policy.specs.Setting.{Setting, setting_of, so_far}
-use Rattle.cal_policy.specs.Orderly.{fits_state, IsOrderlyEntry, IsOrderly}
+use Rattle.cal_policy.specs.Orderly.{IsOrderlyEntry, IsOrderly}
 use Rattle.cal_policy.specs.Pass.{pass_of, IsPass, IsLegal}
 use Rattle.cal_policy.specs.Made.{EachAfter, IsMade}
 use Rattle.cal_policy.specs.Steady.{IsSteady, IsSound}

@@ -25,5 +25,8 @@ pub mod Pairs
 pub mod Bandwidth
 pub mod Apart
 pub mod Legality
+pub mod ApartInside
 pub mod Best
 pub mod Passing
+pub mod Surveyed
+pub mod PassLength

@@ -1,9 +1,9 @@
 -- Each action of a pass is made at its own place.
-use Rattle.std.proofs.Common.{◌≡◌, ℕ, ◌<◌, Bool, true, false, ◌&&◌, not, nat_lt, List, [], ◌∷◌, ◌++◌, length, Option, Some, None, inl, inr, refl, if◌then◌else◌}
+use Rattle.std.proofs.Common.{◌≡◌, ℕ, ◌<◌, Bool, true, false, ◌&&◌, nat_lt, List, [], ◌∷◌, ◌++◌, length, Option, Some, None, inl, inr, refl, if◌then◌else◌}
 use Rattle.cal_machine.specs.Machine.{sibling_of}
 use Rattle.cal_policy.specs.Tasks.{is_latency_critical, thread_of}
 use Rattle.cal_policy.specs.declared.pass_action.Action.{Action}
-use Rattle.cal_policy.specs.declared.pass_action.Action.TheVariants.{Free, Unban, Ban, Revoke, Cap, Grant}
+use Rattle.cal_policy.specs.declared.pass_action.Action.TheVariants.{Free, Unban, Ban, Revoke, Grant}
 use Rattle.cal_policy.specs.declared.pass_action.Cause.TheVariants as causes
 use Rattle.cal_policy.specs.declared.banning.BannedFor.{BannedFor}
 use Rattle.cal_policy.specs.declared.choosing.Candidate.{Candidate}

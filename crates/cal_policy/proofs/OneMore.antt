@@ -1,7 +1,6 @@
 -- Counts and choices among the numbers below n, one number more.
-use Rattle.std.proofs.Common.{◌≡◌, ℕ, ◌+◌, ◌<◌, ◌≤◌, suc, zero, Bool, true, false, not, ◌||◌, max, Option, refl, sym, ap, ◌∙◌, cond, eqb, add-one, arith, ⊎_elim}
+use Rattle.std.proofs.Common.{◌≡◌, ℕ, ◌+◌, ◌<◌, ◌≤◌, suc, zero, Bool, true, false, not, max, Option, refl, cond, add-one, arith, ⊎_elim}
 use Rattle.std.proofs.lemmas.Bool.{cases_lt}
-use Rattle.std.proofs.lemmas.Bool.Decides.{nat_tests}
 use Rattle.cal_policy.specs.Choice.{count_below, greatest_below, best_below, better}
 use Rattle.cal_policy.specs.declared.choosing.Candidate.{Candidate}
 
@@ -14,20 +13,6 @@ greatest_more f n most next e g = rw (add-one n, e, g) refl
 pub best_more : (beats : ℕ → ℕ → Bool) (f : ℕ → Option ℕ) (n : ℕ) (best : Option Candidate) (rank : Option ℕ) →
     best ≡ best_below beats f n → rank ≡ f n → better beats best rank n ≡ best_below beats f (n + 1)
 best_more beats f n best rank e g = rw (add-one n, e, g) refl
-
--- a count of those that pass, kept one by one
-pub counted_more : (p : ℕ → Bool) (n had now : ℕ) (b : Bool) → had ≡ count_below p n → b ≡ p n → now ≡ had + cond b 1 0 →
-    now ≡ count_below p (n + 1)
-counted_more p n had now b e g h = rw (h, e, g) (sym (count_more p n))
-
--- whether some have passed, kept one by one
-some_more : (b : Bool) (m : ℕ) → (b || not (eqb m 0)) ≡ not (eqb (m + cond b 1 0) 0)
-some_more true m = grind (arith, nat_tests)
-some_more false m = grind (arith, nat_tests)
-
-pub noted_more : (p : ℕ → Bool) (n : ℕ) (b had now : Bool) → had ≡ not (eqb (count_below p n) 0) → b ≡ p n → now ≡ (b || had) →
-    now ≡ not (eqb (count_below p (n + 1)) 0)
-noted_more p n b had now e g h = rw (h, e, g) (some_more (p n) (count_below p n)) ∙ ap (λ m. not (eqb m 0)) (sym (count_more p n))
 
 -- no more pass than there are
 one_at_most : (b : Bool) → cond b 1 0 ≤ 1

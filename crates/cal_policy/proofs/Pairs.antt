@@ -1,17 +1,17 @@
 -- A part that goes over the cores pair by pair, and bans of cores beside each other.
-use Rattle.std.proofs.Common.{◌≡◌, ℕ, ◌+◌, ◌*◌, ◌%◌, suc, zero, Bool, true, false, cond, List, [], ◌∷◌, ◌++◌, Option, Some, None, refl, ap, sym, ◌∙◌, arith, append_assoc, add-one, eqb, ◌⊎◌, inl, inr, ⊎_elim}
-use Rattle.std.specs.Option.{unwrap_or, is_some}
+use Rattle.std.proofs.Common.{◌≡◌, ℕ, ◌+◌, ◌*◌, suc, zero, Bool, true, false, cond, List, [], ◌∷◌, ◌++◌, Option, Some, None, refl, ap, sym, ◌∙◌, arith, append_assoc, eqb, ◌⊎◌, inl, inr, ⊎_elim}
+use Rattle.std.specs.Option.{is_some}
 use Rattle.std.proofs.lemmas.List.{append-nil}
 use Rattle.std.proofs.lemmas.Bool.Decides.{nat_tests}
 use Rattle.cal_signal.specs.declared.record.Record.{Record}
 use Rattle.cal_machine.specs.Machine.{sibling_of}
 use Rattle.cal_policy.specs.declared.pass_action.Action.{Action}
-use Rattle.cal_policy.specs.declared.pass_action.Action.TheVariants.{Free, Unban, Ban, Revoke, Cap, Grant}
+use Rattle.cal_policy.specs.declared.pass_action.Action.TheVariants.{Unban, Ban, Revoke}
 use Rattle.cal_policy.specs.declared.pass_action.Cause.{Cause}
 use Rattle.cal_policy.specs.declared.pass_action.Cause.TheVariants as causes
 use Rattle.cal_policy.specs.declared.banning.BannedFor.{BannedFor}
 use Rattle.cal_policy.specs.Lists.{in_turn, in_pair}
-use Rattle.cal_policy.specs.History.{holder_of, ban_of, is_banned, ban_made}
+use Rattle.cal_policy.specs.History.{holder_of, ban_of, is_banned}
 use Rattle.cal_policy.specs.Counts.{is_held}
 use Rattle.cal_policy.specs.Setting.{Setting, so_far, kept_now}
 use Rattle.cal_policy.specs.Bans.{NoPairBanned, still_shows, unban_at, unban_for, ban_for, ban_due, ban_at}

@@ -1,5 +1,5 @@
 -- A pass from its parts, and where it begins and ends.
-use Rattle.std.proofs.Common.{◌≡◌, ℕ, ◌<◌, List, [], ◌∷◌, ◌++◌, map, refl, sym, ap, ◌∙◌, subst, append_assoc}
+use Rattle.std.proofs.Common.{◌≡◌, List, [], ◌∷◌, ◌++◌, sym, ap, ◌∙◌, subst}
 use Rattle.std.proofs.lemmas.List.{append-nil, map-append}
 use Rattle.std.proofs.lemmas.Grind.{flat_map-append}
 use Rattle.cal_policy.specs.declared.pass_action.Action.{Action}
@@ -8,7 +8,7 @@ use Rattle.cal_policy.specs.declared.judged_look.Seen.{Seen}
 use Rattle.cal_policy.specs.declared.board.Board.{Board}
 use Rattle.cal_policy.specs.History.{actions_of, looks_of}
 use Rattle.cal_policy.specs.Setting.{Setting, so_far}
-use Rattle.cal_policy.specs.Frees.{frees, free_at}
+use Rattle.cal_policy.specs.Frees.{frees}
 use Rattle.cal_policy.specs.Bans.{unbans, bans, NoPairBanned}
 use Rattle.cal_policy.specs.Bandwidth.{bandwidth_part}
 use Rattle.cal_policy.specs.Grants.{critical_grants, best_effort_grants}

@@ -1,6 +1,6 @@
 -- The second and third part of a pass: a core stays empty while a request on its sibling runs too long. (After Caladan's controller of
 -- hyperthread siblings; the exact rule is own.)
-use Rattle.std.specs.Prelude.{◌≡◌, ℕ, ◌+◌, ◌-◌, ◌==◌, ◌&&◌, ◌||◌, Bool, true, false, not, nat_lt, List, [], ◌∷◌, ◌++◌, Option, Some, None, if◌then◌else◌}
+use Rattle.std.specs.Prelude.{◌≡◌, ℕ, ◌+◌, ◌-◌, ◌==◌, ◌&&◌, Bool, true, false, not, nat_lt, List, [], ◌∷◌, Option, Some, None, if◌then◌else◌}
 use Rattle.cal_signal.specs.declared.record.Record.{Record}
 use Rattle.cal_policy.specs.Tasks.{owner_of, is_latency_critical, request_of}
 use Rattle.cal_machine.specs.Machine.{sibling_of}

@@ -22,6 +22,7 @@ use Rattle.cal_policy.specs.History.{actions_of, looks_of, holder_of, last_place
 use Rattle.cal_policy.specs.Looks.{kept_by, last_shown, zero_record, nothing_shown}
 use Rattle.cal_policy.specs.Setting.{Setting, so_far, kept_now, kept_before}
 use Rattle.cal_policy.specs.Grants.{is_granted_in}
+use Rattle.cal_policy.specs.Survey.{Surveys}
 
 -- a number of commands as it is kept: no record acknowledges 2^64, so what is above need not be told apart
 abbrev pub kept_number : ℕ → ℕ
@@ -40,6 +41,24 @@ abbrev pub placement_of : Holder → Option placements.Placement
 placement_of holders.Free = None
 placement_of (holders.Held placement) = Some placement
 placement_of (holders.Leaving placement cause) = Some placement
+
+-- who has core c, as it is kept
+abbrev pub holder_in : Holding → ℕ → Holder
+holder_in h c = slice_index_or h.holders c holders.Free
+
+-- who has this core, as it is kept; of no core nobody
+abbrev pub holder_at : Holding → Option ℕ → Holder
+holder_at h None = holders.Free
+holder_at h (Some c) = holder_in h c
+
+-- the core whose holder an action changes
+abbrev pub core_changed : Action → Option ℕ
+core_changed (Free core) = Some core
+core_changed (Revoke core cause) = Some core
+core_changed (Grant core thread class) = Some core
+core_changed (Unban core) = None
+core_changed (Ban core thread started) = None
+core_changed (Cap task cap) = None
 
 -- cores, threads and numbers of commands are as the actions x say
 pub record HoldingAgrees (h : Holding) (x : List Action) : Type 0 where
@@ -98,10 +117,11 @@ pub record IsSound (threads : ℕ) (b : Board) : Type 0 where
 abbrev pub NamesTable : Table → Action → Type 0
 NamesTable table action = NamesCores table.cores (threads_of_table table) action
 
--- the board's threads are the table's
+-- the board's threads are the table's, and its counts are those of its cores
 pub record IsReady (table : Table) (b : Board) : Type 0 where
   pub sound : IsSound 128 b
   pub own : IsSound (threads_of_table table) b
+  pub counts : Surveys table (holder_in b.holding) b.survey
 
 -- the set has the cores that were granted in this pass
 pub record IsFresh (granted : CoreSet) (acts : List Action) : Type 0 where

@@ -1,14 +1,19 @@
 -- Laws over the definitions alone.
-use Rattle.std.specs.Prelude.{◌≡◌, ℕ, ◌<◌, ◌≤◌, List, length, take, Some, None, slice_get}
-use Rattle.std.specs.Option.{MatchOption}
+use Rattle.std.specs.Prelude.{◌≡◌, ℕ, ◌<◌, ◌≤◌, List, [], ◌∷◌, ◌++◌, length, take, Option, Some, None, slice_get}
+use Rattle.std.specs.Option.{MatchOption, option_map, option_or, unwrap_or}
 use Rattle.cal_policy.specs.declared.pass_action.Action.{Action}
-use Rattle.cal_policy.specs.History.{actions_of}
+use Rattle.cal_policy.specs.declared.holding.Placement as placements
+use Rattle.cal_policy.specs.declared.judged_look.Seen.{Seen}
+use Rattle.cal_policy.specs.History.{actions_of, holder_of, holder_made, last_placement, placement_made, last_thread, commands_to, sends, ban_of, ban_made, last_cap, cap_made}
+use Rattle.cal_policy.specs.Looks.{kept_by, to_keep_at}
 use Rattle.cal_policy.specs.Steady.{IsSteady, IsSound}
 use Rattle.cal_machine.specs.Table.{Table, IsTable}
 use Rattle.cal_policy.specs.declared.pass_entry.PassEntry.{PassEntry}
 use Rattle.cal_policy.specs.declared.choosing.Candidate.{Candidate}
 use Rattle.cal_policy.specs.Tasks.{limit_of, thread_of}
-use Rattle.cal_policy.specs.Setting.{Setting, setting_of}
+use Rattle.cal_policy.specs.Setting.{Setting, setting_of, so_far}
+use Rattle.cal_policy.specs.Bans.{NoPairBanned}
+use Rattle.cal_policy.specs.Bandwidth.{victim_rank, victim_of}
 use Rattle.cal_policy.specs.Grants.{thread_rank, thread_choice, class_of, choice_of}
 use Rattle.cal_policy.specs.Orderly.{IsOrderly}
 use Rattle.cal_policy.specs.Pass.{IsLegal}
@@ -51,3 +56,45 @@ LegalIsSteady = (table : Table) (history : List PassEntry) → IsTable table →
 abbrev pub LegalIsSound : Type 0
 LegalIsSound = (table : Table) (history : List PassEntry) → IsTable table → IsLegal table history → (p : ℕ) (entry : PassEntry) → slice_get history p ≡ Some entry →
     (i : ℕ) (action : Action) → slice_get entry.actions i ≡ Some action → IsSound (setting_of table (take p history) entry) (take i entry.actions) action
+
+-- what one more action makes of the state: what it says, and where it says nothing all is as it was
+pub record IsOneMore (x : List Action) (action : Action) : Type 0 where
+  pub holder : (c : ℕ) → holder_of (x ++ action ∷ []) c ≡ unwrap_or (holder_made c x action) (holder_of x c)
+  pub placement : (c : ℕ) → last_placement (x ++ action ∷ []) c ≡ option_or (placement_made c x action) (last_placement x c)
+  pub commands : (k : ℕ) → commands_to (x ++ action ∷ []) k ≡ commands_to x k ++ sends k x action
+  pub ban : (c : ℕ) → ban_of (x ++ action ∷ []) c ≡ unwrap_or (ban_made c x action) (ban_of x c)
+  pub cap : (t : ℕ) → last_cap (x ++ action ∷ []) t ≡ option_or (cap_made t x action) (last_cap x t)
+
+abbrev pub ActionIsOneMore : Type 0
+ActionIsOneMore = (x : List Action) (action : Action) → IsOneMore x action
+
+-- the thread of a core's last grant is that of its last placement
+abbrev pub LastThreadIsPlaced : Type 0
+LastThreadIsPlaced = (x : List Action) (c : ℕ) → last_thread x c ≡ option_map (λ (placement : placements.Placement). placement.thread) (last_placement x c)
+
+-- after one more pass's looks a kept record is the one that they let be kept, and without one it is as it was
+abbrev pub LookIsOneMore : Type 0
+LookIsOneMore = (looks : List (List Seen)) (seen : List Seen) (k : ℕ) → kept_by (looks ++ seen ∷ []) k ≡ unwrap_or (to_keep_at seen k) (kept_by looks k)
+
+-- of the tasks that may be the victim it is the one with the most misses, and of those with as many the first
+pub record HasMostMisses (s : Setting) (x : List Action) (victim : Candidate) : Type 0 where
+  pub own : victim.number < length s.table.tasks
+  pub may_be : victim_rank s x victim.number ≡ Some victim.rank
+  pub none_more : (t misses : ℕ) → t < length s.table.tasks → victim_rank s x t ≡ Some misses → misses ≤ victim.rank
+  pub earlier_less : (t misses : ℕ) → t < victim.number → victim_rank s x t ≡ Some misses → misses < victim.rank
+
+-- the victim is that one; where there is none, no task may be it
+abbrev pub VictimHasMostMisses : Type 0
+VictimHasMostMisses = (s : Setting) (x : List Action) → MatchOption (victim_of s x)
+    ((t : ℕ) → t < length s.table.tasks → victim_rank s x t ≡ None)
+    (HasMostMisses s x)
+
+-- at each place inside each pass of a legal history no core is banned while its sibling is
+abbrev pub LegalIsApart : Type 0
+LegalIsApart = (table : Table) (history : List PassEntry) → IsTable table → IsLegal table history → (p : ℕ) (entry : PassEntry) → slice_get history p ≡ Some entry →
+    (i : ℕ) → NoPairBanned (so_far (setting_of table (take p history) entry) (take i entry.actions))
+
+-- a pass of a legal history has at most 338 actions
+abbrev pub LegalIsShort : Type 0
+LegalIsShort = (table : Table) (history : List PassEntry) → IsTable table → IsLegal table history → (p : ℕ) (entry : PassEntry) → slice_get history p ≡ Some entry →
+    length entry.actions ≤ 338

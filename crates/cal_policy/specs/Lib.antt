@@ -12,12 +12,12 @@ pub mod Bans
 pub mod Bandwidth
 pub mod Grants
 pub mod Pass
+pub mod Survey
 pub mod Board
 pub mod Coupled
-pub mod Survey
+pub mod Losing
 pub mod Made
 pub mod Steady
-pub mod Cause
 pub mod Laws
 pub mod Book
 pub mod Verdicts

@@ -1,7 +1,7 @@
 -- The actions that a pass can make, each with what stands at its own place; and the causes of revocations.
 use Rattle.std.specs.Prelude.{◌≡◌, ℕ, ◌+◌, ◌-◌, ◌<◌, true, false, nat_lt, List, [], ◌∷◌, ◌++◌, length, Some, ◌⊎◌}
 use Rattle.cal_machine.specs.Machine.{sibling_of}
-use Rattle.cal_policy.specs.Tasks.{thread_of, is_latency_critical}
+use Rattle.cal_policy.specs.Tasks.{thread_of}
 use Rattle.cal_policy.specs.declared.pass_action.Action.{Action}
 use Rattle.cal_policy.specs.declared.pass_action.Action.TheVariants.{Free, Unban, Ban, Revoke, Cap, Grant}
 use Rattle.cal_policy.specs.declared.pass_action.Cause.TheVariants as causes

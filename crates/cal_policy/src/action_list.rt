@@ -37,7 +37,7 @@ impl ActionList {
     pub fn as_slice(&self) -> &[Action]
         ensures { result.now ≡ self.now }
     {
-        self.items.as_slice()
+        &self.items
     }
 }
 

@@ -1,23 +1,27 @@
 //! What the actions and looks so far have made of cores, threads and tasks, as plain data.
 
-ghost use Rattle.std.specs.Prelude.{◌≡◌, ℕ, ◌<◌, ◌≤◌, ◌++◌, ◌∷◌, [], List, length};
+ghost use Rattle.std.specs.Prelude.{◌≡◌, ◌≤◌, ◌++◌, ◌∷◌, [], List, length};
 ghost use Rattle.cal_policy.specs.declared.pass_action.Action.{Action};
 ghost use Rattle.cal_policy.specs.declared.judged_look.Seen.{Seen};
-ghost use Rattle.cal_policy.specs.Board.{Agrees, IsSound, IsFresh, KeepingAgrees, KeepsBefore, NamesCores};
+ghost use Rattle.cal_machine.specs.Table.{Table, IsTable};
+ghost use Rattle.cal_policy.specs.Board.{Agrees, IsReady, IsFresh, KeepingAgrees, KeepsBefore, NamesCores, NamesTable};
 
 use crate::banning::Bans;
 use crate::capping::Caps;
-use crate::holding::Holding;
+use crate::holding::{Holding, core_changed_by};
 use crate::judged_look::Seen;
 use crate::keeping::Keeping;
 use crate::pass_action::Action;
-use cal_machine::CoreSet;
+use crate::surveying::Survey;
+use cal_machine::{Config, CoreSet};
 
 /// The state that the actions and looks so far leave. It has no model: what each part means is said
 /// of it by the actions and looks that it agrees with.
 #[derive(Drop)]
 pub struct Board {
     pub holding: Holding,
+    /// How many cores tasks and threads have.
+    pub survey: Survey,
     pub bans: Bans,
     pub caps: Caps,
     pub keeping: Keeping,
@@ -46,10 +50,11 @@ impl Board {
         ensures agrees { Agrees result [] }
         ensures keeping { KeepingAgrees result.keeping [] }
         ensures before { KeepsBefore result.keeping [] }
-        ensures sound { (threads : ℕ) → IsSound threads result }
+        ensures ready { (table : Table) → IsReady table result }
     {
         Board {
             holding: Holding::new(),
+            survey: Survey::new(),
             bans: Bans::new(),
             caps: Caps::new(),
             keeping: Keeping::new(),
@@ -58,15 +63,21 @@ impl Board {
     }
 
     /// Brings the state up to one more action.
-    pub fn apply(&mut self, action: Action)
-        requires sound { IsSound 128 self.old }
-        requires names { NamesCores 128 128 action }
+    pub fn apply(&mut self, config: &Config, action: Action)
+        requires table { IsTable config.now }
+        requires ready { IsReady config.now self.old }
+        requires names { NamesTable config.now action }
         ensures agrees { (x : List Action) → Agrees self.old x → Agrees self.new (x ++ action ∷ []) }
         ensures fresh { (acts : List Action) → IsFresh self.old.fresh acts → IsFresh self.new.fresh (acts ++ action ∷ []) }
-        ensures sound { (threads : ℕ) → IsSound threads self.old → NamesCores 128 threads action → IsSound threads self.new }
+        ensures ready { IsReady config.now self.new }
         ensures keeping { self.new.keeping ≡ self.old.keeping }
     {
+        let core = core_changed_by(action);
+        let before = self.holding.holder_at(core);
+        self.survey.remove(config, before);
         self.holding.apply(action);
+        let after = self.holding.holder_at(core);
+        self.survey.add(config, after);
         self.bans.apply(action);
         self.caps.apply(action);
         note_grant(&mut self.fresh, action);
@@ -77,7 +88,7 @@ impl Board {
         requires { length seen.now ≤ 128 }
         ensures agrees { (x : List Action) → Agrees self.old x → Agrees self.new x }
         ensures fresh { IsFresh self.new.fresh [] }
-        ensures sound { (threads : ℕ) → IsSound threads self.old → IsSound threads self.new }
+        ensures ready { (table : Table) → IsReady table self.old → IsReady table self.new }
         ensures keeping { (looks : List (List Seen)) → KeepingAgrees self.old.keeping looks → KeepingAgrees self.new.keeping (looks ++ seen.now ∷ []) }
         ensures before { (looks : List (List Seen)) → KeepingAgrees self.old.keeping looks → KeepsBefore self.new.keeping looks }
     {

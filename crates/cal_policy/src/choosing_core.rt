@@ -67,7 +67,7 @@ fn burst_class(config: &Config, survey: &Survey, task: usize, other: usize) -> O
     requires table { IsTable config.now }
     requires task { task < length config.now.tasks }
     requires other { other < length config.now.tasks }
-    ensures class { (x : List Action) → Surveys config.now x config.now.cores survey.now → result ≡ grants.burst_class config.now x task other }
+    ensures class { (x : List Action) → Surveys config.now (holder_of x) survey.now → result ≡ grants.burst_class config.now x task other }
     ensures few { IfSome result (λ class. class ≤ 5) }
 {
     if !is_latency_critical(config, other) {
@@ -99,15 +99,15 @@ fn may_preempt(
     requires core { core < config.now.cores }
     requires room { thread < length input.now.rooms }
     ensures { (h : List PassEntry) (acts : List Action) → Stands board.now (setting config.now h input.entry.now) acts →
-        Surveys config.now (so_far (setting config.now h input.entry.now) acts) config.now.cores survey.now →
+        Surveys config.now (holder_of (so_far (setting config.now h input.entry.now) acts)) survey.now →
         result ≡ (tasks.is_latency_critical config.now task && has_room (setting config.now h input.entry.now) thread
         && not (is_granted_in acts core) && none_leaves_for (setting config.now h input.entry.now) (so_far (setting config.now h input.entry.now) acts) task) }
 {
     let is_critical = is_latency_critical(config, task);
     let has_room = input.rooms.as_slice()[thread as usize];
     let granted = board.fresh.has(core);
-    let awaited = survey.awaited.has(task as u8);
-    is_critical && has_room && !granted && !awaited
+    let none_leaves = survey.awaited[task] == 0;
+    is_critical && has_room && !granted && none_leaves
 }
 
 /// The class of a core by its holder.
@@ -127,7 +127,7 @@ fn class_by_holder(
     requires rooms { length input.now.rooms ≡ threads_of_table config.now }
     requires holder { IfSome (placement_of holder) (λ placement. placement.thread < threads_of_table config.now) }
     ensures class { (h : List PassEntry) (acts : List Action) → Stands board.now (setting config.now h input.entry.now) acts →
-        Surveys config.now (so_far (setting config.now h input.entry.now) acts) config.now.cores survey.now →
+        Surveys config.now (holder_of (so_far (setting config.now h input.entry.now) acts)) survey.now →
         result ≡ class_by (setting config.now h input.entry.now) acts task core holder }
     ensures few { IfSome result (λ class. class ≤ 5) }
 {
@@ -162,7 +162,7 @@ pub fn choose_core(
     requires task { task < length config.now.tasks }
     requires rooms { length input.now.rooms ≡ threads_of_table config.now }
     ensures choice { (h : List PassEntry) (acts : List Action) → Stands board.now (setting config.now h input.entry.now) acts →
-        Surveys config.now (so_far (setting config.now h input.entry.now) acts) config.now.cores survey.now →
+        Surveys config.now (holder_of (so_far (setting config.now h input.entry.now) acts)) survey.now →
         result ≡ grants.choice_of (setting config.now h input.entry.now) acts task }
     ensures below { IfSome result (λ best. (best.number < config.now.cores) × (best.rank < 256)) }
 {

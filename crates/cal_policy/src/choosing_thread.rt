@@ -7,6 +7,7 @@ ghost use Rattle.cal_policy.specs.declared.pass_action.Action.{Action};
 ghost use Rattle.cal_policy.specs.declared.pass_entry.PassEntry.{PassEntry};
 ghost use Rattle.cal_policy.specs.Tasks.{threads_of_table, limit_of};
 ghost use Rattle.cal_policy.specs.Setting.{setting, so_far};
+ghost use Rattle.cal_policy.specs.History.{holder_of};
 ghost use Rattle.cal_policy.specs.Grants as grants;
 ghost use Rattle.cal_policy.specs.Board.{Stands};
 ghost use Rattle.cal_policy.specs.Survey.{Surveys};
@@ -24,12 +25,12 @@ fn thread_rank(input: &Input, board: &Board, survey: &Survey, thread: usize) -> 
     requires thread { thread < 128 }
     requires room { thread < length input.now.rooms }
     ensures { (table : Table) (h : List PassEntry) (acts : List Action) → Stands board.now (setting table h input.entry.now) acts →
-        Surveys table (so_far (setting table h input.entry.now) acts) table.cores survey.now →
+        Surveys table (holder_of (so_far (setting table h input.entry.now) acts)) survey.now →
         result ≡ grants.thread_rank (setting table h input.entry.now) (so_far (setting table h input.entry.now) acts) thread }
 {
-    let placed = survey.placed.has(thread as u8);
+    let has_none = survey.placed[thread] == 0;
     let has_room = input.rooms.as_slice()[thread];
-    if !placed && has_room {
+    if has_none && has_room {
         Some(u128::from(thread_delay(input, board, thread)))
     } else {
         None
@@ -49,7 +50,7 @@ pub fn choose_thread(
     requires task { task < length config.now.tasks }
     requires rooms { length input.now.rooms ≡ threads_of_table config.now }
     ensures choice { (h : List PassEntry) (acts : List Action) → Stands board.now (setting config.now h input.entry.now) acts →
-        Surveys config.now (so_far (setting config.now h input.entry.now) acts) config.now.cores survey.now →
+        Surveys config.now (holder_of (so_far (setting config.now h input.entry.now) acts)) survey.now →
         result ≡ grants.thread_choice (setting config.now h input.entry.now) (so_far (setting config.now h input.entry.now) acts) task }
     ensures below { IfSome result (λ best. best.number < limit_of config.now task) }
 {

@@ -1,13 +1,13 @@
 //! How many cores tasks have.
 
-ghost use Rattle.std.specs.Prelude.{◌≡◌, ◌<◌, ◌≤◌, length, List};
+ghost use Rattle.std.specs.Prelude.{◌≡◌, ℕ, ◌<◌, true, length, List};
 ghost use Rattle.std.specs.Option.{IfSome};
 ghost use Rattle.cal_machine.specs.Table.{IsTable};
 ghost use Rattle.cal_policy.specs.Tasks.{threads_of_table};
 ghost use Rattle.cal_policy.specs.declared.pass_action.Action.{Action};
 ghost use Rattle.cal_policy.specs.Counts as counts;
-ghost use Rattle.cal_policy.specs.Counts.{is_held_for, is_booked_for};
-ghost use Rattle.cal_policy.specs.Board.{Agrees, IsReady, placement_of};
+ghost use Rattle.cal_policy.specs.Counts.{is_held_for};
+ghost use Rattle.cal_policy.specs.Board.{Agrees, IsReady, holder_in, placement_of};
 
 use crate::board::Board;
 use crate::holding::Holder;
@@ -24,51 +24,20 @@ pub fn holds_for(config: &Config, task: usize, holder: Holder) -> bool
     }
 }
 
-/// Whether a thread of the task holds or leaves the core.
-pub fn books_for(config: &Config, task: usize, holder: Holder) -> bool
-    requires { IfSome (placement_of holder) (λ placement. placement.thread < threads_of_table config.now) }
-    ensures { result ≡ is_booked_for config.now task holder }
-{
-    match holder {
-        Holder::Held(placement) | Holder::Leaving(placement, _) => {
-            config.task_of(placement.thread as usize) == task
-        }
-        Holder::Free => false,
-    }
-}
-
 /// How many cores the task's threads hold.
 pub fn held_by(config: &Config, board: &Board, task: usize) -> u8
     requires ready { IsReady config.now board.now }
+    requires task { task < 16 }
     ensures held { (x : List Action) → Agrees board.now x → result ≡ counts.held_by config.now x task }
-    ensures within { result ≤ config.now.cores }
+    ensures some { (core : ℕ) → core < config.now.cores → is_held_for config.now task (holder_in board.now.holding core) ≡ true → 0 < result }
 {
-    let mut held = 0;
-    for core in 0..config.machine().cores() {
-        if holds_for(config, task, board.holding.holders[core as usize]) {
-            held += 1;
-        }
-    }
-    held
-}
-
-/// How many cores the task's threads hold or leave.
-pub fn booked_by(config: &Config, board: &Board, task: usize) -> u8
-    requires ready { IsReady config.now board.now }
-    ensures booked { (x : List Action) → Agrees board.now x → result ≡ counts.booked_by config.now x task }
-    ensures within { result ≤ config.now.cores }
-{
-    let mut booked = 0;
-    for core in 0..config.machine().cores() {
-        if books_for(config, task, board.holding.holders[core as usize]) {
-            booked += 1;
-        }
-    }
-    booked
+    config.limits();
+    board.survey.held[task]
 }
 
 /// Whether the task holds more cores than it is guaranteed.
 pub fn is_over(config: &Config, board: &Board, task: usize) -> bool
+    requires table { IsTable config.now }
     requires ready { IsReady config.now board.now }
     requires task { task < length config.now.tasks }
     ensures { (x : List Action) → Agrees board.now x → result ≡ counts.is_over config.now x task }

@@ -1,6 +1,6 @@
 //! A pass, from its parts in their order.
 
-ghost use Rattle.std.specs.Prelude.{◌≡◌, ◌≤◌, ℕ, [], length, List};
+ghost use Rattle.std.specs.Prelude.{◌≡◌, ◌≤◌, [], length, List};
 ghost use Rattle.cal_machine.specs.Table.{Table, IsTable};
 ghost use Rattle.cal_policy.specs.Tasks.{threads_of_table};
 ghost use Rattle.cal_policy.specs.declared.pass_entry.PassEntry.{PassEntry};
@@ -8,7 +8,7 @@ ghost use Rattle.cal_policy.specs.Setting.{setting};
 ghost use Rattle.cal_policy.specs.History.{actions_of, looks_of};
 ghost use Rattle.cal_policy.specs.Bans.{NoPairBanned};
 ghost use Rattle.cal_policy.specs.Pass.{pass_of};
-ghost use Rattle.cal_policy.specs.Board.{Agrees, KeepingAgrees, Stands, IsSound, IsReady, AgreesAfter, HasSizes};
+ghost use Rattle.cal_policy.specs.Board.{Agrees, KeepingAgrees, Stands, IsReady, AgreesAfter, HasSizes};
 
 use crate::action_list::Actions;
 use crate::board::Board;
@@ -25,7 +25,7 @@ fn begin(board: &mut Board, input: &Input)
     requires { length input.now.seen ≤ 128 }
     ensures stands { (table : Table) (h : List PassEntry) → Agrees board.old (actions_of h) → KeepingAgrees board.old.keeping (looks_of h) →
         Stands board.new (setting table h input.entry.now) [] }
-    ensures sound { (threads : ℕ) → IsSound threads board.old → IsSound threads board.new }
+    ensures ready { (table : Table) → IsReady table board.old → IsReady table board.new }
 {
     board.begin(input.seen.as_slice());
 }

@@ -1,9 +1,10 @@
 //! Who has each core, and how many commands each thread was sent.
 
-ghost use Rattle.std.specs.Prelude.{◌≡◌, ℕ, ◌+◌, ◌<◌, ◌≤◌, ◌^◌, ◌++◌, ◌∷◌, [], List, min, replicate};
+ghost use Rattle.std.specs.Prelude.{◌≡◌, ◌≢◌, ℕ, ◌+◌, ◌<◌, ◌≤◌, ◌^◌, ◌++◌, ◌∷◌, [], List, Some, min, replicate};
 ghost use Rattle.cal_policy.specs.declared.pass_action.Action.{Action};
 ghost use Rattle.cal_policy.specs.declared.pass_action.Action.TheVariants.{Revoke, Grant};
-ghost use Rattle.cal_policy.specs.Board.{HoldingAgrees, HoldingSound, NamesCores};
+ghost use Rattle.cal_policy.specs.Board.{HoldingAgrees, HoldingSound, NamesCores, holder_in, holder_at, core_changed};
+ghost use Rattle.std.specs.Option.{IfSome};
 
 use crate::pass_action::{Action, Cause};
 
@@ -50,6 +51,21 @@ fn all_free() -> [Holder; 128]
     [Holder::Free; 128]
 }
 
+/// The core whose holder an action changes.
+pub fn core_changed_by(action: Action) -> Option<u8>
+    ensures changed { result ≡ core_changed action }
+    ensures below { (cores threads : ℕ) → NamesCores cores threads action → IfSome result (λ core. core < cores) }
+{
+    match action {
+        Action::Free { core } => Some(core),
+        Action::Revoke { core, .. } => Some(core),
+        Action::Grant { core, .. } => Some(core),
+        Action::Unban { .. } => None,
+        Action::Ban { .. } => None,
+        Action::Cap { .. } => None,
+    }
+}
+
 /// One command more, as numbers are kept.
 fn one_more(number: u128) -> u128
     requires { number ≤ 2 ^ 64 }
@@ -63,11 +79,23 @@ impl Holding {
     pub fn new() -> Holding
         ensures agrees { HoldingAgrees result [] }
         ensures sound { (threads : ℕ) → HoldingSound threads result }
+        ensures free { (c : ℕ) → holder_in result c ≡ Holder.Free }
     {
         Holding {
             granted: none_granted(),
             holders: all_free(),
             sent: [0; 128],
+        }
+    }
+
+    /// Who has this core; of no core nobody.
+    pub fn holder_at(&self, core: Option<u8>) -> Holder
+        requires { IfSome core (λ c. c < 128) }
+        ensures { result ≡ holder_at self.now core }
+    {
+        match core {
+            None => Holder::Free,
+            Some(core) => self.holders[core as usize],
         }
     }
 
@@ -77,6 +105,7 @@ impl Holding {
         requires names { NamesCores 128 128 action }
         ensures agrees { (x : List Action) → HoldingAgrees self.old x → HoldingAgrees self.new (x ++ action ∷ []) }
         ensures sound { (threads : ℕ) → HoldingSound threads self.old → NamesCores 128 threads action → HoldingSound threads self.new }
+        ensures others { (c : ℕ) → core_changed action ≢ Some c → holder_in self.new c ≡ holder_in self.old c }
     {
         match action {
             Action::Free { core } => self.holders[core as usize] = Holder::Free,
@@ -98,6 +127,7 @@ impl Holding {
         requires core { core < 128 }
         ensures agrees { (x : List Action) → HoldingAgrees self.old x → HoldingAgrees self.new (x ++ Revoke core cause ∷ []) }
         ensures sound { (threads : ℕ) → HoldingSound threads self.old → HoldingSound threads self.new }
+        ensures others { (c : ℕ) → c ≢ core → holder_in self.new c ≡ holder_in self.old c }
     {
         match self.granted[core as usize] {
             None => self.holders[core as usize] = Holder::Free,
@@ -117,6 +147,7 @@ impl Holding {
         requires thread { thread < 128 }
         ensures agrees { (x : List Action) → HoldingAgrees self.old x → HoldingAgrees self.new (x ++ Grant core thread class ∷ []) }
         ensures sound { (threads : ℕ) → HoldingSound threads self.old → thread < threads → HoldingSound threads self.new }
+        ensures others { (c : ℕ) → c ≢ core → holder_in self.new c ≡ holder_in self.old c }
     {
         let _ = class;
         let number = one_more(self.sent[thread as usize]);

@@ -1,6 +1,6 @@
 //! Laws over the definitions alone, each the contract of a function that does nothing.
 
-ghost use Rattle.cal_policy.specs.Laws.{LegalIsOrderly, LegalIsSteady, LegalIsSound, ChosenHasWaitedLongest, ChosenIsOfLeastClass};
+ghost use Rattle.cal_policy.specs.Laws.{LegalIsOrderly, LegalIsSteady, LegalIsSound, LegalIsShort, LegalIsApart, ChosenHasWaitedLongest, ChosenIsOfLeastClass, VictimHasMostMisses, ActionIsOneMore, LastThreadIsPlaced, LookIsOneMore};
 
 /// A legal history is orderly: so what asks for an orderly history may be called on every legal one.
 pub fn legal_is_orderly()
@@ -29,4 +29,36 @@ pub fn legal_is_steady()
 /// state there.
 pub fn legal_is_sound()
     ensures { LegalIsSound }
+{}
+
+/// What one more action makes of holders, grants, commands, bans and caps: what it says, and where it says
+/// nothing all is as it was.
+pub fn action_is_one_more()
+    ensures { ActionIsOneMore }
+{}
+
+/// The thread of a core's last grant is that of its last placement.
+pub fn last_thread_is_placed()
+    ensures { LastThreadIsPlaced }
+{}
+
+/// After one more pass's looks a kept record is the one that they let be kept, and without one it is as it was.
+pub fn look_is_one_more()
+    ensures { LookIsOneMore }
+{}
+
+/// The task that loses a core to the bandwidth limit has had the most misses since the pass before, of
+/// those that may lose one; of those with as many it is the first. None does only where none may.
+pub fn victim_has_most_misses()
+    ensures { VictimHasMostMisses }
+{}
+
+/// At each place inside each pass of a legal history no core is banned while its sibling is.
+pub fn legal_is_apart()
+    ensures { LegalIsApart }
+{}
+
+/// Each pass of a legal history has at most 338 actions.
+pub fn legal_is_short()
+    ensures { LegalIsShort }
 {}

@@ -35,8 +35,9 @@ pub use cal_signal::{Look, Record, later, shaped};
 pub use judged_look::{Seen, SeenList};
 pub use judging::{is_input, judge};
 pub use law::{
-    chosen_has_waited_longest, chosen_is_of_least_class, legal_is_orderly, legal_is_sound,
-    legal_is_steady,
+    action_is_one_more, chosen_has_waited_longest, chosen_is_of_least_class, last_thread_is_placed,
+    legal_is_apart, legal_is_orderly, legal_is_short, legal_is_sound, legal_is_steady,
+    look_is_one_more, victim_has_most_misses,
 };
 pub use order::orderly;
 pub use pass_action::{Action, Cause};

@@ -23,7 +23,7 @@ pub fn step(config: &Config, board: &mut Board, action: Action)
     ensures keeping { board.new.keeping ≡ board.old.keeping }
 {
     config.limits();
-    board.apply(action);
+    board.apply(config, action);
 }
 
 /// Brings the board up to more actions, each of which names the table's cores, threads and tasks.

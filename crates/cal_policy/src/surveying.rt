@@ -1,36 +1,35 @@
-//! One walk over the cores, for all that is asked of tasks and threads.
+//! What is counted of the cores, kept up with each change of a holder.
 
-ghost use Rattle.std.specs.Prelude.{◌≡◌, ℕ, ◌+◌, ◌<◌, ◌≤◌, ◌==◌, ◌||◌, List, slice_index, replicate, false, if◌then◌else◌};
+ghost use Rattle.std.specs.Prelude.{◌≡◌, ◌==◌, true, ℕ, ◌+◌, ◌<◌, List, slice_index, if◌then◌else◌};
 ghost use Rattle.std.specs.Option.{IfSome};
 ghost use Rattle.cal_machine.specs.Table.{IsTable};
-ghost use Rattle.cal_machine.specs.CoreSet.{has};
 ghost use Rattle.cal_policy.specs.Tasks.{threads_of_table};
 ghost use Rattle.cal_policy.specs.declared.pass_action.Action.{Action};
-ghost use Rattle.cal_policy.specs.Counts.{is_held_for, is_booked_for, is_with};
+ghost use Rattle.cal_policy.specs.History.{holder_of};
 ghost use Rattle.cal_policy.specs.Grants.{leaves_for};
 ghost use Rattle.cal_policy.specs.Board.{Agrees, IsReady, placement_of};
-ghost use Rattle.cal_policy.specs.Survey.{Surveys};
+ghost use Rattle.cal_policy.specs.Survey.{Surveys, IsWithin, IsCounted, IsOneMore};
 
 use crate::board::Board;
 use crate::holding::{Holder, Placement};
 use crate::pass_action::Cause;
-use cal_machine::{Config, CoreSet};
+use cal_machine::Config;
 
-/// What the cores say of tasks and threads.
+/// How many cores tasks and threads have.
 #[derive(Drop)]
 pub struct Survey {
     /// How many cores the threads of each task hold.
     pub held: [u8; 16],
     /// How many cores the threads of each task hold or leave.
     pub booked: [u8; 16],
-    /// The threads that hold or leave a core.
-    pub placed: CoreSet,
-    /// The tasks for which a core is being left.
-    pub awaited: CoreSet,
+    /// How many cores each thread holds or leaves.
+    pub placed: [u8; 128],
+    /// How many cores are being left for each task.
+    pub awaited: [u8; 16],
 }
 
 /// One more core for a task.
-fn count(counts: &mut [u8; 16], task: usize)
+fn count_task(counts: &mut [u8; 16], task: usize)
     requires task { task < 16 }
     requires few { slice_index counts.old task < 255 }
     ensures { (t : ℕ) → t < 16 → slice_index counts.new t ≡ slice_index counts.old t + (if task == t then 1 else 0) }
@@ -38,94 +37,159 @@ fn count(counts: &mut [u8; 16], task: usize)
     counts[task] += 1;
 }
 
-/// Notes for which task a core is being left, where it is for one.
-fn await_for(awaited: &mut CoreSet, placement: Placement, cause: Cause)
-    ensures { (t : ℕ) → t < 16 → has awaited.new t ≡ (leaves_for t (Holder.Leaving placement cause) || has awaited.old t) }
+/// One core fewer for a task.
+fn uncount_task(counts: &mut [u8; 16], task: usize)
+    requires task { task < 16 }
+    requires some { 0 < slice_index counts.old task }
+    ensures { (t : ℕ) → t < 16 → slice_index counts.old t ≡ slice_index counts.new t + (if task == t then 1 else 0) }
+{
+    counts[task] -= 1;
+}
+
+/// One more core for a thread.
+fn count_thread(counts: &mut [u8; 128], thread: usize)
+    requires thread { thread < 128 }
+    requires few { slice_index counts.old thread < 255 }
+    ensures { (k : ℕ) → k < 128 → slice_index counts.new k ≡ slice_index counts.old k + (if thread == k then 1 else 0) }
+{
+    counts[thread] += 1;
+}
+
+/// One core fewer for a thread.
+fn uncount_thread(counts: &mut [u8; 128], thread: usize)
+    requires thread { thread < 128 }
+    requires some { 0 < slice_index counts.old thread }
+    ensures { (k : ℕ) → k < 128 → slice_index counts.old k ≡ slice_index counts.new k + (if thread == k then 1 else 0) }
+{
+    counts[thread] -= 1;
+}
+
+/// One more core that is being left, where it is for a task.
+fn count_awaited(counts: &mut [u8; 16], placement: Placement, cause: Cause)
+    requires few { (t : ℕ) → t < 16 → slice_index counts.old t < 255 }
+    ensures { (t : ℕ) → t < 16 → slice_index counts.new t ≡ slice_index counts.old t + (if leaves_for t (Holder.Leaving placement cause) then 1 else 0) }
 {
     let _ = placement;
     if let Cause::Preempt { task } = cause {
         if task < 16 {
-            awaited.insert(task);
+            counts[task as usize] += 1;
+        }
+    }
+}
+
+/// One core fewer that is being left, where it is for a task.
+fn uncount_awaited(counts: &mut [u8; 16], placement: Placement, cause: Cause)
+    requires some { (t : ℕ) → t < 16 → leaves_for t (Holder.Leaving placement cause) ≡ true → 0 < slice_index counts.old t }
+    ensures { (t : ℕ) → t < 16 → slice_index counts.old t ≡ slice_index counts.new t + (if leaves_for t (Holder.Leaving placement cause) then 1 else 0) }
+{
+    let _ = placement;
+    if let Cause::Preempt { task } = cause {
+        if task < 16 {
+            counts[task as usize] -= 1;
         }
     }
 }
 
 impl Survey {
-    /// What no core says.
-    fn new() -> Survey
+    /// The counts where every core is free.
+    pub fn new() -> Survey
         ensures held { (t : ℕ) → slice_index result.held t ≡ 0 }
         ensures booked { (t : ℕ) → slice_index result.booked t ≡ 0 }
-        ensures placed { (k : ℕ) → has result.placed k ≡ false }
-        ensures awaited { (t : ℕ) → has result.awaited t ≡ false }
+        ensures placed { (k : ℕ) → slice_index result.placed k ≡ 0 }
+        ensures awaited { (t : ℕ) → slice_index result.awaited t ≡ 0 }
     {
         Survey {
             held: [0; 16],
             booked: [0; 16],
-            placed: CoreSet::empty(),
-            awaited: CoreSet::empty(),
+            placed: [0; 128],
+            awaited: [0; 16],
         }
     }
 
-    /// Notes a core that is held.
-    fn hold(&mut self, config: &Config, placement: Placement)
+    /// Counts a core that is held.
+    fn add_held(&mut self, config: &Config, placement: Placement)
         requires table { IsTable config.now }
         requires thread { placement.thread < threads_of_table config.now }
-        requires few_held { (t : ℕ) → t < 16 → slice_index self.old.held t < 255 }
-        requires few_booked { (t : ℕ) → t < 16 → slice_index self.old.booked t < 255 }
-        ensures held { (t : ℕ) → t < 16 → slice_index self.new.held t ≡ slice_index self.old.held t + (if is_held_for config.now t (Holder.Held placement) then 1 else 0) }
-        ensures booked { (t : ℕ) → t < 16 → slice_index self.new.booked t ≡ slice_index self.old.booked t + (if is_booked_for config.now t (Holder.Held placement) then 1 else 0) }
-        ensures placed { (k : ℕ) → has self.new.placed k ≡ (is_with k (Holder.Held placement) || has self.old.placed k) }
-        ensures awaited { self.new.awaited ≡ self.old.awaited }
+        requires few { IsWithin 254 self.old }
+        ensures counted { IsOneMore config.now (Holder.Held placement) self.old self.new }
     {
         let task = config.task_of(placement.thread as usize);
-        count(&mut self.held, task);
-        count(&mut self.booked, task);
-        self.placed.insert(placement.thread);
+        count_task(&mut self.held, task);
+        count_task(&mut self.booked, task);
+        count_thread(&mut self.placed, placement.thread as usize);
     }
 
-    /// Notes a core that is being left.
-    fn leave(&mut self, config: &Config, placement: Placement, cause: Cause)
+    /// Counts a core that is being left.
+    fn add_leaving(&mut self, config: &Config, placement: Placement, cause: Cause)
         requires table { IsTable config.now }
         requires thread { placement.thread < threads_of_table config.now }
-        requires few { (t : ℕ) → t < 16 → slice_index self.old.booked t < 255 }
-        ensures held { self.new.held ≡ self.old.held }
-        ensures booked { (t : ℕ) → t < 16 → slice_index self.new.booked t ≡ slice_index self.old.booked t + (if is_booked_for config.now t (Holder.Leaving placement cause) then 1 else 0) }
-        ensures placed { (k : ℕ) → has self.new.placed k ≡ (is_with k (Holder.Leaving placement cause) || has self.old.placed k) }
-        ensures awaited { (t : ℕ) → t < 16 → has self.new.awaited t ≡ (leaves_for t (Holder.Leaving placement cause) || has self.old.awaited t) }
+        requires few { IsWithin 254 self.old }
+        ensures counted { IsOneMore config.now (Holder.Leaving placement cause) self.old self.new }
     {
-        count(&mut self.booked, config.task_of(placement.thread as usize));
-        self.placed.insert(placement.thread);
-        await_for(&mut self.awaited, placement, cause);
+        count_task(&mut self.booked, config.task_of(placement.thread as usize));
+        count_thread(&mut self.placed, placement.thread as usize);
+        count_awaited(&mut self.awaited, placement, cause);
     }
 
-    /// Notes one more core.
-    fn add(&mut self, config: &Config, holder: Holder)
+    /// Counts one more core, by who has it.
+    pub fn add(&mut self, config: &Config, holder: Holder)
         requires table { IsTable config.now }
         requires thread { IfSome (placement_of holder) (λ placement. placement.thread < threads_of_table config.now) }
-        requires few_held { (t : ℕ) → t < 16 → slice_index self.old.held t < 255 }
-        requires few_booked { (t : ℕ) → t < 16 → slice_index self.old.booked t < 255 }
-        ensures held { (t : ℕ) → t < 16 → slice_index self.new.held t ≡ slice_index self.old.held t + (if is_held_for config.now t holder then 1 else 0) }
-        ensures booked { (t : ℕ) → t < 16 → slice_index self.new.booked t ≡ slice_index self.old.booked t + (if is_booked_for config.now t holder then 1 else 0) }
-        ensures placed { (k : ℕ) → has self.new.placed k ≡ (is_with k holder || has self.old.placed k) }
-        ensures awaited { (t : ℕ) → t < 16 → has self.new.awaited t ≡ (leaves_for t holder || has self.old.awaited t) }
+        requires few { IsWithin 254 self.old }
+        ensures counted { IsOneMore config.now holder self.old self.new }
     {
         match holder {
             Holder::Free => {}
-            Holder::Held(placement) => self.hold(config, placement),
-            Holder::Leaving(placement, cause) => self.leave(config, placement, cause),
+            Holder::Held(placement) => self.add_held(config, placement),
+            Holder::Leaving(placement, cause) => self.add_leaving(config, placement, cause),
+        }
+    }
+
+    /// Counts one core fewer, which was held.
+    fn remove_held(&mut self, config: &Config, placement: Placement)
+        requires table { IsTable config.now }
+        requires thread { placement.thread < threads_of_table config.now }
+        requires counted { IsCounted config.now (Holder.Held placement) self.old }
+        ensures counted { IsOneMore config.now (Holder.Held placement) self.new self.old }
+    {
+        let task = config.task_of(placement.thread as usize);
+        uncount_task(&mut self.held, task);
+        uncount_task(&mut self.booked, task);
+        uncount_thread(&mut self.placed, placement.thread as usize);
+    }
+
+    /// Counts one core fewer, which was being left.
+    fn remove_leaving(&mut self, config: &Config, placement: Placement, cause: Cause)
+        requires table { IsTable config.now }
+        requires thread { placement.thread < threads_of_table config.now }
+        requires counted { IsCounted config.now (Holder.Leaving placement cause) self.old }
+        ensures counted { IsOneMore config.now (Holder.Leaving placement cause) self.new self.old }
+    {
+        uncount_task(&mut self.booked, config.task_of(placement.thread as usize));
+        uncount_thread(&mut self.placed, placement.thread as usize);
+        uncount_awaited(&mut self.awaited, placement, cause);
+    }
+
+    /// Counts one core fewer, by who had it.
+    pub fn remove(&mut self, config: &Config, holder: Holder)
+        requires table { IsTable config.now }
+        requires thread { IfSome (placement_of holder) (λ placement. placement.thread < threads_of_table config.now) }
+        requires counted { IsCounted config.now holder self.old }
+        ensures counted { IsOneMore config.now holder self.new self.old }
+    {
+        match holder {
+            Holder::Free => {}
+            Holder::Held(placement) => self.remove_held(config, placement),
+            Holder::Leaving(placement, cause) => self.remove_leaving(config, placement, cause),
         }
     }
 }
 
-/// What all cores say.
-pub fn survey_of(config: &Config, board: &Board) -> Survey
-    requires table { IsTable config.now }
+/// What is counted of all cores.
+pub fn survey_of<'a>(config: &Config, board: &'a Board) -> &'a Survey
     requires ready { IsReady config.now board.now }
-    ensures { (x : List Action) → Agrees board.now x → Surveys config.now x config.now.cores result }
+    ensures { (x : List Action) → Agrees board.now x → Surveys config.now (holder_of x) result.now }
 {
-    let mut survey = Survey::new();
-    for core in 0..config.machine().cores() {
-        survey.add(config, board.holding.holders[core as usize]);
-    }
-    survey
+    config.limits();
+    &board.survey
 }

@@ -26,7 +26,7 @@ pub fn make(config: &Config, board: &mut Board, out: &mut Actions, action: Optio
         None => {}
         Some(action) => {
             out.push(action);
-            board.apply(action);
+            board.apply(config, action);
         }
     }
 }

@@ -1,6 +1,6 @@
 //! The fourth part of a pass: a best-effort task loses a core while the bandwidth is over its limit.
 
-ghost use Rattle.std.specs.Prelude.{◌≡◌, ℕ, ◌+◌, ◌<◌, ◌≤◌, ◌++◌, List, length, option_to_list, slice_index_or, replicate, if◌then◌else◌};
+ghost use Rattle.std.specs.Prelude.{◌≡◌, ℕ, true, ◌+◌, ◌<◌, ◌≤◌, ◌++◌, List, length, option_to_list, slice_index_or, replicate, if◌then◌else◌};
 ghost use Rattle.std.specs.Option.{IfSome};
 ghost use Rattle.cal_machine.specs.Table.{IsTable};
 ghost use Rattle.cal_policy.specs.Tasks.{threads_of_table};
@@ -9,7 +9,9 @@ ghost use Rattle.cal_policy.specs.declared.pass_entry.PassEntry.{PassEntry};
 ghost use Rattle.cal_policy.specs.Choice.{lowest_below};
 ghost use Rattle.cal_policy.specs.Setting.{Setting, setting, so_far};
 ghost use Rattle.cal_policy.specs.Bandwidth as rules;
-ghost use Rattle.cal_policy.specs.Board.{Stands, IsReady, NamesTable};
+ghost use Rattle.cal_policy.specs.Counts.{is_held_for};
+ghost use Rattle.cal_policy.specs.Board.{Stands, IsReady, NamesTable, holder_in};
+ghost use Rattle.cal_policy.specs.Losing.{HoldsCore};
 ghost use Rattle.cal_policy.specs.Coupled.{both_of, BothName};
 
 use crate::action_list::Actions;
@@ -32,6 +34,7 @@ fn task_that_can_lose(config: &Config, input: &Input, board: &Board, core: u8) -
     ensures lose { (h : List PassEntry) (acts : List Action) → let s = setting config.now h input.entry.now in Stands board.now s acts →
         (t : ℕ) → rules.can_lose s (so_far s acts) t core ≡ rules.is_number t result }
     ensures task { IfSome result (λ t. t < length config.now.tasks) }
+    ensures held { IfSome result (λ t. is_held_for config.now t (holder_in board.now.holding core) ≡ true) }
 {
     match board.holding.holders[core as usize] {
         Holder::Held(placement) => {
@@ -69,7 +72,7 @@ fn cores_to_lose(config: &Config, input: &Input, board: &Board) -> [Option<u8>; 
     requires rooms { length input.now.rooms ≡ threads_of_table config.now }
     ensures lose { (h : List PassEntry) (acts : List Action) → let s = setting config.now h input.entry.now in Stands board.now s acts →
         (t : ℕ) → t < 16 → slice_index_or result t None ≡ rules.core_to_lose s (so_far s acts) t }
-    ensures cores { (t : ℕ) → t < 16 → IfSome (slice_index_or result t None) (λ core. core < config.now.cores) }
+    ensures held { (t : ℕ) → t < 16 → HoldsCore config.now board.now t (slice_index_or result t None) }
 {
     let mut highest = no_cores();
     for core in 0..config.machine().cores() {
@@ -142,7 +145,7 @@ fn victim(config: &Config, board: &Board, highest: &[Option<u8>; 16]) -> Option<
 fn cut(config: &Config, board: &Board, task: u8, core: Option<u8>) -> Coupled
     requires ready { IsReady config.now board.now }
     requires task { task < 16 }
-    requires core { IfSome core (λ c. c < config.now.cores) }
+    requires core { HoldsCore config.now board.now task core }
     ensures cut { (s : Setting) (acts : List Action) → s.table ≡ config.now → Stands board.now s acts →
         both_of result ≡ rules.cut_at s (so_far s acts) task core }
     ensures names { BothName config.now result }
@@ -152,7 +155,7 @@ fn cut(config: &Config, board: &Board, task: u8, core: Option<u8>) -> Coupled
     Coupled {
         first: Some(Action::Cap {
             task,
-            cap: held.saturating_sub(1),
+            cap: held - 1,
         }),
         second: Some(Action::Revoke {
             core,

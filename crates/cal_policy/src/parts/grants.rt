@@ -9,6 +9,7 @@ ghost use Rattle.cal_policy.specs.declared.pass_input.Input.{Input};
 ghost use Rattle.cal_policy.specs.Tasks as tasks;
 ghost use Rattle.cal_policy.specs.Tasks.{threads_of_table, limit_of};
 ghost use Rattle.cal_policy.specs.Setting.{setting, so_far};
+ghost use Rattle.cal_policy.specs.History.{holder_of};
 ghost use Rattle.cal_policy.specs.Grants as rules;
 ghost use Rattle.cal_policy.specs.Grants.{grant_of, grant_at, grant_critical_at, grant_best_effort_at, best_effort_tasks};
 ghost use Rattle.cal_policy.specs.Board.{Stands, IsReady, NamesTable};
@@ -34,7 +35,7 @@ fn may_book(config: &Config, board: &Board, survey: &Survey, task: usize) -> boo
     requires table { IsTable config.now }
     requires task { task < length config.now.tasks }
     ensures { (h : List PassEntry) (input : Input) (acts : List Action) → let s = setting config.now h input in
-        Stands board.now s acts → Surveys config.now (so_far s acts) config.now.cores survey.now → result ≡ rules.may_book s (so_far s acts) task }
+        Stands board.now s acts → Surveys config.now (holder_of (so_far s acts)) survey.now → result ≡ rules.may_book s (so_far s acts) task }
 {
     let booked = survey.booked[task];
     let below_cap = is_latency_critical(config, task) || booked < cap_of(config, board, task);
@@ -87,11 +88,11 @@ fn grant_due(config: &Config, input: &Input, board: &Board, task: usize) -> Opti
         return None;
     }
     let survey = survey_of(config, board);
-    if !may_book(config, board, &survey, task) {
+    if !may_book(config, board, survey, task) {
         return None;
     }
-    let thread = choose_thread(config, input, board, &survey, task);
-    let core = choose_core(config, input, board, &survey, task);
+    let thread = choose_thread(config, input, board, survey, task);
+    let core = choose_core(config, input, board, survey, task);
     chosen(config, task, thread, core)
 }
 

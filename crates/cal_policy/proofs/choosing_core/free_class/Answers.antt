@@ -1,5 +1,5 @@
 -- The core is not banned, and its class goes by the sibling's holder and the last grant as they are kept.
-use Rattle.std.proofs.Common.{◌≡◌, ℕ, ◌<◌, false, List, Option, None, Some, ap, sym, ◌∙◌, arith}
+use Rattle.std.proofs.Common.{◌≡◌, ℕ, ◌<◌, false, List, Option, Some, ap, sym, ◌∙◌, arith}
 use Rattle.std.specs.Option.{is_some, option_map}
 use Rattle.cal_machine.specs.Table.{Table}
 use Rattle.cal_machine.specs.Machine.{sibling_of}

@@ -1,7 +1,6 @@
-use Rattle.std.proofs.Common.{◌+◌, nat_lt, ap, ◌∙◌, arith}
+use Rattle.std.proofs.Common.{◌+◌, nat_lt, ap, ◌∙◌}
 use Rattle.cal_policy.specs.Setting.{setting, so_far}
 use Rattle.cal_policy.specs.Tasks.{thread_of}
-use Rattle.cal_policy.specs.Choice.{best_below}
 use Rattle.cal_policy.specs.Grants.{thread_rank}
 use Rattle.cal_policy.proofs.OneMore.{best_more}
 use Rattle.cal_policy.proofs.choosing_thread.choose_thread.Goals as goal

@@ -1,5 +1,5 @@
 -- Each part begins where the one before ended.
-use Rattle.std.proofs.Common.{◌≡◌, List, [], refl, sym, subst}
+use Rattle.std.proofs.Common.{List, refl, sym, subst}
 use Rattle.cal_policy.specs.declared.pass_action.Action.{Action}
 use Rattle.cal_policy.specs.Setting.{Setting, setting}
 use Rattle.cal_policy.specs.Board.{Stands}

@@ -18,3 +18,6 @@ returns-clause-sound c = λ threads. record {
   holders = λ k. rw (c.all_free.ensures, get_or_same 128 k holders.Free) tt;
   sent = λ k. omega (arith, get_or_same {X = ℕ} 128 k 0);
 }
+
+pub returns-clause-free : goal.returns-clause-free
+returns-clause-free c = λ k. rw c.all_free.ensures (get_or_same 128 k holders.Free)

@@ -1,9 +1,8 @@
-use Rattle.std.proofs.Common.{◌≡◌, ◌<◌, Some, None, cond, get_or, ap, sym, subst, ◌∙◌, arith}
-use Rattle.std.specs.Option.{IfSome}
+use Rattle.std.proofs.Common.{◌≡◌, ◌<◌, Some, None, cond, get_or, ap, sym, ◌∙◌, arith}
 use Rattle.cal_policy.specs.Choice.{highest_below}
 use Rattle.cal_policy.specs.Setting.{setting, so_far}
-use Rattle.cal_policy.specs.Bandwidth.{can_lose, is_number}
-use Rattle.cal_policy.proofs.Bandwidth.{highest_more, cond_if_some}
+use Rattle.cal_policy.specs.Bandwidth.{can_lose}
+use Rattle.cal_policy.proofs.Bandwidth.{highest_more, held_more}
 use Rattle.cal_policy.proofs.parts.bandwidth.cores_to_lose.Goals as goal
 
 pub loop-core-preserved : goal.loop-core-preserved
@@ -17,9 +16,10 @@ loop-core-preserved c =
           ∙ ap (λ b. cond b (Some core) (get_or old t None)) (sym (c.task_that_can_lose-task.ensures.lose h acts st t))
           ∙ ap (λ o. cond (p core) (Some core) o) (c.loop-core.invariant.lose h acts st t lt)
           ∙ sym (highest_more p core);
-      cores = λ t lt.
+      held = λ t lt.
           let below : core < c.args.config.now.cores = omega arith in
-          rw (c.note.ensures t lt) (cond_if_some (λ n. n < c.args.config.now.cores) (is_number t c.task_that_can_lose-task.result) core (get_or old t None) below (c.loop-core.invariant.cores t lt));
+          rw (c.note.ensures t lt) (held_more c.args.config.now c.args.board.now t core c.task_that_can_lose-task.result (get_or old t None) below
+          c.task_that_can_lose-task.ensures.held (c.loop-core.invariant.held t lt));
     }
 
 pub returns-clause-lose : goal.returns-clause-lose

@@ -1,4 +1,4 @@
-use Rattle.std.proofs.Common.{◌≡◌, ◌<◌, length, nat_lt, ap, sym, ◌∙◌, arith}
+use Rattle.std.proofs.Common.{◌≡◌, ◌<◌, length, nat_lt, ap, ◌∙◌, arith}
 use Rattle.cal_machine.specs.Table.{Table}
 use Rattle.cal_policy.specs.Choice.{best_below}
 use Rattle.cal_policy.specs.Setting.{so_far}

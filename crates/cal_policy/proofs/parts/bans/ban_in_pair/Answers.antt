@@ -1,4 +1,3 @@
-use Rattle.std.proofs.Common.{◌∙◌, ap}
 use Rattle.cal_policy.specs.Setting.{setting}
 use Rattle.cal_policy.proofs.Pairs.{ban_lower}
 use Rattle.cal_policy.proofs.parts.bans.ban_in_pair.Goals as goal

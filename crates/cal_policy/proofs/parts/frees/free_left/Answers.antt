@@ -1,8 +1,8 @@
 -- Each core gives what is due.
-use Rattle.std.proofs.Common.{◌≡◌, arith, rules, ◌++◌, length, subst, ℕ}
+use Rattle.std.proofs.Common.{arith}
 use Rattle.cal_policy.specs.Setting.{setting}
 use Rattle.cal_policy.specs.Frees.{free_at}
-use Rattle.cal_policy.proofs.Turns.{Reached, Reached_step}
+use Rattle.cal_policy.proofs.Turns.{Reached_step}
 use Rattle.cal_policy.proofs.parts.frees.free_left.Goals as goal
 
 pub loop-core-preserved : goal.loop-core-preserved

@@ -1,7 +1,7 @@
 -- A task that is not congested, or may not book one more core, gets nothing; another gets what is chosen for it.
 use Rattle.std.proofs.Common.{ap, ◌∙◌}
 use Rattle.cal_policy.specs.Setting.{setting, so_far}
-use Rattle.cal_policy.specs.Grants.{grant_of, thread_choice, choice_of, is_congested, may_book}
+use Rattle.cal_policy.specs.Grants.{grant_of, thread_choice, is_congested, may_book}
 use Rattle.cal_policy.proofs.Branches.{when_both, when_not_first, when_not_second}
 use Rattle.cal_policy.proofs.parts.grants.grant_due.Goals as goal
 

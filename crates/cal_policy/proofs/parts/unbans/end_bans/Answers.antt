@@ -1,9 +1,8 @@
 -- Each pair gives what is due.
-use Rattle.std.proofs.Common.{◌≡◌, ℕ, ◌+◌, ◌*◌, ◌++◌, List, ap, sym, ◌∙◌, arith}
+use Rattle.std.proofs.Common.{◌≡◌, ◌*◌, ◌++◌, ap, ◌∙◌, arith}
 use Rattle.cal_machine.specs.Table.{Table}
 use Rattle.cal_policy.specs.Lists.{in_turn, in_pair}
-use Rattle.cal_policy.specs.Setting.{so_far}
-use Rattle.cal_policy.specs.Bans.{NoPairBanned, unban_at}
+use Rattle.cal_policy.specs.Bans.{unban_at}
 use Rattle.cal_policy.proofs.Turns.{Reached_step}
 use Rattle.cal_policy.proofs.Pairs.{in_turn_pairs, unban_pair_keeps}
 use Rattle.cal_policy.proofs.parts.unbans.end_bans.Goals as goal

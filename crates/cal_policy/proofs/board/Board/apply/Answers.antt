@@ -1,0 +1,44 @@
+-- The counts are kept up with the one holder that an action changes.
+use Rattle.std.proofs.Common.{◌∙◌, subst, arith}
+use Rattle.cal_policy.specs.Tasks.{threads_of_table}
+use Rattle.cal_policy.specs.declared.holding.Holder.{Holder}
+use Rattle.cal_policy.specs.Board.{holder_in}
+use Rattle.cal_policy.specs.Survey.{IsOneMore}
+use Rattle.cal_policy.proofs.StateKept.{names_fixed, names_threads}
+use Rattle.cal_policy.proofs.Surveyed.{Surveys_moved, counted_at, few_left}
+use Rattle.cal_policy.proofs.board.Board.apply.Goals as goal
+
+pub remove-requires-clause-counted : goal.remove-requires-clause-counted
+remove-requires-clause-counted c =
+    let table = c.args.config.now in
+    let old = c.args.self.now in
+    rw c.holder_at-before.ensures (counted_at table old.holding c.core_changed_by-core.result old.survey
+    (c.core_changed_by-core.ensures.below table.cores (threads_of_table table) c.requires.names) c.requires.ready.counts)
+
+pub add-requires-clause-few : goal.add-requires-clause-few
+add-requires-clause-few c =
+    let table = c.args.config.now in
+    let old = c.args.self.now in
+    few_left table (holder_in old.holding) c.holder_at-before.result old.survey c.remove.new.self (omega (arith, c.requires.table.machine.most))
+    c.requires.ready.counts c.remove.ensures.counted
+
+pub returns-clause-ready : goal.returns-clause-ready
+returns-clause-ready c =
+    let table = c.args.config.now in
+    let old = c.args.self.now in
+    let core = c.core_changed_by-core.result in
+    let fixed = names_fixed table c.args.action c.requires.table c.requires.names in
+    let threads = names_threads table c.args.action c.requires.table c.requires.names in
+    let Less : Holder → Type 0 = λ a. IsOneMore table a c.remove.new.self old.survey in
+    let More : Holder → Type 0 = λ a. IsOneMore table a c.remove.new.self c.add.new.self in
+    record {
+      sound = record { holding = c.apply.ensures.sound 128 c.requires.ready.sound.holding fixed; bans = c.apply-2.ensures.sound 128 c.requires.ready.sound.bans fixed };
+      own = record {
+        holding = c.apply.ensures.sound (threads_of_table table) c.requires.ready.own.holding threads;
+        bans = c.apply-2.ensures.sound (threads_of_table table) c.requires.ready.own.bans threads;
+      };
+      counts = Surveys_moved table old.holding c.apply.new.self core old.survey c.remove.new.self c.add.new.self
+          (c.core_changed_by-core.ensures.below table.cores (threads_of_table table) c.requires.names)
+          (λ k off. c.apply.ensures.others k (λ same. off (c.core_changed_by-core.ensures.changed ∙ same)))
+          c.requires.ready.counts (subst Less c.holder_at-before.ensures c.remove.ensures.counted) (subst More c.holder_at-after.ensures c.add.ensures.counted);
+    }

@@ -1,0 +1,13 @@
+-- Before any action every core is free.
+use Rattle.cal_policy.specs.Tasks.{threads_of_table}
+use Rattle.cal_policy.specs.Board.{holder_in}
+use Rattle.cal_policy.proofs.Surveyed.{Surveys_free}
+use Rattle.cal_policy.proofs.board.Board.new.Goals as goal
+
+pub returns-clause-ready : goal.returns-clause-ready
+returns-clause-ready c = λ table. record {
+  sound = record { holding = c.new.ensures.sound 128; bans = c.new-3.ensures.sound 128 };
+  own = record { holding = c.new.ensures.sound (threads_of_table table); bans = c.new-3.ensures.sound (threads_of_table table) };
+  counts = Surveys_free table (holder_in c.new.result) c.new-2.result c.new.ensures.free
+      c.new-2.ensures.held c.new-2.ensures.booked c.new-2.ensures.placed c.new-2.ensures.awaited;
+}
