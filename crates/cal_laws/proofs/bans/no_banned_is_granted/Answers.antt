@@ -1,0 +1,14 @@
+use Rattle.std.proofs.Common.{ap, ◌∙◌}
+use Rattle.cal_policy.specs.declared.pass_action.Action.TheVariants.{Grant}
+use Rattle.cal_policy.specs.History.{is_banned}
+use Rattle.cal_policy.specs.Made.{IsGranted}
+use Rattle.cal_laws.specs.Point.{setting_at, made_at, actions_at}
+use Rattle.cal_laws.proofs.PassKeeps.{chosen_unbanned}
+use Rattle.cal_laws.proofs.Points.{sound_at}
+use Rattle.cal_laws.proofs.bans.no_banned_is_granted.Goals as goal
+
+pub returns : goal.returns
+returns c = λ here is core thread class e.
+    let granted : IsGranted (setting_at here) (made_at here) core thread class = (sound_at c.legal_is_sound.ensures here is (Grant core thread class) e).made in
+    ap (is_banned (actions_at here)) granted.core_chosen
+    ∙ chosen_unbanned c.chosen_is_of_least_class.ensures (setting_at here) (made_at here) granted.task granted.choice granted.chosen.least granted.granted

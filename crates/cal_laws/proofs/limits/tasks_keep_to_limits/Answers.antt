@@ -1,0 +1,10 @@
+use Rattle.cal_laws.specs.Point.{actions_at}
+use Rattle.cal_laws.proofs.Held.{held_le_booked}
+use Rattle.cal_laws.proofs.Points.{steady_at}
+use Rattle.cal_laws.proofs.limits.tasks_keep_to_limits.Goals as goal
+
+pub returns : goal.returns
+returns c = λ here is t lt. record {
+  held = held_le_booked here.table (actions_at here) t;
+  booked = (steady_at c.legal_is_steady.ensures c.legal_is_sound.ensures here is).limits t lt;
+}

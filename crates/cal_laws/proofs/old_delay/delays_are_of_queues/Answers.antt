@@ -1,0 +1,5 @@
+use Rattle.cal_laws.proofs.Queues.{of_queues}
+use Rattle.cal_laws.proofs.old_delay.delays_are_of_queues.Goals as goal
+
+pub returns : goal.returns
+returns c = of_queues

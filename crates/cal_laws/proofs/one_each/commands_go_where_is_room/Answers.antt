@@ -1,0 +1,47 @@
+use Rattle.std.proofs.Common.{◌≡◌, ℕ, ◌<◌, Bool, true, false, cond, eqb, List, [], ◌∷◌, length, Option, Some, refl, ap, subst, arith}
+use Rattle.std.proofs.lemmas.Bool.{eqb-true}
+use Rattle.cal_machine.specs.Laws.{ThreadsAreOfTheirTask}
+use Rattle.cal_machine.specs.Table.{IsTable}
+use Rattle.cal_machine.specs.declared.command.Command.{Command}
+use Rattle.cal_machine.specs.declared.command.Command.TheVariants.{Run, Park}
+use Rattle.cal_policy.specs.declared.pass_action.Action.{Action}
+use Rattle.cal_policy.specs.declared.pass_action.Action.TheVariants.{Free, Unban, Ban, Revoke, Cap, Grant}
+use Rattle.cal_policy.specs.History.{command_to, sends}
+use Rattle.cal_policy.specs.Board.{placement_of}
+use Rattle.cal_policy.specs.Setting.{Setting, so_far, has_room}
+use Rattle.cal_policy.specs.Steady.{IsSound}
+use Rattle.cal_policy.specs.Laws.{ActionIsOneMore, LastThreadIsPlaced, ChosenHasWaitedLongest, ChosenIsOfLeastClass, VictimHasMostMisses}
+use Rattle.cal_laws.specs.Point.{setting_at, made_at}
+use Rattle.cal_laws.proofs.Excluded.{last_loser}
+use Rattle.cal_laws.proofs.Granted.{grant_facts}
+use Rattle.cal_laws.proofs.Points.{sound_at}
+use Rattle.cal_laws.proofs.Revoked.{takes_held, revocable}
+use Rattle.cal_laws.proofs.one_each.commands_go_where_is_room.Goals as goal
+
+-- a command goes to its thread alone
+goes_to : (s : Setting) (thread k : ℕ) (command : Command) → has_room s thread ≡ true → 0 < length (command_to k (Some thread) command) → has_room s k ≡ true
+goes_to s thread k command room lt = choose (eqb thread k) refl lt
+  where
+    choose : (b : Bool) → eqb thread k ≡ b → 0 < length (cond b (command ∷ []) []) → has_room s k ≡ true
+    choose true e lt = subst (λ n. has_room s n ≡ true) (eqb-true thread k e) room
+    choose false e lt = absurd (omega (arith, lt))
+
+room_for : ActionIsOneMore → LastThreadIsPlaced → ChosenIsOfLeastClass → VictimHasMostMisses → ThreadsAreOfTheirTask → ChosenHasWaitedLongest → (s : Setting) (acts : List Action) (a : Action) →
+    IsTable s.table → IsSound s acts a → (k : ℕ) → 0 < length (sends k (so_far s acts) a) → has_room s k ≡ true
+room_for more last least most numbered longest s acts (Free core) ok sound k lt = absurd (omega (arith, lt))
+room_for more last least most numbered longest s acts (Unban core) ok sound k lt = absurd (omega (arith, lt))
+room_for more last least most numbered longest s acts (Ban core thread started) ok sound k lt = absurd (omega (arith, lt))
+room_for more last least most numbered longest s acts (Cap task cap) ok sound k lt = absurd (omega (arith, lt))
+room_for more last least most numbered longest s acts (Grant core thread class) ok sound k lt =
+    goes_to s thread k (Run core) (grant_facts numbered longest s acts core thread class sound.made).room lt
+room_for more last least most numbered longest s acts (Revoke core cause) ok sound k lt =
+    let x : List Action = so_far s acts in
+    let facts = revocable more least most s acts core cause ok sound.made (takes_held s.table x core cause sound.fits) in
+    let thread = last_loser x core facts.loser (last x core) (sound.steady.granted core facts.loser (ap placement_of facts.held)) in
+    let P : Option ℕ → Type 0 = λ o. 0 < length (command_to k o Park) in
+    goes_to s facts.loser.thread k Park facts.room (subst P thread lt)
+
+pub returns : goal.returns
+returns c = λ here is action e k lt.
+    room_for c.action_is_one_more.ensures c.last_thread_is_placed.ensures c.chosen_is_of_least_class.ensures c.victim_has_most_misses.ensures c.threads_are_of_their_task.ensures
+    c.chosen_has_waited_longest.ensures (setting_at here) (made_at here) action is.table (sound_at c.legal_is_sound.ensures here is action e) k lt

@@ -1,0 +1,11 @@
+pub mod Point
+pub mod Turns
+pub mod Exclusion
+pub mod Acknowledged
+pub mod Limits
+pub mod OneEach
+pub mod Kept
+pub mod Cause
+pub mod Choice
+pub mod Bans
+pub mod OldDelay

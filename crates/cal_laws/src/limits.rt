@@ -1,0 +1,49 @@
+//! No task has more than it may, and none is pressed below its guarantee.
+
+ghost use Rattle.cal_laws.specs.Limits.{TasksKeepToLimits, GrantsKeepToCaps, TasksKeepToCaps, RevocationsLeaveGuarantees};
+
+use cal_machine::laws::threads_are_of_their_task;
+use cal_policy::{
+    action_is_one_more, chosen_has_waited_longest, chosen_is_of_least_class, legal_is_sound,
+    legal_is_steady, victim_has_most_misses,
+};
+
+/// At every point every task holds no more cores than it books, and books no more than its limit.
+pub fn tasks_keep_to_limits()
+    ensures { TasksKeepToLimits }
+{
+    legal_is_steady();
+    legal_is_sound();
+}
+
+/// A task is granted a core only where it has booked less than its limit and, if it is best-effort, less than its
+/// cap.
+pub fn grants_keep_to_caps()
+    ensures { GrantsKeepToCaps }
+{
+    legal_is_sound();
+    chosen_has_waited_longest();
+    threads_are_of_their_task();
+}
+
+/// At every point a best-effort task holds no more cores than its cap, but between a cut of its cap and the revocation
+/// that follows at once: there it holds at most one more.
+pub fn tasks_keep_to_caps()
+    ensures { TasksKeepToCaps }
+{
+    legal_is_sound();
+    action_is_one_more();
+    chosen_has_waited_longest();
+    threads_are_of_their_task();
+}
+
+/// A core is revoked only from a task that holds more than it is guaranteed: so none holds less than its guarantee
+/// for having lost a core, whatever the cause.
+pub fn revocations_leave_guarantees()
+    ensures { RevocationsLeaveGuarantees }
+{
+    legal_is_sound();
+    action_is_one_more();
+    chosen_is_of_least_class();
+    victim_has_most_misses();
+}
