@@ -1,0 +1,14 @@
+pub mod QueueMoves
+pub mod Publishing
+pub mod Robbing
+pub mod Stepping
+pub mod Journals
+pub mod Agreeing
+pub mod Turning
+pub mod Accounts
+pub mod Lending
+pub mod Rounds
+pub mod OpenedTeams
+pub mod Gathering
+pub mod Teams
+pub mod Weights

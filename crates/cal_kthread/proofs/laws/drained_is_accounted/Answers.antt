@@ -1,0 +1,5 @@
+use Rattle.cal_kthread.proofs.Accounts.{accounted}
+use Rattle.cal_kthread.proofs.laws.drained_is_accounted.Goals as goal
+
+pub returns : goal.returns
+returns c = accounted

@@ -1,0 +1,5 @@
+use Rattle.cal_kthread.proofs.Accounts.{stays-settled}
+use Rattle.cal_kthread.proofs.laws.handing_out_stays_settled.Goals as goal
+
+pub returns : goal.returns
+returns c = stays-settled

@@ -1,0 +1,12 @@
+pub mod QueueRule
+pub mod Queues
+pub mod Journal
+pub mod Threads
+pub mod Turn
+pub mod Agreement
+pub mod Rests
+pub mod Places
+pub mod Teams
+pub mod Account
+pub mod Linking
+pub mod Opening

@@ -1,0 +1,100 @@
+//! A kernel thread whose turns are over.
+ghost use Rattle.std.specs.Prelude.{◌≡◌, [], MatchOption, option_map};
+ghost use Rattle.cal_kthread.specs.Account.{KeepsItsWork};
+ghost use Rattle.cal_kthread.specs.Agreement.{held};
+ghost use Rattle.cal_kthread.specs.declared.current.Current.{Current};
+ghost use Rattle.cal_kthread.specs.QueueRule.{AllTaken};
+ghost use Rattle.cal_kthread.specs.Rests.{HandsOut};
+ghost use Rattle.cal_kthread.specs.declared.waiting.Waiting.{Waiting};
+
+use crate::current::Current;
+use crate::journal::Journal;
+use crate::kernel_thread::KernelThread;
+use crate::rest::Rest;
+use crate::thread::Thread;
+use crate::waiting::Waiting;
+use cal_command::Taker;
+use cal_machine::Request;
+use cal_signal::Publisher;
+
+/// A kernel thread whose turns are over: its number, what it did, its ends of its page and its ring, and the rest of
+/// its work.
+#[derive(Drop)]
+pub struct KernelEnd {
+    /// The thread's number.
+    pub number: u8,
+    /// What it did.
+    pub journal: Journal,
+    /// The end of its page that publishes.
+    pub publisher: Publisher,
+    /// The end of its ring that takes.
+    pub taker: Taker,
+    /// Its queue, its thieves, and the requests that it still has.
+    pub rest: Rest,
+}
+
+impl KernelThread {
+    /// Ends the thread after its last turn. Takes no memory.
+    pub fn end(self) -> KernelEnd
+        ensures number { result.number ≡ self.number }
+        ensures journal { result.journal ≡ self.journal }
+        ensures ends { (result.publisher ≡ self.thread.publisher) × (result.taker ≡ self.thread.taker) }
+        ensures rest { result.rest ≡ record {
+          queue = self.thread.queue;
+          victims = self.thread.victims;
+          held = held self.thread;
+          left = [];
+        } }
+        ensures work { KeepsItsWork result }
+    {
+        let KernelThread {
+            number,
+            journal,
+            thread,
+        } = self;
+        let Thread {
+            publisher,
+            taker,
+            queue,
+            victims,
+            current,
+            front,
+            ..
+        } = thread;
+        KernelEnd {
+            number,
+            journal: Journal::new(journal),
+            publisher,
+            taker,
+            rest: Rest::new(queue, victims, waiting_of(current), front),
+        }
+    }
+}
+
+/// The request that is served, as it arrived.
+fn waiting_of(current: Option<Current>) -> Option<Waiting>
+    ensures { result ≡ option_map (λ (c : Current). c.waiting) current }
+{
+    match current {
+        Some(current) => Some(current.waiting),
+        None => None,
+    }
+}
+
+impl KernelEnd {
+    /// Hands out the next request that was not served: the current one, the front, then the queue from its front. A
+    /// request is as it arrived, with its first `work`. None where none was found; where all shares of the queue were
+    /// gathered before, by `settle`, all that came into it was then taken or handed out.
+    pub fn left(&mut self) -> Option<Request>
+        ensures handed { MatchOption result (self.new ≡ self.old)
+            (λ request. (waiting : Waiting) × (waiting.request ≡ request) × HandsOut waiting self.old.rest self.new.rest
+            × (self.new ≡ record self.old { rest = self.new.rest })) }
+        ensures none { MatchOption result
+            ((self.old.rest.held ≡ []) × (self.old.rest.queue.shares ≡ 16
+            → AllTaken self.old.rest.queue.pushed self.old.rest.queue.had self.old.rest.queue.handed))
+            (λ _. Unit {0}) }
+    {
+        let waiting = self.rest.hand_out()?;
+        Some(waiting.request)
+    }
+}

@@ -1,0 +1,103 @@
+//! A kernel thread and its turns.
+ghost use Rattle.std.specs.Prelude.{◌≡◌, ◌+◌, ◌<◌, ◌≤◌, ◌↔◌, [], Err, IfOk, IfSome, MatchResult};
+ghost use Rattle.std.specs.Vec.{vec_len, vec_capacity};
+ghost use Rattle.cal_kthread.specs.declared.fault.TurnFault.TheVariants.{JournalFull};
+ghost use Rattle.cal_kthread.specs.Journal.{IsJournal, records_of, commands_of};
+ghost use Rattle.cal_kthread.specs.Turn.{Answers, AreAnswers, IsFull, noted, turned};
+ghost use Rattle.cal_signal.specs.Pages.{last_of};
+
+use crate::entry::Entry;
+use crate::fault::TurnFault;
+use crate::thread::Thread;
+use cal_machine::Request;
+use std::marker::Model;
+
+/// How many entries a journal holds at most.
+const MOST_ENTRIES: usize = 1_048_576;
+
+/// How many entries a turn may ask room for.
+const TURN_ENTRIES: usize = 6;
+
+/// A kernel thread. It may be moved to a thread of its own; no call of it waits.
+///
+/// A contract sees its number, its journal, the ends of its page, its ring and the queues of its task, and what it
+/// is at.
+#[derive(Drop)]
+pub struct KernelThread {
+    pub(crate) number: u8,
+    pub(crate) journal: Vec<Entry>,
+    pub(crate) thread: Thread,
+}
+
+impl Model for KernelThread {
+    ghost use Rattle.std.specs.Prelude.{◌≤◌, length};
+    ghost use Rattle.cal_kthread.specs.Threads.{KernelView};
+    ghost use Rattle.cal_kthread.specs.Agreement.{Agrees};
+    ghost use Rattle.cal_kthread.specs.Turn.{most_entries};
+
+    ghost Value = { KernelView };
+
+    ghost view = { λ k. record { number = k.number; journal = k.journal.items; thread = k.thread } };
+
+    ghost invariant = { λ k. Agrees k.journal.items k.thread × (length k.journal.items ≤ most_entries) };
+}
+
+impl KernelThread {
+    /// One turn: a request arrives, a command is taken, the current request is worked on, the front is filled, and
+    /// a record is published; what was done goes into the journal. `now` is in clock ticks. Waits for nobody.
+    ///
+    /// `JournalFull` where fewer than 6 of the journal's 1,048,576 places are left, which is checked first;
+    /// `Memory` where room for 6 entries or for the request was refused. Then nothing has changed. Beyond that room
+    /// a turn takes no memory.
+    pub fn turn(&mut self, now: u64, request: Option<Request>) -> Result<(), TurnFault>
+        requires started { 1 ≤ now }
+        requires later { (last_of self.old.thread.publisher.published).stamp ≤ now }
+        requires work { IfSome request (λ arriving. 1 ≤ arriving.work) }
+        ensures turned { MatchResult result
+            (λ _. (answers : Answers) × AreAnswers answers self.old × (self.new ≡ turned now request answers self.old))
+            (λ _. self.new ≡ self.old) }
+        ensures full { (result ≡ Err JournalFull) ↔ IsFull self.old.journal }
+        ensures stamped { IfOk result (λ _. (last_of self.new.thread.publisher.published).stamp ≡ now) }
+        ensures journal { IsJournal self.new.journal }
+        ensures page { records_of self.new.journal ≡ self.new.thread.publisher.published }
+        ensures ring { commands_of self.new.journal ≡ self.new.thread.taker.taken }
+    {
+        if self.journal.len() > MOST_ENTRIES - TURN_ENTRIES {
+            return Err(TurnFault::JournalFull);
+        }
+        self.journal.reserve(TURN_ENTRIES)?;
+        let arrival = self.thread.arrive(now, request)?;
+        let taking = self.thread.take(now);
+        let provision = self.thread.provide(now);
+        let work = self.thread.work();
+        self.thread.fill_front();
+        let publication = self.thread.publish(now);
+        note(&mut self.journal, arrival);
+        note(&mut self.journal, taking);
+        note(&mut self.journal, provision);
+        note(&mut self.journal, work);
+        note(&mut self.journal, Some(publication));
+        Ok(())
+    }
+
+    /// What it did so far, in order.
+    pub fn journal(&self) -> &[Entry]
+        ensures journal { result.now ≡ self.now.journal }
+        ensures is_journal { IsJournal self.now.journal }
+    {
+        self.journal.as_slice()
+    }
+}
+
+/// Puts what a step did into the journal, which has room for it.
+fn note(journal: &mut Vec<Entry>, entry: Option<Entry>)
+    requires { vec_len journal.old < vec_capacity journal.old }
+    ensures items { journal.new.items ≡ noted journal.old.items entry }
+    ensures len { vec_len journal.new ≤ vec_len journal.old + 1 }
+    ensures capacity { vec_capacity journal.new ≡ vec_capacity journal.old }
+{
+    match entry {
+        Some(entry) => journal.push_reserved(entry),
+        None => {}
+    }
+}

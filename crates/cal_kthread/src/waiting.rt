@@ -1,0 +1,12 @@
+//! A request in a queue.
+
+use cal_machine::Request;
+
+/// A request that waits in a queue, or at the front of one.
+#[derive(Clone, Copy, Debug, PartialEq, Eq)]
+pub struct Waiting {
+    /// The request, as it came.
+    pub request: Request,
+    /// When it came, in clock ticks as they were handed in.
+    pub arrived: u64,
+}
