@@ -1,18 +1,17 @@
 -- The signals of an accepted file fit: the checks of its rows say so.
-use Rattle.std.proofs.Common.{◌≡◌, ◌≢◌, ◌<◌, ◌≤◌, ◌+◌, ◌==◌, ◌&&◌, nat_lt, ℕ, Bool, true, false, not, List, [], ◌∷◌, ◌++◌, length, take, Option, Some, None, option_to_list, Result, Ok, Err, slice_get, if◌then◌else◌, ◌⊎◌, inl, inr, subst, refl, sym, ap, ◌∙◌, arith, rules, length-append, codes}
+use Rattle.std.proofs.Common.{◌≡◌, ◌<◌, ◌≤◌, ◌+◌, ◌==◌, ◌&&◌, nat_lt, ℕ, Bool, true, false, not, List, [], ◌∷◌, ◌++◌, length, Option, Some, None, option_to_list, Result, Ok, Err, slice_get, if◌then◌else◌, ◌⊎◌, inl, inr, subst, refl, sym, ap, ◌∙◌, arith, length-append, codes}
 use Rattle.std.proofs.lemmas.List.{append-nil, take-append-le, take_all}
 use Rattle.std.proofs.lemmas.Option.{slice_get_past, slice_get_within, slice_get_read, slice_get-get_or}
 use Rattle.std.proofs.Math.ListN.{get_or-append}
 use Rattle.std.proofs.Math.Seq.{get_or-append_seam}
 use Rattle.std.specs.Option.{unwrap_or}
 use Rattle.std.specs.Result.{result_unwrap_or}
-use Rattle.cal_signal.specs.declared.look.Look.TheVariants as look
 use Rattle.cal_trace.specs.Header.{header_of}
-use Rattle.cal_trace.specs.LookRows.{check, pass_row, whole_row, busy_row, end_row}
+use Rattle.cal_trace.specs.LookRows.{check, whole_row, busy_row}
 use Rattle.cal_trace.specs.Fields.{has_numbers, number_at}
 use Rattle.cal_trace.specs.Rows.{Fields}
-use Rattle.cal_trace.specs.Shown.{record_of, nothing_shown, is_shaped, is_busy_pair, may_follow}
-use Rattle.cal_trace.specs.Signals.{SoFar, at_start, passes_of, is_full, is_between, next_thread, shown_in, last_answer, last_shown, with_look, one_more, add_look, add_pass, add_end, look_row, following, as_look, look_of_whole, look_of_busy, take_look, take_form, form_of, ending, and_then, signals_from, signals_under, signals_of}
+use Rattle.cal_trace.specs.Shown.{record_of, nothing_shown, is_shaped, is_busy_pair}
+use Rattle.cal_trace.specs.Signals.{SoFar, at_start, passes_of, is_full, next_thread, shown_in, last_answer, last_shown, with_look, add_look, add_pass, add_end, look_row, following, as_look, look_of_whole, look_of_busy, take_look, take_form, form_of, and_then, signals_from, signals_under, signals_of}
 use Rattle.cal_trace.specs.declared.fault.FaultKind.{FaultKind}
 use Rattle.cal_trace.specs.declared.fault.FaultKind.TheVariants as kinds
 use Rattle.cal_trace.specs.declared.fault.TraceFault.{TraceFault}

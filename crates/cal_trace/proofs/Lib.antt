@@ -11,3 +11,13 @@ pub mod HistoryLines
 pub mod StandingKept
 pub mod Owners
 pub mod Accepted
+pub mod Conjunctions
+pub mod EachOne
+pub mod Extents
+pub mod Spelled
+pub mod LinesRead
+pub mod PlainRows
+pub mod RowsTaken
+pub mod HistoryBack
+pub mod ReadInRange
+pub mod LegalInRange

@@ -15,3 +15,5 @@ pub mod HistoryText
 pub mod Standing
 pub mod ReportText
 pub mod Fitting
+pub mod Ranges
+pub mod Laws

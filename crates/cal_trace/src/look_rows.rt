@@ -1,13 +1,16 @@
 //! Pass rows, look rows and end rows, as signals and histories have them.
 
 ghost use Rattle.std.specs.Prelude.{◌≡◌, ◌==◌};
-ghost use Rattle.cal_trace.specs.Fields.{number_at};
+ghost use Rattle.std.specs.Option.{is_some, IfSome};
+ghost use Rattle.cal_trace.specs.Shown.{record_of};
+ghost use Rattle.cal_trace.specs.Fields.{number_at, has_numbers};
 ghost use Rattle.cal_trace.specs.LookRows.{pass_row, whole_row, busy_row, end_row};
 ghost use Rattle.csv.specs.Records.{fields_of};
 
 use crate::fault::FaultKind;
-use crate::fields::{has_numbers, number_at};
+use crate::fields::{has_numbers, number_at, numbers_of};
 use crate::shown::{Shown, is_busy_pair, is_shaped, record_of};
+use cal_signal::Record;
 use csv::ByteRecord;
 
 /// The most passes that a file may have.
@@ -58,25 +61,53 @@ fn names_thread(row: &ByteRecord, thread: usize) -> bool
     number_at(row, 1) == thread as u64
 }
 
+/// The numbers of a row of a whole record.
+#[derive(Clone, Copy, Debug, PartialEq, Eq)]
+struct WholeNumbers {
+    thread: u64,
+    room: u64,
+    number: u64,
+    rec: Record,
+}
+
+// Reads them, where all fields after the first are numbers.
+fn whole_numbers(row: &ByteRecord) -> Option<WholeNumbers>
+    ensures all { is_some result ≡ has_numbers (fields_of row.now) }
+    ensures thread { IfSome result (λ it. it.thread ≡ number_at (fields_of row.now) 1) }
+    ensures room { IfSome result (λ it. it.room ≡ number_at (fields_of row.now) 2) }
+    ensures number { IfSome result (λ it. it.number ≡ number_at (fields_of row.now) 3) }
+    ensures words { IfSome result (λ it. it.rec ≡ record_of (fields_of row.now)) }
+{
+    match numbers_of(row) {
+        None => None,
+        Some(numbers) => Some(WholeNumbers {
+            thread: numbers[1],
+            room: numbers[2],
+            number: numbers[3],
+            rec: record_of(&numbers),
+        }),
+    }
+}
+
 /// Reads a row of a whole record, where the next look is this thread's.
 pub(crate) fn whole_row(row: &ByteRecord, thread: usize) -> Result<WholeRow, FaultKind>
     ensures { result ≡ whole_row thread (fields_of row.now) }
 {
-    if !has_numbers(row) {
+    let Some(numbers) = whole_numbers(row) else {
         return Err(FaultKind::Number);
-    }
-    if !names_thread(row, thread) {
+    };
+    if numbers.thread != thread as u64 {
         return Err(FaultKind::Order);
     }
-    let room = number_at(row, 2);
-    let rec = record_of(row);
+    let room = numbers.room;
+    let rec = numbers.rec;
     if room >= 2 || !is_shaped(&rec) {
         return Err(FaultKind::Range);
     }
     Ok(WholeRow {
         room: room == 1,
         shown: Shown {
-            number: number_at(row, 3),
+            number: numbers.number,
             rec,
         },
     })

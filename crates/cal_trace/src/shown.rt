@@ -1,12 +1,11 @@
 //! What threads showed, as rows give it.
 
-ghost use Rattle.std.specs.Prelude.{◌≡◌};
+ghost use Rattle.std.specs.Prelude.{◌≡◌, ◌≤◌, ◌<◌, ℕ, slice_index};
 ghost use Rattle.cal_trace.specs.Shown.{record_of, is_shaped, is_later, is_busy_pair, is_same, may_follow, nothing_shown};
-ghost use Rattle.csv.specs.Records.{fields_of};
+ghost use Rattle.cal_trace.specs.Fields.{number_at};
+ghost use Rattle.cal_trace.specs.Rows.{Fields};
 
-use crate::fields::number_at;
 use cal_signal::{Record, later, shaped};
-use csv::ByteRecord;
 
 /// A record and its place in the thread's page.
 #[derive(Clone, Copy, Debug, PartialEq, Eq)]
@@ -39,20 +38,20 @@ impl Shown {
     }
 }
 
-/// The record of a row, from the fifth field on; words that the row lacks are 0.
-pub(crate) fn record_of(row: &ByteRecord) -> Record
-    ensures { result ≡ record_of (fields_of row.now) }
+/// The record of a row by its numbers, from the fifth field on; words that the row lacks are 0.
+pub(crate) fn record_of(numbers: &[u64; 13]) -> Record
+    ensures { (fields : Fields) → ((k : ℕ) → 1 ≤ k → k < 13 → slice_index numbers.now k ≡ number_at fields k) → result ≡ record_of fields }
 {
     Record {
-        taken: number_at(row, 4),
-        running: number_at(row, 5),
-        queued: number_at(row, 6),
-        oldest: number_at(row, 7),
-        started: number_at(row, 8),
-        misses: number_at(row, 9),
-        stamp: number_at(row, 10),
-        paused: number_at(row, 11),
-        since: number_at(row, 12),
+        taken: numbers[4],
+        running: numbers[5],
+        queued: numbers[6],
+        oldest: numbers[7],
+        started: numbers[8],
+        misses: numbers[9],
+        stamp: numbers[10],
+        paused: numbers[11],
+        since: numbers[12],
     }
 }
 

@@ -41,7 +41,7 @@ impl SignalLooks {
     pub fn as_slice(&self) -> &[SignalLook]
         ensures { result.now ≡ self.now }
     {
-        self.items.as_slice()
+        &self.items
     }
 }
 

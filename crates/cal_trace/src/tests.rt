@@ -106,55 +106,33 @@ fn one_pass_of_version_two(rt: HostRuntime) -> Result<(), Fail> {
 #[test]
 fn faults_of_signals(rt: HostRuntime) -> Result<(), Fail> {
     let alloc = rt.alloc();
-    assert_eq!(rt; fault_in(alloc, b"caladan-signals,2\nend,0\n")?, (0, 0));
-    assert_eq!(rt; fault_in(alloc, b"")?, (1, 2));
-    assert_eq!(rt; fault_in(alloc, b"caladan-signals,3\nend,0\n")?, (1, 2));
-    assert_eq!(rt; fault_in(alloc, b"caladan-signals,2\nend\n")?, (2, 3));
-    assert_eq!(rt; fault_in(alloc, b"caladan-signals,2\nend,01\n")?, (2, 4));
-    assert_eq!(rt; fault_in(alloc, b"caladan-signals,2\nend,1\n")?, (2, 5));
-    assert_eq!(rt; fault_in(alloc, b"caladan-signals,2\n")?, (2, 5));
-    assert_eq!(rt;
-        fault_in(alloc, b"caladan-signals,2\nend,0\nend,0\n")?,
-        (3, 5)
-    );
-    assert_eq!(rt;
-        fault_in(alloc, b"caladan-signals,2\ncaladan-signals,9\n")?,
-        (2, 5)
-    );
-    assert_eq!(rt;
-        fault_in(alloc, b"caladan-signals,2\ncaladan-signals\n")?,
-        (2, 3)
-    );
-    assert_eq!(rt;
-        fault_in(alloc, b"caladan-signals,2\ngrant,0,0,1\n")?,
-        (2, 3)
-    );
-    assert_eq!(rt;
-        fault_in(alloc, b"caladan-signals,2\npass,1,0\nbusy,1,0,1,1\n")?,
-        (3, 5)
-    );
-    assert_eq!(rt;
-        fault_in(alloc, b"caladan-signals,2\npass,1,0\nbusy,0,2,1,1\n")?,
-        (3, 6)
-    );
-    assert_eq!(rt;
-        fault_in(alloc, b"caladan-signals,2\npass,1,0\nbusy,0,0,1,3\n")?,
-        (3, 6)
-    );
-    assert_eq!(rt;
-        fault_in(
-            alloc,
-            b"caladan-signals,2\npass,1,0\nwhole,0,0,1,0,0,0,0,0,0,0\n"
-        )?,
-        (3, 3)
-    );
-    assert_eq!(rt;
-        fault_in(
-            alloc,
-            b"caladan-signals,1\npass,1,0\nwhole,0,0,2,0,0,0,0,0,0,0\npass,2,0\nwhole,0,0,1,0,0,0,0,0,0,0\nend,2\n"
-        )?,
-        (5, 7)
-    );
+    let cases: [(&[u8], (u64, u8)); 16] = [
+        (b"caladan-signals,2\nend,0\n", (0, 0)),
+        (b"", (1, 2)),
+        (b"caladan-signals,3\nend,0\n", (1, 2)),
+        (b"caladan-signals,2\nend\n", (2, 3)),
+        (b"caladan-signals,2\nend,01\n", (2, 4)),
+        (b"caladan-signals,2\nend,1\n", (2, 5)),
+        (b"caladan-signals,2\n", (2, 5)),
+        (b"caladan-signals,2\nend,0\nend,0\n", (3, 5)),
+        (b"caladan-signals,2\ncaladan-signals,9\n", (2, 5)),
+        (b"caladan-signals,2\ncaladan-signals\n", (2, 3)),
+        (b"caladan-signals,2\ngrant,0,0,1\n", (2, 3)),
+        (b"caladan-signals,2\npass,1,0\nbusy,1,0,1,1\n", (3, 5)),
+        (b"caladan-signals,2\npass,1,0\nbusy,0,2,1,1\n", (3, 6)),
+        (b"caladan-signals,2\npass,1,0\nbusy,0,0,1,3\n", (3, 6)),
+        (
+            b"caladan-signals,2\npass,1,0\nwhole,0,0,1,0,0,0,0,0,0,0\n",
+            (3, 3),
+        ),
+        (
+            b"caladan-signals,1\npass,1,0\nwhole,0,0,2,0,0,0,0,0,0,0\npass,2,0\nwhole,0,0,1,0,0,0,0,0,0,0\nend,2\n",
+            (5, 7),
+        ),
+    ];
+    for (text, fault) in cases {
+        assert_eq!(rt; fault_in(alloc, text)?, fault);
+    }
     Ok(())
 }
 
@@ -250,7 +228,7 @@ task 0 lc held 0 leaving 1
 #[test]
 fn texts_as_csv_reads_them(rt: HostRuntime) -> Result<(), Fail> {
     let alloc = rt.alloc();
-    let cases: [(&[u8], (u64, u8)); 14] = [
+    let cases: [(&[u8], (u64, u8)); 20] = [
         (b"\"caladan-signals\",\"2\"\n\"end\",\"0\"\n", (0, 0)),
         (b"caladan-signals,2\rend,0\r", (0, 0)),
         (b"caladan-signals,2\r\nend,0\r\n", (0, 0)),
@@ -265,6 +243,12 @@ fn texts_as_csv_reads_them(rt: HostRuntime) -> Result<(), Fail> {
         (b"caladan-signals,2\n# end\nend,0\n", (2, 3)),
         (b"caladan-signals,2\n\"end,0\n", (2, 3)),
         (b"caladan-signals,2\nend,\"0\n\"\n", (2, 4)),
+        (b"caladan-signals,2\nend,\"0\"\"\"\n", (2, 4)),
+        (b"caladan-signals,2\n\"\"\nend,0\n", (2, 3)),
+        (b"caladan-signals,2\n\xef\xbb\xbfend,0\n", (2, 3)),
+        (b"caladan-signals,2\n\rend,0\n", (0, 0)),
+        (b"\xef\xbb\xbf", (1, 2)),
+        (b"\n\r\n", (1, 2)),
     ];
     for (text, fault) in cases {
         assert_eq!(rt; fault_in(alloc, text)?, fault);

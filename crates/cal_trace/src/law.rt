@@ -1,0 +1,32 @@
+//! Laws over the definitions alone, each the contract of a function that does nothing.
+
+ghost use Rattle.cal_trace.specs.Laws.{TextIsItsRows, TextIsReadBack, ReadIsReadBack, LegalIsReadBack};
+
+use cal_policy::{chosen_is_of_least_class, legal_is_short, legal_is_sound};
+
+/// The rows of the text of a history that is in range are the rows that it was written as.
+pub fn text_is_its_rows()
+    ensures { TextIsItsRows }
+{}
+
+/// The text of a history that is in range, whether or not it is legal, is read, for its table, as
+/// that history.
+pub fn text_is_read_back()
+    ensures { TextIsReadBack }
+{}
+
+/// A history that was read, of version 1 or 2, and written, which is in version 2, is read back as
+/// the same list.
+pub fn read_is_read_back()
+    ensures { ReadIsReadBack }
+{}
+
+/// The text of a legal history is read, for its table, as that history, where a file can hold it: it
+/// has at most 1,048,576 passes, and its numbers are below 2 to the 64.
+pub fn legal_is_read_back()
+    ensures { LegalIsReadBack }
+{
+    legal_is_sound();
+    legal_is_short();
+    chosen_is_of_least_class();
+}
