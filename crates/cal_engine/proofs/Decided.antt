@@ -5,12 +5,12 @@ use Rattle.std.proofs.lemmas.List.FromFn.{length-enumerate_from, get_or-enumerat
 use Rattle.std.proofs.lemmas.Option.{slice_get_past, slice_get_within, slice_get_read, slice_get-get_or, slice_get-map}
 use Rattle.std.proofs.Math.ListN.{get_or-append}
 use Rattle.std.proofs.Math.Seq.{get_or-append_seam}
-use Rattle.std.specs.Option.{unwrap_or, option_or, option_and_then}
-use Rattle.std.specs.List.{enumerate_from, flat_map}
+use Rattle.std.specs.Option.{unwrap_or, option_or}
+use Rattle.std.specs.List.{enumerate_from}
 use Rattle.cal_signal.specs.declared.record.Record.{Record}
 use Rattle.cal_signal.specs.declared.look.Look.{Look}
 use Rattle.cal_signal.specs.declared.look.Look.TheVariants.{Whole, Busy}
-use Rattle.cal_signal.specs.Records.{IsLater, IsShaped}
+use Rattle.cal_signal.specs.Records.{IsShaped}
 use Rattle.cal_signal.specs.Looks.{IsBusyPair}
 use Rattle.cal_machine.specs.Table.{Table}
 use Rattle.cal_policy.specs.declared.judged_look.Seen.{Seen}
@@ -21,11 +21,11 @@ use Rattle.cal_policy.specs.Lists.{last_of, last_after}
 use Rattle.cal_policy.specs.Tasks.{threads_of_table}
 use Rattle.cal_policy.specs.History.{actions_of, looks_of, sent_to}
 use Rattle.cal_policy.specs.Looks.{last_shown, look_of, shown_at, shown_by, nothing_shown}
-use Rattle.cal_policy.specs.Judging.{judged, is_foreign, IsFitLook, IsShownAfter, AreFitLooks, IsInput}
+use Rattle.cal_policy.specs.Judging.{judged, is_foreign, IsFitLook, IsShownAfter, IsInput}
 use Rattle.cal_policy.specs.declared.pass_input.Input.{Input}
 use Rattle.cal_policy.specs.Pass.{pass_of, IsPass, IsLegal}
 use Rattle.cal_policy.specs.Setting.{setting}
-use Rattle.cal_trace.specs.Shown.{is_shaped, is_later, is_busy_pair, is_same, may_follow}
+use Rattle.cal_trace.specs.Shown.{is_later, is_busy_pair, is_same, may_follow}
 use Rattle.cal_trace.specs.Shown.{nothing_shown as no_signal}
 use Rattle.cal_trace.specs.Signals as signals
 use Rattle.cal_trace.specs.Fitting.{IsFitting, IsFittingPass}

@@ -1,4 +1,4 @@
-pub mod ReadLaws
 pub mod LinesOf
 pub mod Decided
 pub mod Reading
+pub mod CommandWords

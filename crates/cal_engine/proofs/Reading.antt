@@ -1,20 +1,20 @@
 -- What was read is all that there was.
-use Rattle.std.proofs.Common.{◌≡◌, ◌<◌, ◌≤◌, ◌++◌, nat_lt, ℕ, Bool, true, false, List, [], length, Option, Some, None, IfSome, Result, Err, if◌then◌else◌, refl, sym, ap, ◌∙◌, arith}
+use Rattle.std.proofs.Common.{◌≡◌, ◌≤◌, ◌++◌, nat_lt, ℕ, false, List, length, Option, Some, None, IfSome, Result, Err, refl, sym, ap, subst, ◌∙◌, arith}
 use Rattle.std.proofs.lemmas.List.{append-nil}
 use Rattle.std.specs.Io.KnownBytes.{Consumes, IsAtEnd}
-use Rattle.cal_engine.specs.Outcome.{run_of, run_of_input}
-use Rattle.cal_engine.specs.declared.fault.RunFault.TheVariants as fault
+use Rattle.cal_engine.specs.Outcome.{Decided}
+use Rattle.cal_engine.specs.Runs.{Run, within_limit}
+use Rattle.cal_engine.specs.declared.fault.RunFault.{RunFault}
 use Rattle.cal_engine.specs.declared.input.TheConstants.{INPUT_LIMIT}
 
--- a reader at its end has given all its bytes
-pub all_read : (old new : Option (List ℕ)) (text : List ℕ) → Consumes old new text → IsAtEnd new → IfSome old (λ bytes. bytes ≡ text)
-all_read None new text took ends = tt
-all_read (Some bytes) None text took ends = absurd took
-all_read (Some bytes) (Some rest) text took ends = took ∙ ap (λ l. text ++ l) ends ∙ append-nil text
+within : (text : List ℕ) (outcome : Result Run RunFault) → length text ≤ INPUT_LIMIT → within_limit text outcome ≡ outcome
+within text outcome le = let no : nat_lt INPUT_LIMIT (length text) ≡ false = grind arith in rw no refl
 
--- an input within the limit asks for what its parts ask for
-pub within_limit : (text : List ℕ) → length text ≤ INPUT_LIMIT → run_of_input text ≡ run_of text
-within_limit text le = let no : nat_lt INPUT_LIMIT (length text) ≡ false = grind arith in rw no refl
-
-pub beyond_limit : (text : List ℕ) → INPUT_LIMIT < length text → run_of_input text ≡ Err fault.Length
-beyond_limit text lt = let yes : nat_lt INPUT_LIMIT (length text) ≡ true = grind arith in rw yes refl
+-- a fault of the text that was read is the input's
+pub refused : (old new : Option (List ℕ)) (text : List ℕ) (outcome : List ℕ → Result Run RunFault) (f : RunFault) → Consumes old new text → IsAtEnd new → length text ≤ INPUT_LIMIT
+    → Decided f (outcome text ≡ Err f) → IfSome old (λ input. Decided f (within_limit input (outcome input) ≡ Err f))
+refused None new text outcome f took ends le h = tt
+refused (Some input) None text outcome f took ends le h = absurd took
+refused (Some input) (Some rest) text outcome f took ends le h =
+    let same : text ≡ input = sym (took ∙ ap (λ l. text ++ l) ends ∙ append-nil text) in
+    subst (λ (bytes : List ℕ). Decided f (within_limit bytes (outcome bytes) ≡ Err f)) same (rw (within text (outcome text) le) h)

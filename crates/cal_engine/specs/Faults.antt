@@ -1,5 +1,5 @@
 -- What the program says of a fault, and its exit status.
-use Rattle.std.specs.Prelude.{ℕ, List, [], ◌∷◌, ◌++◌, codes, decimal}
+use Rattle.std.specs.Prelude.{ℕ, List, ◌++◌, codes, decimal}
 use Rattle.cal_machine.specs.declared.fault.ConfigFault.{ConfigFault}
 use Rattle.cal_machine.specs.declared.fault.ConfigFault.TheVariants as config
 use Rattle.cal_trace.specs.declared.fault.FaultKind.{FaultKind}

@@ -1,4 +1,6 @@
 pub mod Input
 pub mod Faults
 pub mod Deciding
+pub mod Runs
 pub mod Outcome
+pub mod CommandWords

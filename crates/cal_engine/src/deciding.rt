@@ -5,14 +5,16 @@ ghost use Rattle.cal_machine.specs.Tasks.{threads_in};
 ghost use Rattle.cal_policy.specs.Pass.{IsLegal};
 ghost use Rattle.cal_trace.specs.Fitting.{AreFittingPasses};
 ghost use Rattle.cal_engine.specs.Deciding.{decided, judged_input};
-ghost use Rattle.cal_engine.specs.Outcome.{run_of, run_of_input, Gives, Refuses};
+ghost use Rattle.cal_engine.specs.Outcome.{Gives, Reports};
+ghost use Rattle.cal_engine.specs.Runs.{decided_run_of, within_limit};
 
+use crate::answer::{report_text, write_answer};
 use crate::fault::RunFault;
 use crate::input::read_input;
-use crate::separator::split_input;
+use crate::parts::read_parts;
 use cal_machine::Config;
 use cal_policy::{Actions, Book, Input, PassEntry, Rooms, SeenList};
-use cal_trace::{SignalPass, read_signals, write_report};
+use cal_trace::{SignalPass, read_signals};
 use std::alloc::{AllocError, Global};
 use std::io::{Read, Write};
 
@@ -26,41 +28,23 @@ pub fn decide<R: Read + Drop, W: Write>(
     mut reader: R,
     writer: &mut W,
 ) -> Result<(), RunFault>
-    // The input asks for a run, or the fault is its first.
-    ensures exact { IfSome (R.remaining reader) (λ input. Refuses result (run_of_input input)) }
+    // The report that the input asks for was written and nothing else, or the fault is the input's first.
+    ensures exact { IfSome (R.remaining reader) (λ input. Reports result (within_limit input (decided_run_of input)) (W.contents writer.old) (W.contents writer.new)) }
     // Nothing is written before the input was accepted.
     ensures untouched { IfErr result (λ fault. fault ≢ RunFault.Write → writer.new ≡ writer.old) }
 {
     let input = read_input(alloc, &mut reader)?;
-    let report = report_of(alloc, input.as_slice())?;
-    match writer.write_all(report.as_slice()) {
-        Ok(()) => Ok(()),
-        Err(_) => Err(RunFault::Write),
-    }
-}
-
-/// The report of an input.
-fn report_of(alloc: Global, input: &[u8]) -> Result<Vec<u8>, RunFault>
-    ensures { Refuses result (run_of input.now) }
-{
-    let (config, history) = run(alloc, input)?;
-    let mut report = Vec::new(alloc);
-    match write_report(&config, history.as_slice(), &mut report) {
-        Ok(()) => Ok(report),
-        // A list in memory refuses nothing but memory.
-        Err(_) => Err(RunFault::Memory),
-    }
+    let (config, history) = decided_run(alloc, input.as_slice())?;
+    let report = report_text(alloc, &config, history.as_slice())?;
+    write_answer(report.as_slice(), writer)
 }
 
 /// The task table of an input, and the history that its signals lead to.
-fn run(alloc: Global, input: &[u8]) -> Result<(Config, Vec<PassEntry>), RunFault>
-    ensures exact { Gives (λ r. record { table = r.0; history = r.1.items }) result (run_of input.now) }
+pub fn decided_run(alloc: Global, input: &[u8]) -> Result<(Config, Vec<PassEntry>), RunFault>
+    ensures exact { Gives (λ r. record { table = r.0; history = r.1.items }) result (decided_run_of input.now) }
     ensures legal { IfOk result (λ r. IsLegal r.0 r.1.items) }
 {
-    let Some((table, trace)) = split_input(input) else {
-        return Err(RunFault::Separator);
-    };
-    let config = Config::read(alloc, table)?;
+    let (config, trace) = read_parts(alloc, input)?;
     let signals = read_signals(alloc, &config, trace)?;
     let history = decide_passes(alloc, &config, signals.passes.as_slice())?;
     Ok((config, history))

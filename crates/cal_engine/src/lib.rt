@@ -5,12 +5,17 @@
 //! says and exits with after a fault are `fault_line` and `status`.
 #![tactic(auto)]
 
+mod answer;
+mod auditing;
 mod command_line;
 mod deciding;
 mod fault;
 mod input;
+mod parts;
 mod separator;
 
+pub use auditing::run_audit;
+pub use cal_policy::Verdict;
 pub use command_line::{Job, words};
 pub use deciding::decide;
 pub use fault::{RunFault, fault_line, status};

@@ -1,10 +1,11 @@
 //! The core scheduler of Caladan as a program: words, one input on standard input, the answer on standard output.
 //!
 //! What it does with the input is cal_engine's; here stand only the ends of the process. Exit status 0 is done (help
-//! too), 2 is bad words or a refused input, 3 is memory, the writer or a thread; a fault has one line on standard error.
+//! too), 1 is an illegal history, 2 is bad words or a refused input, 3 is memory, the writer or a thread; a fault has one
+//! line on standard error.
 #![tactic(auto)]
 
-use cal_engine::{Job, RunFault, decide, fault_line, status, words};
+use cal_engine::{Job, RunFault, Verdict, decide, fault_line, run_audit, status, words};
 use clap::error::{Error, ErrorKind};
 use std::process::ExitCode;
 use std::{env, io};
@@ -32,6 +33,10 @@ fn run(rt: &HostRuntime) -> Result<u8, RunFault> {
             decide(alloc, rt.stdin(), &mut rt.stdout())?;
             Ok(0)
         }
+        Ok(Job::Audit) => match run_audit(alloc, rt.stdin(), &mut rt.stdout())? {
+            Verdict::Legal => Ok(0),
+            Verdict::Illegal { .. } => Ok(1),
+        },
         Err(error) => refuse_words(rt, &error),
     }
 }

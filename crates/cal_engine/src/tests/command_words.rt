@@ -8,6 +8,7 @@ use std::test::Fail;
 fn words_of_each_job(rt: HostRuntime) -> Result<(), Fail> {
     assert_eq!(rt; words(rt.alloc(), &[])?, Job::Decide);
     assert_eq!(rt; words(rt.alloc(), &["decide"])?, Job::Decide);
+    assert_eq!(rt; words(rt.alloc(), &["audit"])?, Job::Audit);
     Ok(())
 }
 
@@ -20,6 +21,7 @@ fn other_words_are_refused(rt: HostRuntime) -> Result<(), Fail> {
             ["decide", "--summary"].as_slice(),
             ErrorKind::UnknownArgument,
         ),
+        (["audit", "decide"].as_slice(), ErrorKind::UnknownArgument),
         (["--summary"].as_slice(), ErrorKind::UnknownArgument),
         (["--help"].as_slice(), ErrorKind::DisplayHelp),
         (["help"].as_slice(), ErrorKind::DisplayHelp),

@@ -1,7 +1,6 @@
-use Rattle.std.proofs.Common.{◌≡◌, ◌≤◌, ◌+◌, ◌++◌, ◌∷◌, [], List, length, map, take, refl, sym, ap, ◌∙◌, arith, rules, length-append}
-use Rattle.std.proofs.lemmas.List.{take_all, length-map, length-take-le}
+use Rattle.std.proofs.Common.{◌≡◌, ◌+◌, ◌++◌, ◌∷◌, [], List, length, take, sym, ap, ◌∙◌, arith, rules, length-append}
+use Rattle.std.proofs.lemmas.List.{length-map, length-take-le}
 use Rattle.cal_policy.specs.declared.judged_look.Seen.{Seen}
-use Rattle.cal_policy.specs.declared.pass_entry.PassEntry.{PassEntry}
 use Rattle.cal_trace.specs.declared.signals.SignalLook.{SignalLook}
 use Rattle.cal_engine.specs.Deciding.{judged_looks}
 use Rattle.cal_engine.proofs.Decided.{judged_looks-more, rooms-more}

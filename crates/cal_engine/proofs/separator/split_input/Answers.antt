@@ -1,4 +1,4 @@
-use Rattle.std.proofs.Common.{◌≡◌, sym, ◌∙◌}
+use Rattle.std.proofs.Common.{sym, ◌∙◌}
 use Rattle.cal_engine.proofs.LinesOf.{goes_on, next_line, is_here, is_nowhere}
 use Rattle.cal_engine.proofs.separator.split_input.Goals.{then-text-at-eq10+else-is_separator, else-text-at-eq10}
 use Rattle.cal_engine.proofs.separator.split_input.Goals as goal

@@ -1,0 +1,23 @@
+use Rattle.std.proofs.Common.{◌≡◌, codes, true, ap, ap₂, ◌∙◌}
+use Rattle.std.proofs.lemmas.Result.{IfOk-weaker}
+use Rattle.clap.specs.Built.{AddsSubcommand}
+use Rattle.clap.specs.Simple.{App, app_of, app_of_fields, new_app, on_top, with_subcommand}
+use Rattle.clap.specs.declared.builder.command.Command.{Command}
+use Rattle.clap.specs.declared.builder.command.Command.TheOpen.{Command-F}
+use Rattle.cal_engine.specs.CommandWords.{bare_program}
+use Rattle.cal_engine.proofs.command_line.program.Goals as goal
+
+pub returns : goal.returns
+returns c =
+    let bare_is : app_of c.no_binary_name.result ≡ bare_program =
+    ap app_of_fields c.no_binary_name.ensures
+    ∙ ap (λ (f : Command-F Command). app_of_fields (record f { no_binary_name = true })) c.about.ensures
+    ∙ ap (on_top (λ s. record s { no_binary_name = true })) c.new-3.ensures.app in
+    let decide_is : app_of c.about-decide.result ≡ new_app (codes "decide") = ap app_of_fields c.about-decide.ensures ∙ c.new.ensures.app in
+    let audit_is : app_of c.about-audit.result ≡ new_app (codes "audit") = ap app_of_fields c.about-audit.ensures ∙ c.new-2.ensures.app in
+    let half_is : app_of c.in_ok-subcommand.field-0 ≡ with_subcommand bare_program (new_app (codes "decide")).top =
+    c.in_ok-subcommand.ensures.shape (ap (λ (f : Command-F Command). f.has_globals) c.about-decide.ensures ∙ c.new.ensures.local)
+    ∙ ap₂ with_subcommand bare_is (ap (λ (a : App). a.top) decide_is) in
+    IfOk-weaker c.subcommand-2.result _ _ (λ whole (adds : AddsSubcommand c.in_ok-subcommand.field-0 c.about-audit.result whole).
+    adds.shape (ap (λ (f : Command-F Command). f.has_globals) c.about-audit.ensures ∙ c.new-2.ensures.local)
+    ∙ ap₂ with_subcommand half_is (ap (λ (a : App). a.top) audit_is)) c.subcommand-2.ensures
