@@ -2,15 +2,16 @@
 use thiserror::Error;
 
 /// Why a page refuses a record, checked in this order (this project's own). The page is unchanged.
+/// `fault as u8` is its number, 1 to 3.
 #[derive(Clone, Copy, Debug, PartialEq, Eq, Error)]
 pub enum PublishFault {
-    /// 1: it isn't later than the last record.
+    /// It isn't later than the last record.
     #[error("the record is not later than the last one")]
-    Backwards,
-    /// 2: its core number or its count of misses is too great.
+    Backwards = 1,
+    /// Its core number or its count of misses is too great.
     #[error("the record has not the right shape")]
-    BadShape,
-    /// 3: the last place, 2^62 - 1, is taken. It cannot occur in fewer publications.
+    BadShape = 2,
+    /// The last place, 2^62 - 1, is taken. It cannot occur in fewer publications.
     #[error("the page has no place left")]
-    Exhausted,
+    Exhausted = 3,
 }

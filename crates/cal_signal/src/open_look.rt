@@ -43,7 +43,7 @@ impl OpenLook {
         self.count
     }
 
-    /// Loads the next word, in the record's order. Waits for nobody.
+    /// Loads the next word, in the record's order. Asks that fewer than nine are loaded. Waits for nobody.
     pub fn load_next(&mut self)
         requires { self.old.loaded < 9 }
         ensures { self.new ≡ record self.old { loaded = self.old.loaded + 1 } }
@@ -56,8 +56,8 @@ impl OpenLook {
         self.count += 1;
     }
 
-    /// The second version load: answers as `Observer::observe` does, and hands the observer back. Waits
-    /// for nobody.
+    /// The second version load: answers as `Observer::observe` does, and hands the observer back. Asks
+    /// that all nine words are loaded. Waits for nobody.
     pub fn finish(self) -> (Look, Observer)
         requires { self.loaded ≡ 9 }
         ensures page { result.1.page ≡ self.page }

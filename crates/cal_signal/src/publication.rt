@@ -40,7 +40,7 @@ impl OpenPage {
         self.count
     }
 
-    /// Stores the next word, in the record's order. Waits for nobody.
+    /// Stores the next word, in the record's order. Asks that fewer than nine are stored. Waits for nobody.
     pub fn store_next(&mut self)
         requires { self.old.stored < 9 }
         ensures { self.new ≡ record self.old { stored = self.old.stored + 1 } }
@@ -53,7 +53,8 @@ impl OpenPage {
         self.count += 1;
     }
 
-    /// Stores the even version: the record is published. Waits for nobody.
+    /// Stores the even version: the record is published. Asks that all nine words are stored. Waits for
+    /// nobody.
     pub fn finish(self) -> Publisher
         requires { self.stored ≡ 9 }
         ensures { result ≡ record { page = self.page; published = self.published ++ self.pending ∷ [] } }

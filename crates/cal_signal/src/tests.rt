@@ -6,6 +6,7 @@ use crate::{
     Look, Observer, OpenLook, OpenPage, PublishFault, Publisher, Record, close_page, close_watched,
     look_open, open_page, open_watched, read_back,
 };
+use std::alloc::AllocError;
 use std::test::Fail;
 use std::thread::join;
 
@@ -364,17 +365,68 @@ fn second_observer_sees_what_the_first_sees(rt: HostRuntime) -> Result<(), Fail>
     Ok(())
 }
 
+// With one allocation refused, wherever that is, opening answers want of memory, or the page serves as ever.
+// (tools/refusals runs it so, and the next one.)
 #[test]
-fn fault_texts(rt: HostRuntime) -> Result<(), Fail> {
-    let texts = [
+fn refused_memory_of_a_page(rt: HostRuntime) -> Result<(), Fail> {
+    let (mut publisher, mut observer) = match open_page(rt.alloc()) {
+        Ok(ends) => ends,
+        Err(AllocError) => return Ok(()),
+    };
+    assert_eq!(rt; publisher.publish(record(5, 10)), Ok(1));
+    assert_eq!(rt;
+        observer.observe(),
+        Look::Whole {
+            number: 1,
+            rec: record(5, 10)
+        }
+    );
+    let end = close_page(publisher, observer);
+    assert_eq!(rt; (end.published, end.seen), (1, 1));
+    Ok(())
+}
+
+#[test]
+fn refused_memory_of_a_watched_page(rt: HostRuntime) -> Result<(), Fail> {
+    let (mut publisher, mut observer, mut watcher) = match open_watched(rt.alloc()) {
+        Ok(ends) => ends,
+        Err(AllocError) => return Ok(()),
+    };
+    let opening = Look::Whole {
+        number: 0,
+        rec: ZERO,
+    };
+    assert_eq!(rt; watcher.observe(), opening);
+    assert_eq!(rt; publisher.publish(record(5, 10)), Ok(1));
+    assert_eq!(rt;
+        observer.observe(),
+        Look::Whole {
+            number: 1,
+            rec: record(5, 10)
+        }
+    );
+    let end = close_watched(publisher, observer, watcher);
+    assert_eq!(rt; (end.published, end.first, end.second), (1, 1, 0));
+    Ok(())
+}
+
+#[test]
+fn fault_numbers_and_texts(rt: HostRuntime) -> Result<(), Fail> {
+    let faults = [
         (
             PublishFault::Backwards,
+            1,
             "the record is not later than the last one",
         ),
-        (PublishFault::BadShape, "the record has not the right shape"),
-        (PublishFault::Exhausted, "the page has no place left"),
+        (
+            PublishFault::BadShape,
+            2,
+            "the record has not the right shape",
+        ),
+        (PublishFault::Exhausted, 3, "the page has no place left"),
     ];
-    for (fault, text) in texts {
+    for (fault, number, text) in faults {
+        assert_eq!(rt; fault as u8, number);
         assert_eq!(rt; format!(in rt.alloc(); "{fault}")?.as_str(), text);
     }
     Ok(())
