@@ -7,22 +7,25 @@ use crate::taker::Taker;
 use rtrb::RingBuffer;
 use std::alloc::{AllocError, Global};
 
-/// How many commands may be on a ring that were sent and not yet taken.
+/// How many commands may be on a ring that were sent and not yet taken (this project's own).
 const PLACES: usize = 4;
 
-/// A ring of four places, on which nothing was sent: its two ends. An error is want of memory.
+/// A ring of four places, all free, on which nothing was sent: its two ends. An error is want of memory.
 pub fn open_ring(alloc: Global) -> Result<(Sender, Taker), AllocError>
     ensures one_ring { IfOk result (λ r. r.0.ring ≡ r.1.ring) }
     ensures empty { IfOk result (λ r. (r.0.sent ≡ []) × (r.1.taken ≡ [])) }
+    ensures places { IfOk result (λ r. r.0.free ≡ 4) }
 {
     let (producer, consumer) = RingBuffer::with_protocol::<Global, Sendable>(alloc, PLACES)?;
     Ok((Sender { producer, count: 0 }, Taker { consumer, count: 0 }))
 }
 
-/// How far a ring came: how many commands were sent, and how many of these were taken.
+/// How far a ring came, in commands.
 #[derive(Clone, Copy, PartialEq, Eq, Debug)]
 pub struct RingEnd {
+    /// How many commands were sent.
     pub sent: u64,
+    /// How many of these were taken.
     pub taken: u64,
 }
 

@@ -27,6 +27,23 @@ fn ring_of_four(rt: HostRuntime) -> Result<(), Fail> {
     Ok(())
 }
 
+// With one allocation refused, wherever that is, opening answers want of memory, or the ring serves as ever.
+// (tools/refusals runs it so.)
+#[test]
+fn refused_memory_of_a_ring(rt: HostRuntime) -> Result<(), Fail> {
+    let (mut sender, mut taker) = match open_ring(rt.alloc()) {
+        Ok(ends) => ends,
+        Err(AllocError) => return Ok(()),
+    };
+    assert!(rt; sender.room());
+    sender.send(Command::Run(127));
+    assert!(rt; taker.take() == Some((1, Command::Run(127))));
+    assert!(rt; taker.take().is_none());
+    let end = close_ring(sender, taker);
+    assert!(rt; end.sent == 1 && end.taken == 1);
+    Ok(())
+}
+
 // The n-th command of a long run, from 1.
 fn command_at(n: u64) -> Command
     ensures { IsSendable result }
