@@ -53,7 +53,7 @@ impl Config {
     /// was refused.
     ///
     /// The text is TOML: `cores`, `bandwidth_limit`, and for each task a `[[task]]` with `kind` (`lc` or `be`),
-    /// `guaranteed`, `limit`, `delay` and `request`.
+    /// `guaranteed`, `limit`, `delay` and `request` (this project's own form).
     pub fn read(alloc: Global, text: &[u8]) -> Result<Config, ConfigFault>
         ensures table { Gives (λ config. config) result (table_in text.now) }
         ensures accepted { IfOk result IsTable }

@@ -192,3 +192,50 @@ fn what_a_table_says(rt: HostRuntime) -> Result<(), Fail> {
     assert_eq!(rt; copied.task(2).delay, 30);
     Ok(())
 }
+
+// Whether these are the numbers of a table of three tasks.
+fn has_three_tasks(config: &Config) -> bool {
+    if config.tasks() != 3 || config.threads() != 9 || config.bandwidth_limit() != 1000 {
+        return false;
+    }
+    config.machine().cores() == 4
+        && config.task(0).request == 50
+        && config.task(1).kind == Kind::BestEffort
+        && config.task(2).guaranteed == 2
+}
+
+// With one allocation refused, wherever that is, the answer is want of memory by its name, or the ample one.
+// (tools/refusals runs these so.)
+#[test]
+fn refused_memory_read(rt: HostRuntime) {
+    match Config::read(rt.alloc(), THREE_TASKS) {
+        Ok(config) => assert!(rt; has_three_tasks(&config)),
+        Err(fault) => assert_eq!(rt; fault, ConfigFault::Memory),
+    }
+}
+
+#[test]
+fn refused_memory_read_of_a_fault(rt: HostRuntime) {
+    let kinds_late =
+        b"cores = 2\nbandwidth_limit = 1000\n[[task]]\nkind = \"be\"\nguaranteed = 1\nlimit = 1\ndelay = 10\nrequest = 50\n";
+    match Config::read(rt.alloc(), kinds_late) {
+        Ok(_) => panic!(rt; "the table was read"),
+        Err(ConfigFault::Memory) => {}
+        Err(fault) => assert_eq!(rt; fault, ConfigFault::BestEffortGuarantee),
+    }
+}
+
+#[test]
+fn refused_memory_copy(rt: HostRuntime) {
+    let config = match Config::read(rt.alloc(), THREE_TASKS) {
+        Ok(config) => config,
+        Err(fault) => {
+            assert_eq!(rt; fault, ConfigFault::Memory);
+            return;
+        }
+    };
+    if let Ok(copied) = config.copy(rt.alloc()) {
+        assert!(rt; has_three_tasks(&copied));
+    }
+    assert!(rt; has_three_tasks(&config));
+}
