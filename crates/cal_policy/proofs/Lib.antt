@@ -29,4 +29,8 @@ pub mod ApartInside
 pub mod Best
 pub mod Passing
 pub mod Surveyed
+pub mod Sorted
+pub mod BannedSet
+pub mod TwoSets
+pub mod Passed
 pub mod PassLength

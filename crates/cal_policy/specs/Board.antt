@@ -23,6 +23,7 @@ use Rattle.cal_policy.specs.Looks.{kept_by, last_shown, zero_record, nothing_sho
 use Rattle.cal_policy.specs.Setting.{Setting, so_far, kept_now, kept_before}
 use Rattle.cal_policy.specs.Grants.{is_granted_in}
 use Rattle.cal_policy.specs.Survey.{Surveys}
+use Rattle.cal_policy.specs.CoreSets.{Sorts, IsSetOfBanned}
 
 -- a number of commands as it is kept: no record acknowledges 2^64, so what is above need not be told apart
 abbrev pub kept_number : ℕ → ℕ
@@ -89,9 +90,9 @@ pub record KeepingAgrees (r : Keeping) (looks : List (List Seen)) : Type 0 where
   pub kept : (k : ℕ) → k < 128 → slice_index_or r.kept k zero_record ≡ kept_by looks k
   pub shown : (k : ℕ) → k < 128 → slice_index_or r.shown k nothing_shown ≡ last_shown looks k
 
--- the records kept before the last of these looks
+-- the misses of the records kept after these looks, which are all but those of the last pass
 pub record KeepsBefore (r : Keeping) (looks : List (List Seen)) : Type 0 where
-  pub before : (k : ℕ) → k < 128 → slice_index_or r.before k zero_record ≡ kept_by looks k
+  pub before : (k : ℕ) → k < 128 → slice_index r.before k ≡ (kept_by looks k).misses
 
 -- cores are below this number, and threads below that one; tasks below 16
 abbrev pub NamesCores : ℕ → ℕ → Action → Type 0
@@ -107,6 +108,7 @@ pub record Agrees (b : Board) (x : List Action) : Type 0 where
   pub holding : HoldingAgrees b.holding x
   pub bans : BansAgree b.bans x
   pub caps : CapsAgree b.caps x
+  pub banned : IsSetOfBanned b.sets.banned x
 
 -- threads are below this number
 pub record IsSound (threads : ℕ) (b : Board) : Type 0 where
@@ -117,11 +119,12 @@ pub record IsSound (threads : ℕ) (b : Board) : Type 0 where
 abbrev pub NamesTable : Table → Action → Type 0
 NamesTable table action = NamesCores table.cores (threads_of_table table) action
 
--- the board's threads are the table's, and its counts are those of its cores
+-- the board's threads are the table's, its counts are those of its cores, and its sets have each core where its holder says
 pub record IsReady (table : Table) (b : Board) : Type 0 where
   pub sound : IsSound 128 b
   pub own : IsSound (threads_of_table table) b
   pub counts : Surveys table (holder_in b.holding) b.survey
+  pub sets : Sorts table (holder_in b.holding) b.sets
 
 -- the set has the cores that were granted in this pass
 pub record IsFresh (granted : CoreSet) (acts : List Action) : Type 0 where
@@ -132,7 +135,7 @@ pub record Stands (b : Board) (s : Setting) (acts : List Action) : Type 0 where
   pub agrees : Agrees b (so_far s acts)
   pub fresh : IsFresh b.fresh acts
   pub kept : (k : ℕ) → k < 128 → slice_index_or b.keeping.kept k zero_record ≡ kept_now s k
-  pub before : (k : ℕ) → k < 128 → slice_index_or b.keeping.before k zero_record ≡ kept_before s k
+  pub before : (k : ℕ) → k < 128 → slice_index b.keeping.before k ≡ (kept_before s k).misses
   pub shown : (k : ℕ) → k < 128 → slice_index_or b.keeping.shown k nothing_shown ≡ last_shown (looks_of s.history ++ s.input.seen ∷ []) k
 
 -- the board agrees with the history followed by this entry

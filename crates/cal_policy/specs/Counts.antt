@@ -21,6 +21,12 @@ is_held Free = false
 is_held (Held placement) = true
 is_held (Leaving placement cause) = false
 
+-- the core is being left
+abbrev pub is_leaving : Holder → Bool
+is_leaving Free = false
+is_leaving (Held placement) = false
+is_leaving (Leaving placement cause) = true
+
 -- the core is held by a thread of task t
 abbrev pub is_held_for : Table → ℕ → Holder → Bool
 is_held_for table t Free = false

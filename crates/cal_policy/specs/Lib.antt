@@ -13,6 +13,8 @@ pub mod Bandwidth
 pub mod Grants
 pub mod Pass
 pub mod Survey
+pub mod CoreSets
+pub mod Among
 pub mod Board
 pub mod Coupled
 pub mod Losing

@@ -8,6 +8,7 @@ ghost use Rattle.cal_policy.specs.Board.{Agrees, IsReady, IsFresh, KeepingAgrees
 
 use crate::banning::Bans;
 use crate::capping::Caps;
+use crate::core_sets::CoreSets;
 use crate::holding::{Holding, core_changed_by};
 use crate::judged_look::Seen;
 use crate::keeping::Keeping;
@@ -22,6 +23,8 @@ pub struct Board {
     pub holding: Holding,
     /// How many cores tasks and threads have.
     pub survey: Survey,
+    /// Which cores are free, taken, left or banned.
+    pub sets: CoreSets,
     pub bans: Bans,
     pub caps: Caps,
     pub keeping: Keeping,
@@ -55,6 +58,7 @@ impl Board {
         Board {
             holding: Holding::new(),
             survey: Survey::new(),
+            sets: CoreSets::new(),
             bans: Bans::new(),
             caps: Caps::new(),
             keeping: Keeping::new(),
@@ -78,6 +82,8 @@ impl Board {
         self.holding.apply(action);
         let after = self.holding.holder_at(core);
         self.survey.add(config, after);
+        self.sets.move_core(config, core, before, after);
+        self.sets.note_ban(action);
         self.bans.apply(action);
         self.caps.apply(action);
         note_grant(&mut self.fresh, action);

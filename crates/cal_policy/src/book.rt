@@ -21,9 +21,10 @@ use cal_signal::Look;
 use std::alloc::{AllocError, Global};
 
 /// What the history so far comes to: holders with the numbers of their Runs, the task of each core's
-/// last grant, bans, caps, numbers of commands, kept records and those of the pass before, and the last
-/// look with a record of each thread. It decides each pass from that alone, so a pass costs the work
-/// of that pass, and only opening a book takes memory.
+/// last grant, counts, bans, caps, numbers of commands, kept records and the misses of those of the pass
+/// before, and the last look with a record of each thread; beside them the sets of the free, taken,
+/// leaving and banned cores and of the cores of each task, which no clause names. It decides each pass
+/// from that alone, so a pass costs the work of that pass, and only opening a book takes memory.
 ///
 /// Every call is to be given the table that the book was opened for. What a book says holds of every
 /// legal history with which it agrees.

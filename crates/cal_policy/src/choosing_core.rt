@@ -1,6 +1,6 @@
 //! Which core a task is to have.
 
-ghost use Rattle.std.specs.Prelude.{◌≡◌, ◌<◌, ◌≤◌, ◌&&◌, not, List, length, Option, Some, None, if◌then◌else◌};
+ghost use Rattle.std.specs.Prelude.{◌≡◌, ◌<◌, ◌≤◌, ◌&&◌, not, nat_lt, List, length, Option, Some, None, if◌then◌else◌};
 ghost use Rattle.std.specs.Option.{IfSome, option_map};
 ghost use Rattle.cal_machine.specs.Table.{IsTable};
 ghost use Rattle.cal_machine.specs.Machine.{sibling_of};
@@ -14,15 +14,18 @@ ghost use Rattle.cal_policy.specs.Grants as grants;
 ghost use Rattle.cal_policy.specs.Grants.{class_by, is_granted_in, none_leaves_for};
 ghost use Rattle.cal_policy.specs.Board.{Agrees, Stands, IsReady, placement_of};
 ghost use Rattle.cal_policy.specs.Survey.{Surveys};
+ghost use Rattle.cal_policy.specs.Choice.{best_below};
+ghost use Rattle.cal_policy.specs.Among.{class_among};
 
 use crate::board::Board;
 use crate::choosing::{Candidate, lesser};
+use crate::core_sets::next_core;
 use crate::counting::holds_for;
 use crate::holding::{Holder, Placement};
 use crate::kinds::is_latency_critical;
 use crate::pass_input::Input;
 use crate::surveying::Survey;
-use cal_machine::Config;
+use cal_machine::{Config, CoreSet};
 
 /// The class of a core that is free and not banned: 1 beside a core that the task holds, 2 last
 /// granted to the task, else 3.
@@ -149,7 +152,52 @@ fn class_by_holder(
     }
 }
 
-/// The core of the least class for the task, of those with that class the lowest.
+/// The core of the least class for the task among those of a set, of those with that class the lowest.
+fn choose_among(
+    config: &Config,
+    input: &Input,
+    board: &Board,
+    survey: &Survey,
+    task: usize,
+    cores: &CoreSet,
+) -> Option<Candidate>
+    requires table { IsTable config.now }
+    requires ready { IsReady config.now board.now }
+    requires task { task < length config.now.tasks }
+    requires rooms { length input.now.rooms ≡ threads_of_table config.now }
+    ensures choice { (h : List PassEntry) (acts : List Action) → Stands board.now (setting config.now h input.entry.now) acts →
+        Surveys config.now (holder_of (so_far (setting config.now h input.entry.now) acts)) survey.now →
+        result ≡ best_below nat_lt (class_among cores.now (setting config.now h input.entry.now) acts task) config.now.cores }
+    ensures below { IfSome result (λ best. (best.number < config.now.cores) × (best.rank < 256)) }
+{
+    let mut best: Option<Candidate> = None;
+    let mut first = 0;
+    while let Some(core) = next_core(config, cores, first) {
+        let holder = board.holding.holders[core as usize];
+        let class = class_by_holder(config, input, board, survey, task, core, holder);
+        best = lesser(best, class, core);
+        first = core + 1;
+    }
+    best
+}
+
+/// Whether a core may be revoked for the task at all: it is latency-critical, and no core is being
+/// left for it.
+fn may_have_revoked(config: &Config, survey: &Survey, task: usize) -> bool
+    requires table { IsTable config.now }
+    requires task { task < length config.now.tasks }
+    ensures { (h : List PassEntry) (input : Input) (acts : List Action) → let s = setting config.now h input in
+        Surveys config.now (holder_of (so_far s acts)) survey.now →
+        result ≡ (tasks.is_latency_critical config.now task && none_leaves_for s (so_far s acts) task) }
+{
+    let critical = is_latency_critical(config, task);
+    let awaits_none = survey.awaited[task] == 0;
+    critical && awaits_none
+}
+
+/// The core of the least class for the task, of those with that class the lowest. A free core is of
+/// a lesser class than any that is held, so those that are taken are gone over only where no free one
+/// will do.
 pub fn choose_core(
     config: &Config,
     input: &Input,
@@ -166,11 +214,11 @@ pub fn choose_core(
         result ≡ grants.choice_of (setting config.now h input.entry.now) acts task }
     ensures below { IfSome result (λ best. (best.number < config.now.cores) × (best.rank < 256)) }
 {
-    let mut best: Option<Candidate> = None;
-    for core in 0..config.machine().cores() {
-        let holder = board.holding.holders[core as usize];
-        let class = class_by_holder(config, input, board, survey, task, core, holder);
-        best = lesser(best, class, core);
+    if let Some(idle) = choose_among(config, input, board, survey, task, &board.sets.free) {
+        return Some(idle);
     }
-    best
+    if !may_have_revoked(config, survey, task) {
+        return None;
+    }
+    choose_among(config, input, board, survey, task, &board.sets.taken)
 }

@@ -1,6 +1,6 @@
 //! What the looks so far have shown.
 
-ghost use Rattle.std.specs.Prelude.{◌≡◌, ℕ, ◌<◌, ◌≤◌, ◌++◌, ◌∷◌, [], List, length, replicate, slice_index_or};
+ghost use Rattle.std.specs.Prelude.{◌≡◌, ℕ, ◌<◌, ◌≤◌, ◌++◌, ◌∷◌, [], List, length, replicate, slice_index, slice_index_or};
 ghost use Rattle.std.specs.Option.{unwrap_or};
 ghost use Rattle.cal_policy.specs.declared.judged_look.Seen.{Seen};
 ghost use Rattle.cal_policy.specs.Looks.{zero_record, nothing_shown, to_keep_at, shown_at};
@@ -21,8 +21,8 @@ pub struct Shown {
 pub struct Keeping {
     /// That of its last whole look.
     pub kept: [Record; 128],
-    /// The one that was kept before the last pass's look.
-    pub before: [Record; 128],
+    /// The misses of the one that was kept before the last pass's look.
+    pub before: [u64; 128],
     /// That of its last look with a record, whatever was judged of it.
     pub shown: [Shown; 128],
 }
@@ -57,6 +57,23 @@ fn none_shown() -> [Shown; 128]
     let rec = zero_words();
     let shown = Shown { number: 0, rec };
     [shown; 128]
+}
+
+fn no_misses() -> [u64; 128]
+    ensures { result ≡ replicate 128 0 }
+{
+    [0; 128]
+}
+
+/// The misses of each kept record.
+fn misses_of(kept: &[Record; 128]) -> [u64; 128]
+    ensures { (k : ℕ) → k < 128 → slice_index result k ≡ (slice_index_or kept.now k zero_record).misses }
+{
+    let mut misses = no_misses();
+    for (k, rec) in kept.iter().enumerate() {
+        misses[k] = rec.misses;
+    }
+    misses
 }
 
 /// Keeps the record of each whole look.
@@ -94,7 +111,7 @@ impl Keeping {
     {
         Keeping {
             kept: zero_records(),
-            before: zero_records(),
+            before: no_misses(),
             shown: none_shown(),
         }
     }
@@ -105,7 +122,7 @@ impl Keeping {
         ensures agrees { (looks : List (List Seen)) → KeepingAgrees self.old looks → KeepingAgrees self.new (looks ++ seen.now ∷ []) }
         ensures before { (looks : List (List Seen)) → KeepingAgrees self.old looks → KeepsBefore self.new looks }
     {
-        self.before = self.kept;
+        self.before = misses_of(&self.kept);
         keep(&mut self.kept, seen);
         note(&mut self.shown, seen);
     }

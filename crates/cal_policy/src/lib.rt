@@ -1,5 +1,5 @@
-//! The one-thread policy: what a pass of the scheduler does, decided from the whole history so far,
-//! and the audit of a history against it.
+//! The one-thread policy: what a pass of the scheduler does, decided from the whole history so far
+//! or from a Book that keeps what the history comes to, and the audit of a history against it.
 #![tactic(auto)]
 
 mod action_list;
@@ -10,6 +10,7 @@ mod capping;
 mod choosing;
 mod choosing_core;
 mod choosing_thread;
+mod core_sets;
 mod counting;
 mod deciding;
 mod delays;

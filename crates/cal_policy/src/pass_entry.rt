@@ -10,7 +10,9 @@ use std::alloc::{AllocError, Global};
 /// One pass: what it was given and what it did. A history is a list of passes.
 #[derive(Drop)]
 pub struct PassEntry {
+    /// What the pass was given.
     pub input: Input,
+    /// What it did, in the order in which it did it.
     pub actions: ActionList,
 }
 

@@ -75,10 +75,12 @@ pub fn audit(alloc: Global, config: &Config, history: &[PassEntry]) -> Result<Ve
 mod tests {
     use super::*;
     use crate::action_list::ActionList;
+    use crate::book::Book;
     use crate::judged_look::{Seen, SeenList};
     use crate::judging::judge;
     use crate::order::orderly;
     use crate::pass_input::{Input, Rooms};
+    use cal_machine::ConfigFault;
     use cal_signal::{Look, Record};
     use std::process::Abort;
     use std::test::Fail;
@@ -223,6 +225,47 @@ mod tests {
             audit(alloc, &config, &hostile)?,
             Verdict::Illegal { pass: 0 }
         );
+        Ok(())
+    }
+
+    /// The verdict on one grant, and a copy of its entry.
+    fn audited(alloc: Global, config: &Config) -> Result<(Verdict, PassEntry), AllocError> {
+        let granted = entry(alloc, 111, look(1, waiting()), &[GRANT])?;
+        let copied = granted.copy(alloc)?;
+        let history = [granted];
+        let verdict = audit(alloc, config, &history)?;
+        Ok((verdict, copied))
+    }
+
+    /// What a book makes of the same look.
+    fn decided(alloc: Global, config: &Config) -> Result<ActionList, AllocError> {
+        let first = input(alloc, 111, look(1, waiting()))?;
+        let mut book = Book::open(alloc, config)?;
+        let mut made = Actions::reserved(alloc)?;
+        if book.fits(config, &first) {
+            book.step(config, &first, &mut made);
+        }
+        made.to_list(alloc)
+    }
+
+    // With one allocation refused, wherever that is, the answer is want of memory by its name, or the ample one.
+    // (tools/refusals runs it so.)
+    #[test]
+    fn refused_memory(rt: HostRuntime) -> Result<(), Fail> {
+        let alloc = rt.alloc();
+        let config = match Config::read(alloc, TABLE) {
+            Ok(config) => config,
+            Err(ConfigFault::Memory) => return Ok(()),
+            Err(_) => panic!(rt; "the table was refused"),
+        };
+        let grant = [GRANT];
+        if let Ok((verdict, copied)) = audited(alloc, &config) {
+            assert_eq!(rt; verdict, Verdict::Legal);
+            assert_eq!(rt; copied.actions.as_slice(), &grant[..]);
+        }
+        if let Ok(made) = decided(alloc, &config) {
+            assert_eq!(rt; made.as_slice(), &grant[..]);
+        }
         Ok(())
     }
 }

@@ -87,7 +87,7 @@ fn new_misses(board: &Board, thread: usize) -> u64
     requires { thread < 128 }
     ensures { (s : Setting) (acts : List Action) → Stands board.now s acts → result ≡ rules.new_misses s thread }
 {
-    let before = board.keeping.before[thread].misses;
+    let before = board.keeping.before[thread];
     board.keeping.kept[thread].misses.saturating_sub(before)
 }
 

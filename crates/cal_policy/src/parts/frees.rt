@@ -12,6 +12,7 @@ ghost use Rattle.cal_policy.specs.Board.{Stands, IsReady, NamesTable, kept_numbe
 
 use crate::action_list::Actions;
 use crate::board::Board;
+use crate::core_sets::next_core;
 use crate::holding::Holder;
 use crate::parts::appending::make;
 use crate::pass_action::Action;
@@ -62,7 +63,7 @@ fn free_due(config: &Config, input: &Input, board: &Board, core: u8) -> Option<A
     }
 }
 
-/// Frees each core whose thread has left it, upwards.
+/// Frees each core whose thread has left it, upwards. Only those that are taken are gone over.
 pub fn free_left(config: &Config, input: &Input, board: &mut Board, out: &mut Actions)
     requires table { IsTable config.now }
     requires ready { IsReady config.now board.old }
@@ -72,8 +73,10 @@ pub fn free_left(config: &Config, input: &Input, board: &mut Board, out: &mut Ac
     ensures ready { IsReady config.now board.new }
     ensures length { length out.new ≤ length out.old + config.now.cores }
 {
-    for core in 0..config.machine().cores() {
+    let mut first = 0;
+    while let Some(core) = next_core(config, &board.sets.taken, first) {
         let action = free_due(config, input, board, core);
         make(config, board, out, action);
+        first = core + 1;
     }
 }

@@ -11,6 +11,7 @@ ghost use Rattle.cal_policy.specs.Board.{Stands, IsReady, NamesTable};
 
 use crate::action_list::Actions;
 use crate::board::Board;
+use crate::core_sets::next_core;
 use crate::parts::appending::make;
 use crate::pass_action::Action;
 use cal_machine::Config;
@@ -59,7 +60,7 @@ fn unban_in_pair(config: &Config, board: &Board, pair: u8) -> Option<Action>
 }
 
 /// Ends each ban whose thread no longer shows the core beside and the request that it was for. The
-/// cores are gone over upwards, pair by pair, and a pair gives at most one action.
+/// banned cores are gone over upwards, pair by pair, and a pair gives at most one action.
 pub fn end_bans(config: &Config, board: &mut Board, out: &mut Actions)
     requires table { IsTable config.now }
     requires ready { IsReady config.now board.old }
@@ -69,8 +70,11 @@ pub fn end_bans(config: &Config, board: &mut Board, out: &mut Actions)
     ensures ready { IsReady config.now board.new }
     ensures length { length out.new ≤ length out.old + 64 }
 {
-    for pair in 0..config.machine().cores() / 2 {
+    let mut next = 0;
+    while let Some(core) = next_core(config, &board.sets.banned, 2 * next) {
+        let pair = core / 2;
         let action = unban_in_pair(config, board, pair);
         make(config, board, out, action);
+        next = pair + 1;
     }
 }

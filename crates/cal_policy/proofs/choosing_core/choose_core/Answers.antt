@@ -1,21 +1,37 @@
-use Rattle.std.proofs.Common.{◌<◌, nat_lt, ap, ◌∙◌, arith}
-use Rattle.cal_policy.specs.Setting.{setting, so_far}
-use Rattle.cal_policy.specs.Grants.{class_of, class_by}
-use Rattle.cal_policy.specs.History.{holder_of}
-use Rattle.cal_policy.proofs.OneMore.{best_more}
-use Rattle.cal_policy.proofs.AsKept.{class_as_kept}
+-- The choice among the free cores comes first, and where no core may be revoked none of the others counts.
+use Rattle.std.proofs.Common.{◌≤◌, nat_lt, ap, sym, ◌∙◌}
+use Rattle.std.specs.Option.{option_or}
+use Rattle.cal_policy.specs.Setting.{setting}
+use Rattle.cal_policy.specs.Choice.{best_below}
+use Rattle.cal_policy.specs.Among.{class_among}
+use Rattle.cal_policy.proofs.TwoSets.{choice_joins, none_taken}
 use Rattle.cal_policy.proofs.choosing_core.choose_core.Goals as goal
 
-pub loop-core-preserved : goal.loop-core-preserved
-loop-core-preserved c = record {
-  choice = λ h acts s v.
-      let at = setting c.args.config.now h c.args.input.now in
-      let core = c.loop-core.core in
-      let low : core < 128 = omega arith in
-      c.lesser-best.ensures.better ∙ best_more nat_lt (class_of at acts c.args.task) core _ _
-      (c.loop-core.invariant.choice h acts s v)
-      (c.class_by_holder-class.ensures.class h acts s v
-      ∙ ap (class_by at acts c.args.task core) (s.agrees.holding.holders core low)
-      ∙ class_as_kept at acts c.args.task core (holder_of (so_far at acts) core));
-  below = c.lesser-best.ensures.below;
-}
+pub returns-in-Some-clause-choice : goal.returns-in-Some-clause-choice
+returns-in-Some-clause-choice c = λ h acts s v.
+    let table = c.args.config.now in
+    let at = setting table h c.args.input.now in
+    let board = c.args.board.now in
+    let few : table.cores ≤ 128 = c.requires.table.machine.most in
+    ap (λ o. option_or o (best_below nat_lt (class_among board.sets.taken at acts c.args.task) table.cores)) (c.in-Some.ensures.choice h acts s v)
+    ∙ sym (choice_joins table board at acts c.args.task table.cores few s c.requires.ready.sets)
+
+pub returns-then-not-may_have_revoked-clause-choice : goal.returns-then-not-may_have_revoked-clause-choice
+returns-then-not-may_have_revoked-clause-choice c = λ h acts s v.
+    let table = c.args.config.now in
+    let at = setting table h c.args.input.now in
+    let board = c.args.board.now in
+    let few : table.cores ≤ 128 = c.requires.table.machine.most in
+    sym (choice_joins table board at acts c.args.task table.cores few s c.requires.ready.sets
+    ∙ ap (λ o. option_or o (best_below nat_lt (class_among board.sets.taken at acts c.args.task) table.cores)) (sym (c.in_default.ensures.choice h acts s v))
+    ∙ none_taken table board at acts c.args.task table.cores few s c.requires.ready.sets (sym (c.if-not-may_have_revoked.ensures h c.args.input.now acts v)))
+
+pub returns-clause-choice : goal.returns-clause-choice
+returns-clause-choice c = λ h acts s v.
+    let table = c.args.config.now in
+    let at = setting table h c.args.input.now in
+    let board = c.args.board.now in
+    let few : table.cores ≤ 128 = c.requires.table.machine.most in
+    c.choose_among-2.ensures.choice h acts s v
+    ∙ sym (choice_joins table board at acts c.args.task table.cores few s c.requires.ready.sets
+    ∙ ap (λ o. option_or o (best_below nat_lt (class_among board.sets.taken at acts c.args.task) table.cores)) (sym (c.in_default.ensures.choice h acts s v)))

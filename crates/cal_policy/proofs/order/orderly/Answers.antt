@@ -1,11 +1,20 @@
 -- The next entry is orderly after those before it.
-use Rattle.std.proofs.Common.{ℕ, List, take, refl, subst}
+use Rattle.std.proofs.Common.{ℕ, List, length, take, refl, subst, arith}
+use Rattle.std.proofs.lemmas.Option.{slice_get_read}
 use Rattle.cal_policy.specs.declared.pass_entry.PassEntry.{PassEntry}
 use Rattle.cal_policy.specs.History.{actions_of, looks_of}
 use Rattle.cal_policy.specs.Orderly.{IsOrderlyEntry}
 use Rattle.cal_policy.specs.Board.{Agrees, KeepingAgrees}
 use Rattle.cal_policy.proofs.Each.{each_more_item, each_all, take_item}
 use Rattle.cal_policy.proofs.order.orderly.Goals as goal
+
+pub loop-entry-init : goal.loop-entry-init
+loop-entry-init c = record {
+  entries = λ p lt entry e. absurd (omega (arith, lt));
+  agrees = c.new-board.ensures.agrees;
+  keeping = c.new-board.ensures.keeping;
+  ready = c.new-board.ensures.ready c.args.config.now;
+}
 
 pub loop-entry-preserved : goal.loop-entry-preserved
 loop-entry-preserved c =
@@ -23,6 +32,14 @@ loop-entry-preserved c =
       keeping = subst K longer (c.replay_fitting.ensures.keeping c.if-not-replay_fitting.false h i.keeping);
       ready = c.replay_fitting.ensures.ready;
     }
+
+pub returns-then-not-replay_fitting : goal.returns-then-not-replay_fitting
+returns-then-not-replay_fitting c =
+    let i = c.loop-entry.invariant in
+    let n = c.loop-entry.entry-index in
+    let history = c.args.history.now in
+    let here = slice_get_read history (length history) n c.entry-item.result refl c.loop-entry-test.true c.entry-item.is in
+    (λ yes. cc, λ o. (c.if-not-replay_fitting.ensures.fits (take n history) i.agrees i.keeping).1 (o.entries n c.entry-item.result here))
 
 pub returns : goal.returns
 returns c =

@@ -1,4 +1,5 @@
-use Rattle.std.proofs.Common.{◌∙◌, sym}
+use Rattle.std.proofs.Common.{◌∙◌, ap, sym}
+use Rattle.cal_signal.specs.declared.record.Record.{Record}
 use Rattle.cal_policy.proofs.History.{kept_push, shown_push}
 use Rattle.cal_policy.proofs.keeping.Keeping.look.Goals as goal
 
@@ -7,3 +8,6 @@ returns-clause-agrees c = λ looks s. record {
   kept = λ k lt. rw (s.kept k lt) at (c.keep.ensures k lt) ∙ sym (kept_push looks c.args.seen.now k);
   shown = λ k lt. rw (s.shown k lt) at (c.note.ensures k lt) ∙ sym (shown_push looks c.args.seen.now k);
 }
+
+pub returns-clause-before : goal.returns-clause-before
+returns-clause-before c = λ looks s. record { before = λ k lt. c.misses_of-self.ensures k lt ∙ ap (λ (r : Record). r.misses) (s.kept k lt) }

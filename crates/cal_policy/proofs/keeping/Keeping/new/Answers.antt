@@ -9,4 +9,4 @@ returns-clause-agrees c = record {
 }
 
 pub returns-clause-before : goal.returns-clause-before
-returns-clause-before c = record { before = λ k lt. rw c.zero_records-2.ensures (get_or_same 128 k zero_record) }
+returns-clause-before c = record { before = λ k lt. rw c.no_misses.ensures (get_or_same 128 k 0) }

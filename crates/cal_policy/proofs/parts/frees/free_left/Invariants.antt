@@ -1,4 +1,4 @@
-use Rattle.std.proofs.Common.{◌+◌, ◌≤◌, List, length}
+use Rattle.std.proofs.Common.{◌+◌, ◌-◌, ◌≤◌, List, length}
 use Rattle.cal_policy.specs.declared.pass_entry.PassEntry.{PassEntry}
 use Rattle.cal_policy.specs.Setting.{setting}
 use Rattle.cal_policy.specs.Frees.{free_at}
@@ -9,7 +9,11 @@ use Rattle.cal_policy.proofs.parts.frees.free_left.Given as goal
 abbrev pub invariant-loop-core : goal.invariant-loop-core
 invariant-loop-core l = record {
   acts : (h : List PassEntry) → Stands l.fn.board (setting l.config h l.input) l.fn.out →
-      Reached (free_at (setting l.config h l.input)) (setting l.config h l.input) l.fn.out l.out l.board l.core;
+      Reached (free_at (setting l.config h l.input)) (setting l.config h l.input) l.fn.out l.out l.board l.first;
   ready : IsReady l.config l.board;
-  length : length l.out ≤ length l.fn.out + l.core;
+  length : length l.out ≤ length l.fn.out + l.first;
+  first : l.first ≤ l.config.cores;
 }
+
+abbrev pub decreases-loop-core : goal.decreases-loop-core
+decreases-loop-core l = l.config.cores - l.first

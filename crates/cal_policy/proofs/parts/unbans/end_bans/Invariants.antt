@@ -1,4 +1,4 @@
-use Rattle.std.proofs.Common.{◌≡◌, ◌+◌, ◌≤◌, length}
+use Rattle.std.proofs.Common.{◌≡◌, ◌+◌, ◌-◌, ◌*◌, ◌≤◌, length}
 use Rattle.cal_policy.specs.Lists.{in_pair}
 use Rattle.cal_policy.specs.Setting.{Setting, so_far}
 use Rattle.cal_policy.specs.Bans.{NoPairBanned, unban_at}
@@ -6,11 +6,15 @@ use Rattle.cal_policy.specs.Board.{Stands, IsReady}
 use Rattle.cal_policy.proofs.Turns.{Reached}
 use Rattle.cal_policy.proofs.parts.unbans.end_bans.Given as goal
 
-abbrev pub invariant-loop-pair : goal.invariant-loop-pair
-invariant-loop-pair l = record {
+abbrev pub invariant-loop-core : goal.invariant-loop-core
+invariant-loop-core l = record {
   acts : (s : Setting) → s.table ≡ l.fn.config → NoPairBanned (so_far s l.fn.out) → Stands l.fn.board s l.fn.out →
-      Reached (in_pair (unban_at s)) s l.fn.out l.out l.board l.pair;
+      Reached (in_pair (unban_at s)) s l.fn.out l.out l.board l.next;
   apart : (s : Setting) → s.table ≡ l.fn.config → NoPairBanned (so_far s l.fn.out) → Stands l.fn.board s l.fn.out → NoPairBanned (so_far s l.out);
   ready : IsReady l.config l.board;
-  length : length l.out ≤ length l.fn.out + l.pair;
+  length : length l.out ≤ length l.fn.out + l.next;
+  next : 2 * l.next ≤ l.config.cores;
 }
+
+abbrev pub decreases-loop-core : goal.decreases-loop-core
+decreases-loop-core l = l.config.cores - l.next

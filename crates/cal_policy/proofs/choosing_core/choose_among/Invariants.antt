@@ -1,19 +1,23 @@
-use Rattle.std.proofs.Common.{◌≡◌, ◌<◌, List, nat_lt}
+use Rattle.std.proofs.Common.{◌≡◌, ◌<◌, ◌≤◌, ◌-◌, List, nat_lt}
 use Rattle.std.specs.Option.{IfSome}
 use Rattle.cal_policy.specs.declared.pass_action.Action.{Action}
 use Rattle.cal_policy.specs.declared.pass_entry.PassEntry.{PassEntry}
 use Rattle.cal_policy.specs.Setting.{setting, so_far}
 use Rattle.cal_policy.specs.History.{holder_of}
 use Rattle.cal_policy.specs.Choice.{best_below}
-use Rattle.cal_policy.specs.Grants.{class_of}
+use Rattle.cal_policy.specs.Among.{class_among}
 use Rattle.cal_policy.specs.Board.{Stands}
 use Rattle.cal_policy.specs.Survey.{Surveys}
-use Rattle.cal_policy.proofs.choosing_core.choose_core.Given as goal
+use Rattle.cal_policy.proofs.choosing_core.choose_among.Given as goal
 
 abbrev pub invariant-loop-core : goal.invariant-loop-core
 invariant-loop-core l = record {
   choice : (h : List PassEntry) (acts : List Action) → Stands l.board (setting l.config h l.input) acts →
       Surveys l.config (holder_of (so_far (setting l.config h l.input) acts)) l.survey →
-      l.best ≡ best_below nat_lt (class_of (setting l.config h l.input) acts l.task) l.core;
-  below : IfSome l.best (λ best. (best.number < l.core) × (best.rank < 256));
+      l.best ≡ best_below nat_lt (class_among l.cores (setting l.config h l.input) acts l.task) l.first;
+  below : IfSome l.best (λ best. (best.number < l.first) × (best.rank < 256));
+  first : l.first ≤ l.config.cores;
 }
+
+abbrev pub decreases-loop-core : goal.decreases-loop-core
+decreases-loop-core l = l.config.cores - l.first
