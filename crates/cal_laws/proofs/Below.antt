@@ -1,8 +1,8 @@
--- Counts among the numbers below n, and the highest of those that pass.
-use Rattle.std.proofs.Common.{◌≡◌, ℕ, ◌<◌, ◌≤◌, ◌⊎◌, zero, suc, Bool, true, false, cond, Some, refl, subst, arith, inl, inr, ⊎_elim}
+-- Counts among the numbers below n, and the highest and the lowest of those that pass.
+use Rattle.std.proofs.Common.{◌≡◌, ℕ, ◌<◌, ◌≤◌, ◌⊎◌, zero, suc, Bool, true, false, cond, Option, Some, None, refl, sym, subst, arith, inl, inr, ⊎_elim}
 use Rattle.std.specs.Option.{is_some}
 use Rattle.std.proofs.lemmas.Bool.{cases_lt}
-use Rattle.cal_policy.specs.Choice.{count_below, highest_below}
+use Rattle.cal_policy.specs.Choice.{count_below, highest_below, first_or, lowest_below}
 
 cases_suc : (k n : ℕ) → k < suc n → (k < n) ⊎ (k ≡ n)
 cases_suc k n lt = ⊎_elim (λ l. inl l) (λ g. inr (omega arith)) (cases_lt k n)
@@ -54,3 +54,45 @@ found_step p n k h (inr same) e false i = let P : ℕ → Type 0 = λ m. p m ≡
 pub highest_found : (p : ℕ → Bool) (n k : ℕ) → k < n → p k ≡ true → is_some (highest_below p n) ≡ true
 highest_found p zero k lt e = absurd (omega arith)
 highest_found p (suc n) k lt e = found_step p n k (λ below. highest_found p n k below e) (cases_suc k n lt) e (p n) refl
+
+-- the lowest that passes: it does, and none that does is lower
+pub record IsLowest (p : ℕ → Bool) (n k : ℕ) : Type 0 where
+  pub below : k < n
+  pub passes : p k ≡ true
+  pub none_lower : (j : ℕ) → j < n → p j ≡ true → k ≤ j
+
+none_of : (o : Option ℕ) (b : Bool) (n : ℕ) → first_or o b n ≡ None → (o ≡ None) × (b ≡ false)
+none_of (Some k) b n e = cc
+none_of None true n e = cc
+none_of None false n e = (refl, refl)
+
+-- where there is no lowest, none passes
+none_passes : (p : ℕ → Bool) (n : ℕ) → lowest_below p n ≡ None → (j : ℕ) → j < n → p j ≡ false
+none_passes p zero e j lt = absurd (omega arith)
+none_passes p (suc n) e j lt =
+    let parts = none_of (lowest_below p n) (p n) n e in
+    let P : ℕ → Type 0 = λ m. p m ≡ false in
+    ⊎_elim (λ below. none_passes p n parts.0 j below) (λ same. subst P (sym same) parts.1) (cases_suc j n lt)
+
+lowest_before : (p : ℕ → Bool) (n k : ℕ) → IsLowest p n k → IsLowest p (suc n) k
+lowest_before p n k h = record {
+  below = omega (arith, h.below);
+  passes = h.passes;
+  none_lower = λ j lt f. ⊎_elim (λ below. h.none_lower j below f) (λ same. omega (arith, h.below)) (cases_suc j n lt);
+}
+
+lowest_last : (p : ℕ → Bool) (n k : ℕ) → lowest_below p n ≡ None → p n ≡ true → n ≡ k → IsLowest p (suc n) k
+lowest_last p n k none e same = record {
+  below = omega arith;
+  passes = let P : ℕ → Type 0 = λ m. p m ≡ true in subst P same e;
+  none_lower = λ j lt f. ⊎_elim (λ below. let no = none_passes p n none j below in cc) (λ last. omega arith) (cases_suc j n lt);
+}
+
+lowest_step : (p : ℕ → Bool) (n k : ℕ) (o : Option ℕ) → lowest_below p n ≡ o → (o ≡ Some k → IsLowest p n k) → (b : Bool) → p n ≡ b → first_or o b n ≡ Some k → IsLowest p (suc n) k
+lowest_step p n k (Some m) i h b f e = lowest_before p n k (h e)
+lowest_step p n k None i h true f e = lowest_last p n k i f (let same : n ≡ k = cc in same)
+lowest_step p n k None i h false f e = cc
+
+pub lowest_is : (p : ℕ → Bool) (n k : ℕ) → lowest_below p n ≡ Some k → IsLowest p n k
+lowest_is p zero k e = cc
+lowest_is p (suc n) k e = lowest_step p n k (lowest_below p n) refl (lowest_is p n k) (p n) refl e

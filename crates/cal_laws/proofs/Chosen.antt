@@ -1,9 +1,9 @@
 -- What is chosen for a task, in words of its own.
-use Rattle.std.proofs.Common.{◌≡◌, ℕ, ◌<◌, true, ◌&&◌, nat_lt, eqb, List, Some, None, refl, arith, inl, inr, ⊎_elim, ap, sym, ◌∙◌}
+use Rattle.std.proofs.Common.{◌≡◌, ℕ, ◌<◌, true, ◌&&◌, nat_lt, eqb, List, length, Some, None, refl, arith, inl, inr, ⊎_elim}
 use Rattle.std.proofs.lemmas.Bool.{ltb-true, eqb-true, eq-eqb, and_parts, and_from, cond-true, cases_lt}
 use Rattle.std.proofs.lemmas.Option.{MatchOption-at_some, cond_some}
 use Rattle.cal_machine.specs.Laws.{ThreadsAreOfTheirTask}
-use Rattle.cal_policy.specs.Tasks.{limit_of, thread_of, owner_of, threads_of_table}
+use Rattle.cal_policy.specs.Tasks.{limit_of, thread_of, owner_of}
 use Rattle.cal_policy.specs.declared.pass_action.Action.{Action}
 use Rattle.cal_policy.specs.declared.choosing.Candidate.{Candidate}
 use Rattle.cal_policy.specs.Counts.{cores_of_thread}
@@ -13,6 +13,7 @@ use Rattle.cal_policy.specs.Laws.{HasWaitedLongest, IsOfLeastClass, ChosenHasWai
 use Rattle.cal_policy.specs.Made.{IsChosen, IsGranted}
 use Rattle.cal_laws.specs.Choice.{IsFreeWithRoom, HasGreatestDelay, HasThread, IsPossible, IsLessPair, IsLeastPossible, IsBestGrant}
 use Rattle.cal_laws.proofs.Classes.{of_its_class, class_from}
+use Rattle.cal_laws.proofs.Numbering.{next_le}
 
 -- a thread that is ranked is free with room, and its rank is its delay
 record IsRanked (s : Setting) (x : List Action) (k delay : ℕ) : Type 0 where
@@ -85,15 +86,14 @@ best_of least waited s acts t thread core c idle owner = record {
 }
 
 -- the chosen thread is of the task that it was chosen for
-owner_is : ThreadsAreOfTheirTask → ChosenHasWaitedLongest → (s : Setting) (acts : List Action) (core thread class : ℕ) → (g : IsGranted s acts core thread class) →
-    thread < threads_of_table s.table → owner_of s.table thread ≡ g.task
-owner_is numbered waited s acts core thread class g low =
-    let own = (longest waited s (so_far s acts) g.task g.chosen_thread g.chosen.longest).own in
-    let is = g.thread_chosen in
-    (numbered s.table.tasks g.task thread g.chosen.task low).1 (omega (arith, is), omega (arith, is, own))
+pub chosen_owner : ThreadsAreOfTheirTask → ChosenHasWaitedLongest → (s : Setting) (x : List Action) (t : ℕ) (thread : Candidate) → t < length s.table.tasks →
+    thread_choice s x t ≡ Some thread → owner_of s.table (thread_of s.table t thread.number) ≡ t
+chosen_owner numbered waited s x t thread lt e =
+    let own = (longest waited s x t thread e).own in
+    (numbered s.table.tasks t (thread_of s.table t thread.number) lt (omega (arith, own, next_le s.table.tasks t lt))).1 (omega arith, omega (arith, own))
 
 pub best_grant : ThreadsAreOfTheirTask → ChosenIsOfLeastClass → ChosenHasWaitedLongest → (s : Setting) (acts : List Action) (core thread class : ℕ) → IsGranted s acts core thread class →
-    thread < threads_of_table s.table → IsBestGrant s acts core thread class
-best_grant numbered least waited s acts core thread class g low =
-    let owner = ap (owner_of s.table) (sym g.thread_chosen) ∙ owner_is numbered waited s acts core thread class g low in
+    IsBestGrant s acts core thread class
+best_grant numbered least waited s acts core thread class g =
+    let owner = chosen_owner numbered waited s (so_far s acts) g.task g.chosen_thread g.chosen.task g.chosen.longest in
     rw (g.core_chosen, g.thread_chosen, g.class_chosen) (best_of least waited s acts g.task g.chosen_thread g.choice g.chosen g.granted owner)

@@ -1,23 +1,24 @@
 -- What stands where a core is granted: its thread is one of the task's, and its ring has room.
-use Rattle.std.proofs.Common.{◌≡◌, ℕ, ◌<◌, Bool, true, false, ◌&&◌, ◌||◌, eqb, ltb, nat_lt, List, length, Option, Some, None, ap, ◌∙◌, arith, subst}
-use Rattle.std.specs.Option.{MatchOption}
+use Rattle.std.proofs.Common.{◌≡◌, ℕ, ◌<◌, Bool, true, false, ◌&&◌, ◌||◌, eqb, ltb, nat_lt, List, Some, ap, ◌∙◌}
 use Rattle.std.proofs.lemmas.Bool.{and_parts, ltb-true, eqb-true}
 use Rattle.cal_machine.specs.Table.{Table}
 use Rattle.cal_machine.specs.Laws.{ThreadsAreOfTheirTask}
-use Rattle.cal_policy.specs.Tasks.{owner_of, limit_of, thread_of, threads_of_table, is_latency_critical}
+use Rattle.cal_policy.specs.Tasks.{owner_of, limit_of, threads_of_table, is_latency_critical}
 use Rattle.cal_policy.specs.declared.pass_action.Action.{Action}
 use Rattle.cal_policy.specs.declared.pass_action.Action.TheVariants.{Grant}
-use Rattle.cal_policy.specs.declared.choosing.Candidate.{Candidate}
+use Rattle.cal_policy.specs.declared.holding.Placement as placements
+use Rattle.cal_policy.specs.declared.holding.Holder.{Holder}
+use Rattle.cal_policy.specs.declared.holding.Holder.TheVariants as holders
 use Rattle.cal_policy.specs.History.{holder_of}
 use Rattle.cal_policy.specs.Counts.{is_free, cores_of_thread, booked_by, cap_of}
+use Rattle.cal_policy.specs.Board.{placement_of}
 use Rattle.cal_policy.specs.Setting.{Setting, so_far, has_room}
-use Rattle.cal_policy.specs.Grants.{thread_choice, thread_rank, thread_delay, may_book}
+use Rattle.cal_policy.specs.Grants.{may_book}
 use Rattle.cal_policy.specs.Orderly.{fits_state}
 use Rattle.cal_policy.specs.Made.{IsGranted}
-use Rattle.cal_policy.specs.Laws.{ChosenHasWaitedLongest, HasWaitedLongest}
+use Rattle.cal_policy.specs.Laws.{ChosenHasWaitedLongest}
 use Rattle.cal_laws.specs.Limits.{MayBookMore}
-use Rattle.cal_laws.proofs.Booleans.{some_then}
-use Rattle.cal_laws.proofs.Numbering.{next_le}
+use Rattle.cal_laws.proofs.Chosen.{longest, greatest_delay, chosen_owner}
 
 -- the thread is one of the task's, and its ring has room
 pub record GrantFacts (s : Setting) (t thread : ℕ) : Type 0 where
@@ -38,30 +39,20 @@ gives_free table x core thread class fits =
     let first = and_parts (ltb core table.cores) (ltb thread (threads_of_table table)) second.0 in
     record { low = ltb-true _ _ first.0; own = ltb-true _ _ first.1; free = second.1; on_none = eqb-true _ _ third.1 }
 
-chosen_thread : (s : Setting) (x : List Action) (t : ℕ) (o : Option Candidate) (thread : Candidate) → o ≡ Some thread →
-    MatchOption o ((j : ℕ) → j < limit_of s.table t → thread_rank s x (thread_of s.table t j) ≡ None) (HasWaitedLongest s x t) → HasWaitedLongest s x t thread
-chosen_thread s x t None thread e longest = cc
-chosen_thread s x t (Some k) thread e longest = let same : k ≡ thread = cc in subst (HasWaitedLongest s x t) same longest
-
-room_by_rank : (s : Setting) (x : List Action) (k delay : ℕ) → thread_rank s x k ≡ Some delay → has_room s k ≡ true
-room_by_rank s x k delay e =
-    (and_parts (eqb (cores_of_thread s.table x k) 0) (has_room s k) (some_then (eqb (cores_of_thread s.table x k) 0 && has_room s k) (Some (thread_delay s k)) delay e).0).1
-
--- the thread that was chosen for a task is one of its threads
-pub chosen_owner : ThreadsAreOfTheirTask → ChosenHasWaitedLongest → (s : Setting) (x : List Action) (t : ℕ) (chosen : Candidate) → t < length s.table.tasks →
-    thread_choice s x t ≡ Some chosen → owner_of s.table (thread_of s.table t chosen.number) ≡ t
-chosen_owner numbered longest s x t chosen lt e =
-    let own = (chosen_thread s x t (thread_choice s x t) chosen e (longest s x t)).own in
-    (numbered s.table.tasks t (thread_of s.table t chosen.number) lt (omega (arith, own, next_le s.table.tasks t lt))).1 (omega arith, omega (arith, own))
+-- nobody is on a free core
+pub free_nobody : (h : Holder) (p : placements.Placement) → is_free h ≡ true → placement_of h ≡ Some p → ⊥
+free_nobody holders.Free p e is = cc
+free_nobody (holders.Held q) p e is = cc
+free_nobody (holders.Leaving q cause) p e is = cc
 
 pub grant_facts : ThreadsAreOfTheirTask → ChosenHasWaitedLongest → (s : Setting) (acts : List Action) (core thread class : ℕ) → (m : IsGranted s acts core thread class) →
     GrantFacts s m.task thread
-grant_facts numbered longest s acts core thread class m =
+grant_facts numbered waited s acts core thread class m =
     let x : List Action = so_far s acts in
-    let chosen = chosen_thread s x m.task (thread_choice s x m.task) m.chosen_thread m.chosen.longest (longest s x m.task) in
+    let best = greatest_delay s x m.task m.chosen_thread (longest waited s x m.task m.chosen_thread m.chosen.longest) in
     record {
-      owner = ap (owner_of s.table) m.thread_chosen ∙ chosen_owner numbered longest s x m.task m.chosen_thread m.chosen.task m.chosen.longest;
-      room = ap (has_room s) m.thread_chosen ∙ room_by_rank s x (thread_of s.table m.task m.chosen_thread.number) m.chosen_thread.rank chosen.may_have;
+      owner = ap (owner_of s.table) m.thread_chosen ∙ chosen_owner numbered waited s x m.task m.chosen_thread m.chosen.task m.chosen.longest;
+      room = ap (has_room s) m.thread_chosen ∙ best.candidate.room;
     }
 
 or_second : (a b : Bool) → (a || b) ≡ true → a ≡ false → b ≡ true

@@ -7,6 +7,7 @@ pub mod Numbering
 pub mod Granted
 pub mod Excluded
 pub mod Truth
+pub mod OnCore
 pub mod Turns
 pub mod Followed
 pub mod Capped
@@ -19,6 +20,7 @@ pub mod Losing
 pub mod Preempting
 pub mod BanDue
 pub mod Causes
+pub mod CapsDue
 pub mod Queues
 pub mod PassKeeps
 pub mod Emptied

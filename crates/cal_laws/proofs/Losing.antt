@@ -75,10 +75,10 @@ is_over : (s : Setting) (x : List Action) (t : ℕ) → IsTable s.table → IsCa
 is_over s x t ok h = omega (arith, nothing_guaranteed s.table t ok h.best_effort, holds_one s x t h.core h.loses)
 
 -- the law on the victim, where there is one
-most_misses : VictimHasMostMisses → (s : Setting) (x : List Action) (v : chosen.Candidate) → victim_of s x ≡ Some v → HasMostMisses s x v
+pub most_misses : VictimHasMostMisses → (s : Setting) (x : List Action) (v : chosen.Candidate) → victim_of s x ≡ Some v → HasMostMisses s x v
 most_misses law s x v e = MatchOption-at_some ((t : ℕ) → t < length s.table.tasks → victim_rank s x t ≡ None) (HasMostMisses s x) v e (law s x)
 
-has_misses : (s : Setting) (x : List Action) (v : chosen.Candidate) → IsTable s.table → HasMostMisses s x v → HasMisses s x v.number
+pub has_misses : (s : Setting) (x : List Action) (v : chosen.Candidate) → IsTable s.table → HasMostMisses s x v → HasMisses s x v.number
 has_misses s x v ok h =
     let worst = ranked s x v.number v.rank h.own h.may_be in record {
       candidate = worst.candidate;

@@ -25,12 +25,13 @@ use Rattle.cal_policy.specs.Counts.{is_held, is_held_for, held_by, booked_by, is
 use Rattle.cal_policy.specs.Setting.{Setting, so_far, has_room, is_held_with_room}
 use Rattle.cal_policy.specs.Bans.{may_ban_beside, may_be_emptied, too_long_on}
 use Rattle.cal_policy.specs.Bandwidth.{can_lose, victim_of, victim_rank, task_misses}
-use Rattle.cal_policy.specs.Grants.{class_by, burst_class, may_preempt, is_granted_in, none_leaves_for, choice_of, class_of}
+use Rattle.cal_policy.specs.Grants.{class_by, burst_class, may_preempt, is_granted_in, none_leaves_for, class_of}
 use Rattle.cal_policy.specs.Orderly.{fits_state, names_table}
 use Rattle.cal_policy.specs.Made.{IsMade, IsRevokedForBan, IsRevokedForBandwidth, IsPreempted}
-use Rattle.cal_policy.specs.Laws.{ActionIsOneMore, ChosenIsOfLeastClass, IsOfLeastClass, VictimHasMostMisses, HasMostMisses}
+use Rattle.cal_policy.specs.Laws.{ActionIsOneMore, ChosenIsOfLeastClass, VictimHasMostMisses, HasMostMisses}
 use Rattle.cal_laws.proofs.Booleans.{some_then}
 use Rattle.cal_laws.proofs.Below.{highest_is}
+use Rattle.cal_laws.proofs.Chosen.{least_class}
 use Rattle.cal_laws.proofs.Counted.{count_some}
 use Rattle.cal_laws.proofs.SameHolders.{held_same}
 
@@ -149,15 +150,6 @@ for_bandwidth more most s acts core ok m takes =
       over = best_effort_over s.table (so_far s acts) core p ok takes.low takes.held (ap (is_latency_critical s.table) owner ∙ best);
     }
 
--- the class of the core that was chosen
-chosen_class : (s : Setting) (acts : List Action) (t : ℕ) (o : Option Candidate) (core : Candidate) → o ≡ Some core →
-    MatchOption o ((c : ℕ) → c < s.table.cores → class_of s acts t c ≡ None) (IsOfLeastClass s acts t) → class_of s acts t core.number ≡ Some core.rank
-chosen_class s acts t None core e least = cc
-chosen_class s acts t (Some c) core e least =
-    let same : c ≡ core = cc in
-    let P : Candidate → Type 0 = λ c. class_of s acts t c.number ≡ Some c.rank in
-    subst P same least.class
-
 -- a core with a class for which it may be revoked is of a best-effort task or of one that is over
 burst_over : (table : Table) (x : List Action) (t other class : ℕ) → burst_class table x t other ≡ Some class →
     (is_latency_critical table other ≡ false) ⊎ (is_over table x other ≡ true)
@@ -183,7 +175,7 @@ is_for_task least s acts core t m takes =
     let p = takes.loser in
     let h : Holder = holders.Held p in
     let chosen : class_of s acts t core ≡ Some m.choice.rank =
-    ap (class_of s acts t) m.number ∙ chosen_class s acts t (choice_of s acts t) m.choice m.chosen.least (least s acts t) in
+    ap (class_of s acts t) m.number ∙ (least_class least s acts t m.choice m.chosen.least).class in
     let class : class_by s acts t core h ≡ Some m.choice.rank = ap (class_by s acts t core) (sym takes.held) ∙ chosen in
     let both = some_then (may_preempt s acts t core h) (burst_class s.table x t (owner_of s.table p.thread)) m.choice.rank class in
     let third = and_parts (is_latency_critical s.table t && is_held_with_room s h && not (is_granted_in acts core)) (none_leaves_for s x t) both.0 in

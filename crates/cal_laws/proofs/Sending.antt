@@ -1,8 +1,8 @@
 -- A pass sends each thread at most one command.
-use Rattle.std.proofs.Common.{◌≡◌, ◌≢◌, ℕ, ◌+◌, ◌<◌, ◌≤◌, ◌⊎◌, zero, suc, Bool, true, false, cond, eqb, List, [], ◌∷◌, ◌++◌, length, take, Option, Some, None, refl, sym, ap, ◌∙◌, arith, inl, inr, subst, append_assoc, ⊎_elim, length-append}
+use Rattle.std.proofs.Common.{◌≡◌, ◌≢◌, ℕ, ◌+◌, ◌*◌, ◌<◌, ◌≤◌, ◌⊎◌, zero, suc, Bool, true, false, not, ◌&&◌, cond, eqb, ltb, List, [], ◌∷◌, ◌++◌, length, take, Option, Some, None, refl, sym, ap, ◌∙◌, arith, inl, inr, subst, append_assoc, ⊎_elim, length-append}
 use Rattle.std.specs.List.{slice_get}
 use Rattle.std.specs.Option.{is_some, option_map, option_or}
-use Rattle.std.proofs.lemmas.Bool.{eqb-true}
+use Rattle.std.proofs.lemmas.Bool.{eqb-true, ltb-true, and_parts}
 use Rattle.std.proofs.lemmas.Bool.Decides.{nat_tests}
 use Rattle.std.proofs.lemmas.List.{append-nil}
 use Rattle.std.proofs.lemmas.List.Elements.{All-pop}
@@ -17,13 +17,13 @@ use Rattle.cal_policy.specs.declared.pass_action.Cause.{Cause}
 use Rattle.cal_policy.specs.declared.pass_action.Cause.TheVariants as causes
 use Rattle.cal_policy.specs.declared.pass_entry.PassEntry.{PassEntry}
 use Rattle.cal_policy.specs.declared.holding.Placement as placements
-use Rattle.cal_policy.specs.declared.holding.Holder.{Holder}
 use Rattle.cal_policy.specs.declared.holding.Holder.TheVariants as holders
-use Rattle.cal_policy.specs.History.{actions_of, holder_of, last_placement, last_thread, commands_to, command_to, sent_to, sends, placed, placement_made, left_by}
+use Rattle.cal_policy.specs.History.{actions_of, holder_of, last_placement, last_thread, commands_to, command_to, sent_to, sends, placed, placement_made, left_by, is_banned}
 use Rattle.cal_policy.specs.Counts.{is_free, is_held, is_with, cores_of_thread}
 use Rattle.cal_policy.specs.Board.{placement_of}
 use Rattle.cal_policy.specs.Setting.{Setting, setting_of, so_far}
 use Rattle.cal_policy.specs.Grants.{is_granted_in}
+use Rattle.cal_policy.specs.Orderly.{names_table}
 use Rattle.cal_policy.specs.Pass.{IsLegal}
 use Rattle.cal_policy.specs.Made.{IsMade, EachAfter, IsPreempted}
 use Rattle.cal_policy.specs.Steady.{IsSound}
@@ -34,7 +34,7 @@ use Rattle.cal_laws.specs.Turns.{turn_of}
 use Rattle.cal_laws.proofs.Booleans.{unwrap_if}
 use Rattle.cal_laws.proofs.Counted.{count_none}
 use Rattle.cal_laws.proofs.Excluded.{excludes_at, on_other, last_loser}
-use Rattle.cal_laws.proofs.Granted.{gives_free}
+use Rattle.cal_laws.proofs.Granted.{gives_free, free_nobody}
 use Rattle.cal_laws.proofs.Points.{take_next}
 use Rattle.cal_laws.proofs.Revoked.{takes_held, preempted_before_pass}
 use Rattle.cal_laws.proofs.Turns.{Below, IsInTurn, each_at, pass_in_turn}
@@ -46,9 +46,9 @@ pub record IsServed (table : Table) (x acts : List Action) (k : ℕ) : Type 0 wh
   pub place : placements.Placement
   pub there : placement_of (holder_of x core) ≡ Some place
   pub is : place.thread ≡ k
-  pub after_unbans : (n : ℕ) → Below table n acts → 3 < n
+  pub after_unbans : (n : ℕ) → Below table n acts → 2 * table.cores < n
   pub granted : is_held (holder_of x core) ≡ true → is_granted_in acts core ≡ true
-  pub in_last_part : is_held (holder_of x core) ≡ true → (n : ℕ) → Below table n acts → 5 < n
+  pub in_last_part : is_held (holder_of x core) ≡ true → (n : ℕ) → Below table n acts → 4 * table.cores + 2 < n
 
 below_before : (table : Table) (n : ℕ) (acts : List Action) (a : Action) → Below table n (acts ++ a ∷ []) → Below table n acts × (turn_of table a < n)
 below_before table n acts a b = let both = All-pop (λ a. turn_of table a < n) (acts ++ a ∷ []) acts (Some a) refl b in (both.0, both.1)
@@ -92,11 +92,6 @@ Rests table x acts a k = (length (sends k x a) ≡ 0) × IsServed table (x ++ a 
 not_sent : (k thread : ℕ) (command : Command) → eqb thread k ≡ false → length (command_to k (Some thread) command) ≡ 0
 not_sent k thread command e = ap (λ (b : Bool). length (cond b (command ∷ []) [])) e
 
-free_nobody : (h : Holder) (p : placements.Placement) → is_free h ≡ true → placement_of h ≡ Some p → ⊥
-free_nobody holders.Free p e is = cc
-free_nobody (holders.Held q) p e is = cc
-free_nobody (holders.Leaving q cause) p e is = cc
-
 other_way : (a b : ℕ) → eqb a b ≡ false → eqb b a ≡ false
 other_way a b e = grind (arith, nat_tests)
 
@@ -115,10 +110,10 @@ granted_rests more last table x acts core thread class k free none was =
     apart true e = let same = eqb-true core was.core e in absurd (free_nobody (holder_of x core) was.place free (ap (λ n. placement_of (holder_of x n)) same ∙ was.there))
 
 -- only the last part's revocations come after a grant
-last_cause : (table : Table) (core : ℕ) (cause : Cause) → 5 < turn_of table (Revoke core cause) + 1 → (task : ℕ) × (cause ≡ causes.Preempt task)
-last_cause table core (causes.Ban by) lt = absurd (omega (arith, lt))
-last_cause table core causes.Bandwidth lt = absurd (omega (arith, lt))
-last_cause table core (causes.Preempt task) lt = (task, refl)
+last_cause : (table : Table) (core : ℕ) (cause : Cause) → names_table table cause ≡ true → 4 * table.cores + 2 < turn_of table (Revoke core cause) → (task : ℕ) × (cause ≡ causes.Preempt task)
+last_cause table core (causes.Ban by) named lt = let low = ltb-true by table.cores named in absurd (omega (arith, lt, low))
+last_cause table core causes.Bandwidth named lt = absurd (omega (arith, lt))
+last_cause table core (causes.Preempt task) named lt = (task, refl)
 
 -- a thread that was granted a core in this pass does not lose it in it
 not_lost : ChosenIsOfLeastClass → (s : Setting) (acts : List Action) (core : ℕ) (cause : Cause) → IsSound s acts (Revoke core cause) → IsInTurn s.table acts (Revoke core cause) →
@@ -127,7 +122,9 @@ not_lost least s acts core cause sound turn k was same =
     let x : List Action = so_far s acts in
     let takes = takes_held s.table x core cause sound.fits in
     let held : is_held (holder_of x was.core) ≡ true = ap (λ n. is_held (holder_of x n)) same ∙ ap is_held takes.held in
-    let last = last_cause s.table core cause (was.in_last_part held (turn_of s.table (Revoke core cause) + 1) turn.not_before) in
+    let low = and_parts (ltb core s.table.cores && names_table s.table cause) (is_held (holder_of x core)) sound.fits in
+    let named = and_parts (ltb core s.table.cores) (names_table s.table cause) low.0 in
+    let last = last_cause s.table core cause named.1 (was.in_last_part held (turn_of s.table (Revoke core cause)) turn) in
     let M : Cause → Type 0 = λ cause. IsMade s acts (Revoke core cause) in
     let made : IsPreempted s acts core last.0 = subst M last.1 sound.made in
     let fresh = preempted_before_pass least s acts core last.0 made takes in
@@ -151,8 +148,12 @@ revoked_rests more last least s acts core cause k sound turn one was =
 -- a thread that was served is sent nothing more
 rests : ActionIsOneMore → LastThreadIsPlaced → ChosenIsOfLeastClass → (s : Setting) (acts : List Action) (a : Action) (k : ℕ) → IsSound s acts a → IsInTurn s.table acts a →
     HaveOneCore s.table (so_far s acts) → IsServed s.table (so_far s acts) acts k → Rests s.table (so_far s acts) acts a k
-rests more last least s acts (Free core) k sound turn one was = absurd (let no = was.after_unbans 2 turn.not_before in omega (arith, no))
-rests more last least s acts (Unban core) k sound turn one was = absurd (let no = was.after_unbans 3 turn.not_before in omega (arith, no))
+rests more last least s acts (Free core) k sound turn one was =
+    let low = ltb-true core s.table.cores (and_parts (ltb core s.table.cores) (not (is_free (holder_of (so_far s acts) core))) sound.fits).0 in
+    absurd (let no = was.after_unbans (turn_of s.table (Free core)) turn in omega (arith, low, no))
+rests more last least s acts (Unban core) k sound turn one was =
+    let low = ltb-true core s.table.cores (and_parts (ltb core s.table.cores) (is_banned (so_far s acts) core) sound.fits).0 in
+    absurd (let no = was.after_unbans (turn_of s.table (Unban core)) turn in omega (arith, low, no))
 rests more last least s acts (Ban core thread started) k sound turn one was =
     (refl, stays more last s.table (so_far s acts) acts (Ban core thread started) k was ((more (so_far s acts) (Ban core thread started)).holder was.core))
 rests more last least s acts (Cap task cap) k sound turn one was = (refl, stays more last s.table (so_far s acts) acts (Cap task cap) k was ((more (so_far s acts) (Cap task cap)).holder was.core))
@@ -190,7 +191,7 @@ granted_serves more last table x acts core thread class k low true e =
       },
     )
 
-revocation_late : (table : Table) (core : ℕ) (cause : Cause) → 3 ≤ turn_of table (Revoke core cause)
+revocation_late : (table : Table) (core : ℕ) (cause : Cause) → 2 * table.cores ≤ turn_of table (Revoke core cause)
 revocation_late table core (causes.Ban by) = omega arith
 revocation_late table core causes.Bandwidth = omega arith
 revocation_late table core (causes.Preempt task) = omega arith

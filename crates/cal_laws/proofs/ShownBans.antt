@@ -2,7 +2,6 @@
 use Rattle.std.proofs.Common.{◌≡◌, ◌⊎◌, inl, inr, ℕ, ◌+◌, ◌<◌, zero, suc, Bool, true, false, cond, eqb, List, [], ◌∷◌, ◌++◌, take, Option, Some, None, refl, sym, ap, ◌∙◌, arith, append_assoc, subst, ⊎_elim}
 use Rattle.std.specs.Option.{unwrap_or}
 use Rattle.std.proofs.lemmas.Bool.{eqb-true, eq-eqb, and_parts, cases_lt}
-use Rattle.std.proofs.lemmas.Bool.Decides.{nat_tests}
 use Rattle.std.proofs.lemmas.List.{append-nil, take_all}
 use Rattle.std.proofs.lemmas.Option.{slice_get_cases}
 use Rattle.cal_machine.specs.Machine.{sibling_of}
@@ -20,6 +19,7 @@ use Rattle.cal_policy.specs.Pass.{pass_of}
 use Rattle.cal_policy.specs.Laws.{ActionIsOneMore, ChosenIsOfLeastClass}
 use Rattle.cal_laws.specs.Point.{Point, IsPoint, setting_at, actions_at, next_at}
 use Rattle.cal_laws.specs.Bans.{IsShown}
+use Rattle.cal_laws.proofs.Numbering.{sibling_back}
 use Rattle.cal_laws.proofs.SameHolders.{so_far_more}
 use Rattle.cal_laws.proofs.BanDue.{is_due}
 use Rattle.cal_laws.proofs.PassKeeps.{IsKept, nothing_more, pass_keeps}
@@ -97,9 +97,6 @@ quiet : ActionIsOneMore → (s : Setting) (acts : List Action) (a : Action) (n :
 quiet more s acts a n none h = record {
   shown = λ c ban lt is. h.shown c ban lt (sym (ban_after more s acts a c ∙ ap (λ o. unwrap_or o (ban_of (so_far s acts) c)) (none c)) ∙ is);
 }
-
-sibling_back : (c : ℕ) → sibling_of (sibling_of c) ≡ c
-sibling_back c = grind (arith, nat_tests)
 
 -- a new ban is shown
 new_by : (b : Bool) (new ban : BannedFor) (o : Option BannedFor) → unwrap_or (cond b (Some (Some new)) None) o ≡ Some ban → ((b ≡ true) × (new ≡ ban)) ⊎ (o ≡ Some ban)

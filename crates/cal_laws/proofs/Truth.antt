@@ -67,7 +67,7 @@ whole_is number rec false true e = cc
 whole_is number rec false false e = (refl, refl)
 
 -- the record of a Whole look
-fresh : (table : Table) (history : List PassEntry) (k n : ℕ) (entry : PassEntry) (number : ℕ) (rec : Record) → slice_get history n ≡ Some entry → IsPass table (take n history) entry →
+pub fresh : (table : Table) (history : List PassEntry) (k n : ℕ) (entry : PassEntry) (number : ℕ) (rec : Record) → slice_get history n ≡ Some entry → IsPass table (take n history) entry →
     slice_get entry.input.seen k ≡ Some (Whole number rec) → (rec.taken ≤ sent_to (actions_of (take n history)) k) × (rec.running ≢ 0 → WasKeptOnCore table history k rec n)
 fresh table history k n entry number rec e pass is =
     let x = actions_of (take n history) in
@@ -101,7 +101,7 @@ true_in one table history k n entry e pass was =
     subst (IsTrueIn table history k n) (sym (one (looks_of (take n history)) entry.input.seen k))
     (looked table history k n entry (kept_by (looks_of (take n history)) k) e pass was (slice_get entry.input.seen k) refl)
 
-looks_more : (history : List PassEntry) (n : ℕ) (entry : PassEntry) → slice_get history n ≡ Some entry → looks_of (take (n + 1) history) ≡ looks_of (take n history) ++ entry.input.seen ∷ []
+pub looks_more : (history : List PassEntry) (n : ℕ) (entry : PassEntry) → slice_get history n ≡ Some entry → looks_of (take (n + 1) history) ≡ looks_of (take n history) ++ entry.input.seen ∷ []
 looks_more history n entry e = ap looks_of (take_next history n entry e) ∙ map-append (λ (entry : PassEntry). entry.input.seen) (take n history) (entry ∷ [])
 
 on_to_next : ActionIsOneMore → LookIsOneMore → (table : Table) (history : List PassEntry) (k n : ℕ) (entry : PassEntry) → slice_get history n ≡ Some entry → IsPass table (take n history) entry →

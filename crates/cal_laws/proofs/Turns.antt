@@ -1,5 +1,5 @@
 -- Each action of a pass comes in its turn.
-use Rattle.std.proofs.Common.{◌≡◌, ℕ, ◌+◌, ◌-◌, ◌<◌, ◌≤◌, suc, zero, Bool, true, false, ◌&&◌, cond, nat_lt, List, [], ◌∷◌, ◌++◌, length, take, Option, Some, None, refl, sym, ap, ◌∙◌, arith, subst, append_assoc}
+use Rattle.std.proofs.Common.{◌≡◌, ℕ, ◌+◌, ◌*◌, ◌-◌, ◌<◌, ◌≤◌, suc, zero, Bool, true, false, ◌&&◌, cond, nat_lt, List, [], ◌∷◌, ◌++◌, length, take, Option, Some, None, refl, sym, ap, ◌∙◌, arith, subst, append_assoc}
 use Rattle.std.specs.List.{All, slice_get}
 use Rattle.std.proofs.lemmas.List.{append-nil}
 use Rattle.std.proofs.lemmas.List.Elements.{All-nil, All-push, All-weaker}
@@ -25,7 +25,8 @@ use Rattle.cal_policy.specs.Pass.{pass_of}
 use Rattle.cal_policy.specs.Made.{EachAfter}
 use Rattle.cal_policy.specs.Laws.{ChosenHasWaitedLongest}
 use Rattle.cal_laws.specs.Turns.{turn_of, place_of_task}
-use Rattle.cal_laws.proofs.Granted.{chosen_owner}
+use Rattle.cal_laws.proofs.Chosen.{chosen_owner}
+use Rattle.cal_laws.proofs.Numbering.{sibling_back}
 
 each_append : {X : Type 0} (P : List X → X → Type 0) (before xs ys : List X) → EachAfter P before xs → EachAfter P (before ++ xs) ys → EachAfter P before (xs ++ ys)
 each_append P before [] ys e f = rw append-nil at f
@@ -78,111 +79,115 @@ below_more table m n acts le b = All-weaker (λ a. turn_of table a < m) (λ a. t
 below_push : (table : Table) (n : ℕ) (acts : List Action) (a : Action) → Below table n acts → turn_of table a < n → Below table n (acts ++ a ∷ [])
 below_push table n acts a b lt = All-push (λ a. turn_of table a < n) acts a b lt
 
--- an action after these comes in its turn
-pub record IsInTurn (table : Table) (acts : List Action) (a : Action) : Type 0 where
-  pub not_before : Below table (turn_of table a + 1) acts
-  pub after : 5 ≤ turn_of table a → Below table (turn_of table a) acts
+-- an action after these comes in its turn: strictly after each of theirs
+abbrev pub IsInTurn : Table → List Action → Action → Type 0
+IsInTurn table acts a = Below table (turn_of table a) acts
 
--- an action of the first four parts
-early : (table : Table) (acts : List Action) (n : ℕ) (a : Action) → turn_of table a ≡ n → n < 5 → Below table (n + 1) acts → Goes (IsInTurn table) (Below table (n + 1)) acts (a ∷ [])
-early table acts n a e lt b = goes_one (IsInTurn table) (Below table (n + 1)) acts a
-    (record { not_before = below_more table (n + 1) (turn_of table a + 1) acts (omega (arith, e)) b; after = λ no. absurd (omega (arith, e, lt, no)) })
-    (below_push table (n + 1) acts a b (omega (arith, e)))
-
--- one of the last part
-late : (table : Table) (acts : List Action) (n : ℕ) (a : Action) → turn_of table a ≡ n → Below table n acts → Goes (IsInTurn table) (Below table (n + 1)) acts (a ∷ [])
-late table acts n a e b = goes_one (IsInTurn table) (Below table (n + 1)) acts a
-    (record {
-      not_before = below_more table n (turn_of table a + 1) acts (omega (arith, e)) b;
-      after = λ ok. below_more table n (turn_of table a) acts (omega (arith, e)) b;
-    })
-    (below_push table (n + 1) acts a (below_more table n (n + 1) acts (omega arith) b) (omega (arith, e)))
+-- one action in its turn, and nothing
+one : (table : Table) (acts : List Action) (n m : ℕ) (a : Action) → turn_of table a ≡ n → n < m → Below table n acts → Goes (IsInTurn table) (Below table m) acts (a ∷ [])
+one table acts n m a e lt b = goes_one (IsInTurn table) (Below table m) acts a
+    (below_more table n (turn_of table a) acts (omega (arith, e)) b)
+    (below_push table m acts a (below_more table n m acts (omega (arith, lt)) b) (omega (arith, e, lt)))
 
 none : (table : Table) (acts : List Action) (m n : ℕ) → m ≤ n → Below table m acts → Goes (IsInTurn table) (Below table n) acts []
 none table acts m n le b = goes_none (IsInTurn table) (Below table n) acts (below_more table m n acts le b)
 
-frees_go : (s : Setting) (acts : List Action) → Below s.table 2 acts → Goes (IsInTurn s.table) (Below s.table 2) acts (frees s acts)
-frees_go s acts b = goes_in_turn (IsInTurn s.table) (λ k. Below s.table 2) (free_at s) acts s.table.cores b (λ now c lt q.
-    goes_if (IsInTurn s.table) (Below s.table 2) now (shows_left (kept_now s) (holder_of (so_far s now) c)) (Free c ∷ []) []
-    (λ e. early s.table now 1 (Free c) refl (omega arith) q) (λ e. none s.table now 2 2 (omega arith) q))
+frees_go : (s : Setting) (acts : List Action) → Below s.table 0 acts → Goes (IsInTurn s.table) (Below s.table s.table.cores) acts (frees s acts)
+frees_go s acts b = goes_in_turn (IsInTurn s.table) (λ k. Below s.table k) (free_at s) acts s.table.cores b (λ now c lt q.
+    goes_if (IsInTurn s.table) (Below s.table (c + 1)) now (shows_left (kept_now s) (holder_of (so_far s now) c)) (Free c ∷ []) []
+    (λ e. one s.table now c (c + 1) (Free c) refl (omega arith) q) (λ e. none s.table now c (c + 1) (omega arith) q))
 
-unban_goes : (s : Setting) (acts : List Action) (c : ℕ) (o : Option BannedFor) → Below s.table 3 acts → Goes (IsInTurn s.table) (Below s.table 3) acts (unban_for s c o)
-unban_goes s acts c None q = none s.table acts 3 3 (omega arith) q
-unban_goes s acts c (Some ban) q = goes_if (IsInTurn s.table) (Below s.table 3) acts (still_shows (kept_now s ban.thread) (sibling_of c) ban.started) [] (Unban c ∷ [])
-    (λ e. none s.table acts 3 3 (omega arith) q) (λ e. early s.table acts 2 (Unban c) refl (omega arith) q)
+unban_goes : (s : Setting) (acts : List Action) (c m : ℕ) (o : Option BannedFor) → s.table.cores + c < m → Below s.table (s.table.cores + c) acts →
+    Goes (IsInTurn s.table) (Below s.table m) acts (unban_for s c o)
+unban_goes s acts c m None lt q = none s.table acts (s.table.cores + c) m (omega (arith, lt)) q
+unban_goes s acts c m (Some ban) lt q = goes_if (IsInTurn s.table) (Below s.table m) acts (still_shows (kept_now s ban.thread) (sibling_of c) ban.started) [] (Unban c ∷ [])
+    (λ e. none s.table acts (s.table.cores + c) m (omega (arith, lt)) q) (λ e. one s.table acts (s.table.cores + c) m (Unban c) refl lt q)
 
-unbans_go : (s : Setting) (acts : List Action) → Below s.table 3 acts → Goes (IsInTurn s.table) (Below s.table 3) acts (unbans s acts)
-unbans_go s acts b = goes_in_turn (IsInTurn s.table) (λ k. Below s.table 3) (unban_at s) acts s.table.cores b (λ now c lt q. unban_goes s now c (ban_of (so_far s now) c) q)
+unbans_go : (s : Setting) (acts : List Action) → Below s.table s.table.cores acts → Goes (IsInTurn s.table) (Below s.table (s.table.cores + s.table.cores)) acts (unbans s acts)
+unbans_go s acts b = goes_in_turn (IsInTurn s.table) (λ k. Below s.table (s.table.cores + k)) (unban_at s) acts s.table.cores (below_more s.table s.table.cores (s.table.cores + 0) acts (omega arith) b)
+    (λ now c lt q. unban_goes s now c (s.table.cores + (c + 1)) (ban_of (so_far s now) c) (omega arith) q)
 
-ban_goes : (s : Setting) (acts : List Action) (c : ℕ) (o : Option ℕ) → Below s.table 4 acts → Goes (IsInTurn s.table) (Below s.table 4) acts (ban_for s (so_far s acts) c o)
-ban_goes s acts c None q = none s.table acts 4 4 (omega arith) q
-ban_goes s acts c (Some thread) q =
+-- the turn of a core's ban, and of its revocation
+abbrev ban_turn : ℕ → ℕ → ℕ
+ban_turn cores c = 2 * cores + 2 * c
+
+ban_goes : (s : Setting) (acts : List Action) (c m : ℕ) (o : Option ℕ) → ban_turn s.table.cores c + 1 < m → Below s.table (ban_turn s.table.cores c) acts →
+    Goes (IsInTurn s.table) (Below s.table m) acts (ban_for s (so_far s acts) c o)
+ban_goes s acts c m None lt q = none s.table acts (ban_turn s.table.cores c) m (omega (arith, lt)) q
+ban_goes s acts c m (Some thread) lt q =
     let ban : Action = Ban (sibling_of c) thread (kept_now s thread).started in
     let held = is_held (holder_of (so_far s acts) (sibling_of c)) in
-    goes_then (IsInTurn s.table) (Below s.table 4) (Below s.table 4) acts (ban ∷ []) (cond held (Revoke (sibling_of c) (causes.Ban c) ∷ []) [])
-    (early s.table acts 3 ban refl (omega arith) q)
-    (λ was. goes_if (IsInTurn s.table) (Below s.table 4) (acts ++ ban ∷ []) held (Revoke (sibling_of c) (causes.Ban c) ∷ []) []
-    (λ e. early s.table (acts ++ ban ∷ []) 3 (Revoke (sibling_of c) (causes.Ban c)) refl (omega arith) was) (λ e. none s.table (acts ++ ban ∷ []) 4 4 (omega arith) was))
+    let n = ban_turn s.table.cores c in
+    goes_then (IsInTurn s.table) (Below s.table (n + 1)) (Below s.table m) acts (ban ∷ []) (cond held (Revoke (sibling_of c) (causes.Ban c) ∷ []) [])
+    (one s.table acts n (n + 1) ban (ap (λ d. ban_turn s.table.cores d) (sibling_back c)) (omega arith) q)
+    (λ was. goes_if (IsInTurn s.table) (Below s.table m) (acts ++ ban ∷ []) held (Revoke (sibling_of c) (causes.Ban c) ∷ []) []
+    (λ e. one s.table (acts ++ ban ∷ []) (n + 1) m (Revoke (sibling_of c) (causes.Ban c)) refl lt was) (λ e. none s.table (acts ++ ban ∷ []) (n + 1) m (omega (arith, lt)) was))
 
-bans_go : (s : Setting) (acts : List Action) → Below s.table 4 acts → Goes (IsInTurn s.table) (Below s.table 4) acts (bans s acts)
-bans_go s acts b = goes_in_turn (IsInTurn s.table) (λ k. Below s.table 4) (ban_at s) acts s.table.cores b (λ now c lt q. ban_goes s now c (ban_due s (so_far s now) c) q)
+bans_go : (s : Setting) (acts : List Action) → Below s.table (s.table.cores + s.table.cores) acts → Goes (IsInTurn s.table) (Below s.table (ban_turn s.table.cores s.table.cores)) acts (bans s acts)
+bans_go s acts b = goes_in_turn (IsInTurn s.table) (λ k. Below s.table (ban_turn s.table.cores k)) (ban_at s) acts s.table.cores
+    (below_more s.table (s.table.cores + s.table.cores) (ban_turn s.table.cores 0) acts (omega arith) b)
+    (λ now c lt q. ban_goes s now c (ban_turn s.table.cores (c + 1)) (ban_due s (so_far s now) c) (omega arith) q)
 
-cut_at_goes : (s : Setting) (acts : List Action) (t : ℕ) (o : Option ℕ) → Below s.table 5 acts → Goes (IsInTurn s.table) (Below s.table 5) acts (cut_at s (so_far s acts) t o)
-cut_at_goes s acts t None q = none s.table acts 5 5 (omega arith) q
+cut_at_goes : (s : Setting) (acts : List Action) (t : ℕ) (o : Option ℕ) → Below s.table (4 * s.table.cores) acts →
+    Goes (IsInTurn s.table) (Below s.table (4 * s.table.cores + 2)) acts (cut_at s (so_far s acts) t o)
+cut_at_goes s acts t None q = none s.table acts (4 * s.table.cores) (4 * s.table.cores + 2) (omega arith) q
 cut_at_goes s acts t (Some core) q =
     let cap : Action = Cap t (held_by s.table (so_far s acts) t - 1) in
-    goes_then (IsInTurn s.table) (Below s.table 5) (Below s.table 5) acts (cap ∷ []) (Revoke core causes.Bandwidth ∷ [])
-    (early s.table acts 4 cap refl (omega arith) q) (λ was. early s.table (acts ++ cap ∷ []) 4 (Revoke core causes.Bandwidth) refl (omega arith) was)
+    let n = 4 * s.table.cores in
+    goes_then (IsInTurn s.table) (Below s.table (n + 1)) (Below s.table (n + 2)) acts (cap ∷ []) (Revoke core causes.Bandwidth ∷ [])
+    (one s.table acts n (n + 1) cap refl (omega arith) q) (λ was. one s.table (acts ++ cap ∷ []) (n + 1) (n + 2) (Revoke core causes.Bandwidth) refl (omega arith) was)
 
-cut_goes : (s : Setting) (acts : List Action) (o : Option Candidate) → Below s.table 5 acts → Goes (IsInTurn s.table) (Below s.table 5) acts (cut_of s (so_far s acts) o)
-cut_goes s acts None q = none s.table acts 5 5 (omega arith) q
+cut_goes : (s : Setting) (acts : List Action) (o : Option Candidate) → Below s.table (4 * s.table.cores) acts → Goes (IsInTurn s.table) (Below s.table (4 * s.table.cores + 2)) acts (cut_of s (so_far s acts) o)
+cut_goes s acts None q = none s.table acts (4 * s.table.cores) (4 * s.table.cores + 2) (omega arith) q
 cut_goes s acts (Some victim) q = cut_at_goes s acts victim.number (core_to_lose s (so_far s acts) victim.number) q
 
-rise_goes : (s : Setting) (acts : List Action) (o : Option ℕ) → Below s.table 5 acts → Goes (IsInTurn s.table) (Below s.table 5) acts (rise_of s (so_far s acts) o)
-rise_goes s acts None q = none s.table acts 5 5 (omega arith) q
-rise_goes s acts (Some t) q = early s.table acts 4 _ refl (omega arith) q
+rise_goes : (s : Setting) (acts : List Action) (o : Option ℕ) → Below s.table (4 * s.table.cores) acts → Goes (IsInTurn s.table) (Below s.table (4 * s.table.cores + 2)) acts (rise_of s (so_far s acts) o)
+rise_goes s acts None q = none s.table acts (4 * s.table.cores) (4 * s.table.cores + 2) (omega arith) q
+rise_goes s acts (Some t) q = one s.table acts (4 * s.table.cores) (4 * s.table.cores + 2) _ refl (omega arith) q
 
-bandwidth_goes : (s : Setting) (acts : List Action) → Below s.table 5 acts → Goes (IsInTurn s.table) (Below s.table 5) acts (bandwidth_part s acts)
-bandwidth_goes s acts q = goes_if (IsInTurn s.table) (Below s.table 5) acts (nat_lt s.table.bandwidth_limit s.input.bandwidth)
+bandwidth_goes : (s : Setting) (acts : List Action) → Below s.table (4 * s.table.cores) acts → Goes (IsInTurn s.table) (Below s.table (4 * s.table.cores + 2)) acts (bandwidth_part s acts)
+bandwidth_goes s acts q = goes_if (IsInTurn s.table) (Below s.table (4 * s.table.cores + 2)) acts (nat_lt s.table.bandwidth_limit s.input.bandwidth)
     (cut_of s (so_far s acts) (victim_of s (so_far s acts))) (rise_of s (so_far s acts) (lowest_below (is_capped s (so_far s acts)) (length s.table.tasks)))
     (λ e. cut_goes s acts (victim_of s (so_far s acts)) q) (λ e. rise_goes s acts (lowest_below (is_capped s (so_far s acts)) (length s.table.tasks)) q)
 
-grant_of_goes : ThreadsAreOfTheirTask → ChosenHasWaitedLongest → (s : Setting) (acts : List Action) (t n : ℕ) → t < length s.table.tasks → 5 + place_of_task s.table t ≡ n → Below s.table n acts →
-    (thread core : Option Candidate) → thread_choice s (so_far s acts) t ≡ thread → Goes (IsInTurn s.table) (Below s.table (n + 1)) acts (grant_of s t thread core)
-grant_of_goes numbered longest s acts t n lt is q None core e = none s.table acts n (n + 1) (omega arith) q
-grant_of_goes numbered longest s acts t n lt is q (Some thread) None e = none s.table acts n (n + 1) (omega arith) q
-grant_of_goes numbered longest s acts t n lt is q (Some thread) (Some core) e =
+-- the turn of the task in this place
+abbrev task_turn : Setting → ℕ → ℕ
+task_turn s place = 4 * s.table.cores + 2 + place
+
+grant_of_goes : ThreadsAreOfTheirTask → ChosenHasWaitedLongest → (s : Setting) (acts : List Action) (t n m : ℕ) → t < length s.table.tasks → task_turn s (place_of_task s.table t) ≡ n → n < m →
+    Below s.table n acts → (thread core : Option Candidate) → thread_choice s (so_far s acts) t ≡ thread → Goes (IsInTurn s.table) (Below s.table m) acts (grant_of s t thread core)
+grant_of_goes numbered longest s acts t n m lt is le q None core e = none s.table acts n m (omega (arith, le)) q
+grant_of_goes numbered longest s acts t n m lt is le q (Some thread) None e = none s.table acts n m (omega (arith, le)) q
+grant_of_goes numbered longest s acts t n m lt is le q (Some thread) (Some core) e =
     let k = thread_of s.table t thread.number in
-    goes_if (IsInTurn s.table) (Below s.table (n + 1)) acts (nat_lt core.rank 4) (Grant core.number k core.rank ∷ []) (Revoke core.number (causes.Preempt t) ∷ [])
-    (λ low. late s.table acts n (Grant core.number k core.rank) (ap (λ m. 5 + place_of_task s.table m) (chosen_owner numbered longest s (so_far s acts) t thread lt e) ∙ is) q)
-    (λ high. late s.table acts n (Revoke core.number (causes.Preempt t)) is q)
+    goes_if (IsInTurn s.table) (Below s.table m) acts (nat_lt core.rank 4) (Grant core.number k core.rank ∷ []) (Revoke core.number (causes.Preempt t) ∷ [])
+    (λ low. one s.table acts n m (Grant core.number k core.rank) (ap (λ o. task_turn s (place_of_task s.table o)) (chosen_owner numbered longest s (so_far s acts) t thread lt e) ∙ is) le q)
+    (λ high. one s.table acts n m (Revoke core.number (causes.Preempt t)) is le q)
 
-grant_goes : ThreadsAreOfTheirTask → ChosenHasWaitedLongest → (s : Setting) (acts : List Action) (t n : ℕ) → t < length s.table.tasks → 5 + place_of_task s.table t ≡ n → Below s.table n acts →
-    Goes (IsInTurn s.table) (Below s.table (n + 1)) acts (grant_at s acts t)
-grant_goes numbered longest s acts t n lt is q = goes_if (IsInTurn s.table) (Below s.table (n + 1)) acts (is_congested s t && may_book s (so_far s acts) t)
+grant_goes : ThreadsAreOfTheirTask → ChosenHasWaitedLongest → (s : Setting) (acts : List Action) (t n m : ℕ) → t < length s.table.tasks → task_turn s (place_of_task s.table t) ≡ n → n < m →
+    Below s.table n acts → Goes (IsInTurn s.table) (Below s.table m) acts (grant_at s acts t)
+grant_goes numbered longest s acts t n m lt is le q = goes_if (IsInTurn s.table) (Below s.table m) acts (is_congested s t && may_book s (so_far s acts) t)
     (grant_of s t (thread_choice s (so_far s acts) t) (choice_of s acts t)) []
-    (λ e. grant_of_goes numbered longest s acts t n lt is q (thread_choice s (so_far s acts) t) (choice_of s acts t) refl) (λ e. none s.table acts n (n + 1) (omega arith) q)
+    (λ e. grant_of_goes numbered longest s acts t n m lt is le q (thread_choice s (so_far s acts) t) (choice_of s acts t) refl) (λ e. none s.table acts n m (omega (arith, le)) q)
 
-critical_goes : ThreadsAreOfTheirTask → ChosenHasWaitedLongest → (s : Setting) (acts : List Action) → Below s.table 5 acts →
-    Goes (IsInTurn s.table) (Below s.table (5 + length s.table.tasks)) acts (critical_grants s acts)
-critical_goes numbered longest s acts b = goes_in_turn (IsInTurn s.table) (λ k. Below s.table (5 + k)) (grant_critical_at s) acts (length s.table.tasks) b (λ now t lt q.
-    goes_if (IsInTurn s.table) (Below s.table (5 + (t + 1))) now (is_latency_critical s.table t) (grant_at s now t) []
-    (λ e. let place : 5 + place_of_task s.table t ≡ 5 + t = ap (λ (b : Bool). 5 + cond b t (length s.table.tasks + t)) e in
-    let next : 5 + t + 1 ≡ 5 + (t + 1) = omega arith in
-    let C : ℕ → Type 0 = λ m. Goes (IsInTurn s.table) (Below s.table m) now (grant_at s now t) in
-    subst C next (grant_goes numbered longest s now t (5 + t) lt place q))
-    (λ e. none s.table now (5 + t) (5 + (t + 1)) (omega arith) q))
+critical_goes : ThreadsAreOfTheirTask → ChosenHasWaitedLongest → (s : Setting) (acts : List Action) → Below s.table (4 * s.table.cores + 2) acts →
+    Goes (IsInTurn s.table) (Below s.table (task_turn s (length s.table.tasks))) acts (critical_grants s acts)
+critical_goes numbered longest s acts b = goes_in_turn (IsInTurn s.table) (λ k. Below s.table (task_turn s k)) (grant_critical_at s) acts (length s.table.tasks)
+    (below_more s.table (4 * s.table.cores + 2) (task_turn s 0) acts (omega arith) b) (λ now t lt q.
+    goes_if (IsInTurn s.table) (Below s.table (task_turn s (t + 1))) now (is_latency_critical s.table t) (grant_at s now t) []
+    (λ e. let place = ap (λ (b : Bool). task_turn s (cond b t (length s.table.tasks + t))) e in
+    grant_goes numbered longest s now t (task_turn s t) (task_turn s (t + 1)) lt place (omega arith) q)
+    (λ e. none s.table now (task_turn s t) (task_turn s (t + 1)) (omega arith) q))
 
-best_effort_goes : ThreadsAreOfTheirTask → ChosenHasWaitedLongest → (s : Setting) (acts : List Action) → Below s.table (5 + length s.table.tasks) acts →
-    Goes (IsInTurn s.table) (Below s.table (5 + (length s.table.tasks + length s.table.tasks))) acts (best_effort_grants s acts)
-best_effort_goes numbered longest s acts b = goes_in_turn (IsInTurn s.table) (λ k. Below s.table (5 + (length s.table.tasks + k))) (grant_best_effort_at s) acts (length s.table.tasks)
-    (below_more s.table (5 + length s.table.tasks) (5 + (length s.table.tasks + 0)) acts (omega arith) b) (λ now t lt q.
-    goes_if (IsInTurn s.table) (Below s.table (5 + (length s.table.tasks + (t + 1)))) now (is_latency_critical s.table t) [] (grant_at s now t)
-    (λ e. none s.table now (5 + (length s.table.tasks + t)) (5 + (length s.table.tasks + (t + 1))) (omega arith) q)
-    (λ e. let place : 5 + place_of_task s.table t ≡ 5 + (length s.table.tasks + t) = ap (λ (b : Bool). 5 + cond b t (length s.table.tasks + t)) e in
-    let next : 5 + (length s.table.tasks + t) + 1 ≡ 5 + (length s.table.tasks + (t + 1)) = omega arith in
-    let C : ℕ → Type 0 = λ m. Goes (IsInTurn s.table) (Below s.table m) now (grant_at s now t) in
-    subst C next (grant_goes numbered longest s now t (5 + (length s.table.tasks + t)) lt place q)))
+best_effort_goes : ThreadsAreOfTheirTask → ChosenHasWaitedLongest → (s : Setting) (acts : List Action) → Below s.table (task_turn s (length s.table.tasks)) acts →
+    Goes (IsInTurn s.table) (Below s.table (task_turn s (length s.table.tasks + length s.table.tasks))) acts (best_effort_grants s acts)
+best_effort_goes numbered longest s acts b = goes_in_turn (IsInTurn s.table) (λ k. Below s.table (task_turn s (length s.table.tasks + k))) (grant_best_effort_at s) acts (length s.table.tasks)
+    (below_more s.table (task_turn s (length s.table.tasks)) (task_turn s (length s.table.tasks + 0)) acts (omega arith) b) (λ now t lt q.
+    let here = task_turn s (length s.table.tasks + t) in
+    let next = task_turn s (length s.table.tasks + (t + 1)) in
+    goes_if (IsInTurn s.table) (Below s.table next) now (is_latency_critical s.table t) [] (grant_at s now t)
+    (λ e. none s.table now here next (omega arith) q)
+    (λ e. let place = ap (λ (b : Bool). task_turn s (cond b t (length s.table.tasks + t))) e in grant_goes numbered longest s now t here next lt place (omega arith) q))
 
 -- one part more
 part : (s : Setting) (m n : ℕ) (acts more : List Action) → Goes (IsInTurn s.table) (Below s.table m) [] acts → (Below s.table m acts → Goes (IsInTurn s.table) (Below s.table n) acts more) →
@@ -196,9 +201,11 @@ on s m n acts le g = record { each = g.each; after = below_more s.table m n acts
 -- each action of a pass comes in its turn
 pub pass_in_turn : ThreadsAreOfTheirTask → ChosenHasWaitedLongest → (s : Setting) → EachAfter (IsInTurn s.table) [] (pass_of s)
 pass_in_turn numbered longest s =
-    let freed = part s 2 2 [] _ (none s.table [] 2 2 (omega arith) (All-nil (λ a. turn_of s.table a < 2))) (frees_go s []) in
-    let unbanned = part s 3 3 _ _ (on s 2 3 _ (omega arith) freed) (unbans_go s _) in
-    let banned = part s 4 4 _ _ (on s 3 4 _ (omega arith) unbanned) (bans_go s _) in
-    let bounded = part s 5 5 _ _ (on s 4 5 _ (omega arith) banned) (bandwidth_goes s _) in
-    let served = part s 5 (5 + length s.table.tasks) _ _ bounded (critical_goes numbered longest s _) in
-    (part s (5 + length s.table.tasks) (5 + (length s.table.tasks + length s.table.tasks)) _ _ served (best_effort_goes numbered longest s _)).each
+    let cores = s.table.cores in
+    let tasks = length s.table.tasks in
+    let freed = part s 0 cores [] _ (none s.table [] 0 0 (omega arith) (All-nil (λ a. turn_of s.table a < 0))) (frees_go s []) in
+    let unbanned = part s cores (cores + cores) _ _ freed (unbans_go s _) in
+    let banned = on s (ban_turn cores cores) (4 * cores) _ (omega arith) (part s (cores + cores) (ban_turn cores cores) _ _ unbanned (bans_go s _)) in
+    let bounded = part s (4 * cores) (4 * cores + 2) _ _ banned (bandwidth_goes s _) in
+    let served = part s (4 * cores + 2) (task_turn s tasks) _ _ bounded (critical_goes numbered longest s _) in
+    (part s (task_turn s tasks) (task_turn s (tasks + tasks)) _ _ served (best_effort_goes numbered longest s _)).each

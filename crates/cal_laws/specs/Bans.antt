@@ -4,7 +4,7 @@ use Rattle.cal_machine.specs.Machine.{sibling_of}
 use Rattle.cal_machine.specs.Table.{Table, IsTable}
 use Rattle.cal_policy.specs.Tasks.{owner_of, guaranteed_of, request_of, is_latency_critical}
 use Rattle.cal_policy.specs.declared.pass_action.Action.{Action}
-use Rattle.cal_policy.specs.declared.pass_action.Action.TheVariants.{Ban, Revoke, Grant}
+use Rattle.cal_policy.specs.declared.pass_action.Action.TheVariants.{Unban, Ban, Revoke, Grant}
 use Rattle.cal_policy.specs.declared.pass_action.Cause.TheVariants as causes
 use Rattle.cal_policy.specs.declared.pass_entry.PassEntry.{PassEntry}
 use Rattle.cal_policy.specs.declared.banning.BannedFor.{BannedFor}
@@ -90,6 +90,17 @@ BannedAreEmptiedAtOnce = (here : Point) → IsPoint here → (core : ℕ) → is
 pub record IsShown (s : Setting) (core : ℕ) (ban : BannedFor) : Type 0 where
   pub running : (kept_now s ban.thread).running ≡ sibling_of core + 1
   pub request : (kept_now s ban.thread).started ≡ ban.started
+
+-- the core was banned, and the kept record of the ban's thread does not show it on the sibling at the request for which the core was banned
+pub record HasEnded (s : Setting) (x : List Action) (core : ℕ) : Type 0 where
+  pub own : core < s.table.cores
+  pub ban : BannedFor
+  pub stood : ban_of x core ≡ Some ban
+  pub not_shown : ¬ IsShown s core ban
+
+-- so it is wherever a ban ends
+abbrev pub BansEndUnshown : Type 0
+BansEndUnshown = (here : Point) → IsPoint here → (core : ℕ) → next_at here ≡ Some (Unban core) → HasEnded (setting_at here) (actions_at here) core
 
 -- at the end of every pass each ban of a core of the machine is still shown
 abbrev pub BansAreShownAfterPasses : Type 0

@@ -35,3 +35,8 @@ pub record IsTrueRecord (here : Point) (k : ℕ) (rec : Record) : Type 0 where
 -- so it is of each thread's kept record at every point
 abbrev pub KeptRecordsAreTrue : Type 0
 KeptRecordsAreTrue = (here : Point) → IsPoint here → (k : ℕ) → IsTrueRecord here k (kept_now (setting_at here) k)
+
+-- at every point, where a thread's kept record shows it on a core, the thread holds or leaves that core, by a Run that the record acknowledges
+abbrev pub KeptThreadsAreOnCore : Type 0
+KeptThreadsAreOnCore = (here : Point) → IsPoint here → (k : ℕ) → (kept_now (setting_at here) k).running ≢ 0 →
+    IsOnCore here.table (actions_at here) k (kept_now (setting_at here) k)

@@ -6,6 +6,7 @@ pub mod Limits
 pub mod OneEach
 pub mod Kept
 pub mod Cause
+pub mod Caps
 pub mod Choice
 pub mod Bans
 pub mod OldDelay

@@ -1,4 +1,4 @@
--- Records without suspended requests: their delay is that of the first queue alone.
+-- Records without suspended requests: their delay is that of the queue alone.
 use Rattle.std.specs.Prelude.{◌≡◌, ℕ, ◌-◌, ◌&&◌, nat_lt, List, [], ◌∷◌, ◌++◌, All, Some, if◌then◌else◌}
 use Rattle.cal_signal.specs.declared.record.Record.{Record}
 use Rattle.cal_policy.specs.Tasks.{thread_of, limit_of}

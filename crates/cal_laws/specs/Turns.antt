@@ -1,6 +1,7 @@
 -- When each action of a pass has its turn.
-use Rattle.std.specs.Prelude.{ℕ, ◌+◌, ◌<◌, ◌≤◌, length, Option, Some, None, if◌then◌else◌}
+use Rattle.std.specs.Prelude.{ℕ, ◌+◌, ◌*◌, length, Option, Some, None, if◌then◌else◌}
 use Rattle.cal_machine.specs.Table.{Table}
+use Rattle.cal_machine.specs.Machine.{sibling_of}
 use Rattle.cal_policy.specs.Tasks.{owner_of, is_latency_critical}
 use Rattle.cal_policy.specs.declared.pass_action.Action.{Action}
 use Rattle.cal_policy.specs.declared.pass_action.Action.TheVariants.{Free, Unban, Ban, Revoke, Cap, Grant}
@@ -21,18 +22,14 @@ task_served table (Cap task cap) = None
 abbrev pub place_of_task : Table → ℕ → ℕ
 place_of_task table t = if is_latency_critical table t then t else length table.tasks + t
 
--- the turn of an action in its pass: the number of its part and, in the last one, of its task
+-- the turn of an action in its pass: of the cores upwards those that are freed, then those that are unbanned, then each beside which a ban
+-- is made, with the ban and its revocation; a cap and its revocation; then the tasks
 abbrev pub turn_of : Table → Action → ℕ
-turn_of table (Free core) = 1
-turn_of table (Unban core) = 2
-turn_of table (Ban core thread started) = 3
-turn_of table (Revoke core (causes.Ban by)) = 3
-turn_of table (Cap task cap) = 4
-turn_of table (Revoke core causes.Bandwidth) = 4
-turn_of table (Revoke core (causes.Preempt task)) = 5 + place_of_task table task
-turn_of table (Grant core thread class) = 5 + place_of_task table (owner_of table thread)
-
--- an action comes in its turn after an earlier one: not before it, and in the last part strictly after it
-pub record ComesInTurn (table : Table) (earlier later : Action) : Type 0 where
-  pub not_before : turn_of table earlier ≤ turn_of table later
-  pub after : 5 ≤ turn_of table later → turn_of table earlier < turn_of table later
+turn_of table (Free core) = core
+turn_of table (Unban core) = table.cores + core
+turn_of table (Ban core thread started) = 2 * table.cores + 2 * sibling_of core
+turn_of table (Revoke core (causes.Ban by)) = 2 * table.cores + 2 * by + 1
+turn_of table (Cap task cap) = 4 * table.cores
+turn_of table (Revoke core causes.Bandwidth) = 4 * table.cores + 1
+turn_of table (Revoke core (causes.Preempt task)) = 4 * table.cores + 2 + place_of_task table task
+turn_of table (Grant core thread class) = 4 * table.cores + 2 + place_of_task table (owner_of table thread)

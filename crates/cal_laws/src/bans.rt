@@ -1,6 +1,6 @@
 //! Banned cores, and what each ban stands for.
 
-ghost use Rattle.cal_laws.specs.Bans.{NoBannedIsGranted, BansAreDue, NoPairIsBanned, BannedAreEmptyAfterPasses, BannedAreEmptiedAtOnce, BansAreShownAfterPasses};
+ghost use Rattle.cal_laws.specs.Bans.{NoBannedIsGranted, BansAreDue, NoPairIsBanned, BannedAreEmptyAfterPasses, BannedAreEmptiedAtOnce, BansEndUnshown, BansAreShownAfterPasses};
 
 use cal_policy::{action_is_one_more, chosen_is_of_least_class, legal_is_apart, legal_is_sound};
 
@@ -44,6 +44,14 @@ pub fn banned_are_emptied_at_once()
 {
     action_is_one_more();
     chosen_is_of_least_class();
+}
+
+/// A ban ends only where the kept record of its thread no longer shows the sibling as its core and the
+/// request for which the core is banned. (This project's own rule.)
+pub fn bans_end_unshown()
+    ensures { BansEndUnshown }
+{
+    legal_is_sound();
 }
 
 /// At the end of each pass the thread of each ban still shows, in its kept record, the sibling as its

@@ -4,7 +4,7 @@ ghost use Rattle.cal_laws.specs.Exclusion.{ThreadsHaveOneCore, HoldersAreOfTheir
 
 use cal_policy::{action_is_one_more, last_thread_is_placed, legal_is_sound};
 
-/// At every point a thread holds or leaves at most one core.
+/// At every point a thread holds or leaves at most one core. (This project's own rule.)
 pub fn threads_have_one_core()
     ensures { ThreadsHaveOneCore }
 {
@@ -15,6 +15,7 @@ pub fn threads_have_one_core()
 
 /// At every point the number of a core's holder is that of the last Run that was sent to its thread, and that Run was
 /// for this core. Where the core is held it is the thread's last command; where it is being left, one Park came after.
+/// (This project's own rule.)
 pub fn holders_are_of_their_last_run()
     ensures { HoldersAreOfTheirLastRun }
 {
@@ -23,7 +24,7 @@ pub fn holders_are_of_their_last_run()
     last_thread_is_placed();
 }
 
-/// A Run is sent only for a free core, and to a thread that neither holds nor leaves any core.
+/// A Run is sent only for a free core, and to a thread that neither holds nor leaves any core. (This project's own rule.)
 pub fn runs_go_to_idle_threads()
     ensures { RunsGoToIdleThreads }
 {

@@ -7,6 +7,7 @@
 
 mod acknowledged;
 mod bans;
+mod caps;
 mod cause;
 mod choice;
 mod exclusion;
@@ -18,14 +19,15 @@ mod one_each;
 pub use acknowledged::freed_cores_were_left;
 pub use bans::{
     banned_are_emptied_at_once, banned_are_empty_after_passes, bans_are_due,
-    bans_are_shown_after_passes, no_banned_is_granted, no_pair_is_banned,
+    bans_are_shown_after_passes, bans_end_unshown, no_banned_is_granted, no_pair_is_banned,
 };
+pub use caps::caps_are_due;
 pub use cause::revocations_have_cause;
 pub use choice::{classes_are_told, grants_are_best, preemptions_have_thread};
 pub use exclusion::{
     holders_are_of_their_last_run, runs_go_to_idle_threads, threads_have_one_core,
 };
-pub use kept::kept_records_are_true;
+pub use kept::{kept_records_are_true, kept_threads_are_on_core};
 pub use limits::{
     grants_keep_to_caps, revocations_leave_guarantees, tasks_keep_to_caps, tasks_keep_to_limits,
 };

@@ -8,7 +8,8 @@ use cal_policy::{
     legal_is_steady, victim_has_most_misses,
 };
 
-/// At every point every task holds no more cores than it books, and books no more than its limit.
+/// At every point every task holds no more cores than it books, and books no more than its limit. (This project's own
+/// rule.)
 pub fn tasks_keep_to_limits()
     ensures { TasksKeepToLimits }
 {
@@ -17,7 +18,7 @@ pub fn tasks_keep_to_limits()
 }
 
 /// A task is granted a core only where it has booked less than its limit and, if it is best-effort, less than its
-/// cap.
+/// cap. (After Caladan's controller of memory bandwidth; the cap is this project's own.)
 pub fn grants_keep_to_caps()
     ensures { GrantsKeepToCaps }
 {
@@ -27,7 +28,8 @@ pub fn grants_keep_to_caps()
 }
 
 /// At every point a best-effort task holds no more cores than its cap, but between a cut of its cap and the revocation
-/// that follows at once: there it holds at most one more.
+/// that follows at once: there it holds at most one more. (After Caladan's controller of memory bandwidth; the cap is
+/// this project's own.)
 pub fn tasks_keep_to_caps()
     ensures { TasksKeepToCaps }
 {
@@ -38,7 +40,7 @@ pub fn tasks_keep_to_caps()
 }
 
 /// A core is revoked only from a task that holds more than it is guaranteed: so none holds less than its guarantee
-/// for having lost a core, whatever the cause.
+/// for having lost a core, whatever the cause. (After Caladan's guaranteed and burstable cores; this project's own rule.)
 pub fn revocations_leave_guarantees()
     ensures { RevocationsLeaveGuarantees }
 {

@@ -1,4 +1,4 @@
-//! Records without suspended requests: their delay is that of the first queue alone.
+//! Records without suspended requests: their delay is that of the queue alone.
 
 ghost use Rattle.cal_laws.specs.OldDelay.{RecordDelayIsOfQueue, DelaysAreOfQueues};
 

@@ -8,7 +8,7 @@ use cal_policy::{
     legal_is_short, legal_is_sound, victim_has_most_misses,
 };
 
-/// A command is sent only to a thread whose ring has room.
+/// A command is sent only to a thread whose ring has room. (This project's own rule.)
 pub fn commands_go_where_is_room()
     ensures { CommandsGoWhereIsRoom }
 {
@@ -21,8 +21,9 @@ pub fn commands_go_where_is_room()
     threads_are_of_their_task();
 }
 
-/// The actions of a pass come part by part: frees, unbans, bans with their revocations, the bandwidth part, then what
-/// is done for latency-critical tasks by number, then for best-effort tasks by number.
+/// The actions of a pass come strictly in turn, part by part: frees, unbans, bans with their revocations, each core by
+/// core upwards; at most one cap with its revocation; then what is done for latency-critical tasks by number, then for
+/// best-effort tasks by number. (This project's own order.)
 pub fn actions_come_in_turn()
     ensures { ActionsComeInTurn }
 {
@@ -30,14 +31,14 @@ pub fn actions_come_in_turn()
     threads_are_of_their_task();
 }
 
-/// A pass makes at most one grant or preemption for each task.
+/// A pass makes at most one grant or preemption for each task. (This project's own rule.)
 pub fn tasks_are_served_once()
     ensures { TasksAreServedOnce }
 {
     actions_come_in_turn();
 }
 
-/// A pass sends each thread at most one command.
+/// A pass sends each thread at most one command. (This project's own rule.)
 pub fn threads_are_sent_one_command()
     ensures { ThreadsAreSentOneCommand }
 {
@@ -49,7 +50,7 @@ pub fn threads_are_sent_one_command()
     threads_are_of_their_task();
 }
 
-/// A pass has at most 338 actions.
+/// A pass has at most 338 actions. (This project's own limit.)
 pub fn passes_are_short()
     ensures { PassesAreShort }
 {

@@ -1,12 +1,10 @@
 use Rattle.cal_policy.specs.declared.pass_action.Action.TheVariants.{Grant}
-use Rattle.cal_laws.specs.Point.{setting_at, made_at, actions_at}
+use Rattle.cal_laws.specs.Point.{setting_at, made_at}
 use Rattle.cal_laws.proofs.Chosen.{best_grant}
-use Rattle.cal_laws.proofs.Granted.{gives_free}
 use Rattle.cal_laws.proofs.Points.{sound_at}
 use Rattle.cal_laws.proofs.choice.grants_are_best.Goals as goal
 
 pub returns : goal.returns
 returns c = λ here is core thread class e.
-    let sound = sound_at c.legal_is_sound.ensures here is (Grant core thread class) e in
-    best_grant c.threads_are_of_their_task.ensures c.chosen_is_of_least_class.ensures c.chosen_has_waited_longest.ensures (setting_at here) (made_at here) core thread class sound.made
-    (gives_free here.table (actions_at here) core thread class sound.fits).own
+    best_grant c.threads_are_of_their_task.ensures c.chosen_is_of_least_class.ensures c.chosen_has_waited_longest.ensures (setting_at here) (made_at here) core thread class
+    (sound_at c.legal_is_sound.ensures here is (Grant core thread class) e).made

@@ -1,12 +1,12 @@
-use Rattle.std.proofs.Common.{◌≡◌, ℕ, ◌+◌, ◌<◌, zero, suc, List, [], ◌∷◌, take, Some, sym, subst, arith}
+use Rattle.std.proofs.Common.{◌≡◌, ℕ, ◌<◌, zero, suc, List, [], ◌∷◌, take, Some, sym, subst, arith}
 use Rattle.std.specs.List.{slice_get}
 use Rattle.std.proofs.lemmas.List.Elements.{All-get_or}
 use Rattle.std.proofs.lemmas.Option.{slice_get_within, get_or_from_slice_get}
 use Rattle.cal_machine.specs.Table.{Table}
 use Rattle.cal_policy.specs.declared.pass_action.Action.{Action}
 use Rattle.cal_policy.specs.Made.{EachAfter}
-use Rattle.cal_laws.specs.Point.{setting_at}
-use Rattle.cal_laws.specs.Turns.{turn_of, ComesInTurn}
+use Rattle.cal_laws.specs.Point.{setting_at, made_at}
+use Rattle.cal_laws.specs.Turns.{turn_of}
 use Rattle.cal_laws.proofs.Turns.{Below, IsInTurn, each_at, pass_in_turn}
 use Rattle.cal_laws.proofs.one_each.actions_come_in_turn.Goals as goal
 
@@ -21,18 +21,10 @@ below_at table n acts j a b e =
     let P : Action → Type 0 = λ a. turn_of table a < n in
     subst P (get_or_from_slice_get acts j a a e) (All-get_or P acts j a (slice_get_within acts j a e) b)
 
-in_turn : (table : Table) (acts : List Action) (made j : ℕ) (earlier later : Action) → IsInTurn table (take made acts) later → j < made → slice_get acts j ≡ Some earlier →
-    ComesInTurn table earlier later
-in_turn table acts made j earlier later turn lt e =
-    let there = at_taken acts made j earlier lt e in
-    record {
-      not_before = (let below = below_at table (turn_of table later + 1) (take made acts) j earlier turn.not_before there in omega (arith, below));
-      after = λ last. below_at table (turn_of table later) (take made acts) j earlier (turn.after last) there;
-    }
-
 pub returns : goal.returns
 returns c = λ here is action e j earlier lt f.
     let P : List Action → Type 0 = λ acts. EachAfter (IsInTurn here.table) [] acts in
     let pass = is.legal.passes here.pass here.entry is.entry in
     let each = subst P (sym pass.actions) (pass_in_turn c.threads_are_of_their_task.ensures c.chosen_has_waited_longest.ensures (setting_at here)) in
-    in_turn here.table here.entry.actions here.made j earlier action (each_at (IsInTurn here.table) [] here.entry.actions here.made action each e) lt f
+    below_at here.table (turn_of here.table action) (made_at here) j earlier (each_at (IsInTurn here.table) [] here.entry.actions here.made action each e)
+    (at_taken here.entry.actions here.made j earlier lt f)

@@ -1,0 +1,20 @@
+use Rattle.std.proofs.Common.{◌≡◌, ℕ, ◌+◌, true, eqb}
+use Rattle.std.proofs.lemmas.Bool.{and_from, eq-eqb, both_ways}
+use Rattle.cal_machine.specs.Machine.{sibling_of}
+use Rattle.cal_policy.specs.declared.pass_action.Action.TheVariants.{Unban}
+use Rattle.cal_policy.specs.declared.banning.BannedFor.{BannedFor}
+use Rattle.cal_policy.specs.Setting.{Setting, kept_now}
+use Rattle.cal_policy.specs.Bans.{still_shows}
+use Rattle.cal_laws.specs.Bans.{IsShown}
+use Rattle.cal_laws.proofs.Points.{sound_at}
+use Rattle.cal_laws.proofs.bans.bans_end_unshown.Goals as goal
+
+shown : (s : Setting) (core : ℕ) (ban : BannedFor) → IsShown s core ban → still_shows (kept_now s ban.thread) (sibling_of core) ban.started ≡ true
+shown s core ban h =
+    and_from (eqb (kept_now s ban.thread).running (sibling_of core + 1)) (eqb (kept_now s ban.thread).started ban.started) (eq-eqb _ _ h.running) (eq-eqb _ _ h.request)
+
+pub returns : goal.returns
+returns c = λ here is core e.
+    let made = (sound_at c.legal_is_sound.ensures here is (Unban core) e).made in
+    let ended = made.1 in
+    record { own = ended.core; ban = made.0; stood = ended.banned; not_shown = λ h. both_ways _ ended.over (shown _ core made.0 h) }
