@@ -11,4 +11,5 @@ pub mod Rounds
 pub mod OpenedTeams
 pub mod Gathering
 pub mod Teams
+pub mod TeamTurns
 pub mod Weights

@@ -8,5 +8,6 @@ pub mod Rests
 pub mod Places
 pub mod Teams
 pub mod Account
+pub mod TeamTurns
 pub mod Linking
 pub mod Opening

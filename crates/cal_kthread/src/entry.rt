@@ -4,7 +4,7 @@ use cal_command::Command;
 use cal_machine::Request;
 use cal_signal::Record;
 
-/// One thing that a kernel thread did.
+/// One thing that a kernel thread did (this project's own journal). Numbers of commands and places of records count from 1.
 #[derive(Clone, Copy, Debug, PartialEq, Eq)]
 pub enum Entry {
     /// This request came to its queue.
@@ -13,7 +13,7 @@ pub enum Entry {
     Took(u64, Command),
     /// It stole the request `id` from the queue of the thread `from`.
     Stole {
-        /// Whose queue it was.
+        /// The number of the thread whose queue it was.
         from: u8,
         /// The request's name.
         id: u64,

@@ -5,6 +5,7 @@ ghost use Rattle.cal_kthread.specs.Agreement.{held};
 ghost use Rattle.cal_kthread.specs.declared.current.Current.{Current};
 ghost use Rattle.cal_kthread.specs.QueueRule.{AllTaken};
 ghost use Rattle.cal_kthread.specs.Rests.{HandsOut};
+ghost use Rattle.cal_kthread.specs.Teams.{place_of, place_of_rest};
 ghost use Rattle.cal_kthread.specs.declared.waiting.Waiting.{Waiting};
 
 use crate::current::Current;
@@ -21,7 +22,7 @@ use cal_signal::Publisher;
 /// its work.
 #[derive(Drop)]
 pub struct KernelEnd {
-    /// The thread's number.
+    /// The thread's number, in thread order from 0.
     pub number: u8,
     /// What it did.
     pub journal: Journal,
@@ -45,6 +46,7 @@ impl KernelThread {
           held = held self.thread;
           left = [];
         } }
+        ensures place { place_of_rest result.rest ≡ place_of self.thread }
         ensures work { KeepsItsWork result }
     {
         let KernelThread {

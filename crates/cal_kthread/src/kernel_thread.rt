@@ -3,6 +3,7 @@ ghost use Rattle.std.specs.Prelude.{◌≡◌, ◌+◌, ◌<◌, ◌≤◌, ◌�
 ghost use Rattle.std.specs.Vec.{vec_len, vec_capacity};
 ghost use Rattle.cal_kthread.specs.declared.fault.TurnFault.TheVariants.{JournalFull};
 ghost use Rattle.cal_kthread.specs.Journal.{IsJournal, records_of, commands_of};
+ghost use Rattle.cal_kthread.specs.Teams.{place_of};
 ghost use Rattle.cal_kthread.specs.Turn.{Answers, AreAnswers, IsFull, noted, turned};
 ghost use Rattle.cal_signal.specs.Pages.{last_of};
 
@@ -12,7 +13,7 @@ use crate::thread::Thread;
 use cal_machine::Request;
 use std::marker::Model;
 
-/// How many entries a journal holds at most.
+/// How many entries a journal holds at most (this project's own limit).
 const MOST_ENTRIES: usize = 1_048_576;
 
 /// How many entries a turn may ask room for.
@@ -24,8 +25,11 @@ const TURN_ENTRIES: usize = 6;
 /// is at.
 #[derive(Drop)]
 pub struct KernelThread {
+    /// Its number, in thread order from 0.
     pub(crate) number: u8,
+    /// What it did, in order.
     pub(crate) journal: Vec<Entry>,
+    /// All else: its ends of page, ring and queues, and what it is at.
     pub(crate) thread: Thread,
 }
 
@@ -48,7 +52,8 @@ impl KernelThread {
     ///
     /// `JournalFull` where fewer than 6 of the journal's 1,048,576 places are left, which is checked first;
     /// `Memory` where room for 6 entries or for the request was refused. Then nothing has changed. Beyond that room
-    /// a turn takes no memory.
+    /// a turn takes no memory. (That a thread which finds no work first tries to steal and then gives up its core is
+    /// Caladan's; the steps are this project's own.)
     pub fn turn(&mut self, now: u64, request: Option<Request>) -> Result<(), TurnFault>
         requires started { 1 ≤ now }
         requires later { (last_of self.old.thread.publisher.published).stamp ≤ now }
@@ -57,6 +62,7 @@ impl KernelThread {
             (λ _. (answers : Answers) × AreAnswers answers self.old × (self.new ≡ turned now request answers self.old))
             (λ _. self.new ≡ self.old) }
         ensures full { (result ≡ Err JournalFull) ↔ IsFull self.old.journal }
+        ensures place { place_of self.new.thread ≡ place_of self.old.thread }
         ensures stamped { IfOk result (λ _. (last_of self.new.thread.publisher.published).stamp ≡ now) }
         ensures journal { IsJournal self.new.journal }
         ensures page { records_of self.new.journal ≡ self.new.thread.publisher.published }

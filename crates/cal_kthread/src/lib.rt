@@ -4,6 +4,9 @@
 //! scheduler's commands, a queue of its own, and a thief's end of the queue of each other thread of its task. Its
 //! life is a list of turns. What it did stands in its journal.
 //!
+//! That threads of a task steal from one another, publish signals and give up a core where they find no work is Caladan's.
+//! The steps of a turn, the journal and the account at the end are this project's own.
+//!
 //! Not promised: that a request is ever served, by whom, or in which order; that a steal wins.
 #![tactic(auto)]
 
@@ -23,6 +26,8 @@ mod queue_rule;
 mod queue_tests;
 mod rest;
 mod settling;
+#[cfg(test)]
+mod steal_tests;
 mod steps;
 mod team;
 #[cfg(test)]

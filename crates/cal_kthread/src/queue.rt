@@ -12,7 +12,8 @@ use std::marker::Model;
 /// How many requests a new queue has room for. It grows.
 const FIRST_ROOM: usize = 4;
 
-/// The own end of a queue, first in first out. Its thread pushes at the back and pops at the front.
+/// The own end of a queue, first in first out. Its thread pushes at the back and pops at the front. (That threads of a task
+/// steal from one another is Caladan's; the shares are this project's own.)
 ///
 /// A contract sees which queue it is, how many of its 16 shares this end has, what it pushed, what it
 /// popped (or got back from thieves), and what it handed out at the end, which is nothing so far.

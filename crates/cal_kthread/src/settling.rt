@@ -10,7 +10,7 @@ use crate::victims::Victim;
 use cal_machine::Config;
 
 /// Gathers all shares of each queue at its own end, with what was stolen from it. Asks for the ends of one team, in
-/// thread order. Takes no memory.
+/// thread order, which the threads of `open_threads` have after any turns: see `laws`. Takes no memory.
 ///
 /// What was handed out and what is still there stays. Where each `left` then answers None, the account holds of the
 /// journals and of what was handed out: see `laws`.

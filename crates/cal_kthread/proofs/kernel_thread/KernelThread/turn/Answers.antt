@@ -8,10 +8,12 @@ use Rattle.cal_kthread.specs.contracts.kernel_thread.KernelThread.{the_view}
 use Rattle.cal_kthread.specs.Agreement.{Agrees}
 use Rattle.cal_kthread.specs.declared.entry.Entry.{Entry}
 use Rattle.cal_kthread.specs.Journal.{record_in, records_of}
-use Rattle.cal_kthread.specs.Threads.{ThreadView}
+use Rattle.cal_kthread.specs.Teams.{place_of}
+use Rattle.cal_kthread.specs.Threads.{ThreadView, KernelView}
 use Rattle.cal_kthread.specs.Turn.{Answers, AreAnswers, noted, shown, turned}
 use Rattle.cal_kthread.proofs.Journals.{length-filter_map}
 use Rattle.cal_kthread.proofs.Publishing.{last_snoc}
+use Rattle.cal_kthread.proofs.TeamTurns.{keeps-place}
 use Rattle.cal_kthread.proofs.Turning.{turns, agrees}
 use Rattle.cal_kthread.proofs.kernel_thread.KernelThread.turn.Goals as goal
 
@@ -78,6 +80,9 @@ returns-clause-turned c =
           c.in_ok-arrival.ensures.arrived c.take-taking.ensures.taken.1 c.provide-provision.ensures.provided.3 c.work-work.ensures.worked c.fill_front.ensures.fronted.1 c.publish-publication.ensures.shown (noting c)
           ∙ ap (turned c.args.now c.args.request (answers_of c)) c.self.view_is,
     )
+
+pub returns-clause-place : goal.returns-clause-place
+returns-clause-place c = let t = returns-clause-turned c in ap (λ (k : KernelView). place_of k.thread) t.2 ∙ keeps-place c.args.now c.args.request t.0 c.args.self.now
 
 pub returns-clause-journal : goal.returns-clause-journal
 returns-clause-journal c = (agreeing c).is_journal

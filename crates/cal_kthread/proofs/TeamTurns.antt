@@ -1,0 +1,82 @@
+-- A turn keeps its thread's place in its team: it changes no shares and no thieves.
+use Rattle.std.proofs.Common.{◌≡◌, ℕ, zero, suc, Option, Some, None, List, [], ◌∷◌, map, length, sym, refl, ap, ◌∙◌, subst, arith}
+use mathlib.Core.Option.{some}
+use lib.ListN.{get_elem?}
+use Rattle.cal_machine.specs.declared.command.Command.{Command}
+use Rattle.cal_machine.specs.declared.request.Request.{Request}
+use Rattle.cal_command.specs.Rings.{TakerView}
+use Rattle.cal_signal.specs.Ends.{PublisherView}
+use Rattle.cal_kthread.specs.declared.current.Current.{Current}
+use Rattle.cal_kthread.specs.declared.kernel_end.KernelEnd.{KernelEnd}
+use Rattle.cal_kthread.specs.declared.victims.Victim.{Victim}
+use Rattle.cal_kthread.specs.declared.waiting.Waiting.{Waiting}
+use Rattle.cal_kthread.specs.Queues.{QueueId, QueueView}
+use Rattle.cal_kthread.specs.Teams.{IsTeam, place_of, place_of_rest, thief_place}
+use Rattle.cal_kthread.specs.TeamTurns.{TurnKeepsPlace, SamePlaceKeepsTeam, EndsAreATeam}
+use Rattle.cal_kthread.specs.Threads.{ThreadView, KernelView}
+use Rattle.cal_kthread.specs.Turn.{arrived, taken, robbed, provided, worked, worked_on, fronted}
+use Rattle.cal_kthread.proofs.Weights.{map-set-like}
+
+-- a thief that stole is at the same queue
+robbed-places : (vs : List Victim) (place : ℕ) (w : Waiting) → map thief_place (robbed vs place w) ≡ map thief_place vs
+robbed-places [] place w = refl
+robbed-places (v ∷ vs) zero w = refl
+robbed-places (v ∷ vs) (suc place) w = ap (λ (ts : List (ℕ × QueueId)). thief_place v ∷ ts) (robbed-places vs place w)
+
+arrives : (now : ℕ) (request : Option Request) (t : ThreadView) → place_of (arrived now request t).0 ≡ place_of t
+arrives now None t = refl
+arrives now (Some request) t = refl
+
+takes : (now : ℕ) (command : Option Command) (t : ThreadView) → place_of (taken now command t).0 ≡ place_of t
+takes now None t = refl
+takes now (Some command) t = refl
+
+module _ (publisher : PublisherView) (taker : TakerView) (queue : QueueView) (victims : List Victim) (misses : ℕ) where
+  abbrev thread : Option ℕ → Option Current → Option Waiting → ThreadView
+  thread core current front = record { publisher = publisher; taker = taker; queue = queue; victims = victims; core = core; current = current; front = front; misses = misses }
+
+  provides-at : (now : ℕ) (core : Option ℕ) (current : Option Current) (front answer : Option Waiting) (theft : Option (ℕ × Waiting))
+      → place_of (provided now answer theft (thread core current front)).0 ≡ place_of (thread core current front)
+  provides-at now None current front answer theft = refl
+  provides-at now (Some core) (Some current) front answer theft = refl
+  provides-at now (Some core) None (Some next) answer theft = refl
+  provides-at now (Some core) None None (Some w) theft = refl
+  provides-at now (Some core) None None None None = refl
+  provides-at now (Some core) None None None (Some theft) =
+      ap (λ (ts : List (ℕ × QueueId)). record { queue = queue.queue; shares = queue.shares; thieves = ts }) (robbed-places victims theft.0 theft.1)
+
+  fronts-at : (core : Option ℕ) (current : Option Current) (front answer : Option Waiting) → place_of (fronted answer (thread core current front)) ≡ place_of (thread core current front)
+  fronts-at core current (Some next) answer = refl
+  fronts-at core current None None = refl
+  fronts-at core current None (Some w) = refl
+
+provides : (now : ℕ) (answer : Option Waiting) (theft : Option (ℕ × Waiting)) (t : ThreadView) → place_of (provided now answer theft t).0 ≡ place_of t
+provides now answer theft t = provides-at t.publisher t.taker t.queue t.victims t.misses now t.core t.current t.front answer theft
+
+works-on : (core : Option ℕ) (current : Option Current) (t : ThreadView) → place_of (worked_on core current t).0 ≡ place_of t
+works-on None current t = refl
+works-on (Some core) None t = refl
+works-on (Some core) (Some current) t = refl
+
+fronts : (answer : Option Waiting) (t : ThreadView) → place_of (fronted answer t) ≡ place_of t
+fronts answer t = fronts-at t.publisher t.taker t.queue t.victims t.misses t.core t.current t.front answer
+
+pub keeps-place : TurnKeepsPlace
+keeps-place now request answers k =
+    let one = arrived now request k.thread in let two = taken now answers.command one.0 in let three = provided now answers.own answers.theft two.0 in let four = worked three.0 in
+    fronts answers.front four.0 ∙ works-on three.0.core three.0.current three.0 ∙ provides now answers.own answers.theft two.0 ∙ takes now answers.command one.0 ∙ arrives now request k.thread
+
+pub keeps-team : SamePlaceKeepsTeam
+keeps-team threads k before after team at same = subst IsTeam (sym (map-set-like (λ (t : KernelView). place_of t.thread) threads k before after at same)) team
+
+-- lists of one length whose members agree, one by one
+same-places : {T U V : Type 0} (f : T → V) (g : U → V) (xs : List T) (ys : List U) → length ys ≡ length xs
+    → ((k : ℕ) (x : T) (y : U) → get_elem? xs k ≡ some x → get_elem? ys k ≡ some y → g y ≡ f x) → map g ys ≡ map f xs
+same-places f g [] [] long same = refl
+same-places f g [] (y ∷ ys) long same = absurd (omega (arith, long))
+same-places f g (x ∷ xs) [] long same = absurd (omega (arith, long))
+same-places f g (x ∷ xs) (y ∷ ys) long same = let here = same 0 x y refl refl in let later = same-places f g xs ys (omega (arith, long)) (λ k. same (suc k)) in λ i. here i ∷ later i
+
+pub ends-team : EndsAreATeam
+ends-team threads ends team same =
+    subst IsTeam (sym (same-places (λ (t : KernelView). place_of t.thread) (λ (e : KernelEnd). place_of_rest e.rest) threads ends same.count same.places)) team

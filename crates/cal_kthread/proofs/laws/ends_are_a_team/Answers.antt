@@ -1,0 +1,5 @@
+use Rattle.cal_kthread.proofs.TeamTurns.{ends-team}
+use Rattle.cal_kthread.proofs.laws.ends_are_a_team.Goals as goal
+
+pub returns : goal.returns
+returns c = ends-team
