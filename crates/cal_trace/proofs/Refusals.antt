@@ -1,5 +1,5 @@
 -- What the rows decide, and what they do not.
-use Rattle.cal_trace.specs.Answers.{Decided, IsRefused}
+use Rattle.cal_trace.specs.Answers.{ButMemory, Decided, IsRefused}
 use Rattle.cal_trace.specs.declared.fault.FaultKind.{FaultKind}
 use Rattle.cal_trace.specs.declared.fault.FaultKind.TheVariants as kind
 
@@ -26,3 +26,15 @@ decided kind.Order P Q f h = f h
 decided kind.Range P Q f h = f h
 decided kind.Backwards P Q f h = f h
 decided kind.Repeated P Q f h = f h
+
+-- what follows from what one row decides
+pub row_decided : (k : FaultKind) (P Q : Type 0) → (P → Q) → ButMemory k P → Decided k Q
+row_decided kind.Memory P Q f h = tt
+row_decided kind.Read P Q f h = tt
+row_decided kind.Header P Q f h = f h
+row_decided kind.Fields P Q f h = f h
+row_decided kind.Number P Q f h = f h
+row_decided kind.Order P Q f h = f h
+row_decided kind.Range P Q f h = f h
+row_decided kind.Backwards P Q f h = f h
+row_decided kind.Repeated P Q f h = f h

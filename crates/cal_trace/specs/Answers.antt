@@ -1,8 +1,27 @@
 -- What a function that reads answers, against what the rows say.
 use Rattle.std.specs.Prelude.{◌≡◌, Result, Ok, Err, ⊤}
+use Rattle.csv.specs.declared.error.ErrorKind.{ErrorKind}
+use Rattle.csv.specs.declared.error.ErrorKind.TheVariants as why
 use Rattle.cal_trace.specs.declared.fault.FaultKind.{FaultKind}
 use Rattle.cal_trace.specs.declared.fault.FaultKind.TheVariants as kind
 use Rattle.cal_trace.specs.declared.fault.TraceFault.{TraceFault}
+
+-- what an error of the reader of rows is: want of memory by its name, else Read
+abbrev pub kind_of : ErrorKind → FaultKind
+kind_of why.OutOfMemory = kind.Memory
+kind_of error = kind.Read
+
+-- P, but for want of memory, which no row decides
+abbrev pub ButMemory : FaultKind → Type 0 → Type 0
+ButMemory kind.Memory P = ⊤
+ButMemory kind.Read P = P
+ButMemory kind.Header P = P
+ButMemory kind.Fields P = P
+ButMemory kind.Number P = P
+ButMemory kind.Order P = P
+ButMemory kind.Range P = P
+ButMemory kind.Backwards P = P
+ButMemory kind.Repeated P = P
 
 -- P, but for a fault of memory or of the reader of rows, which no row decides
 abbrev pub Decided : FaultKind → Type 0 → Type 0
@@ -20,10 +39,10 @@ Decided kind.Repeated P = P
 abbrev pub IsRefused : FaultKind → Type 0
 IsRefused k = Decided k ⊥
 
--- the answer, seen by view, is what the row says
+-- the answer, seen by view, is what the row says: whoever takes a row has it read already
 abbrev pub Takes : {X Y : Type 0} → (X → Y) → Result X FaultKind → Result Y FaultKind → Type 0
 Takes view (Ok x) outcome = outcome ≡ Ok (view x)
-Takes view (Err k) outcome = Decided k (outcome ≡ Err k)
+Takes view (Err k) outcome = ButMemory k (outcome ≡ Err k)
 
 -- the answer, seen by view, is what the rows say
 abbrev pub Gives : {X Y : Type 0} → (X → Y) → Result X TraceFault → Result Y TraceFault → Type 0

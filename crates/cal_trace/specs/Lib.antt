@@ -17,3 +17,4 @@ pub mod ReportText
 pub mod Fitting
 pub mod Ranges
 pub mod Laws
+pub mod WriteFaults

@@ -1,7 +1,7 @@
 -- The rows of a text, and those that a reader has still to give.
 use Rattle.std.specs.Prelude.{◌≡◌, ◌+◌, ◌<◌, ◌^◌, ℕ, List, [], ◌∷◌, Bool, true, false, length, Option, Some, None}
 use Rattle.csv.specs.Machine.{ends_at_end}
-use Rattle.csv.specs.Reading.{Ready, default_config, records, records_from, source_of, strip_bom, has_failed}
+use Rattle.csv.specs.Reading.{Ready, default_config, records, records_from, source_of, strip_bom, has_failed, is_flexible}
 use Rattle.csv.specs.Records.{fields_of}
 use Rattle.csv.specs.declared.parser.State.{State}
 use Rattle.csv.specs.declared.reader.Trim.TheVariants as trim
@@ -32,14 +32,19 @@ rest_of rows = rows_from rows.reader.state (unread rows)
 abbrev pub row_at : Rows → Fields
 row_at rows = fields_of rows.record
 
--- rows are read as they are, from a state between two rows, and their numbers fit
+-- rows are read as they are, of any number of fields, from a state between two rows, and their numbers fit
 pub record IsReading (rows : Rows) : Type 0 where
   pub untrimmed : rows.reader.trim ≡ trim.None
+  pub flexible : is_flexible rows.reader ≡ true
   pub ready : Ready rows.reader
   pub plain : rows.reader.config ≡ default_config
   pub between : ends_at_end rows.reader.state ≡ false
   pub going : has_failed rows.reader ≡ false
   pub numbered : rows.number + length (rest_of rows) + 1 < 2 ^ 64
+
+-- the bytes could not be read, or memory was refused: no more rows come
+abbrev pub HasStopped : Rows → Type 0
+HasStopped rows = has_failed rows.reader ≡ true
 
 -- one step: there was a row, which is now at hand, or the rows were at their end
 abbrev pub StepsOn : Rows → Rows → Bool → Type 0

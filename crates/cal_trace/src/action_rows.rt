@@ -12,21 +12,32 @@ use csv::ByteRecord;
 /// What an action row is, by its first field, its cause and its number of fields.
 #[derive(Clone, Copy, Debug, PartialEq, Eq)]
 pub(crate) enum ActionForm {
+    /// `free,core`
     Free,
+    /// `unban,core`
     Unban,
+    /// `ban,core,thread,started`
     Ban,
+    /// `revoke,core,ban,by`
     RevokeForBan,
+    /// `revoke,core,bandwidth`
     RevokeForBandwidth,
+    /// `revoke,core,preempt,task`
     RevokeForTask,
+    /// `cap,task,cap`
     Cap,
+    /// `grant,core,thread,class`
     Grant,
 }
 
 /// How many cores, threads and tasks a table has: what a row names is below.
 #[derive(Clone, Copy, Debug, PartialEq, Eq)]
 pub(crate) struct Extent {
+    /// How many cores, 2 to 128.
     pub cores: u8,
+    /// How many kernel threads, 1 to 128.
     pub threads: u8,
+    /// How many tasks, 1 to 16.
     pub tasks: u8,
 }
 
@@ -55,7 +66,8 @@ pub(crate) fn action_form(row: &ByteRecord) -> Option<ActionForm>
     }
 }
 
-/// Reads an action row of this form.
+/// Reads an action row of this form. `Number` where a field is none, then `Range` where it names what the table has not, a
+/// class that is not 1 to 5 or a cap above 16.
 pub(crate) fn action_row(
     row: &ByteRecord,
     form: ActionForm,

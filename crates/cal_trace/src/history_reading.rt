@@ -16,26 +16,37 @@ use std::alloc::Global;
 /// What a look row is, by its first field and its number of fields.
 #[derive(Clone, Copy, Debug, PartialEq, Eq)]
 pub(crate) enum LookForm {
+    /// A record that was kept.
     Whole,
+    /// No record: a busy pair.
     Busy,
+    /// A record that acknowledges more than was sent.
     Ahead,
+    /// A record that shows a core which its thread has not.
     Foreign,
 }
 
 /// What a row of a history is, by its first field and its number of fields.
 #[derive(Clone, Copy, Debug, PartialEq, Eq)]
 pub(crate) enum Form {
+    /// The header once more, which cannot stand here.
     Header,
+    /// A pass begins.
     Pass,
+    /// A look of the pass at hand.
     Look(LookForm),
+    /// An action of the pass at hand.
     Act(ActionForm),
+    /// The file ends.
     End,
 }
 
 /// A look row: the look as it was judged, and whether the thread's ring had room.
 #[derive(Clone, Copy, Debug, PartialEq, Eq)]
 pub(crate) struct SeenRow {
+    /// The look.
     pub seen: Seen,
+    /// Whether the ring had room.
     pub room: bool,
 }
 

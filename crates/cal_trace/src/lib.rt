@@ -1,4 +1,10 @@
 //! The files of a run: signals and histories are read, histories and reports are written.
+//!
+//! What is read is exactly what the rows say that `csv` gives of a text, or the first check that fails, with its row. What
+//! is written is exactly the text, and a history that was written is read back as it was. All formats are this project's
+//! own.
+//!
+//! Nothing here judges: whether a look or a history is the policy's is for cal_policy to say.
 #![tactic(auto)]
 
 mod action_rows;

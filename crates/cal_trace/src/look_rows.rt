@@ -13,32 +13,39 @@ use crate::shown::{Shown, is_busy_pair, is_shaped, record_of};
 use cal_signal::Record;
 use csv::ByteRecord;
 
-/// The most passes that a file may have.
+/// The most passes that a file may have (this project's own limit).
 pub const MOST_PASSES: usize = 1_048_576;
 
 /// The clock and the bandwidth figure of a pass row.
 #[derive(Clone, Copy, Debug, PartialEq, Eq)]
 pub(crate) struct PassRow {
+    /// The clock, in ticks.
     pub now: u64,
+    /// The bandwidth figure, in the unit of the table's limit.
     pub bandwidth: u64,
 }
 
 /// A row of a look that found a whole record.
 #[derive(Clone, Copy, Debug, PartialEq, Eq)]
 pub(crate) struct WholeRow {
+    /// Whether the thread's command ring had room.
     pub room: bool,
+    /// The record and its place.
     pub shown: Shown,
 }
 
 /// A row of a look that found a page busy.
 #[derive(Clone, Copy, Debug, PartialEq, Eq)]
 pub(crate) struct BusyRow {
+    /// Whether the thread's command ring had room.
     pub room: bool,
+    /// The version that was loaded first.
     pub first: u64,
+    /// The version that was loaded last.
     pub second: u64,
 }
 
-/// Reads a pass row that comes after so many passes.
+/// Reads a pass row that comes after so many passes. `Number` where a field is none, then `Range` where it is one pass too many.
 pub(crate) fn pass_row(row: &ByteRecord, passes: usize) -> Result<PassRow, FaultKind>
     ensures { result ≡ pass_row passes (fields_of row.now) }
 {
@@ -89,7 +96,8 @@ fn whole_numbers(row: &ByteRecord) -> Option<WholeNumbers>
     }
 }
 
-/// Reads a row of a whole record, where the next look is this thread's.
+/// Reads a row of a whole record, where the next look is this thread's. `Number` where a field is none, then `Order` where it
+/// is another thread's, then `Range`.
 pub(crate) fn whole_row(row: &ByteRecord, thread: usize) -> Result<WholeRow, FaultKind>
     ensures { result ≡ whole_row thread (fields_of row.now) }
 {
@@ -113,7 +121,7 @@ pub(crate) fn whole_row(row: &ByteRecord, thread: usize) -> Result<WholeRow, Fau
     })
 }
 
-/// Reads a row of a busy look, where the next look is this thread's.
+/// Reads a row of a busy look, where the next look is this thread's. Its faults are those of `whole_row`.
 pub(crate) fn busy_row(row: &ByteRecord, thread: usize) -> Result<BusyRow, FaultKind>
     ensures { result ≡ busy_row thread (fields_of row.now) }
 {
@@ -136,7 +144,7 @@ pub(crate) fn busy_row(row: &ByteRecord, thread: usize) -> Result<BusyRow, Fault
     })
 }
 
-/// Reads an end row that comes after so many passes.
+/// Reads an end row that comes after so many passes. `Number` where its count is none, then `Order` where it counts wrongly.
 pub(crate) fn end_row(row: &ByteRecord, passes: usize) -> Result<usize, FaultKind>
     ensures { result ≡ end_row passes (fields_of row.now) }
 {

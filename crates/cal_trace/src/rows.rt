@@ -1,12 +1,23 @@
 //! The rows of a text, one at a time.
 
-ghost use Rattle.std.specs.Prelude.{◌≡◌, ◌+◌, IfOk, IfErr};
-ghost use Rattle.cal_trace.specs.Answers.{IsRefused};
-ghost use Rattle.cal_trace.specs.Rows.{rows_of, rest_of, row_at, IsReading, StepsOn};
+ghost use Rattle.std.specs.Prelude.{◌≡◌, ◌+◌, IfOk, IfErr, OnErr};
+ghost use Rattle.csv.specs.Reading.{error_kind};
+ghost use Rattle.cal_trace.specs.Answers.{IsRefused, kind_of};
+ghost use Rattle.cal_trace.specs.Rows.{rows_of, rest_of, row_at, IsReading, HasStopped, StepsOn};
 
 use crate::fault::{FaultKind, TraceFault};
 use csv::{ByteRecord, ErrorKind, Reader, ReaderBuilder};
 use std::alloc::Global;
+
+// What an error of `csv` is: want of memory by its name, else the reader's.
+fn kind_of(error: &csv::Error) -> FaultKind
+    ensures { result ≡ kind_of (error_kind error.now) }
+{
+    match error.kind() {
+        ErrorKind::OutOfMemory => FaultKind::Memory,
+        _ => FaultKind::Read,
+    }
+}
 
 /// The rows of a text, each read into the same record.
 #[derive(Drop)]
@@ -35,11 +46,13 @@ impl<'a> Rows<'a> {
     }
 
     /// Goes to the next row, and says whether there is one. The error is want of memory, or `Read`
-    /// where `csv` answered any other.
+    /// where `csv` answered any other; its row is the next one.
     pub(crate) fn step(&mut self) -> Result<bool, TraceFault>
         requires { IsReading self.old }
         ensures steps { IfOk result (λ found. StepsOn self.old self.new found) }
         ensures refused { IfErr result (λ fault. IsRefused fault.kind) }
+        ensures row { IfErr result (λ fault. fault.row ≡ self.old.number + 1) }
+        ensures stopped { OnErr result (HasStopped self.new) }
     {
         match self.reader.read_byte_record(&mut self.record) {
             Ok(found) => {
@@ -49,13 +62,9 @@ impl<'a> Rows<'a> {
                 Ok(found)
             }
             Err(e) => {
-                let kind = match e.kind() {
-                    ErrorKind::OutOfMemory => FaultKind::Memory,
-                    _ => FaultKind::Read,
-                };
                 Err(TraceFault {
                     row: self.number + 1,
-                    kind,
+                    kind: kind_of(&e),
                 })
             }
         }

@@ -17,10 +17,15 @@ use std::alloc::Global;
 /// What a row of a file of signals is, by its first field and its number of fields.
 #[derive(Clone, Copy, Debug, PartialEq, Eq)]
 pub(crate) enum Form {
+    /// The header once more, which cannot stand here.
     Header,
+    /// A pass begins.
     Pass,
+    /// A look that found a record.
     Whole,
+    /// A look that found none.
     Busy,
+    /// The file ends.
     End,
 }
 

@@ -85,6 +85,13 @@ impl SignalPasses {
     {
         self.items.as_slice()
     }
+
+    /// The passes themselves, from pass 0 on, for who lets go of each when it is done with it.
+    pub fn into_items(self) -> Vec<SignalPass>
+        ensures { result.items ≡ self }
+    {
+        self.items
+    }
 }
 
 /// What a file of signals holds.

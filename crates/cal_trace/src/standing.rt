@@ -15,8 +15,11 @@ use cal_policy::{Action, PassEntry};
 /// How a thread has a core.
 #[derive(Clone, Copy, Debug, PartialEq, Eq)]
 pub(crate) enum Having {
+    /// No thread has it.
     Nobody,
+    /// This thread holds it.
     Holds(u8),
+    /// This thread is leaving it.
     Leaves(u8),
 }
 

@@ -1,5 +1,5 @@
 use super::*;
-use cal_machine::Config;
+use cal_machine::{Config, ConfigFault};
 use cal_policy::{
     Action, ActionList, Cause, Input, Look, PassEntry, Record, Rooms, Seen, SeenList,
 };
@@ -412,6 +412,27 @@ grant,3,1,5
 end,2
 ";
 
+// Its report.
+const EVERY_ROW_REPORT: &[u8] = b"pass 0 now 100 bandwidth 7
+  kept 1 ahead
+  grant core 0 to thread 0 class 3
+  cap task 1 at 0
+  revoke core 0 for bandwidth
+pass 1 now 200 bandwidth 0
+  kept 0 foreign
+  kept 1 busy
+  free core 0
+  unban core 3
+  ban core 3 for thread 1 started 99
+  revoke core 1 for ban by core 2
+  revoke core 2 for task 1
+  cap task 0 at 16
+  grant core 3 to thread 1 class 5
+end 2 passes
+task 0 lc held 0 leaving 0
+task 1 be held 1 leaving 0 cap 0
+";
+
 // The first fault of a history for two threads: its row, and its number.
 fn history_fault(alloc: Global, text: &[u8]) -> Result<(u64, u8), Fail> {
     let config = Config::read(alloc, TWO_THREADS)?;
@@ -450,29 +471,7 @@ fn every_row_is_read_and_written(rt: HostRuntime) -> Result<(), Fail> {
     assert_eq!(rt; text.as_slice(), EVERY_ROW);
     let mut report = Vec::new(alloc);
     write_report(&config, history.as_slice(), &mut report)?;
-    assert_eq!(rt;
-        report.as_slice(),
-        b"pass 0 now 100 bandwidth 7
-  kept 1 ahead
-  grant core 0 to thread 0 class 3
-  cap task 1 at 0
-  revoke core 0 for bandwidth
-pass 1 now 200 bandwidth 0
-  kept 0 foreign
-  kept 1 busy
-  free core 0
-  unban core 3
-  ban core 3 for thread 1 started 99
-  revoke core 1 for ban by core 2
-  revoke core 2 for task 1
-  cap task 0 at 16
-  grant core 3 to thread 1 class 5
-end 2 passes
-task 0 lc held 0 leaving 0
-task 1 be held 1 leaving 0 cap 0
-"
-            .as_slice()
-    );
+    assert_eq!(rt; report.as_slice(), EVERY_ROW_REPORT);
     Ok(())
 }
 
@@ -602,5 +601,121 @@ fn no_more_than_338_actions(rt: HostRuntime) -> Result<(), Fail> {
     assert_eq!(rt; history_fault(alloc, full.as_slice())?, (0, 0));
     let over = history_of_frees(alloc, 339)?;
     assert_eq!(rt; history_fault(alloc, over.as_slice())?, (343, 6));
+    Ok(())
+}
+
+// A table of two threads, where memory was there for it.
+fn two_threads(alloc: Global) -> Result<Option<Config>, Fail> {
+    match Config::read(alloc, TWO_THREADS) {
+        Ok(config) => Ok(Some(config)),
+        Err(ConfigFault::Memory) => Ok(None),
+        Err(fault) => Err(Fail::from(fault)),
+    }
+}
+
+// The history with a row of every kind, and its table, where memory was there for them.
+fn every_row(alloc: Global) -> Result<Option<(Config, Vec<PassEntry>)>, Fail> {
+    let Some(config) = two_threads(alloc)? else {
+        return Ok(None);
+    };
+    match read_history(alloc, &config, EVERY_ROW) {
+        Ok(history) => Ok(Some((config, history))),
+        Err(fault) if fault.kind == FaultKind::Memory => Ok(None),
+        Err(fault) => Err(Fail::from(fault)),
+    }
+}
+
+// Signals of two threads in two passes.
+const TWO_PASSES: &[u8] = b"caladan-signals,2
+pass,100,7
+whole,0,1,1,0,0,1,90,0,0,95,0,0
+busy,1,0,6,9
+pass,200,8
+busy,0,1,1,1
+whole,1,0,2,9,4,8,7,6,5,4,3,2
+end,2
+";
+
+// With one allocation refused, wherever that is, the answer is want of memory by its name, or the ample one.
+// (tools/refusals runs these so.)
+#[test]
+fn refused_memory_read_signals(rt: HostRuntime) -> Result<(), Fail> {
+    let Some(config) = two_threads(rt.alloc())? else {
+        return Ok(());
+    };
+    match read_signals(rt.alloc(), &config, TWO_PASSES) {
+        Ok(signals) => {
+            let passes = signals.passes.as_slice();
+            assert_eq!(rt; passes.len(), 2);
+            assert_eq!(rt; (passes[0].now, passes[1].bandwidth), (100, 8));
+            let busy = SignalLook {
+                look: Look::Busy {
+                    first: 6,
+                    second: 9,
+                },
+                room: false,
+            };
+            let looks = passes[0].looks.as_slice();
+            assert_eq!(rt; looks.len(), 2);
+            assert_eq!(rt; looks[1], busy);
+            assert_eq!(rt; passes[1].looks.as_slice().len(), 2);
+        }
+        Err(fault) => {
+            assert_eq!(rt; fault.kind, FaultKind::Memory);
+            assert!(rt; 1 <= fault.row && fault.row <= 8);
+        }
+    }
+    Ok(())
+}
+
+#[test]
+fn refused_memory_read_of_a_fault(rt: HostRuntime) -> Result<(), Fail> {
+    let Some(config) = two_threads(rt.alloc())? else {
+        return Ok(());
+    };
+    let third_look = b"caladan-signals,2\npass,1,0\nbusy,0,0,1,1\nbusy,1,0,1,1\nbusy,2,0,1,1\n";
+    match read_signals(rt.alloc(), &config, third_look.as_slice()) {
+        Ok(_) => panic!(rt; "the signals were read"),
+        Err(fault) if fault.kind == FaultKind::Memory => {}
+        Err(fault) => assert_eq!(rt; (fault.row, fault.kind), (5, FaultKind::Order)),
+    }
+    Ok(())
+}
+
+#[test]
+fn refused_memory_read_history(rt: HostRuntime) -> Result<(), Fail> {
+    if let Some((_, history)) = every_row(rt.alloc())? {
+        assert_eq!(rt; history.len(), 2);
+        assert_eq!(rt; history[0].input.seen.as_slice().len(), 2);
+        assert_eq!(rt; history[1].input.rooms.as_slice(), [true, true].as_slice());
+        assert_eq!(rt; history[0].actions.as_slice().len(), 3);
+        assert_eq!(rt; history[1].actions.as_slice().len(), 7);
+    }
+    Ok(())
+}
+
+#[test]
+fn refused_memory_write_history(rt: HostRuntime) -> Result<(), Fail> {
+    let Some((_, history)) = every_row(rt.alloc())? else {
+        return Ok(());
+    };
+    let mut text = Vec::new(rt.alloc());
+    match write_history(history.as_slice(), &mut text) {
+        Ok(()) => assert_eq!(rt; text.as_slice(), EVERY_ROW),
+        Err(fault) => assert_eq!(rt; fault, WriteFault::Memory),
+    }
+    Ok(())
+}
+
+#[test]
+fn refused_memory_write_report(rt: HostRuntime) -> Result<(), Fail> {
+    let Some((config, history)) = every_row(rt.alloc())? else {
+        return Ok(());
+    };
+    let mut text = Vec::new(rt.alloc());
+    match write_report(&config, history.as_slice(), &mut text) {
+        Ok(()) => assert_eq!(rt; text.as_slice(), EVERY_ROW_REPORT),
+        Err(fault) => assert_eq!(rt; fault, WriteFault::Memory),
+    }
     Ok(())
 }

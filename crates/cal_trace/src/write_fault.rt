@@ -7,7 +7,7 @@ use thiserror::Error;
 /// much was written.
 #[derive(Clone, Copy, Debug, PartialEq, Eq, Error)]
 pub enum WriteFault {
-    /// The writer failed.
+    /// The writer answered an error other than want of memory.
     #[error("the writer failed")]
     Write = 1,
     /// The writer answered that memory ran out.
@@ -16,7 +16,11 @@ pub enum WriteFault {
 }
 
 impl From<io::Error> for WriteFault {
-    ghost from_gives = { λ _ _. Unit {0} };
+    ghost use Rattle.std.specs.Prelude.{◌≡◌};
+    ghost use Rattle.std.specs.IoError.{error_kind};
+    ghost use Rattle.cal_trace.specs.WriteFaults.{fault_of};
+
+    ghost from_gives = { λ e fault. fault ≡ fault_of (error_kind e) };
 
     fn from(e: io::Error) -> WriteFault {
         match e.kind() {

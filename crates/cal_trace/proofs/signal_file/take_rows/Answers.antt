@@ -1,7 +1,7 @@
 use Rattle.std.proofs.Common.{◌∙◌, sym}
 use Rattle.cal_trace.specs.Rows.{row_at, rest_of}
 use Rattle.cal_trace.specs.SignalReading.{so_far}
-use Rattle.cal_trace.proofs.Refusals.{decided}
+use Rattle.cal_trace.proofs.Refusals.{row_decided}
 use Rattle.cal_trace.proofs.SignalRows.{no_row, one_row, bad_row, ends_with, ends_without}
 use Rattle.cal_trace.proofs.signal_file.take_rows.Goals as goal
 
@@ -10,7 +10,7 @@ returns-in-Err c =
     let now = c.loop-reading.reading in
     let steps = rw c.if-branch.true at c.in_ok-step.ensures.steps in
     let takes = rw c.row.ensures at c.in-Err.ensures.takes in
-    rw (c.number.ensures, steps.1) (decided c.in-Err.kind _ _
+    rw (c.number.ensures, steps.1) (row_decided c.in-Err.kind _ _
     (λ e. sym c.loop-reading.invariant.same ∙ bad_row now.threads now.version (so_far now) c.loop-reading.rows.number (row_at c.step.new.self) _ (rest_of c.step.new.self) c.in-Err.kind steps.0 e)
     takes)
 

@@ -9,6 +9,7 @@ returns-clause-reading c =
     let h = c.has_headers.ensures in
     record {
       untrimmed = rw (e, h) at fr.trim ∙ c.new.ensures.trim;
+      flexible = rw e at fr.flexible;
       ready = inr (inr (rw (e, h) at fr.has_headers, fr.headers));
       plain = rw (e, h) at fr.config ∙ c.new.ensures.config;
       between = rw fr.state refl;

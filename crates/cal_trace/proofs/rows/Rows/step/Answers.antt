@@ -12,6 +12,7 @@ returns-then-found c =
         refl,
         record {
           untrimmed = r.3 ∙ c.requires.untrimmed;
+          flexible = c.in-Ok.ensures.flexible ∙ c.requires.flexible;
           ready = inl (c.in-Ok.ensures.ready c.requires.untrimmed);
           plain = r.2 ∙ c.requires.plain;
           between = t.1;
@@ -20,10 +21,12 @@ returns-then-found c =
         },
       );
       refused = tt;
+      row = tt;
+      stopped = tt;
     })
 
 pub returns-else-found : goal.returns-else-found
 returns-else-found c =
     let r = rw c.if-found.false at (c.in-Ok.ensures.reads c.requires.untrimmed c.requires.ready) in
     let t = takes_none c.args.self.now.reader c.read_byte_record.new.self _ c.requires.plain c.requires.going r in
-    rw c.if-found.false (record { steps = (t, refl); refused = tt })
+    rw c.if-found.false (record { steps = (t, refl); refused = tt; row = tt; stopped = tt })
