@@ -2,19 +2,32 @@
 use Rattle.std.proofs.Common.{◌≡◌, ◌≤◌, ◌++◌, nat_lt, ℕ, false, List, length, Option, Some, None, IfSome, Result, Err, refl, sym, ap, subst, ◌∙◌, arith}
 use Rattle.std.proofs.lemmas.List.{append-nil}
 use Rattle.std.specs.Io.KnownBytes.{Consumes, IsAtEnd}
-use Rattle.cal_engine.specs.Outcome.{Decided}
+use Rattle.cal_engine.specs.Outcome.{Decided, Failed}
 use Rattle.cal_engine.specs.Runs.{Run, within_limit}
 use Rattle.cal_engine.specs.declared.fault.RunFault.{RunFault}
+use Rattle.cal_engine.specs.declared.fault.RunFault.TheVariants as fault
 use Rattle.cal_engine.specs.declared.input.TheConstants.{INPUT_LIMIT}
 
 within : (text : List ℕ) (outcome : Result Run RunFault) → length text ≤ INPUT_LIMIT → within_limit text outcome ≡ outcome
 within text outcome le = let no : nat_lt INPUT_LIMIT (length text) ≡ false = grind arith in rw no refl
 
+-- a fault of an input fails as it must
+failed : (f : RunFault) (outcome : Result Run RunFault) → Decided f (outcome ≡ Err f) → Failed f outcome
+failed fault.Length outcome h = h
+failed fault.Separator outcome h = h
+failed (fault.Config f) outcome h = h
+failed (fault.Trace f) outcome h = h
+failed fault.Memory outcome h = tt
+failed fault.Read outcome h = absurd h
+failed fault.Write outcome h = absurd h
+failed fault.Spawn outcome h = absurd h
+failed fault.Gate outcome h = absurd h
+
 -- a fault of the text that was read is the input's
 pub refused : (old new : Option (List ℕ)) (text : List ℕ) (outcome : List ℕ → Result Run RunFault) (f : RunFault) → Consumes old new text → IsAtEnd new → length text ≤ INPUT_LIMIT
-    → Decided f (outcome text ≡ Err f) → IfSome old (λ input. Decided f (within_limit input (outcome input) ≡ Err f))
+    → Decided f (outcome text ≡ Err f) → IfSome old (λ input. Failed f (within_limit input (outcome input)))
 refused None new text outcome f took ends le h = tt
 refused (Some input) None text outcome f took ends le h = absurd took
 refused (Some input) (Some rest) text outcome f took ends le h =
     let same : text ≡ input = sym (took ∙ ap (λ l. text ++ l) ends ∙ append-nil text) in
-    subst (λ (bytes : List ℕ). Decided f (within_limit bytes (outcome bytes) ≡ Err f)) same (rw (within text (outcome text) le) h)
+    subst (λ (bytes : List ℕ). Failed f (within_limit bytes (outcome bytes))) same (rw (within text (outcome text) le) (failed f (outcome text) h))

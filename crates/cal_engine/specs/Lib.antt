@@ -4,3 +4,4 @@ pub mod Deciding
 pub mod Runs
 pub mod Outcome
 pub mod CommandWords
+pub mod Program

@@ -1,5 +1,5 @@
 -- What an engine answers and writes, against what its input asks for.
-use Rattle.std.specs.Prelude.{◌≡◌, ◌++◌, ℕ, List, [], ◌∷◌, codes, decimal, Option, Result, Ok, Err, ⊤}
+use Rattle.std.specs.Prelude.{◌≡◌, ◌++◌, ℕ, List, [], ◌∷◌, codes, decimal, Option, Result, Ok, Err, IsOk, ⊤}
 use Rattle.std.specs.Io.KnownBytes.{Appends}
 use Rattle.std.specs.List.{concat}
 use Rattle.cal_machine.specs.declared.fault.ConfigFault.{ConfigFault}
@@ -18,17 +18,24 @@ abbrev pub ConfigDecided : ConfigFault → Type 0 → Type 0
 ConfigDecided config.Memory P = ⊤
 ConfigDecided _ P = P
 
--- P, but for a fault that no input decides; no fault of threads, of which a run on one thread has none
+-- P, but for want of memory, which no input decides; no fault of a reader, a writer or a thread, which no input has
 abbrev pub Decided : RunFault → Type 0 → Type 0
 Decided fault.Length P = P
 Decided fault.Separator P = P
 Decided (fault.Config f) P = ConfigDecided f P
 Decided (fault.Trace f) P = files.Decided f.kind P
-Decided fault.Read P = ⊤
 Decided fault.Memory P = ⊤
-Decided fault.Write P = ⊤
+Decided fault.Read P = ⊥
+Decided fault.Write P = ⊥
 Decided fault.Spawn P = ⊥
 Decided fault.Gate P = ⊥
+
+-- What a fault says of the input: nothing where the reader failed; that there is a run where the writer did, since
+-- writing comes last; else that it is the input's first, want of memory aside.
+abbrev pub Failed : RunFault → Result Run RunFault → Type 0
+Failed fault.Read outcome = ⊤
+Failed fault.Write outcome = IsOk outcome
+Failed f outcome = Decided f (outcome ≡ Err f)
 
 -- the answer, seen by view, is what the input says
 abbrev pub Gives : {X Y : Type 0} → (X → Y) → Result X RunFault → Result Y RunFault → Type 0
@@ -53,10 +60,10 @@ abbrev pub Reported : Result Run RunFault → Option (List ℕ) → Option (List
 Reported (Err f) old new = ⊥
 Reported (Ok run) old new = Appends old new (run_report run)
 
--- the report of the run was written and nothing else, or the fault is the input's first
+-- the report of the run was written and nothing else, or the fault says what it must of the input
 abbrev pub Reports : {T : Type 0} → Result T RunFault → Result Run RunFault → Option (List ℕ) → Option (List ℕ) → Type 0
 Reports (Ok _) outcome old new = Reported outcome old new
-Reports (Err f) outcome old new = Decided f (outcome ≡ Err f)
+Reports (Err f) outcome old new = Failed f outcome
 
 -- the verdict is that of the history, and it was written
 pub record IsAudit (run : Run) (verdict : Verdict) (old new : Option (List ℕ)) : Type 0 where
@@ -68,7 +75,7 @@ abbrev pub Audited : Verdict → Result Run RunFault → Option (List ℕ) → O
 Audited verdict (Err f) old new = ⊥
 Audited verdict (Ok run) old new = IsAudit run verdict old new
 
--- the run was audited, or the fault is the input's first
+-- the run was audited, or the fault says what it must of the input
 abbrev pub Audits : Result Verdict RunFault → Result Run RunFault → Option (List ℕ) → Option (List ℕ) → Type 0
 Audits (Ok verdict) outcome old new = Audited verdict outcome old new
-Audits (Err f) outcome old new = Decided f (outcome ≡ Err f)
+Audits (Err f) outcome old new = Failed f outcome

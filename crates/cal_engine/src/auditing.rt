@@ -20,7 +20,7 @@ use std::io::{Read, Write};
 /// before the whole input was read and accepted and the answer is made.
 ///
 /// The faults come in this order: `Read` or `Length` as met, `Separator`, `Config`, `Trace`, `Write`. `Memory` may come
-/// at any place, and only where memory was refused.
+/// at any place, and only where memory was refused. What it writes is this project's own.
 pub fn run_audit<R: Read + Drop, W: Write>(
     alloc: Global,
     mut reader: R,

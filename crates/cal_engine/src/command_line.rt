@@ -7,7 +7,7 @@ ghost use Rattle.cal_engine.specs.CommandWords.{Asks, IsJob, job_named, program}
 use clap::{Command, Error};
 use std::alloc::{AllocError, Global};
 
-/// What the program is to do with its input.
+/// What the program is to do with its input (this project's own words).
 #[derive(Clone, Copy, Debug, PartialEq, Eq)]
 pub enum Job {
     /// Decide the passes of a signal trace, and write the report. No words, or `decide`.

@@ -46,25 +46,25 @@ pub fn decided_run(alloc: Global, input: &[u8]) -> Result<(Config, Vec<PassEntry
 {
     let (config, trace) = read_parts(alloc, input)?;
     let signals = read_signals(alloc, &config, trace)?;
-    let history = decide_passes(alloc, &config, signals.passes.as_slice())?;
+    let history = decide_passes(alloc, &config, signals.passes.into_items())?;
     Ok((config, history))
 }
 
-/// The history that signals lead to: each pass is decided after all before it.
+/// The history that signals lead to: each pass is decided after all before it, and let go of once it is decided.
 fn decide_passes(
     alloc: Global,
     config: &Config,
-    passes: &[SignalPass],
+    passes: Vec<SignalPass>,
 ) -> Result<Vec<PassEntry>, AllocError>
-    requires { AreFittingPasses (threads_in config.now.tasks) passes.now }
-    ensures decided { IfOk result (λ history. history.items ≡ decided config.now passes.now) }
+    requires { AreFittingPasses (threads_in config.now.tasks) passes.items }
+    ensures decided { IfOk result (λ history. history.items ≡ decided config.now passes.items) }
     ensures legal { IfOk result (λ history. IsLegal config.now history.items) }
 {
     let mut book = Book::open(alloc, config)?;
     let mut actions = Actions::reserved(alloc)?;
     let mut history = Vec::with_capacity(alloc, passes.len())?;
     for pass in passes {
-        let input = judge_looks(alloc, config, &book, pass)?;
+        let input = judge_looks(alloc, config, &book, &pass)?;
         actions.clear();
         book.step(config, &input, &mut actions);
         let actions = actions.to_list(alloc)?;

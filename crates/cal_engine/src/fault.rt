@@ -11,7 +11,7 @@ use std::error::Error;
 use std::fmt;
 use std::io::Write;
 
-/// Why a run gave no answer.
+/// Why a run gave no answer (this project's own faults; docs/FORMATS.md has their lines and statuses).
 #[derive(Clone, Copy, Debug, PartialEq, Eq)]
 pub enum RunFault {
     /// The reader answered an error.
@@ -28,9 +28,9 @@ pub enum RunFault {
     Memory,
     /// The writer answered an error.
     Write,
-    /// A thread could not be started.
+    /// A thread could not be started. No engine starts one yet, so none answers it.
     Spawn,
-    /// A gate ended a worker. The program never meets it, since its gate lets everything pass.
+    /// A gate ended a worker. No engine has workers yet, so none answers it.
     Gate,
 }
 

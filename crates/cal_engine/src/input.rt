@@ -8,10 +8,11 @@ use crate::fault::RunFault;
 use std::alloc::Global;
 use std::io::Read;
 
-/// The most bytes that an input may have.
+/// The most bytes that an input may have (this project's own limit).
 pub const INPUT_LIMIT: usize = 67_108_864;
 
-const CHUNK: usize = 8192;
+// How many bytes are asked of the reader at a time.
+const CHUNK: usize = 65_536;
 
 /// All the bytes that a reader gives, read to its end.
 ///

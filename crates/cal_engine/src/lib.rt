@@ -12,6 +12,7 @@ mod deciding;
 mod fault;
 mod input;
 mod parts;
+mod program;
 mod separator;
 
 pub use auditing::run_audit;
@@ -20,6 +21,7 @@ pub use command_line::{Job, words};
 pub use deciding::decide;
 pub use fault::{RunFault, fault_line, status};
 pub use input::{INPUT_LIMIT, read_input};
+pub use program::{end_with, run_program};
 pub use separator::split_input;
 
 #[cfg(test)]

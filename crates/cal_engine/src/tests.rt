@@ -5,6 +5,8 @@ mod broken;
 mod command_words;
 mod ends;
 mod many_cores;
+mod programs;
+mod refused_memory;
 mod reports;
 mod tables;
 

@@ -1,4 +1,3 @@
-use Rattle.std.proofs.Common.{take}
 use Rattle.cal_policy.specs.Book.{AgreesWith, IsBookOf}
 use Rattle.cal_engine.proofs.Decided.{IsDecided}
 use Rattle.cal_engine.proofs.deciding.decide_passes.Given as goal
@@ -7,5 +6,5 @@ abbrev pub invariant-loop-pass : goal.invariant-loop-pass
 invariant-loop-pass l = record {
   of : IsBookOf l.config l.book;
   agrees : AgreesWith l.book l.history.items;
-  so_far : IsDecided l.config (take l.pass-index l.passes) l.history.items;
+  so_far : IsDecided l.config l.yielded l.history.items;
 }

@@ -5,4 +5,4 @@ use Rattle.cal_engine.proofs.deciding.decided_run.Goals as goal
 
 pub decide_passes-requires : goal.decide_passes-requires
 decide_passes-requires c =
-    rw c.as_slice.ensures (accepted_fit (threads_in c.in_ok-config.config.tasks) (rows_of c.in_ok-config.trace.now) c.in_ok-signals.signals.passes c.in_ok-signals.ensures)
+    rw c.into_items.ensures (accepted_fit (threads_in c.in_ok-config.config.tasks) (rows_of c.in_ok-config.trace.now) c.in_ok-signals.signals.passes c.in_ok-signals.ensures)

@@ -1,0 +1,112 @@
+//! A whole run of the program: words and an input in; an answer, an error line and an exit status out.
+
+ghost use Rattle.std.specs.Prelude.{◌≡◌, IfSome};
+ghost use Rattle.cal_engine.specs.Faults.{status_of};
+ghost use Rattle.cal_engine.specs.Program.{DoesJob, verdict_status};
+
+use crate::auditing::run_audit;
+use crate::command_line::{Job, words};
+use crate::deciding::decide;
+use crate::fault::{RunFault, fault_line, status};
+use cal_policy::Verdict;
+use clap::error::{Error, ErrorKind};
+use std::alloc::Global;
+use std::io::{Read, Write};
+
+/// Runs the program on its name and the words after it and on an input, and answers its exit status: 0 is done (help
+/// too), 1 is an illegal history, 2 is bad words or a refused input, 3 is memory or the writer. The words are read before
+/// the input.
+///
+/// The answer goes to `output`, and help too; what is wrong with the words (`clap`'s text) or the one line of a fault
+/// goes to `errors`. All of it is this project's own, but for `clap`'s texts.
+pub fn run_program<R: Read + Drop, W: Write, E: Write>(
+    alloc: Global,
+    named: &[String],
+    reader: R,
+    output: &mut W,
+    errors: &mut E,
+) -> u8 {
+    match answer_words(alloc, named, reader, output, errors) {
+        Ok(status) => status,
+        Err(fault) => end_with(&fault, errors),
+    }
+}
+
+/// Does what the words after the first one ask for, and answers the exit status where there is no fault.
+fn answer_words<R: Read + Drop, W: Write, E: Write>(
+    alloc: Global,
+    named: &[String],
+    reader: R,
+    output: &mut W,
+    errors: &mut E,
+) -> Result<u8, RunFault> {
+    let mut given = Vec::new(alloc);
+    for word in named.iter().skip(1) {
+        given.push(word.as_str())?;
+    }
+    match words(alloc, given.as_slice()) {
+        Ok(job) => do_job(alloc, job, reader, output),
+        Err(error) => refuse_words(&error, output, errors),
+    }
+}
+
+/// Writes the line of a fault, and answers the exit status after it. Where the writer answers an error the status is
+/// the same. Takes no memory.
+pub fn end_with<E: Write>(fault: &RunFault, errors: &mut E) -> u8
+    ensures { result ≡ status_of fault.now }
+{
+    let _ = fault_line(fault, errors);
+    status(fault)
+}
+
+/// Does a job on an input, and answers the exit status where there is no fault.
+fn do_job<R: Read + Drop, W: Write>(
+    alloc: Global,
+    job: Job,
+    reader: R,
+    output: &mut W,
+) -> Result<u8, RunFault>
+    ensures { IfSome (R.remaining reader) (λ input. DoesJob job result input (W.contents output.old) (W.contents output.new)) }
+{
+    match job {
+        Job::Decide => {
+            decide(alloc, reader, output)?;
+            Ok(0)
+        }
+        Job::Audit => {
+            let verdict = run_audit(alloc, reader, output)?;
+            Ok(verdict_status(verdict))
+        }
+    }
+}
+
+/// The exit status after an audit: 0 where the history is legal, else 1.
+fn verdict_status(verdict: Verdict) -> u8
+    ensures { result ≡ verdict_status verdict }
+{
+    match verdict {
+        Verdict::Legal => 0,
+        Verdict::Illegal { .. } => 1,
+    }
+}
+
+/// Writes what `clap` says of the words, and answers the exit status: 0 for help, 2 for bad words. The faults are
+/// `Memory`, where the words were refused for want of it, and `Write`.
+fn refuse_words<W: Write, E: Write>(
+    error: &Error,
+    output: &mut W,
+    errors: &mut E,
+) -> Result<u8, RunFault> {
+    if error.kind() == ErrorKind::OutOfMemory {
+        return Err(RunFault::Memory);
+    }
+    let (written, status) = if error.use_stderr() {
+        (write!(errors, "{error}"), 2)
+    } else {
+        (write!(output, "{error}"), 0)
+    };
+    match written {
+        Ok(()) => Ok(status),
+        Err(_) => Err(RunFault::Write),
+    }
+}
