@@ -1,4 +1,4 @@
-use Rattle.std.proofs.Common.{◌≡◌, ℕ, true, List, Some, leb, eqb, refl}
+use Rattle.std.proofs.Common.{◌≡◌, ◌<◌, ℕ, true, List, Some, leb, eqb, refl}
 use Rattle.std.proofs.lemmas.Bool.{and_parts, leb-true, eqb-true}
 use Rattle.cal_policy.specs.declared.pass_action.Action.{Action}
 use Rattle.cal_policy.specs.declared.holding.Placement as placements
@@ -12,17 +12,17 @@ use Rattle.cal_laws.specs.Acknowledged.{HasBeenLeft}
 use Rattle.cal_laws.proofs.Points.{sound_at}
 use Rattle.cal_laws.proofs.acknowledged.freed_cores_were_left.Goals as goal
 
-left_by : (s : Setting) (acts : List Action) (core : ℕ) (p : placements.Placement) → placement_of (holder_of (so_far s acts) core) ≡ Some p →
+left_by : (s : Setting) (acts : List Action) (core : ℕ) (p : placements.Placement) → core < s.table.cores → placement_of (holder_of (so_far s acts) core) ≡ Some p →
     has_left (kept_now s p.thread) p.number ≡ true → HasBeenLeft s acts core
-left_by s acts core p e left =
+left_by s acts core p own e left =
     let both = and_parts (leb p.number (kept_now s p.thread).taken) (eqb (kept_now s p.thread).running 0) left in
-    record { left = p; holder = e; acknowledged = leb-true _ _ both.0; on_none = eqb-true _ _ both.1 }
+    record { own = own; left = p; holder = e; acknowledged = leb-true _ _ both.0; on_none = eqb-true _ _ both.1 }
 
-left_where : (s : Setting) (acts : List Action) (core : ℕ) (h : Holder) → placement_of (holder_of (so_far s acts) core) ≡ placement_of h →
+left_where : (s : Setting) (acts : List Action) (core : ℕ) (h : Holder) → core < s.table.cores → placement_of (holder_of (so_far s acts) core) ≡ placement_of h →
     shows_left (kept_now s) h ≡ true → HasBeenLeft s acts core
-left_where s acts core holders.Free e left = cc
-left_where s acts core (holders.Held p) e left = left_by s acts core p e left
-left_where s acts core (holders.Leaving p cause) e left = left_by s acts core p e left
+left_where s acts core holders.Free own e left = cc
+left_where s acts core (holders.Held p) own e left = left_by s acts core p own e left
+left_where s acts core (holders.Leaving p cause) own e left = left_by s acts core p own e left
 
 pub returns : goal.returns
-returns c = λ here is core e. left_where _ _ core _ refl (sound_at c.legal_is_sound.ensures here is _ e).made.left
+returns c = λ here is core e. let freed = (sound_at c.legal_is_sound.ensures here is _ e).made in left_where _ _ core _ freed.core refl freed.left
