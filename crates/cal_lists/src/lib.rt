@@ -1,0 +1,9 @@
+//! Lists that the crates above hand to one another.
+#![tactic(auto)]
+
+mod listed;
+
+pub use listed::Listed;
+
+#[cfg(test)]
+mod tests;
