@@ -5,3 +5,5 @@ pub mod Looking
 pub mod Publishing
 pub mod Cutting
 pub mod PageSteps
+pub mod Following
+pub mod Testing

@@ -1,6 +1,9 @@
 pub mod Records
 pub mod Pages
 pub mod Looks
+pub mod Shown
+pub mod Tests
+pub mod Laws
 pub mod Rule
 pub mod Steps
 pub mod Ends

@@ -11,6 +11,7 @@
 #![tactic(auto)]
 
 mod fault;
+mod laws;
 mod look;
 mod observer;
 mod open_look;
@@ -19,13 +20,15 @@ mod publication;
 mod publisher;
 mod record;
 mod rule;
+mod shown;
 #[cfg(test)]
 mod tests;
 mod view;
 mod words;
 
 pub use fault::PublishFault;
-pub use look::Look;
+pub use laws::looks_follow;
+pub use look::{Look, Round, is_busy_pair};
 pub use observer::Observer;
 pub use open_look::OpenLook;
 pub use page::{
@@ -34,3 +37,4 @@ pub use page::{
 pub use publication::OpenPage;
 pub use publisher::Publisher;
 pub use record::{Record, later, shaped};
+pub use shown::{Shown, may_follow};

@@ -6,7 +6,7 @@ use crate::look::Look;
 use crate::observer::Observer;
 use crate::publication::OpenPage;
 use crate::publisher::Publisher;
-use crate::record::{Record, ZERO};
+use crate::record::Record;
 use crate::rule::{Comparison, OpenLooking, PageTable, Parts, ReadingBack, WatcherPart};
 use crate::words::WORDS;
 use std::alloc::{AllocError, Global};
@@ -25,7 +25,7 @@ pub fn open_page(alloc: Global) -> Result<(Publisher, Observer), AllocError>
         table: ours,
         seat,
         place: 0,
-        last: ZERO,
+        last: Record::ZERO,
     };
     let observer = Observer {
         table: theirs,
@@ -51,7 +51,7 @@ pub fn open_watched(alloc: Global) -> Result<(Publisher, Observer, Observer), Al
         table: ours,
         seat,
         place: 0,
-        last: ZERO,
+        last: Record::ZERO,
     };
     let observer = Observer {
         table: theirs,

@@ -1,6 +1,7 @@
 //! The record that a kernel thread publishes.
-ghost use Rattle.std.specs.Prelude.{◌↔◌, IsTrue};
+ghost use Rattle.std.specs.Prelude.{◌≡◌, ◌↔◌, IsTrue};
 ghost use Rattle.cal_signal.specs.Records.{IsLater, IsShaped};
+ghost use Rattle.cal_signal.specs.Tests.{is_later, is_shaped};
 
 /// What a kernel thread shows of itself, nine words in this order (this project's own).
 ///
@@ -27,23 +28,26 @@ pub struct Record {
     pub since: u64,
 }
 
-/// The record at place 0 of every page.
-pub(crate) const ZERO: Record = Record {
-    taken: 0,
-    running: 0,
-    queued: 0,
-    oldest: 0,
-    started: 0,
-    misses: 0,
-    stamp: 0,
-    paused: 0,
-    since: 0,
-};
+impl Record {
+    /// The record at place 0 of every page: all words 0.
+    pub const ZERO: Record = Record {
+        taken: 0,
+        running: 0,
+        queued: 0,
+        oldest: 0,
+        started: 0,
+        misses: 0,
+        stamp: 0,
+        paused: 0,
+        since: 0,
+    };
+}
 
 /// Whether `next` may stand after `last`: its `taken`, `misses` and `stamp` are not below those of
 /// `last`. The other words may be any numbers (this project's own).
 pub fn later(last: &Record, next: &Record) -> bool
-    ensures { IsTrue result ↔ IsLater last.now next.now }
+    ensures rule { IsTrue result ↔ IsLater last.now next.now }
+    ensures test { result ≡ is_later last.now next.now }
 {
     last.taken <= next.taken && last.misses <= next.misses && last.stamp <= next.stamp
 }
@@ -51,7 +55,8 @@ pub fn later(last: &Record, next: &Record) -> bool
 /// Whether the record has the right shape: `running` is at most 128 and `misses` at most 2^56. The
 /// other words may be any numbers (this project's own).
 pub fn shaped(rec: &Record) -> bool
-    ensures { IsTrue result ↔ IsShaped rec.now }
+    ensures rule { IsTrue result ↔ IsShaped rec.now }
+    ensures test { result ≡ is_shaped rec.now }
 {
     rec.running <= 128 && rec.misses <= 1 << 56
 }

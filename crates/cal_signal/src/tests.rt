@@ -1,7 +1,6 @@
 //! What no clause says: that pages open, that looks succeed, and threads that meet over a page.
 ghost use Rattle.std.specs.Prelude.{◌≡◌};
 
-use crate::record::ZERO;
 use crate::{
     Look, Observer, OpenLook, OpenPage, PublishFault, Publisher, Record, close_page, close_watched,
     look_open, open_page, open_watched, read_back,
@@ -14,7 +13,7 @@ fn record(misses: u64, stamp: u64) -> Record {
     Record {
         misses,
         stamp,
-        ..ZERO
+        ..Record::ZERO
     }
 }
 
@@ -219,7 +218,7 @@ fn stopped_look(rt: HostRuntime) -> Result<(), Fail> {
 /// The record at a place of the pages below: each word tells the place.
 fn record_at(place: u64) -> Record {
     if place == 0 || place > 1000 {
-        return ZERO;
+        return Record::ZERO;
     }
     Record {
         taken: place,
@@ -341,7 +340,7 @@ fn second_observer_sees_what_the_first_sees(rt: HostRuntime) -> Result<(), Fail>
         watcher.observe(),
         Look::Whole {
             number: 0,
-            rec: ZERO
+            rec: Record::ZERO
         }
     );
     assert_eq!(rt; publisher.publish(record(5, 10)), Ok(1));
@@ -394,7 +393,7 @@ fn refused_memory_of_a_watched_page(rt: HostRuntime) -> Result<(), Fail> {
     };
     let opening = Look::Whole {
         number: 0,
-        rec: ZERO,
+        rec: Record::ZERO,
     };
     assert_eq!(rt; watcher.observe(), opening);
     assert_eq!(rt; publisher.publish(record(5, 10)), Ok(1));
