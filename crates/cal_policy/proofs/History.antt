@@ -8,7 +8,9 @@ use Rattle.cal_policy.specs.declared.holding.Holder.TheVariants as holders
 use Rattle.cal_policy.specs.declared.banning.BannedFor.{BannedFor}
 use Rattle.cal_policy.specs.declared.judged_look.Seen.{Seen}
 use Rattle.cal_policy.specs.History.{holder_of, holder_made, last_placement, placement_made, last_thread, thread_granted, sent_to, sends, commands_to, ban_of, ban_made, last_cap, cap_made}
-use Rattle.cal_policy.specs.Looks.{kept_by, to_keep_at, last_shown, shown_at, zero_record, nothing_shown}
+use Rattle.cal_signal.specs.Records.{zero_record}
+use Rattle.cal_signal.specs.Shown.{nothing_shown}
+use Rattle.cal_policy.specs.Looks.{kept_by, to_keep_at, last_shown, shown_at}
 use Rattle.cal_policy.specs.Lists.{last_of}
 use Rattle.cal_policy.proofs.Lists.{last_of_push, each_of_push, unwrap_or_or, last_of_map}
 

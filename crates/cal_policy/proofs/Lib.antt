@@ -34,3 +34,7 @@ pub mod BannedSet
 pub mod TwoSets
 pub mod Passed
 pub mod PassLength
+pub mod RevokedStay
+pub mod Commands
+pub mod Found
+pub mod Judged

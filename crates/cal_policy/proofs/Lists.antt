@@ -48,6 +48,17 @@ pub each_of_push : {X Y : Type 0} (f : List X → X → List Y) (xs : List X) (y
     each_of f (xs ++ y ∷ []) ≡ each_of f xs ++ f xs y
 each_of_push f xs y = each_after_push f [] xs y
 
+-- what f makes of two lists end to end: what it makes of the one, and then of the other, told the one
+each_after_append : {X Y : Type 0} (f : List X → X → List Y) (before xs ys : List X) →
+    each_after f before (xs ++ ys) ≡ each_after f before xs ++ each_after f (before ++ xs) ys
+each_after_append f before [] ys = rw append-nil refl
+each_after_append f before (x ∷ xs) ys =
+    ap (λ zs. f before x ++ zs) (each_after_append f (before ++ x ∷ []) xs ys)
+    ∙ rw (append_assoc before (x ∷ []) xs) (sym (append_assoc (f before x) (each_after f (before ++ x ∷ []) xs) (each_after f (before ++ x ∷ xs) ys)))
+
+pub each_of_append : {X Y : Type 0} (f : List X → X → List Y) (xs ys : List X) → each_of f (xs ++ ys) ≡ each_of f xs ++ each_after f xs ys
+each_of_append f xs ys = each_after_append f [] xs ys
+
 -- an array that says what `says` says still does after a write, where only that place changed
 pub set_says : {X : Type 0} (xs : List X) (d : X) (says : ℕ → X) (n i : ℕ) (v : X) → length xs ≡ n → i < n →
     ((c : ℕ) → c < n → get_or xs c d ≡ says c) → (c : ℕ) → c < n → get_or (set xs i v) c d ≡ cond (eqb i c) v (says c)

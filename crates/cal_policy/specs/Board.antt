@@ -19,7 +19,9 @@ use Rattle.cal_policy.specs.declared.capping.Caps.{Caps}
 use Rattle.cal_policy.specs.declared.keeping.Keeping.{Keeping}
 use Rattle.cal_policy.specs.declared.board.Board.{Board}
 use Rattle.cal_policy.specs.History.{actions_of, looks_of, holder_of, last_placement, sent_to, ban_of, last_cap}
-use Rattle.cal_policy.specs.Looks.{kept_by, last_shown, zero_record, nothing_shown}
+use Rattle.cal_signal.specs.Records.{zero_record}
+use Rattle.cal_signal.specs.Shown.{nothing_shown}
+use Rattle.cal_policy.specs.Looks.{kept_by, last_shown}
 use Rattle.cal_policy.specs.Setting.{Setting, so_far, kept_now, kept_before}
 use Rattle.cal_policy.specs.Grants.{is_granted_in}
 use Rattle.cal_policy.specs.Survey.{Surveys}
@@ -42,6 +44,10 @@ abbrev pub placement_of : Holder → Option placements.Placement
 placement_of holders.Free = None
 placement_of (holders.Held placement) = Some placement
 placement_of (holders.Leaving placement cause) = Some placement
+
+-- the last grant of core c, as it is kept
+abbrev pub granted_in : Holding → ℕ → Option placements.Placement
+granted_in h c = slice_index_or h.granted c None
 
 -- who has core c, as it is kept
 abbrev pub holder_in : Holding → ℕ → Holder

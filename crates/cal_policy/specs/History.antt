@@ -41,6 +41,11 @@ abbrev pub command_to : ℕ → Option ℕ → Command → List Command
 command_to k None command = []
 command_to k (Some thread) command = if thread == k then command ∷ [] else []
 
+-- what of a command and the thread that it goes to is sent to thread k
+abbrev pub addressed_to : ℕ → Option (ℕ × Command) → List Command
+addressed_to k None = []
+addressed_to k (Some sent) = command_to k (Some sent.0) sent.1
+
 -- what an action sends to thread k: a grant to it sends Run, a revocation of a core whose last grant before went to it sends Park
 abbrev pub sends : ℕ → List Action → Action → List Command
 sends k before (Grant core thread class) = command_to k (Some thread) (Run core)

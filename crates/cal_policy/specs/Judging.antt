@@ -1,9 +1,10 @@
 -- How looks are judged, and which inputs a pass may be given. This project's own rules.
-use Rattle.std.specs.Prelude.{◌≡◌, ℕ, ◌-◌, ◌<◌, ◌≤◌, ◌==◌, ◌&&◌, Bool, false, not, nat_le, nat_lt, List, length, Some, slice_get, if◌then◌else◌}
+use Rattle.std.specs.Prelude.{◌≡◌, ℕ, ◌-◌, ◌==◌, ◌&&◌, Bool, false, not, nat_le, nat_lt, List, length, Some, slice_get, if◌then◌else◌}
 use Rattle.cal_signal.specs.declared.record.Record.{Record}
 use Rattle.cal_signal.specs.declared.look.Look.{Look}
 use Rattle.cal_signal.specs.declared.look.Look.TheVariants as found
-use Rattle.cal_signal.specs.Records.{IsLater, IsShaped}
+use Rattle.cal_signal.specs.declared.shown.Shown.{Shown}
+use Rattle.cal_signal.specs.Shown.{IsFitShown}
 use Rattle.cal_signal.specs.Looks.{IsBusyPair}
 use Rattle.cal_machine.specs.Table.{Table}
 use Rattle.cal_policy.specs.Tasks.{threads_of_table}
@@ -12,7 +13,6 @@ use Rattle.cal_policy.specs.declared.pass_input.Input.{Input}
 use Rattle.cal_policy.specs.declared.pass_entry.PassEntry.{PassEntry}
 use Rattle.cal_policy.specs.declared.judged_look.Seen.{Seen}
 use Rattle.cal_policy.specs.declared.judged_look.Seen.TheVariants.{Whole, Busy, Ahead, Foreign}
-use Rattle.cal_policy.specs.declared.keeping.Shown.{Shown}
 use Rattle.cal_policy.specs.declared.holding.Holder.{Holder}
 use Rattle.cal_policy.specs.declared.holding.Holder.TheVariants as holders
 use Rattle.cal_policy.specs.History.{actions_of, looks_of, sent_to, holder_of}
@@ -33,16 +33,6 @@ abbrev pub judged : ℕ → List Action → ℕ → Look → Seen
 judged cores x k (found.Busy first second) = Busy first second
 judged cores x k (found.Whole number rec) =
     if nat_lt (sent_to x k) rec.taken then Ahead number rec else if is_foreign cores x k rec then Foreign number rec else Whole number rec
-
--- a record may be shown after another: its place is not lower, the same place has the same record, and a higher place a later one
-pub record IsShownAfter (last next : Shown) : Type 0 where
-  pub not_below : last.number ≤ next.number
-  pub same : last.number ≡ next.number → last.rec ≡ next.rec
-  pub later : last.number < next.number → IsLater last.rec next.rec
-
--- the record is shaped and may be shown after the last one
-abbrev pub IsFitShown : Shown → Shown → Type 0
-IsFitShown last next = IsShaped next.rec × IsShownAfter last next
 
 -- a look that carries no record has a busy pair; one that carries a record, one that may be shown after the last
 abbrev pub IsFitLook : Shown → Seen → Type 0

@@ -1,11 +1,17 @@
 -- Laws over the definitions alone.
-use Rattle.std.specs.Prelude.{◌≡◌, ℕ, ◌<◌, ◌≤◌, List, [], ◌∷◌, ◌++◌, length, take, Option, Some, None, slice_get}
+use Rattle.std.specs.Prelude.{◌≡◌, ℕ, ◌<◌, ◌≤◌, ◌↔◌, false, List, [], ◌∷◌, ◌++◌, length, take, Option, Some, None, slice_get}
 use Rattle.std.specs.Option.{MatchOption, option_map, option_or, unwrap_or}
 use Rattle.cal_policy.specs.declared.pass_action.Action.{Action}
 use Rattle.cal_policy.specs.declared.holding.Placement as placements
+use Rattle.cal_signal.specs.declared.record.Record.{Record}
+use Rattle.cal_signal.specs.declared.look.Look.{Look}
+use Rattle.cal_signal.specs.declared.look.Look.TheVariants as found
 use Rattle.cal_policy.specs.declared.judged_look.Seen.{Seen}
-use Rattle.cal_policy.specs.History.{actions_of, holder_of, holder_made, last_placement, placement_made, last_thread, commands_to, sends, ban_of, ban_made, last_cap, cap_made}
-use Rattle.cal_policy.specs.Looks.{kept_by, to_keep_at}
+use Rattle.cal_policy.specs.declared.judged_look.Seen.TheVariants.{Whole}
+use Rattle.cal_policy.specs.Lists.{each_after}
+use Rattle.cal_policy.specs.History.{actions_of, holder_of, holder_made, last_placement, placement_made, last_thread, commands_to, sent_to, sends, ban_of, ban_made, last_cap, cap_made}
+use Rattle.cal_policy.specs.Looks.{kept_by, to_keep_at, last_shown, shown_at, look_of}
+use Rattle.cal_policy.specs.Judging.{judged, is_foreign}
 use Rattle.cal_policy.specs.Steady.{IsSteady, IsSound}
 use Rattle.cal_machine.specs.Table.{Table, IsTable}
 use Rattle.cal_policy.specs.declared.pass_entry.PassEntry.{PassEntry}
@@ -16,7 +22,7 @@ use Rattle.cal_policy.specs.Bans.{NoPairBanned}
 use Rattle.cal_policy.specs.Bandwidth.{victim_rank, victim_of}
 use Rattle.cal_policy.specs.Grants.{thread_rank, thread_choice, class_of, choice_of}
 use Rattle.cal_policy.specs.Orderly.{IsOrderly}
-use Rattle.cal_policy.specs.Pass.{IsLegal}
+use Rattle.cal_policy.specs.Pass.{IsPass, IsLegal}
 
 -- a legal history is orderly
 abbrev pub LegalIsOrderly : Type 0
@@ -75,6 +81,44 @@ LastThreadIsPlaced = (x : List Action) (c : ℕ) → last_thread x c ≡ option_
 -- after one more pass's looks a kept record is the one that they let be kept, and without one it is as it was
 abbrev pub LookIsOneMore : Type 0
 LookIsOneMore = (looks : List (List Seen)) (seen : List Seen) (k : ℕ) → kept_by (looks ++ seen ∷ []) k ≡ unwrap_or (to_keep_at seen k) (kept_by looks k)
+
+-- after one more pass's looks what was last shown is what they carried, and without a record in them it is as it was
+abbrev pub ShownIsOneMore : Type 0
+ShownIsOneMore = (looks : List (List Seen)) (seen : List Seen) (k : ℕ) → last_shown (looks ++ seen ∷ []) k ≡ unwrap_or (shown_at seen k) (last_shown looks k)
+
+-- what is judged of a look is said of that very look
+abbrev pub JudgedIsOfItsLook : Type 0
+JudgedIsOfItsLook = (cores : ℕ) (x : List Action) (k : ℕ) (look : Look) → look_of (judged cores x k look) ≡ look
+
+-- a look that is judged Whole acknowledges no more than was sent, and a core that it shows is its thread's by a Run that it acknowledges
+pub record IsAllowed (cores : ℕ) (x : List Action) (k number : ℕ) (rec : Record) (look : Look) : Type 0 where
+  pub whole : look ≡ found.Whole number rec
+  pub sent : rec.taken ≤ sent_to x k
+  pub own : is_foreign cores x k rec ≡ false
+
+abbrev pub WholeIsAllowed : Type 0
+WholeIsAllowed = (cores : ℕ) (x : List Action) (k number : ℕ) (rec : Record) (look : Look) → judged cores x k look ≡ Whole number rec → IsAllowed cores x k number rec look
+
+-- nothing is a legal history
+abbrev pub NothingIsLegal : Type 0
+NothingIsLegal = (table : Table) → IsLegal table []
+
+-- a legal history cut off after any number of passes is legal
+abbrev pub PrefixesAreLegal : Type 0
+PrefixesAreLegal = (table : Table) (history : List PassEntry) (p : ℕ) → IsLegal table history → IsLegal table (take p history)
+
+-- a history with one entry more is legal exactly where it was legal and the entry is a pass after it
+abbrev pub OnePassMoreIsLegal : Type 0
+OnePassMoreIsLegal = (table : Table) (history : List PassEntry) (entry : PassEntry) → IsLegal table (history ++ entry ∷ []) ↔ (IsLegal table history × IsPass table history entry)
+
+-- what more actions send a thread comes after all that was sent to it before
+abbrev pub CommandsFollow : Type 0
+CommandsFollow = (x more : List Action) (k : ℕ) → commands_to (x ++ more) k ≡ commands_to x k ++ each_after (sends k) x more
+
+-- the commands of a history are the first ones of those of each longer history
+abbrev pub CommandsBeginAlike : Type 0
+CommandsBeginAlike = (history more : List PassEntry) (k : ℕ) →
+    commands_to (actions_of history) k ≡ take (sent_to (actions_of history) k) (commands_to (actions_of (history ++ more)) k)
 
 -- of the tasks that may be the victim it is the one with the most misses, and of those with as many the first
 pub record HasMostMisses (s : Setting) (x : List Action) (victim : Candidate) : Type 0 where

@@ -5,6 +5,7 @@ pub mod History
 pub mod Looks
 pub mod Counts
 pub mod Judging
+pub mod Found
 pub mod Orderly
 pub mod Setting
 pub mod Frees
@@ -23,3 +24,4 @@ pub mod Steady
 pub mod Laws
 pub mod Book
 pub mod Verdicts
+pub mod Auditing

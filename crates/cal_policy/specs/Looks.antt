@@ -4,14 +4,12 @@ use Rattle.std.specs.Option.{unwrap_or, option_and_then}
 use Rattle.cal_signal.specs.declared.record.Record.{Record}
 use Rattle.cal_signal.specs.declared.look.Look.{Look}
 use Rattle.cal_signal.specs.declared.look.Look.TheVariants as found
+use Rattle.cal_signal.specs.declared.shown.Shown.{Shown}
+use Rattle.cal_signal.specs.Records.{zero_record}
+use Rattle.cal_signal.specs.Shown.{nothing_shown}
 use Rattle.cal_policy.specs.declared.judged_look.Seen.{Seen}
 use Rattle.cal_policy.specs.declared.judged_look.Seen.TheVariants.{Whole, Busy, Ahead, Foreign}
-use Rattle.cal_policy.specs.declared.keeping.Shown.{Shown}
 use Rattle.cal_policy.specs.Lists.{last_of}
-
--- all words 0
-abbrev pub zero_record : Record
-zero_record = record { taken = 0; running = 0; queued = 0; oldest = 0; started = 0; misses = 0; stamp = 0; paused = 0; since = 0 }
 
 -- the record that a look lets be kept: that of a Whole one alone
 abbrev pub record_to_keep : Seen → Option Record
@@ -38,10 +36,6 @@ shown_by (Foreign number rec) = Some (record { number = number; rec = rec })
 -- what a pass's look at thread k carried
 abbrev pub shown_at : List Seen → ℕ → Option Shown
 shown_at seen k = option_and_then shown_by (slice_get seen k)
-
--- number 0 and the zero record
-abbrev pub nothing_shown : Shown
-nothing_shown = record { number = 0; rec = zero_record }
 
 -- what the last look at thread k that carried a record showed, else number 0 and the zero record
 abbrev pub last_shown : List (List Seen) → ℕ → Shown

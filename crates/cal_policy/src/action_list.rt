@@ -3,6 +3,7 @@
 ghost use Rattle.std.specs.Prelude.{◌≡◌, ◌<◌, ◌++◌, ◌∷◌, [], length, IfOk};
 
 use crate::pass_action::Action;
+use cal_lists::Listed;
 use std::alloc::{AllocError, Global};
 use std::marker::Model;
 
@@ -10,36 +11,8 @@ use std::marker::Model;
 /// them, 2 for bandwidth and 16 grants or preemptions.
 pub const MOST_ACTIONS: usize = 338;
 
-/// The actions of a pass that was made.
-#[derive(Drop)]
-pub struct ActionList {
-    items: Vec<Action>,
-}
-
-impl Model for ActionList {
-    ghost use Rattle.std.specs.Prelude.{List};
-    ghost use Rattle.cal_policy.specs.declared.pass_action.Action.{Action};
-
-    ghost Value = { List Action };
-
-    ghost view = { λ list. list.items.items };
-}
-
-impl ActionList {
-    /// The list of these actions.
-    pub fn new(items: Vec<Action>) -> ActionList
-        ensures { result ≡ items.items }
-    {
-        ActionList { items }
-    }
-
-    /// The actions, in the order in which the pass made them.
-    pub fn as_slice(&self) -> &[Action]
-        ensures { result.now ≡ self.now }
-    {
-        &self.items
-    }
-}
+/// The actions of a pass that was made, in the order in which it made them.
+pub type ActionList = Listed<Action>;
 
 /// A list of actions that has room for all that a pass can make, so that a pass takes no memory.
 #[derive(Drop)]
@@ -90,11 +63,13 @@ impl Actions {
         self.items.as_slice()
     }
 
-    /// The list itself. Takes no memory; the room stays with it.
+    /// The list itself, without the room that its actions do not need. It takes no memory and cannot
+    /// fail: where the room cannot be given back it stays with the list.
     pub fn list(self) -> ActionList
         ensures { result ≡ self }
     {
-        let Actions { items } = self;
+        let Actions { mut items } = self;
+        items.shrink_to_fit();
         ActionList::new(items)
     }
 

@@ -89,6 +89,44 @@ impl Board {
         note_grant(&mut self.fresh, action);
     }
 
+    /// A state like this one, to try actions on.
+    pub fn duplicate(&self) -> Board
+        ensures { result ≡ self.now }
+    {
+        Board {
+            holding: Holding {
+                granted: self.holding.granted,
+                holders: self.holding.holders,
+                sent: self.holding.sent,
+            },
+            survey: Survey {
+                held: self.survey.held,
+                booked: self.survey.booked,
+                placed: self.survey.placed,
+                awaited: self.survey.awaited,
+            },
+            sets: CoreSets {
+                free: self.sets.free,
+                taken: self.sets.taken,
+                leaving: self.sets.leaving,
+                of_task: self.sets.of_task,
+                banned: self.sets.banned,
+            },
+            bans: Bans {
+                bans: self.bans.bans,
+            },
+            caps: Caps {
+                caps: self.caps.caps,
+            },
+            keeping: Keeping {
+                kept: self.keeping.kept,
+                before: self.keeping.before,
+                shown: self.keeping.shown,
+            },
+            fresh: self.fresh,
+        }
+    }
+
     /// Begins a pass with its looks: no core was granted in it yet.
     pub fn begin(&mut self, seen: &[Seen])
         requires { length seen.now ≤ 128 }

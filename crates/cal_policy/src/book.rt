@@ -1,22 +1,28 @@
 //! A pass without looking back: a Book keeps what the history so far comes to.
 
-ghost use Rattle.std.specs.Prelude.{◌≡◌, ◌<◌, ◌++◌, ◌∷◌, ◌↔◌, [], List, length, IfOk, IsTrue};
+ghost use Rattle.std.specs.Prelude.{◌≡◌, ℕ, ◌<◌, ◌++◌, ◌∷◌, ◌↔◌, [], List, Some, length, take, slice_get, IfOk, IsTrue};
+ghost use Rattle.cal_machine.specs.Table.{Table, IsTable};
 ghost use Rattle.cal_policy.specs.Tasks.{threads_of_table};
 ghost use Rattle.cal_policy.specs.declared.pass_entry.PassEntry.{PassEntry};
-ghost use Rattle.cal_policy.specs.History.{actions_of};
+ghost use Rattle.cal_policy.specs.Counts as counts;
+ghost use Rattle.cal_policy.specs.History.{actions_of, holder_of};
+ghost use Rattle.cal_policy.specs.Found.{judged_input};
 ghost use Rattle.cal_policy.specs.Judging.{judged, IsInput};
 ghost use Rattle.cal_policy.specs.Setting.{setting};
 ghost use Rattle.cal_policy.specs.Pass.{pass_of, IsLegal};
-ghost use Rattle.cal_policy.specs.Board.{HasSizes};
-ghost use Rattle.cal_policy.specs.Book.{AgreesWith, IsBookOf};
+ghost use Rattle.cal_policy.specs.Board.{HasSizes, kept_holder};
+ghost use Rattle.cal_policy.specs.Book.{AgreesWith, IsBookOf, IsSentBy};
 
 use crate::action_list::Actions;
 use crate::board::Board;
 use crate::deciding::decide;
+use crate::holding::Holder;
 use crate::judged_look::Seen;
-use crate::judging;
+use crate::open_input::{FoundLook, OpenInput};
+use crate::pass_action::Action;
 use crate::pass_input::Input;
-use cal_machine::Config;
+use crate::{counting, judging};
+use cal_machine::{Command, Config};
 use cal_signal::Look;
 use std::alloc::{AllocError, Global};
 
@@ -53,6 +59,29 @@ impl Book {
         judging::judged_by(&self.board, config.machine().cores(), k, look)
     }
 
+    /// The input of the next pass at this clock and bandwidth figure, from what was found of each
+    /// thread, thread 0 first. Its error is want of memory alone. (`OpenInput` makes the same, look
+    /// by look, with its memory taken before the first.)
+    pub fn input(
+        &self,
+        alloc: Global,
+        config: &Config,
+        now: u64,
+        bandwidth: u64,
+        found: &[FoundLook],
+    ) -> Result<Input, AllocError>
+        requires { length found.now ≡ threads_of_table config.now }
+        ensures judged { IfOk result (λ input. (h : List PassEntry) → AgreesWith self.now h →
+            input ≡ judged_input config.now h now bandwidth found.now) }
+        ensures sizes { IfOk result (HasSizes config.now) }
+    {
+        let mut open = OpenInput::reserved(alloc, config)?;
+        for one in found {
+            open.look(config, self, *one);
+        }
+        Ok(open.finish(now, bandwidth))
+    }
+
     /// Whether the next pass may be given this input.
     pub fn fits(&self, config: &Config, input: &Input) -> bool
         ensures fits { (h : List PassEntry) → AgreesWith self.now h → IsTrue result ↔ IsInput config.now h input.entry.now }
@@ -60,6 +89,69 @@ impl Book {
     {
         config.limits();
         judging::fits(&self.board, config, input)
+    }
+
+    /// Who has a core after the history. A number is the least of the Run's and 2^64.
+    pub fn holder(&self, core: u8) -> Holder
+        requires { core < 128 }
+        ensures { (h : List PassEntry) → AgreesWith self.now h →
+            result ≡ kept_holder (holder_of (actions_of h) core) }
+    {
+        self.board.holding.holders[core as usize]
+    }
+
+    /// How many cores a task's threads hold after the history; one that is being left is not held.
+    pub fn held(&self, config: &Config, task: usize) -> u8
+        requires of { IsBookOf config.now self.now }
+        requires task { task < length config.now.tasks }
+        ensures { (h : List PassEntry) → AgreesWith self.now h →
+            result ≡ counts.held_by config.now (actions_of h) task }
+    {
+        config.limits();
+        counting::held_by(config, &self.board, task)
+    }
+
+    /// How many cores a task's threads hold or leave after the history.
+    pub fn booked(&self, config: &Config, task: usize) -> u8
+        requires of { IsBookOf config.now self.now }
+        requires task { task < length config.now.tasks }
+        ensures { (h : List PassEntry) → AgreesWith self.now h →
+            result ≡ counts.booked_by config.now (actions_of h) task }
+    {
+        config.limits();
+        counting::booked_by(config, &self.board, task)
+    }
+
+    /// The cap of a task after the history: its last one, else its limit.
+    pub fn cap(&self, config: &Config, task: usize) -> u8
+        requires { task < length config.now.tasks }
+        ensures { (h : List PassEntry) → AgreesWith self.now h →
+            result ≡ counts.cap_of config.now (actions_of h) task }
+    {
+        config.limits();
+        counting::cap_of(config, &self.board, task)
+    }
+
+    /// What an action of the last pass sends, and to which thread: a grant sends Run, and a
+    /// revocation sends Park to the thread of the core's last grant, in this pass or before. The
+    /// other actions send nothing.
+    ///
+    /// The book is the one after the pass: what a pass revokes it grants to nobody any more.
+    pub fn command_of(&self, action: Action) -> Option<(u8, Command)>
+        ensures { (table : Table) (h : List PassEntry) (entry : PassEntry) →
+            IsTable table → IsLegal table (h ++ entry ∷ []) → AgreesWith self.now (h ++ entry ∷ []) →
+            (i : ℕ) → slice_get entry.actions i ≡ Some action →
+            IsSentBy table (actions_of h ++ take i entry.actions) action result }
+    {
+        match action {
+            Action::Grant { core, thread, .. } => Some((thread, Command::Run(core))),
+            Action::Revoke { core, .. } => {
+                let granted = self.board.holding.grant_of(core)?;
+                Some((granted.thread, Command::Park))
+            }
+            Action::Free { .. } | Action::Unban { .. } | Action::Ban { .. } | Action::Cap { .. } =>
+                None,
+        }
     }
 
     /// Appends the actions of the next pass, on an input that fits, to an empty list, and takes the pass

@@ -35,6 +35,16 @@ pub fn held_by(config: &Config, board: &Board, task: usize) -> u8
     board.survey.held[task]
 }
 
+/// How many cores the task's threads hold or leave.
+pub fn booked_by(config: &Config, board: &Board, task: usize) -> u8
+    requires ready { IsReady config.now board.now }
+    requires task { task < 16 }
+    ensures { (x : List Action) → Agrees board.now x → result ≡ counts.booked_by config.now x task }
+{
+    config.limits();
+    board.survey.booked[task]
+}
+
 /// Whether the task holds more cores than it is guaranteed.
 pub fn is_over(config: &Config, board: &Board, task: usize) -> bool
     requires table { IsTable config.now }

@@ -3,12 +3,14 @@
 ghost use Rattle.std.specs.Prelude.{◌≡◌, ◌≢◌, ℕ, ◌+◌, ◌<◌, ◌≤◌, ◌^◌, ◌++◌, ◌∷◌, [], List, Some, min, replicate};
 ghost use Rattle.cal_policy.specs.declared.pass_action.Action.{Action};
 ghost use Rattle.cal_policy.specs.declared.pass_action.Action.TheVariants.{Revoke, Grant};
-ghost use Rattle.cal_policy.specs.Board.{HoldingAgrees, HoldingSound, NamesCores, holder_in, holder_at, core_changed};
+ghost use Rattle.cal_policy.specs.Board.{HoldingAgrees, HoldingSound, NamesCores, granted_in, holder_in, holder_at, placement_of, core_changed};
+ghost use Rattle.cal_policy.specs.Counts as counts;
 ghost use Rattle.std.specs.Option.{IfSome};
 
 use crate::pass_action::{Action, Cause};
 
-/// What put a thread on a core: the thread, and the number of the Run that was sent to it.
+/// What put a thread on a core: the thread, and the number of the Run that was sent to it, among all
+/// commands to it from 1 on.
 ///
 /// A number in the code is the least of the command's number and 2^64: no record acknowledges more.
 #[derive(Clone, Copy, Debug, PartialEq, Eq)]
@@ -26,6 +28,48 @@ pub enum Holder {
     Held(Placement),
     /// A thread that was granted it and was then sent Park, for this cause.
     Leaving(Placement, Cause),
+}
+
+impl Holder {
+    /// The thread that has the core, and the Run that put it there; of a free core none.
+    pub fn placement(self) -> Option<Placement>
+        ensures { result ≡ placement_of self }
+    {
+        match self {
+            Holder::Free => None,
+            Holder::Held(placement) | Holder::Leaving(placement, _) => Some(placement),
+        }
+    }
+
+    /// Whether nobody has the core.
+    pub fn is_free(self) -> bool
+        ensures { result ≡ counts.is_free self }
+    {
+        match self {
+            Holder::Free => true,
+            Holder::Held(_) | Holder::Leaving(..) => false,
+        }
+    }
+
+    /// Whether a thread has the core and was not told to leave it.
+    pub fn is_held(self) -> bool
+        ensures { result ≡ counts.is_held self }
+    {
+        match self {
+            Holder::Held(_) => true,
+            Holder::Free | Holder::Leaving(..) => false,
+        }
+    }
+
+    /// Whether thread `k` has the core, told to leave it or not.
+    pub fn is_with(self, k: u8) -> bool
+        ensures { result ≡ counts.is_with k self }
+    {
+        match self {
+            Holder::Free => false,
+            Holder::Held(placement) | Holder::Leaving(placement, _) => placement.thread == k,
+        }
+    }
 }
 
 /// What the actions so far have made of the cores.
@@ -96,6 +140,17 @@ impl Holding {
         match core {
             None => Holder::Free,
             Some(core) => self.holders[core as usize],
+        }
+    }
+
+    /// The last grant of this core; of no core of the state none.
+    pub fn grant_of(&self, core: u8) -> Option<Placement>
+        ensures { result ≡ granted_in self.now core }
+    {
+        if core < 128 {
+            self.granted[core as usize]
+        } else {
+            None
         }
     }
 

@@ -4,23 +4,23 @@ ghost use Rattle.std.specs.Prelude.{◌≡◌, ℕ, ◌<◌, ◌≤◌, ◌==◌
 ghost use Rattle.cal_policy.specs.declared.pass_action.Action.{Action};
 ghost use Rattle.cal_policy.specs.declared.pass_entry.PassEntry.{PassEntry};
 ghost use Rattle.cal_policy.specs.declared.judged_look.Seen.{Seen};
-ghost use Rattle.cal_signal.specs.Looks.{IsBusyPair};
+ghost use Rattle.cal_signal.specs.Shown.{IsFitShown};
 ghost use Rattle.cal_policy.specs.History.{actions_of, looks_of};
 ghost use Rattle.cal_policy.specs.Looks.{last_shown, look_of};
 ghost use Rattle.cal_policy.specs.Orderly.{IsOrderly};
 ghost use Rattle.cal_policy.specs.Tasks.{threads_of_table};
-ghost use Rattle.cal_policy.specs.Judging.{is_acknowledged_by, is_foreign, judged, IsShownAfter, IsFitShown, IsFitLook, AreFitLooks, IsInput};
+ghost use Rattle.cal_policy.specs.Judging.{is_acknowledged_by, is_foreign, judged, IsFitLook, AreFitLooks, IsInput};
 ghost use Rattle.cal_policy.specs.Board.{HasSizes, HoldingAgrees, KeepingAgrees, Agrees};
 
 use crate::board::Board;
 use crate::holding::{Holder, Holding, Placement};
 use crate::judged_look::Seen;
-use crate::keeping::{Keeping, Shown};
+use crate::keeping::Keeping;
 use crate::pass_entry::PassEntry;
 use crate::pass_input::Input;
 use crate::replay::board_of;
 use cal_machine::Config;
-use cal_signal::{Look, Record, later, shaped};
+use cal_signal::{Look, Record, Shown, is_busy_pair, may_follow, shaped};
 
 /// Whether this is thread `k` with a Run that the record acknowledges.
 fn is_run_of(placement: Placement, k: usize, rec: &Record) -> bool
@@ -83,37 +83,6 @@ fn look_at(seen: Seen) -> Look
         Seen::Whole { number, rec } => Look::Whole { number, rec },
         Seen::Ahead { number, rec } => Look::Whole { number, rec },
         Seen::Foreign { number, rec } => Look::Whole { number, rec },
-    }
-}
-
-/// Whether these may be the two versions of a look that found no record.
-fn is_busy_pair(first: u64, second: u64) -> bool
-    ensures { IsTrue result ↔ IsBusyPair first second }
-{
-    if first % 2 == 1 {
-        second == first
-    } else {
-        first < second
-    }
-}
-
-/// Whether two records are equal.
-fn is_same(a: &Record, b: &Record) -> bool
-    ensures { IsTrue result ↔ a.now ≡ b.now }
-{
-    *a == *b
-}
-
-/// Whether a record may be shown after another one.
-fn may_follow(last: &Shown, next: &Shown) -> bool
-    ensures { IsTrue result ↔ IsShownAfter last.now next.now }
-{
-    if next.number < last.number {
-        false
-    } else if next.number == last.number {
-        is_same(&last.rec, &next.rec)
-    } else {
-        later(&last.rec, &next.rec)
     }
 }
 

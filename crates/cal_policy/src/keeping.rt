@@ -3,18 +3,13 @@
 ghost use Rattle.std.specs.Prelude.{◌≡◌, ℕ, ◌<◌, ◌≤◌, ◌++◌, ◌∷◌, [], List, length, replicate, slice_index, slice_index_or};
 ghost use Rattle.std.specs.Option.{unwrap_or};
 ghost use Rattle.cal_policy.specs.declared.judged_look.Seen.{Seen};
-ghost use Rattle.cal_policy.specs.Looks.{zero_record, nothing_shown, to_keep_at, shown_at};
+ghost use Rattle.cal_signal.specs.Records.{zero_record};
+ghost use Rattle.cal_signal.specs.Shown.{nothing_shown};
+ghost use Rattle.cal_policy.specs.Looks.{to_keep_at, shown_at};
 ghost use Rattle.cal_policy.specs.Board.{KeepingAgrees, KeepsBefore};
 
 use crate::judged_look::Seen;
-use cal_signal::Record;
-
-/// A record and its place, as a look showed it.
-#[derive(Clone, Copy, Debug, PartialEq, Eq)]
-pub struct Shown {
-    pub number: u64,
-    pub rec: Record,
-}
+use cal_signal::{Record, Shown};
 
 /// The records of each thread that the looks so far have given.
 #[derive(Drop)]
@@ -27,36 +22,16 @@ pub struct Keeping {
     pub shown: [Shown; 128],
 }
 
-/// A record whose words are all 0.
-fn zero_words() -> Record
-    ensures { result ≡ zero_record }
-{
-    Record {
-        taken: 0,
-        running: 0,
-        queued: 0,
-        oldest: 0,
-        started: 0,
-        misses: 0,
-        stamp: 0,
-        paused: 0,
-        since: 0,
-    }
-}
-
 fn zero_records() -> [Record; 128]
     ensures { result ≡ replicate 128 zero_record }
 {
-    let rec = zero_words();
-    [rec; 128]
+    [Record::ZERO; 128]
 }
 
 fn none_shown() -> [Shown; 128]
     ensures { result ≡ replicate 128 nothing_shown }
 {
-    let rec = zero_words();
-    let shown = Shown { number: 0, rec };
-    [shown; 128]
+    [Shown::NOTHING; 128]
 }
 
 fn no_misses() -> [u64; 128]

@@ -1,6 +1,7 @@
 //! Laws over the definitions alone, each the contract of a function that does nothing.
 
 ghost use Rattle.cal_policy.specs.Laws.{LegalIsOrderly, LegalIsSteady, LegalIsSound, LegalIsShort, LegalIsApart, ChosenHasWaitedLongest, ChosenIsOfLeastClass, VictimHasMostMisses, ActionIsOneMore, LastThreadIsPlaced, LookIsOneMore};
+ghost use Rattle.cal_policy.specs.Laws.{ShownIsOneMore, JudgedIsOfItsLook, WholeIsAllowed, NothingIsLegal, PrefixesAreLegal, OnePassMoreIsLegal, CommandsFollow, CommandsBeginAlike};
 
 /// A legal history is orderly: so what asks for an orderly history may be called on every legal one.
 pub fn legal_is_orderly()
@@ -61,4 +62,46 @@ pub fn legal_is_apart()
 /// Each pass of a legal history has at most 338 actions.
 pub fn legal_is_short()
     ensures { LegalIsShort }
+{}
+
+/// After one more pass's looks what was last shown of a thread is what its look carried; where that
+/// carried no record it is as it was.
+pub fn shown_is_one_more()
+    ensures { ShownIsOneMore }
+{}
+
+/// What is judged of a look is said of that very look.
+pub fn judged_is_of_its_look()
+    ensures { JudgedIsOfItsLook }
+{}
+
+/// A look that is judged Whole acknowledges no more commands than were sent, and a core that it shows
+/// is its thread's by a Run that it acknowledges.
+pub fn whole_is_allowed()
+    ensures { WholeIsAllowed }
+{}
+
+/// Nothing is a legal history.
+pub fn nothing_is_legal()
+    ensures { NothingIsLegal }
+{}
+
+/// A legal history cut off after any number of passes is legal.
+pub fn prefixes_are_legal()
+    ensures { PrefixesAreLegal }
+{}
+
+/// A history with one entry more is legal exactly where it was legal and the entry is a pass after it.
+pub fn one_pass_more_is_legal()
+    ensures { OnePassMoreIsLegal }
+{}
+
+/// What more actions send a thread comes after all that was sent to it before.
+pub fn commands_follow()
+    ensures { CommandsFollow }
+{}
+
+/// The commands that a history sent a thread are the first ones of those of each longer history.
+pub fn commands_begin_alike()
+    ensures { CommandsBeginAlike }
 {}

@@ -14,64 +14,30 @@ ghost use Rattle.cal_policy.specs.Orderly.{fits_state, FitInTurn, IsOrderlyEntry
 ghost use Rattle.cal_policy.specs.Board.{Agrees, KeepingAgrees, IsReady, NamesTable};
 
 use crate::board::Board;
-use crate::holding::Holder;
 use crate::judging::looks_fit;
 use crate::pass_action::{Action, Cause};
 use crate::pass_entry::PassEntry;
 use crate::replay::step;
 use cal_machine::Config;
 
-/// Whether nobody has the core.
-fn is_nobody(holder: Holder) -> bool
-    ensures { result ≡ counts.is_free holder }
-{
-    match holder {
-        Holder::Free => true,
-        Holder::Held(_) => false,
-        Holder::Leaving(_, _) => false,
-    }
-}
-
-/// Whether a thread holds the core and was not told to leave it.
-fn is_somebody(holder: Holder) -> bool
-    ensures { result ≡ counts.is_held holder }
-{
-    match holder {
-        Holder::Free => false,
-        Holder::Held(_) => true,
-        Holder::Leaving(_, _) => false,
-    }
-}
-
-/// Whether thread `k` holds or leaves the core.
-fn is_with(k: u8, holder: Holder) -> bool
-    ensures { result ≡ counts.is_with k holder }
-{
-    match holder {
-        Holder::Free => false,
-        Holder::Held(placement) => placement.thread == k,
-        Holder::Leaving(placement, _) => placement.thread == k,
-    }
-}
-
 /// Whether a core is free.
 fn is_free(board: &Board, core: u8) -> bool
     requires { core < 128 }
     ensures { (x : List Action) → Agrees board.now x → result ≡ counts.is_free (holder_of x core) }
 {
-    is_nobody(board.holding.holders[core as usize])
+    board.holding.holders[core as usize].is_free()
 }
 
 /// Whether a core is held.
-fn is_held(board: &Board, core: u8) -> bool
+pub fn is_held(board: &Board, core: u8) -> bool
     requires { core < 128 }
     ensures { (x : List Action) → Agrees board.now x → result ≡ counts.is_held (holder_of x core) }
 {
-    is_somebody(board.holding.holders[core as usize])
+    board.holding.holders[core as usize].is_held()
 }
 
 /// Whether a core is banned.
-fn is_banned(board: &Board, core: u8) -> bool
+pub fn is_banned(board: &Board, core: u8) -> bool
     requires { core < 128 }
     ensures { (x : List Action) → Agrees board.now x → result ≡ history.is_banned x core }
 {
@@ -83,7 +49,7 @@ fn has_no_core(config: &Config, board: &Board, k: u8) -> bool
     ensures { (x : List Action) → Agrees board.now x → result ≡ (cores_of_thread config.now x k == 0) }
 {
     for core in 0..config.machine().cores() {
-        if is_with(k, board.holding.holders[core as usize]) {
+        if board.holding.holders[core as usize].is_with(k) {
             return false;
         }
     }
@@ -166,7 +132,7 @@ fn may_grant(config: &Config, board: &Board, core: u8, thread: u8, class: u8) ->
 }
 
 /// Whether an action names the table's cores, threads and tasks and fits the state.
-fn is_fit(config: &Config, board: &Board, action: Action) -> bool
+pub fn is_fit(config: &Config, board: &Board, action: Action) -> bool
     ensures fits { (x : List Action) → Agrees board.now x → result ≡ fits_state config.now x action }
     ensures names { IsTrue result → NamesTable config.now action }
 {

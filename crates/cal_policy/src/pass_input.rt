@@ -1,39 +1,10 @@
 //! What a pass is given.
 
-ghost use Rattle.std.specs.Prelude.{◌≡◌};
-
 use crate::judged_look::SeenList;
-use std::marker::Model;
+use cal_lists::Listed;
 
 /// For each thread, in thread order, whether its command ring had room.
-#[derive(Drop)]
-pub struct Rooms {
-    items: Vec<bool>,
-}
-
-impl Model for Rooms {
-    ghost use Rattle.std.specs.Prelude.{List, Bool};
-
-    ghost Value = { List Bool };
-
-    ghost view = { λ list. list.items.items };
-}
-
-impl Rooms {
-    /// The list of these answers.
-    pub fn new(items: Vec<bool>) -> Rooms
-        ensures { result ≡ items.items }
-    {
-        Rooms { items }
-    }
-
-    /// The answers, in thread order.
-    pub fn as_slice(&self) -> &[bool]
-        ensures { result.now ≡ self.now }
-    {
-        self.items.as_slice()
-    }
-}
+pub type Rooms = Listed<bool>;
 
 /// What a pass is given: a clock (in ticks, as handed in), a bandwidth figure (in the unit of the
 /// table's limit, as handed in), and for each thread its judged look and whether its ring has room.

@@ -26,7 +26,7 @@ pub enum Verdict {
 }
 
 /// Whether two lists of actions are equal.
-fn is_same(a: &[Action], b: &[Action]) -> bool
+pub fn same_actions(a: &[Action], b: &[Action]) -> bool
     ensures { IsTrue result ↔ a.now ≡ b.now }
 {
     a == b
@@ -40,11 +40,17 @@ fn does_so(config: &Config, before: &[PassEntry], entry: &PassEntry, actions: &m
 {
     actions.clear();
     plain_pass(config, before, &entry.input, actions);
-    is_same(entry.actions.as_slice(), actions.as_slice())
+    same_actions(entry.actions.as_slice(), actions.as_slice())
 }
 
-/// Whether an entry is the policy's pass after those before it. `actions` is room to work in.
-fn is_pass(config: &Config, before: &[PassEntry], entry: &PassEntry, actions: &mut Actions) -> bool
+/// Whether an entry is the policy's pass after those before it, which are gone over once. `actions` is
+/// room to work in.
+pub fn is_pass(
+    config: &Config,
+    before: &[PassEntry],
+    entry: &PassEntry,
+    actions: &mut Actions,
+) -> bool
     requires { IsOrderly config.now before.now }
     ensures { IsTrue result ↔ IsPass config.now before.now entry.now }
 {

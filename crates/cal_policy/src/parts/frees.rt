@@ -29,7 +29,7 @@ fn shows_run_left(rec: Record, number: u128) -> bool
 }
 
 /// Whether the kept record of the core's thread shows that it left.
-fn is_left(config: &Config, input: &Input, board: &Board, core: u8) -> bool
+pub fn is_left(config: &Config, input: &Input, board: &Board, core: u8) -> bool
     requires ready { IsReady config.now board.now }
     requires core { core < 128 }
     ensures { (h : List PassEntry) (acts : List Action) → Stands board.now (setting config.now h input.entry.now) acts →

@@ -1,6 +1,7 @@
 use Rattle.std.proofs.Common.{◌≡◌, ℕ, ◌<◌, ◌≤◌, length, slice_index_or}
 use Rattle.std.specs.Option.{unwrap_or}
-use Rattle.cal_policy.specs.Looks.{to_keep_at, zero_record}
+use Rattle.cal_signal.specs.Records.{zero_record}
+use Rattle.cal_policy.specs.Looks.{to_keep_at}
 use Rattle.cal_policy.proofs.keeping.keep.Given as goal
 
 abbrev pub invariant-loop-k : goal.invariant-loop-k

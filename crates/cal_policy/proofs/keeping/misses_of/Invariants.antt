@@ -1,5 +1,5 @@
 use Rattle.std.proofs.Common.{◌≡◌, ℕ, ◌<◌, length, slice_index, slice_index_or}
-use Rattle.cal_policy.specs.Looks.{zero_record}
+use Rattle.cal_signal.specs.Records.{zero_record}
 use Rattle.cal_policy.proofs.keeping.misses_of.Given as goal
 
 abbrev pub invariant-loop-k : goal.invariant-loop-k

@@ -1,6 +1,7 @@
 use Rattle.std.proofs.Common.{◌≡◌, ℕ, ◌<◌, ◌≤◌, length, slice_index_or}
 use Rattle.std.specs.Option.{unwrap_or}
-use Rattle.cal_policy.specs.Looks.{shown_at, nothing_shown}
+use Rattle.cal_signal.specs.Shown.{nothing_shown}
+use Rattle.cal_policy.specs.Looks.{shown_at}
 use Rattle.cal_policy.proofs.keeping.note.Given as goal
 
 abbrev pub invariant-loop-k : goal.invariant-loop-k

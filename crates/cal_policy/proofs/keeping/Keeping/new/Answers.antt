@@ -1,4 +1,5 @@
-use Rattle.cal_policy.specs.Looks.{zero_record, nothing_shown}
+use Rattle.cal_signal.specs.Records.{zero_record}
+use Rattle.cal_signal.specs.Shown.{nothing_shown}
 use Rattle.cal_policy.proofs.Lists.{get_or_same}
 use Rattle.cal_policy.proofs.keeping.Keeping.new.Goals as goal
 

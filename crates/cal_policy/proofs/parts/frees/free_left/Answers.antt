@@ -1,5 +1,5 @@
 -- Each taken core gives what is due, and the cores between give nothing.
-use Rattle.std.proofs.Common.{◌<◌, ◌≤◌, arith}
+use Rattle.std.proofs.Common.{◌<◌, arith}
 use Rattle.cal_policy.specs.Setting.{setting}
 use Rattle.cal_policy.specs.Frees.{free_at}
 use Rattle.cal_policy.proofs.Turns.{Reached_step, Reached_skip}

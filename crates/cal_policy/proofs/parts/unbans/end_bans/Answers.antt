@@ -1,5 +1,5 @@
 -- Each pair with a banned core gives what is due, and the pairs between give nothing.
-use Rattle.std.proofs.Common.{◌≡◌, ◌*◌, ◌/◌, ◌+◌, ◌<◌, ◌≤◌, ◌++◌, ap, ◌∙◌, arith}
+use Rattle.std.proofs.Common.{◌≡◌, ◌*◌, ◌/◌, ◌+◌, ◌≤◌, ◌++◌, ap, ◌∙◌, arith}
 use Rattle.cal_machine.specs.Table.{Table}
 use Rattle.cal_policy.specs.Lists.{in_turn, in_pair}
 use Rattle.cal_policy.specs.Bans.{unban_at}

@@ -1,0 +1,13 @@
+use Rattle.std.proofs.Common.{◌≡◌, List, length, take}
+use Rattle.cal_policy.specs.Book.{AgreesWith}
+use Rattle.cal_policy.specs.Found.{IsOfFound}
+use Rattle.cal_policy.specs.Tasks.{threads_of_table}
+use Rattle.cal_policy.specs.declared.pass_entry.PassEntry.{PassEntry}
+use Rattle.cal_policy.proofs.book.Book.input.Given as goal
+
+abbrev pub invariant-loop-one : goal.invariant-loop-one
+invariant-loop-one l = record {
+  threads : l.open.threads ≡ threads_of_table l.config;
+  size : length l.open.seen ≡ l.one-index;
+  found : (h : List PassEntry) → AgreesWith l.self h → IsOfFound l.config h (take l.one-index l.found) l.open;
+}

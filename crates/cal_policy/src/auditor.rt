@@ -1,0 +1,93 @@
+//! The audit of a history as it grows, one pass after the other.
+
+ghost use Rattle.std.specs.Prelude.{◌≡◌, ◌<◌, ◌^◌, ◌++◌, ◌∷◌, ◌↔◌, [], List, length, IfOk, IsTrue};
+ghost use Rattle.cal_machine.specs.Table.{Table};
+ghost use Rattle.cal_policy.specs.Auditing.{IsAuditOf, IsAuditorOf};
+ghost use Rattle.cal_policy.specs.Book.{AgreesWith, IsBookOf};
+ghost use Rattle.cal_policy.specs.Pass.{IsPass, IsLegal};
+ghost use Rattle.cal_policy.specs.Verdicts.{IsVerdict};
+ghost use Rattle.cal_policy.specs.declared.pass_entry.PassEntry.{PassEntry};
+
+use crate::action_list::Actions;
+use crate::book::Book;
+use crate::pass_entry::PassEntry;
+use crate::verdict::{Verdict, same_actions};
+use cal_machine::Config;
+use std::alloc::{AllocError, Global};
+
+/// The audit of a history that is handed to it one pass after the other, whether it was read whole or
+/// still grows. It says at any time what `audit` says of the passes so far, and each pass costs the
+/// work of that pass alone: it goes by a Book, where `audit` goes over all passes before. Only opening
+/// it takes memory.
+///
+/// Every call is to be given the table that it was opened for.
+#[derive(Drop)]
+pub struct Auditor {
+    book: Book,
+    /// Room for the actions of a pass.
+    actions: Actions,
+    /// How many passes there were, as long as each was the policy's.
+    passes: u64,
+    verdict: Verdict,
+}
+
+/// Whether an entry is the next pass of a book, which takes it in where it is. `actions` is room to
+/// work in.
+fn is_next(config: &Config, book: &mut Book, entry: &PassEntry, actions: &mut Actions) -> bool
+    requires of { IsBookOf config.now book.old }
+    ensures of { IsBookOf config.now book.new }
+    ensures exact { (h : List PassEntry) → IsLegal config.now h → AgreesWith book.old h →
+        IsTrue result ↔ IsPass config.now h entry.now }
+    ensures agrees { IsTrue result → (h : List PassEntry) → IsLegal config.now h →
+        AgreesWith book.old h → AgreesWith book.new (h ++ entry.now ∷ []) }
+{
+    if !book.fits(config, &entry.input) {
+        return false;
+    }
+    actions.clear();
+    book.step(config, &entry.input, actions);
+    same_actions(entry.actions.as_slice(), actions.as_slice())
+}
+
+impl Auditor {
+    /// The audit of the empty history. Its error is want of memory alone.
+    pub fn open(alloc: Global, config: &Config) -> Result<Auditor, AllocError>
+        ensures audits { IfOk result (λ auditor. IsAuditOf config.now [] auditor) }
+        ensures of { IfOk result (λ auditor. IsAuditorOf config.now auditor) }
+    {
+        let book = Book::open(alloc, config)?;
+        let actions = Actions::reserved(alloc)?;
+        Ok(Auditor {
+            book,
+            actions,
+            passes: 0,
+            verdict: Verdict::Legal,
+        })
+    }
+
+    /// Takes the next pass of the history. Any entry may be handed in.
+    pub fn next(&mut self, config: &Config, entry: &PassEntry)
+        requires of { IsAuditorOf config.now self.old }
+        ensures audits { (h : List PassEntry) → length h < 2 ^ 64 → IsAuditOf config.now h self.old →
+            IsAuditOf config.now (h ++ entry.now ∷ []) self.new }
+        ensures of { IsAuditorOf config.now self.new }
+    {
+        match self.verdict {
+            Verdict::Illegal { .. } => {}
+            Verdict::Legal => {
+                if is_next(config, &mut self.book, entry, &mut self.actions) {
+                    self.passes = self.passes.saturating_add(1);
+                } else {
+                    self.verdict = Verdict::Illegal { pass: self.passes };
+                }
+            }
+        }
+    }
+
+    /// What the audit says of the passes so far.
+    pub fn verdict(&self) -> Verdict
+        ensures { (table : Table) (h : List PassEntry) → IsAuditOf table h self.now → IsVerdict table h result }
+    {
+        self.verdict
+    }
+}
