@@ -67,7 +67,7 @@ none_of None true n e = cc
 none_of None false n e = (refl, refl)
 
 -- where there is no lowest, none passes
-none_passes : (p : ℕ → Bool) (n : ℕ) → lowest_below p n ≡ None → (j : ℕ) → j < n → p j ≡ false
+pub none_passes : (p : ℕ → Bool) (n : ℕ) → lowest_below p n ≡ None → (j : ℕ) → j < n → p j ≡ false
 none_passes p zero e j lt = absurd (omega arith)
 none_passes p (suc n) e j lt =
     let parts = none_of (lowest_below p n) (p n) n e in

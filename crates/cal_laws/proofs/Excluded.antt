@@ -1,5 +1,5 @@
 -- Each action of a pass keeps threads on one core each, by the last Run that was sent to them.
-use Rattle.std.proofs.Common.{◌≡◌, ◌≢◌, ℕ, ◌<◌, Bool, true, false, cond, eqb, List, [], ◌∷◌, ◌++◌, Some, None, refl, sym, ap, ◌∙◌, arith, subst, append_assoc}
+use Rattle.std.proofs.Common.{◌≡◌, ◌≢◌, ℕ, ◌<◌, ◌≤◌, Bool, true, false, cond, eqb, List, [], ◌∷◌, ◌++◌, length, take, Some, None, refl, sym, ap, ◌∙◌, arith, subst, append_assoc}
 use Rattle.std.specs.Option.{option_map}
 use Rattle.std.proofs.lemmas.List.{append-nil}
 use Rattle.std.proofs.lemmas.Bool.Decides.{nat_tests}
@@ -17,12 +17,13 @@ use Rattle.cal_policy.specs.History.{actions_of, holder_of, last_placement, last
 use Rattle.cal_policy.specs.Counts.{is_with, cores_of_thread}
 use Rattle.cal_policy.specs.Board.{placement_of}
 use Rattle.cal_policy.specs.Setting.{setting_of}
-use Rattle.cal_policy.specs.Steady.{IsSteady, IsSound}
-use Rattle.cal_policy.specs.Laws.{LegalIsSound, ActionIsOneMore, LastThreadIsPlaced}
-use Rattle.cal_laws.specs.Point.{Point, IsPoint, actions_at}
+use Rattle.cal_policy.specs.Steady.{IsSteady}
+use Rattle.cal_policy.specs.Laws.{ActionIsOneMore, LastThreadIsPlaced}
+use Rattle.cal_laws.specs.Point.{Point, actions_at}
+use Rattle.cal_laws.specs.Safe.{IsSafe, IsSafeHistory, IsSafePoint}
 use Rattle.cal_laws.specs.Exclusion.{HaveOneCore, WasRun, IsByLastRun}
 use Rattle.cal_laws.proofs.Booleans.{unwrap_if}
-use Rattle.cal_laws.proofs.Points.{always}
+use Rattle.cal_laws.proofs.Points.{always, after_passes}
 use Rattle.cal_laws.proofs.Counted.{count_none}
 use Rattle.cal_laws.proofs.Revoked.{TakesHeld, takes_held}
 use Rattle.cal_laws.proofs.Granted.{gives_free}
@@ -189,19 +190,24 @@ granted more table x core thread class none was =
 
 -- any action
 step : ActionIsOneMore → LastThreadIsPlaced → (table : Table) (before : List PassEntry) (entry : PassEntry) (acts : List Action) (a : Action) →
-    IsSound (setting_of table before entry) acts a → Excludes table (actions_of before ++ acts) → Excludes table ((actions_of before ++ acts) ++ a ∷ [])
-step more last table before entry acts (Free core) sound was = freed more table (actions_of before ++ acts) core was
-step more last table before entry acts (Revoke core cause) sound was =
-    revoked more last table (actions_of before ++ acts) core cause sound.steady (takes_held table (actions_of before ++ acts) core cause sound.fits) was
-step more last table before entry acts (Grant core thread class) sound was =
-    granted more table (actions_of before ++ acts) core thread class (gives_free table (actions_of before ++ acts) core thread class sound.fits).on_none was
-step more last table before entry acts (Unban core) sound was =
+    IsSafe (setting_of table before entry) acts a → Excludes table (actions_of before ++ acts) → Excludes table ((actions_of before ++ acts) ++ a ∷ [])
+step more last table before entry acts (Free core) safe was = freed more table (actions_of before ++ acts) core was
+step more last table before entry acts (Revoke core cause) safe was =
+    revoked more last table (actions_of before ++ acts) core cause safe.steady (takes_held table (actions_of before ++ acts) core cause safe.fits) was
+step more last table before entry acts (Grant core thread class) safe was =
+    granted more table (actions_of before ++ acts) core thread class (gives_free table (actions_of before ++ acts) core thread class safe.fits).on_none was
+step more last table before entry acts (Unban core) safe was =
     let x = actions_of before ++ acts in let one = more x (Unban core) in quiet table x _ one.holder (λ k. one.commands k ∙ append-nil (commands_to x k)) was
-step more last table before entry acts (Ban core thread started) sound was =
+step more last table before entry acts (Ban core thread started) safe was =
     let x = actions_of before ++ acts in let one = more x (Ban core thread started) in quiet table x _ one.holder (λ k. one.commands k ∙ append-nil (commands_to x k)) was
-step more last table before entry acts (Cap task cap) sound was =
+step more last table before entry acts (Cap task cap) safe was =
     let x = actions_of before ++ acts in let one = more x (Cap task cap) in quiet table x _ one.holder (λ k. one.commands k ∙ append-nil (commands_to x k)) was
 
 -- at each point threads have one core each, by their last Run
-pub excludes_at : LegalIsSound → ActionIsOneMore → LastThreadIsPlaced → (here : Point) → IsPoint here → Excludes here.table (actions_at here)
-excludes_at sound more last here is = always sound here is (Excludes here.table) (excludes_start here.table) (step more last here.table)
+pub excludes_at : ActionIsOneMore → LastThreadIsPlaced → (here : Point) → IsSafePoint here → Excludes here.table (actions_at here)
+excludes_at more last here is = always IsSafe here is.history.actions is.entry is.made (Excludes here.table) (excludes_start here.table) (step more last here.table)
+
+-- and after each number of passes
+pub excludes_after : ActionIsOneMore → LastThreadIsPlaced → (table : Table) (history : List PassEntry) → IsSafeHistory table history → (p : ℕ) → p ≤ length history →
+    Excludes table (actions_of (take p history))
+excludes_after more last table history safe = after_passes IsSafe table history safe.actions (Excludes table) (excludes_start table) (step more last table)

@@ -5,9 +5,14 @@ pub mod Held
 pub mod Revoked
 pub mod Numbering
 pub mod Granted
+pub mod Idle
+pub mod Left
 pub mod Excluded
 pub mod Truth
 pub mod OnCore
+pub mod Parts
+pub mod Standing
+pub mod EndPoints
 pub mod Turns
 pub mod Followed
 pub mod Capped

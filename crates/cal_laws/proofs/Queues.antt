@@ -8,7 +8,8 @@ use Rattle.cal_policy.specs.declared.judged_look.Seen.{Seen}
 use Rattle.cal_policy.specs.Choice.{greatest_below}
 use Rattle.cal_policy.specs.Lists.{last_after}
 use Rattle.cal_policy.specs.History.{looks_of}
-use Rattle.cal_policy.specs.Looks.{to_keep_at, kept_by, zero_record}
+use Rattle.cal_signal.specs.Records.{zero_record}
+use Rattle.cal_policy.specs.Looks.{to_keep_at, kept_by}
 use Rattle.cal_policy.specs.Setting.{Setting, kept_now}
 use Rattle.cal_policy.specs.Grants.{waited, record_delay, thread_delay}
 use Rattle.cal_laws.specs.OldDelay.{HasNoneSuspended, queue_delay, ShowNoneSuspended, AreOfQueues}

@@ -35,7 +35,7 @@ use Rattle.cal_laws.proofs.Booleans.{unwrap_if}
 use Rattle.cal_laws.proofs.Counted.{count_none}
 use Rattle.cal_laws.proofs.Excluded.{excludes_at, on_other, last_loser}
 use Rattle.cal_laws.proofs.Granted.{gives_free, free_nobody}
-use Rattle.cal_laws.proofs.Points.{take_next}
+use Rattle.cal_laws.proofs.Points.{take_next, legal_safe, safe_point}
 use Rattle.cal_laws.proofs.Revoked.{takes_held, preempted_before_pass}
 use Rattle.cal_laws.proofs.Turns.{Below, IsInTurn, each_at, pass_in_turn}
 
@@ -261,7 +261,7 @@ within_pass sound more last least longest numbered table history ok legal p entr
     let one : suc i ≡ i + 1 = omega arith in
     let at : acts ++ a ∷ [] ≡ take (suc i) entry.actions = sym (ap (λ n. take n entry.actions) one ∙ take_next entry.actions i a found.2) in
     let here : Point = record { table = table; history = history; pass = p; entry = entry; made = i } in
-    let excludes = excludes_at sound more last here (record { table = ok; legal = legal; entry = e; made = omega (arith, le) }) in
+    let excludes = excludes_at more last here (safe_point (legal_safe sound) here (record { table = ok; legal = legal; entry = e; made = omega (arith, le) })) in
     let E : List Action → Type 0 = λ acts. EachAfter (IsInTurn table) [] acts in
     let each = subst E (sym (legal.passes p entry e).actions) (pass_in_turn numbered longest s) in
     let P : List Action → Type 0 = λ acts. HasBeenSent s acts k in

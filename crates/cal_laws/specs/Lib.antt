@@ -1,4 +1,5 @@
 pub mod Point
+pub mod Safe
 pub mod Turns
 pub mod Exclusion
 pub mod Acknowledged
@@ -10,3 +11,5 @@ pub mod Caps
 pub mod Choice
 pub mod Bans
 pub mod OldDelay
+pub mod Runs
+pub mod Ends

@@ -2,7 +2,7 @@
 
 ghost use Rattle.cal_laws.specs.Acknowledged.{FreedCoresWereLeft};
 
-use cal_policy::legal_is_sound;
+use crate::safe::legal_is_safe;
 
 /// A core is freed only where it is one of the machine's and is held or being left, and the kept record of its thread has
 /// `taken` at least the number of the Run that put it there and `running` 0. (After Caladan's yields; the test is this
@@ -10,5 +10,5 @@ use cal_policy::legal_is_sound;
 pub fn freed_cores_were_left()
     ensures { FreedCoresWereLeft }
 {
-    legal_is_sound();
+    legal_is_safe();
 }

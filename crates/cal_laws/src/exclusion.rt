@@ -2,13 +2,14 @@
 
 ghost use Rattle.cal_laws.specs.Exclusion.{ThreadsHaveOneCore, HoldersAreOfTheirLastRun, RunsGoToIdleThreads};
 
+use crate::safe::legal_is_safe;
 use cal_policy::{action_is_one_more, last_thread_is_placed, legal_is_sound};
 
 /// At every point a thread holds or leaves at most one core. (This project's own rule.)
 pub fn threads_have_one_core()
     ensures { ThreadsHaveOneCore }
 {
-    legal_is_sound();
+    legal_is_safe();
     action_is_one_more();
     last_thread_is_placed();
 }
@@ -19,7 +20,7 @@ pub fn threads_have_one_core()
 pub fn holders_are_of_their_last_run()
     ensures { HoldersAreOfTheirLastRun }
 {
-    legal_is_sound();
+    legal_is_safe();
     action_is_one_more();
     last_thread_is_placed();
 }

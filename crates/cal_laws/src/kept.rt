@@ -2,7 +2,8 @@
 
 ghost use Rattle.cal_laws.specs.Kept.{KeptRecordsAreTrue, KeptThreadsAreOnCore};
 
-use cal_policy::{action_is_one_more, legal_is_sound, look_is_one_more};
+use crate::safe::legal_is_safe;
+use cal_policy::{action_is_one_more, look_is_one_more};
 
 /// At every point each thread's kept record acknowledges no more commands than were sent to the thread. Where it shows
 /// its thread on a core, that core was held or being left by the thread, by a Run that the record acknowledges, as the
@@ -10,6 +11,7 @@ use cal_policy::{action_is_one_more, legal_is_sound, look_is_one_more};
 pub fn kept_records_are_true()
     ensures { KeptRecordsAreTrue }
 {
+    legal_is_safe();
     action_is_one_more();
     look_is_one_more();
 }
@@ -19,7 +21,7 @@ pub fn kept_records_are_true()
 pub fn kept_threads_are_on_core()
     ensures { KeptThreadsAreOnCore }
 {
-    legal_is_sound();
+    legal_is_safe();
     action_is_one_more();
     look_is_one_more();
 }

@@ -10,11 +10,14 @@ mod bans;
 mod caps;
 mod cause;
 mod choice;
+mod ends;
 mod exclusion;
 mod kept;
 mod limits;
 mod old_delay;
 mod one_each;
+mod runs;
+mod safe;
 
 pub use acknowledged::freed_cores_were_left;
 pub use bans::{
@@ -24,6 +27,7 @@ pub use bans::{
 pub use caps::caps_are_due;
 pub use cause::revocations_have_cause;
 pub use choice::{classes_are_told, grants_are_best, preemptions_have_thread};
+pub use ends::{ends_are_points, legal_is_safe_between};
 pub use exclusion::{
     holders_are_of_their_last_run, runs_go_to_idle_threads, threads_have_one_core,
 };
@@ -36,3 +40,5 @@ pub use one_each::{
     actions_come_in_turn, commands_go_where_is_room, passes_are_short, tasks_are_served_once,
     threads_are_sent_one_command,
 };
+pub use runs::runs_stand_until_left;
+pub use safe::legal_is_safe;

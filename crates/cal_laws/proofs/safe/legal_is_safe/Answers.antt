@@ -1,0 +1,5 @@
+use Rattle.cal_laws.proofs.Points.{legal_safe}
+use Rattle.cal_laws.proofs.safe.legal_is_safe.Goals as goal
+
+pub returns : goal.returns
+returns c = legal_safe c.legal_is_sound.ensures
