@@ -1,0 +1,13 @@
+pub mod Steady
+pub mod Sending
+pub mod Emptying
+pub mod Bridging
+pub mod Lasting
+pub mod Sent
+pub mod Low
+pub mod Standing
+pub mod Wrong
+pub mod Taking
+pub mod Upto
+pub mod Groups
+pub mod Between

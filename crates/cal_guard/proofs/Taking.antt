@@ -1,0 +1,32 @@
+-- Actions that are taken one by one.
+use Rattle.std.proofs.Common.{◌≡◌, ℕ, ◌+◌, ◌<◌, ◌≤◌, List, [], ◌∷◌, ◌++◌, length, take, get_or, Option, Some, None, sym, ap, ◌∙◌, arith, length-append}
+use Rattle.std.specs.List.{slice_get}
+use Rattle.std.proofs.lemmas.List.{length-take-le}
+use Rattle.cal_policy.specs.declared.pass_action.Action.{Action}
+use Rattle.cal_policy.specs.Setting.{Setting}
+use Rattle.cal_guard.specs.declared.passing.Passing.{Passing}
+use Rattle.cal_guard.specs.Permitted.{IsPermitted, ArePermitted}
+use Rattle.cal_guard.specs.Refusals.{MayFollow, wrong_with}
+use Rattle.cal_guard.specs.Passing.{IsInside}
+use Rattle.cal_guard.proofs.Wrong.{right_back}
+
+-- the first n of these are taken: each was permitted at its place
+pub record IsRun (s : Setting) (acts actions : List Action) (n : ℕ) (passing : Passing) : Type 0 where
+  pub each : (i : ℕ) → i < n → (a : Action) → slice_get actions i ≡ Some a → IsPermitted s (acts ++ take i actions) a
+  pub inside : IsInside passing s (acts ++ take n actions)
+
+-- of actions that may follow, none is wrong
+pub none_wrong : (s : Setting) (acts actions : List Action) (n : ℕ) (a : Action) → n < length actions → MayFollow s acts actions → IsPermitted s (acts ++ take n actions) a →
+    wrong_with s (acts ++ take n actions) a ≡ None
+none_wrong s acts actions n a lt may p =
+    let sum = length-append acts (take n actions) in
+    let taken = length-take-le n actions (omega (arith, lt)) in
+    let short = may.short in
+    right_back s (acts ++ take n actions) a (omega (arith, sum, taken, short, lt)) p
+
+-- actions that may follow none are a pass's
+pub whole : (s : Setting) (actions : List Action) → MayFollow s [] actions → ArePermitted s actions
+whole s actions may = record { each = may.each; short = (let short = may.short in omega (arith, short)); settled = may.settled }
+
+pub whole_back : (s : Setting) (actions : List Action) → ArePermitted s actions → MayFollow s [] actions
+whole_back s actions all = record { each = all.each; short = (let short = all.short in omega (arith, short)); settled = all.settled }

@@ -1,0 +1,8 @@
+use Rattle.std.proofs.Common.{◌≡◌, ℕ, ◌<◌, Some, slice_get, take}
+use Rattle.cal_policy.specs.declared.pass_entry.PassEntry.{PassEntry}
+use Rattle.cal_guard.specs.Permitted.{IsPermittedPass}
+use Rattle.cal_guard.proofs.checking.is_permitted.Given as goal
+
+abbrev pub invariant-loop-p : goal.invariant-loop-p
+invariant-loop-p l =
+    (q : ℕ) → q < l.p → (entry : PassEntry) → slice_get l.history q ≡ Some entry → IsPermittedPass l.config (take q l.history) entry

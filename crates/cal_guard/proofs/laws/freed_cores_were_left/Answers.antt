@@ -1,0 +1,9 @@
+use Rattle.cal_policy.specs.declared.pass_action.Action.TheVariants.{Free}
+use Rattle.cal_laws.specs.Point.{setting_at, made_at}
+use Rattle.cal_laws.proofs.Left.{was_left}
+use Rattle.cal_laws.proofs.Points.{safe_at}
+use Rattle.cal_guard.proofs.Steady.{safe_point}
+use Rattle.cal_guard.proofs.laws.freed_cores_were_left.Goals as goal
+
+pub returns : goal.returns
+returns c = λ here is core e. was_left (setting_at here) (made_at here) core (safe_at here (safe_point c.permitted_is_safe.ensures here is) (Free core) e)

@@ -1,0 +1,6 @@
+use Rattle.cal_policy.specs.declared.pass_action.Action.TheVariants.{Grant}
+use Rattle.cal_guard.proofs.Steady.{permitted_at}
+use Rattle.cal_guard.proofs.laws.grants_keep_to_caps.Goals as goal
+
+pub returns : goal.returns
+returns c = λ here is core thread class e. (permitted_at here is (Grant core thread class) e).may.books

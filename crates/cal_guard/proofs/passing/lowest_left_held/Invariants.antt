@@ -1,0 +1,9 @@
+use Rattle.std.proofs.Common.{◌≡◌, List, None}
+use Rattle.cal_policy.specs.declared.pass_action.Action.{Action}
+use Rattle.cal_policy.specs.Board.{Agrees}
+use Rattle.cal_policy.specs.Choice.{lowest_below}
+use Rattle.cal_guard.specs.Refusals as refusals
+use Rattle.cal_guard.proofs.passing.lowest_left_held.Given as goal
+
+abbrev pub invariant-loop-core : goal.invariant-loop-core
+invariant-loop-core l = (x : List Action) → Agrees l.board x → lowest_below (refusals.is_left_held x l.revoked) l.core ≡ None

@@ -1,0 +1,28 @@
+-- What is kept inside a pass, and when it is what the history and the actions of the pass say.
+use Rattle.std.specs.Prelude.{◌≡◌, ℕ, ◌<◌, ◌≤◌, true, List, length}
+use Rattle.cal_machine.specs.Table.{Table}
+use Rattle.cal_machine.specs.declared.core_set.CoreSet.{CoreSet}
+use Rattle.cal_machine.specs.CoreSet.{has}
+use Rattle.cal_policy.specs.declared.pass_action.Action.{Action}
+use Rattle.cal_policy.specs.History.{holder_of}
+use Rattle.cal_policy.specs.Counts.{is_held}
+use Rattle.cal_policy.specs.Setting.{Setting, so_far}
+use Rattle.cal_policy.specs.Board.{Stands}
+use Rattle.cal_guard.specs.declared.passing.Passing.{Passing}
+use Rattle.cal_guard.specs.Refusals.{was_sent}
+
+-- the set has the threads that were sent a command in this pass
+pub record IsSetOfSent (set : CoreSet) (s : Setting) (acts : List Action) : Type 0 where
+  pub sent : (k : ℕ) → k < 128 → has set k ≡ was_sent s acts k
+
+-- every core that is held is one of the machine's
+pub record HeldAreLow (table : Table) (x : List Action) : Type 0 where
+  pub low : (c : ℕ) → is_held (holder_of x c) ≡ true → c < table.cores
+
+-- after the actions acts of the pass
+pub record IsInside (passing : Passing) (s : Setting) (acts : List Action) : Type 0 where
+  pub stands : Stands passing.board s acts
+  pub sent : IsSetOfSent passing.sent s acts
+  pub made : passing.made ≡ length acts
+  pub few : length acts ≤ 338
+  pub low : HeldAreLow s.table (so_far s acts)

@@ -1,0 +1,144 @@
+//! A guard that never looks back: it keeps what the history so far comes to, and lets through what is
+//! permitted.
+
+ghost use Rattle.std.specs.Prelude.{◌≡◌, ◌<◌, ◌++◌, ◌↔◌, [], List, IsOk, IfOk, IfErr, OnErr, IsTrue};
+ghost use Rattle.cal_policy.specs.Tasks.{threads_of_table};
+ghost use Rattle.cal_policy.specs.declared.pass_action.Action.{Action};
+ghost use Rattle.cal_policy.specs.declared.pass_entry.PassEntry.{PassEntry};
+ghost use Rattle.cal_policy.specs.History.{actions_of};
+ghost use Rattle.cal_policy.specs.Judging.{judged, IsInput};
+ghost use Rattle.cal_policy.specs.Setting.{setting};
+ghost use Rattle.cal_policy.specs.Board.{HasSizes};
+ghost use Rattle.cal_guard.specs.Permitted.{ArePermitted, IsPermittedHistory};
+ghost use Rattle.cal_guard.specs.Refusals.{MayFollow, IsFirstWrong};
+ghost use Rattle.cal_guard.specs.Guarded.{Keeps, IsWithin, IsGuardOf, PassesAreKept, GroupsMakeAPass, and_then};
+
+use crate::histories::permitted_goes_on;
+use crate::passing::Passing;
+use crate::refusal::Refused;
+use cal_machine::Config;
+use cal_policy::state::{fits, judged_by};
+use cal_policy::{Action, Input, Look, Seen};
+use std::alloc::{AllocError, Global};
+
+/// What the history so far comes to, and the actions that the pass has so far. Only opening a guard
+/// takes memory; a pass costs a copy of the state and, for each action, the cores and tasks.
+///
+/// Every call is to be given the table that the guard was opened for. What a guard says holds of every
+/// permitted history with which it agrees.
+#[derive(Drop)]
+pub struct Guard {
+    passing: Box<Passing>,
+}
+
+/// What a guard took of a pass it keeps as that pass's entry: so the next pass may begin.
+pub fn passes_are_kept()
+    ensures { PassesAreKept }
+{}
+
+/// After a permitted pass a group of actions may follow just where with them it is a permitted pass. So
+/// what a guard took group by group, from no action on, is a permitted pass.
+pub fn groups_make_a_pass()
+    ensures { GroupsMakeAPass }
+{}
+
+impl Guard {
+    /// The guard of the empty history. Its error is want of memory alone.
+    pub fn open(alloc: Global, config: &Config) -> Result<Guard, AllocError>
+        ensures keeps { IfOk result (λ guard. Keeps guard []) }
+        ensures of { IfOk result (λ guard. IsGuardOf config.now guard) }
+    {
+        config.limits();
+        let passing = Box::new(alloc, Passing::new())?;
+        Ok(Guard { passing })
+    }
+
+    /// What a look at thread `k` comes to after the history.
+    pub fn judge(&self, config: &Config, k: usize, look: Look) -> Seen
+        requires { k < threads_of_table config.now }
+        ensures { (h : List PassEntry) → Keeps self.now h → result ≡ judged config.now.cores (actions_of h) k look }
+    {
+        config.limits();
+        judged_by(&self.passing.board, config.machine().cores(), k, look)
+    }
+
+    /// Whether the next pass may be given this input.
+    pub fn fits(&self, config: &Config, input: &Input) -> bool
+        ensures fits { (h : List PassEntry) → Keeps self.now h → IsTrue result ↔ IsInput config.now h input.entry.now }
+        ensures sizes { IsTrue result → HasSizes config.now input.entry.now }
+    {
+        config.limits();
+        fits(&self.passing.board, config, input)
+    }
+
+    /// Begins the next pass, on an input that fits, without any action yet.
+    pub fn begin(&mut self, config: &Config, input: &Input)
+        requires of { IsGuardOf config.now self.old }
+        requires sizes { HasSizes config.now input.now }
+        ensures within { (h : List PassEntry) → IsPermittedHistory config.now h → Keeps self.old h → IsWithin self.new (setting config.now h input.entry.now) [] }
+        ensures of { IsGuardOf config.now self.new }
+    {
+        config.limits();
+        self.passing.begin(input.seen.as_slice());
+    }
+
+    /// Takes these actions into the pass, after those that it has, where each is permitted at its place
+    /// and the pass may end after them; else names the first that is not, and takes none. So a Ban of a
+    /// held core is given with its revocation, and a Cap below what is held with its.
+    pub fn offer(
+        &mut self,
+        config: &Config,
+        input: &Input,
+        actions: &[Action],
+    ) -> Result<(), Refused>
+        requires of { IsGuardOf config.now self.old }
+        requires sizes { HasSizes config.now input.now }
+        ensures exact { (h : List PassEntry) (acts : List Action) → IsWithin self.old (setting config.now h input.entry.now) acts →
+            IsOk result ↔ MayFollow (setting config.now h input.entry.now) acts actions.now }
+        ensures taken { IsOk result → (h : List PassEntry) (acts : List Action) → IsWithin self.old (setting config.now h input.entry.now) acts →
+            IsWithin self.new (setting config.now h input.entry.now) (acts ++ actions.now) }
+        ensures first { IfErr result (λ refused. (h : List PassEntry) (acts : List Action) → IsWithin self.old (setting config.now h input.entry.now) acts →
+            IsFirstWrong (setting config.now h input.entry.now) acts actions.now refused) }
+        ensures unchanged { OnErr result (self.new ≡ self.old) }
+        ensures of { IsGuardOf config.now self.new }
+    {
+        config.limits();
+        let mut trial = self.passing.duplicate();
+        match trial.take_each(config, input, actions) {
+            Ok(()) => {
+                *self.passing = trial;
+                Ok(())
+            }
+            Err(refused) => Err(refused),
+        }
+    }
+
+    /// Lets the next pass through, on an input that fits, with the actions that a policy chose, where
+    /// they are permitted, and takes it in; else names the first that is not, and takes nothing in.
+    pub fn step(&mut self, config: &Config, input: &Input, chosen: &[Action]) -> Result<(), Refused>
+        requires of { IsGuardOf config.now self.old }
+        requires sizes { HasSizes config.now input.now }
+        ensures exact { (h : List PassEntry) → IsPermittedHistory config.now h → Keeps self.old h →
+            IsOk result ↔ ArePermitted (setting config.now h input.entry.now) chosen.now }
+        ensures keeps { IsOk result → (h : List PassEntry) → IsPermittedHistory config.now h → Keeps self.old h →
+            Keeps self.new (and_then h input.entry.now chosen.now) }
+        ensures permitted { IsOk result → (h : List PassEntry) → IsPermittedHistory config.now h → Keeps self.old h → IsInput config.now h input.entry.now →
+            IsPermittedHistory config.now (and_then h input.entry.now chosen.now) }
+        ensures first { IfErr result (λ refused. (h : List PassEntry) → IsPermittedHistory config.now h → Keeps self.old h →
+            IsFirstWrong (setting config.now h input.entry.now) [] chosen.now refused) }
+        ensures unchanged { OnErr result (self.new ≡ self.old) }
+        ensures of { IsGuardOf config.now self.new }
+    {
+        config.limits();
+        permitted_goes_on();
+        let mut trial = self.passing.duplicate();
+        trial.begin(input.seen.as_slice());
+        match trial.take_each(config, input, chosen) {
+            Ok(()) => {
+                *self.passing = trial;
+                Ok(())
+            }
+            Err(refused) => Err(refused),
+        }
+    }
+}

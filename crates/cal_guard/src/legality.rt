@@ -1,0 +1,41 @@
+//! Legal histories are permitted.
+
+ghost use Rattle.cal_guard.specs.Histories.{LegalIsPermitted};
+ghost use Rattle.cal_guard.specs.Causes.{LegalIsRight};
+
+use cal_laws::{
+    banned_are_emptied_at_once, banned_are_empty_after_passes, bans_are_due, bans_end_unshown,
+    caps_are_due, commands_go_where_is_room, grants_keep_to_caps, no_banned_is_granted,
+    passes_are_short, revocations_have_cause, revocations_leave_guarantees, tasks_keep_to_caps,
+    threads_are_sent_one_command,
+};
+use cal_policy::{action_is_one_more, last_thread_is_placed, legal_is_sound};
+
+/// A legal history is permitted: so the guard lets the one policy that is proved through.
+pub fn legal_is_permitted()
+    ensures { LegalIsPermitted }
+{
+    legal_is_sound();
+    action_is_one_more();
+    last_thread_is_placed();
+    commands_go_where_is_room();
+    threads_are_sent_one_command();
+    passes_are_short();
+    revocations_leave_guarantees();
+    tasks_keep_to_caps();
+    grants_keep_to_caps();
+    no_banned_is_granted();
+    banned_are_emptied_at_once();
+    banned_are_empty_after_passes();
+}
+
+/// A legal history is permitted, and each of its actions is for its cause.
+pub fn legal_is_right()
+    ensures { LegalIsRight }
+{
+    legal_is_permitted();
+    revocations_have_cause();
+    bans_are_due();
+    bans_end_unshown();
+    caps_are_due();
+}

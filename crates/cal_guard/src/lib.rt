@@ -1,0 +1,35 @@
+//! Any policy, the same safety: what every history is safe from whose actions are permitted, each at
+//! its own place, whoever chose them.
+//!
+//! Each law is the contract of a function that does nothing, its statement a definition in specs/; to
+//! cite a law, call its function. A legal history is permitted, so the laws are the one policy's too;
+//! which thread and core a grant takes, and why a core is revoked, are no part of them.
+#![tactic(auto)]
+
+mod checking;
+mod guard;
+mod histories;
+mod laws;
+mod legality;
+mod passing;
+mod refusal;
+
+pub use checking::{is_permitted, is_permitted_pass, permits};
+pub use guard::{Guard, groups_make_a_pass, passes_are_kept};
+pub use histories::{
+    doing_nothing_is_permitted, permitted_goes_on, permitted_is_orderly, permitted_is_safe,
+    permitted_is_steady,
+};
+pub use laws::{
+    banned_are_emptied_at_once, banned_are_empty_after_passes, commands_go_where_is_room,
+    freed_cores_were_left, grants_keep_to_caps, holders_are_of_their_last_run,
+    kept_records_are_true, kept_threads_are_on_core, no_banned_is_granted, no_pair_is_banned,
+    passes_are_short, permitted_is_safe_between, revocations_leave_guarantees,
+    runs_go_to_idle_threads, runs_stand_until_left, tasks_keep_to_caps, tasks_keep_to_limits,
+    threads_are_sent_one_command, threads_have_one_core,
+};
+pub use legality::{legal_is_permitted, legal_is_right};
+pub use refusal::{Refused, Why};
+
+#[cfg(test)]
+mod tests;

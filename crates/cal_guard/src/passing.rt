@@ -1,0 +1,373 @@
+//! Inside a pass: what is wrong with the next action, and the state after it.
+
+ghost use Rattle.std.specs.Prelude.{◌≡◌, ℕ, ◌+◌, ◌<◌, ◌≤◌, ◌++◌, ◌∷◌, [], ◌↔◌, List, Option, length, None, IsOk, IfNone, IfErr, OnOk, option_map};
+ghost use Rattle.std.specs.Option.{IfSome};
+ghost use Rattle.cal_machine.specs.Table.{Table, IsTable};
+ghost use Rattle.cal_policy.specs.declared.pass_action.Action.{Action};
+ghost use Rattle.cal_policy.specs.declared.pass_entry.PassEntry.{PassEntry};
+ghost use Rattle.cal_policy.specs.declared.pass_input.Input.{Input};
+ghost use Rattle.cal_policy.specs.Tasks.{threads_of_table};
+ghost use Rattle.cal_policy.specs.Choice.{lowest_below};
+ghost use Rattle.cal_policy.specs.History.{actions_of, looks_of, holder_of};
+ghost use Rattle.cal_policy.specs.Setting.{Setting, setting, so_far};
+ghost use Rattle.cal_policy.specs.Board.{Agrees, KeepingAgrees, Stands, IsReady, HasSizes, NamesCores, NamesTable};
+ghost use Rattle.cal_guard.specs.Permitted.{IsPermitted, IsPermittedHistory, core_revoked};
+ghost use Rattle.cal_guard.specs.Refusals as refusals;
+ghost use Rattle.cal_guard.specs.Refusals.{MayFollow, IsFirstWrong};
+ghost use Rattle.cal_guard.specs.Passing.{IsSetOfSent, IsInside};
+
+use crate::refusal::{Refused, Why};
+use cal_machine::{Config, CoreSet};
+use cal_policy::state::{
+    Board, Holder, cap_of, held_by, holds_for, is_banned, is_fit, is_held, is_latency_critical,
+    is_left, is_over, survey_of,
+};
+use cal_policy::{Action, Input, MOST_ACTIONS, Seen};
+
+/// The state inside a pass.
+#[derive(Drop)]
+pub struct Passing {
+    /// What all actions and looks so far come to.
+    pub board: Board,
+    /// The threads that were sent a command in this pass.
+    pub sent: CoreSet,
+    /// How many actions the pass has.
+    pub made: usize,
+}
+
+/// This is wrong, unless the condition holds.
+fn unless(holds: bool, why: Why) -> Option<Why>
+    ensures { result ≡ refusals.unless holds why }
+{
+    if holds { None } else { Some(why) }
+}
+
+/// What is wrong with sending the thread a command.
+fn wrong_to_send(input: &Input, sent: &CoreSet, thread: u8) -> Option<Why>
+    requires thread { thread < 128 }
+    requires rooms { thread < length input.now.rooms }
+    ensures { (s : Setting) (acts : List Action) → s.input ≡ input.entry.now → IsSetOfSent sent.now s acts → result ≡ refusals.wrong_to_send s acts thread }
+{
+    let unsent = unless(!sent.has(thread), Why::SecondCommand);
+    unless(input.rooms.as_slice()[thread as usize], Why::NoRoom).or(unsent)
+}
+
+/// What is wrong with revoking the core.
+fn wrong_to_revoke(
+    config: &Config,
+    input: &Input,
+    board: &Board,
+    sent: &CoreSet,
+    core: u8,
+) -> Option<Why>
+    requires table { IsTable config.now }
+    requires ready { IsReady config.now board.now }
+    requires rooms { length input.now.rooms ≡ threads_of_table config.now }
+    requires core { core < config.now.cores }
+    ensures { (h : List PassEntry) (acts : List Action) → let s = setting config.now h input.entry.now in
+        Agrees board.now (so_far s acts) → IsSetOfSent sent.now s acts → result ≡ refusals.wrong_to_revoke s acts (holder_of (so_far s acts) core) }
+{
+    match board.holding.holders[core as usize] {
+        Holder::Held(placement) => {
+            let task = config.task_of(placement.thread as usize);
+            unless(is_over(config, board, task), Why::AtGuarantee).or(wrong_to_send(
+                input,
+                sent,
+                placement.thread,
+            ))
+        }
+        Holder::Free | Holder::Leaving(..) => Some(Why::DoesNotFit),
+    }
+}
+
+/// What is wrong with one more core for the task.
+fn wrong_to_book(config: &Config, board: &Board, task: usize) -> Option<Why>
+    requires table { IsTable config.now }
+    requires ready { IsReady config.now board.now }
+    requires task { task < length config.now.tasks }
+    ensures { (x : List Action) → Agrees board.now x → result ≡ refusals.wrong_to_book config.now x task }
+{
+    config.limits();
+    let booked = survey_of(config, board).booked[task];
+    let below_cap = is_latency_critical(config, task) || booked < cap_of(config, board, task);
+    unless(booked < config.task(task).limit, Why::AtLimit).or(unless(below_cap, Why::AtCap))
+}
+
+/// What is wrong with granting the core to the thread.
+fn wrong_to_grant(
+    config: &Config,
+    input: &Input,
+    board: &Board,
+    sent: &CoreSet,
+    core: u8,
+    thread: u8,
+) -> Option<Why>
+    requires table { IsTable config.now }
+    requires ready { IsReady config.now board.now }
+    requires rooms { length input.now.rooms ≡ threads_of_table config.now }
+    requires core { core < config.now.cores }
+    requires thread { thread < threads_of_table config.now }
+    ensures { (h : List PassEntry) (acts : List Action) → let s = setting config.now h input.entry.now in
+        Agrees board.now (so_far s acts) → IsSetOfSent sent.now s acts → result ≡ refusals.wrong_to_grant s acts core thread }
+{
+    let task = config.task_of(thread as usize);
+    let books = wrong_to_book(config, board, task).or(wrong_to_send(input, sent, thread));
+    unless(!is_banned(board, core), Why::Banned).or(books)
+}
+
+/// What is wrong with an action that fits the state, by its kind.
+fn wrong_to_make(
+    config: &Config,
+    input: &Input,
+    board: &Board,
+    sent: &CoreSet,
+    action: Action,
+) -> Option<Why>
+    requires table { IsTable config.now }
+    requires ready { IsReady config.now board.now }
+    requires rooms { length input.now.rooms ≡ threads_of_table config.now }
+    requires names { NamesTable config.now action }
+    ensures { (h : List PassEntry) (acts : List Action) → let s = setting config.now h input.entry.now in
+        Stands board.now s acts → IsSetOfSent sent.now s acts → result ≡ refusals.wrong_to_make s acts action }
+{
+    match action {
+        Action::Free { core } => unless(is_left(config, input, board, core), Why::NotLeft),
+        Action::Revoke { core, .. } => wrong_to_revoke(config, input, board, sent, core),
+        Action::Grant { core, thread, .. } => {
+            wrong_to_grant(config, input, board, sent, core, thread)
+        }
+        Action::Unban { .. } | Action::Ban { .. } | Action::Cap { .. } => None,
+    }
+}
+
+/// The core that an action revokes.
+fn core_revoked_by(action: Action) -> Option<u8>
+    ensures revoked { result ≡ core_revoked action }
+    ensures below { (cores threads : ℕ) → NamesCores cores threads action → IfSome result (λ core. core < cores) }
+{
+    match action {
+        Action::Revoke { core, .. } => Some(core),
+        Action::Free { .. } => None,
+        Action::Unban { .. } => None,
+        Action::Ban { .. } => None,
+        Action::Cap { .. } => None,
+        Action::Grant { .. } => None,
+    }
+}
+
+/// Whether a core is revoked, and it is this one.
+fn is_core(revoked: Option<u8>, core: u8) -> bool
+    ensures { result ≡ refusals.is_core core revoked }
+{
+    match revoked {
+        None => false,
+        Some(other) => other == core,
+    }
+}
+
+/// Whether the core is banned and held, and is not the one that is revoked.
+fn is_left_held(board: &Board, revoked: Option<u8>, core: u8) -> bool
+    requires { core < 128 }
+    ensures { (x : List Action) → Agrees board.now x → result ≡ refusals.is_left_held x revoked core }
+{
+    is_banned(board, core) && is_held(board, core) && !is_core(revoked, core)
+}
+
+/// The lowest core that is banned and held, and is not the one that is revoked.
+fn lowest_left_held(config: &Config, board: &Board, revoked: Option<u8>) -> Option<u8>
+    ensures { (x : List Action) → Agrees board.now x → result ≡ lowest_below (refusals.is_left_held x revoked) config.now.cores }
+{
+    config.limits();
+    for core in 0..config.machine().cores() {
+        if is_left_held(board, revoked, core) {
+            return Some(core);
+        }
+    }
+    None
+}
+
+/// Whether a core is revoked, and a thread of the task holds it.
+fn is_from(config: &Config, board: &Board, task: usize, revoked: Option<u8>) -> bool
+    requires table { IsTable config.now }
+    requires ready { IsReady config.now board.now }
+    requires core { IfSome revoked (λ core. core < 128) }
+    ensures { (x : List Action) → Agrees board.now x → result ≡ refusals.is_from config.now x task revoked }
+{
+    match revoked {
+        None => false,
+        Some(core) => holds_for(config, task, board.holding.holders[core as usize]),
+    }
+}
+
+/// Whether the best-effort task holds more than its cap, and does not lose a core.
+fn is_left_over(config: &Config, board: &Board, task: usize, revoked: Option<u8>) -> bool
+    requires table { IsTable config.now }
+    requires ready { IsReady config.now board.now }
+    requires core { IfSome revoked (λ core. core < 128) }
+    requires task { task < length config.now.tasks }
+    ensures { (x : List Action) → Agrees board.now x → result ≡ refusals.is_left_over config.now x revoked task }
+{
+    !is_latency_critical(config, task)
+        && cap_of(config, board, task) < held_by(config, board, task)
+        && !is_from(config, board, task, revoked)
+}
+
+/// The first best-effort task that holds more than its cap, and does not lose a core.
+fn lowest_left_over(config: &Config, board: &Board, revoked: Option<u8>) -> Option<usize>
+    requires table { IsTable config.now }
+    requires ready { IsReady config.now board.now }
+    requires core { IfSome revoked (λ core. core < 128) }
+    ensures lowest { (x : List Action) → Agrees board.now x → result ≡ lowest_below (refusals.is_left_over config.now x revoked) (length config.now.tasks) }
+    ensures own { IfSome result (λ task. task < length config.now.tasks) }
+{
+    for task in 0..config.tasks() {
+        if is_left_over(config, board, task, revoked) {
+            return Some(task);
+        }
+    }
+    None
+}
+
+/// What a ban or a cap left undone, and is not done where this core is revoked.
+fn left_undone(config: &Config, board: &Board, revoked: Option<u8>) -> Option<Why>
+    requires table { IsTable config.now }
+    requires ready { IsReady config.now board.now }
+    requires core { IfSome revoked (λ core. core < 128) }
+    ensures { (x : List Action) → Agrees board.now x → result ≡ refusals.left_undone config.now x revoked }
+{
+    config.limits();
+    if let Some(core) = lowest_left_held(config, board, revoked) {
+        return Some(Why::BannedHeld { core });
+    }
+    let task = lowest_left_over(config, board, revoked)?;
+    Some(Why::OverCap { task: task as u8 })
+}
+
+/// Notes the thread to which an action sends a command.
+fn note_sent(config: &Config, board: &Board, sent: &mut CoreSet, action: Action)
+    requires table { IsTable config.now }
+    requires ready { IsReady config.now board.now }
+    requires names { NamesTable config.now action }
+    ensures { (s : Setting) (acts : List Action) → Agrees board.now (so_far s acts) → IsSetOfSent sent.old s acts → IsSetOfSent sent.new s (acts ++ action ∷ []) }
+{
+    let _ = config;
+    match action {
+        Action::Grant { thread, .. } => sent.insert(thread),
+        Action::Revoke { core, .. } => {
+            if let Some(placement) = board.holding.granted[core as usize] {
+                sent.insert(placement.thread);
+            }
+        }
+        Action::Free { .. } => {}
+        Action::Unban { .. } => {}
+        Action::Ban { .. } => {}
+        Action::Cap { .. } => {}
+    }
+}
+
+impl Passing {
+    /// The state before any pass.
+    pub fn new() -> Passing
+        ensures agrees { Agrees result.board [] }
+        ensures keeping { KeepingAgrees result.board.keeping [] }
+        ensures ready { (table : Table) → IsReady table result.board }
+    {
+        Passing {
+            board: Board::new(),
+            sent: CoreSet::empty(),
+            made: 0,
+        }
+    }
+
+    /// A state like this one, to try actions on.
+    pub fn duplicate(&self) -> Passing
+        ensures { result ≡ self.now }
+    {
+        let board = self.board.duplicate();
+        Passing {
+            board,
+            sent: self.sent,
+            made: self.made,
+        }
+    }
+
+    /// Begins the pass on these looks.
+    pub fn begin(&mut self, seen: &[Seen])
+        requires { length seen.now ≤ 128 }
+        ensures inside { (table : Table) (h : List PassEntry) (input : Input) → seen.now ≡ input.seen → IsPermittedHistory table h →
+            Agrees self.old.board (actions_of h) → KeepingAgrees self.old.board.keeping (looks_of h) → IsInside self.new (setting table h input) [] }
+        ensures ready { (table : Table) → IsReady table self.old.board → IsReady table self.new.board }
+    {
+        self.board.begin(seen);
+        self.sent = CoreSet::empty();
+        self.made = 0;
+    }
+
+    /// What is wrong with the next action.
+    fn wrong_with(&self, config: &Config, input: &Input, action: Action) -> Option<Why>
+        requires table { IsTable config.now }
+        requires ready { IsReady config.now self.now.board }
+        requires rooms { length input.now.rooms ≡ threads_of_table config.now }
+        ensures names { IfNone result (NamesTable config.now action) }
+        ensures few { IfNone result (self.now.made < 338) }
+        ensures wrong { (h : List PassEntry) (acts : List Action) → let s = setting config.now h input.entry.now in
+            IsInside self.now s acts → result ≡ refusals.wrong_with s acts action }
+    {
+        if self.made >= MOST_ACTIONS {
+            return Some(Why::TooMany);
+        }
+        if !is_fit(config, &self.board, action) {
+            return Some(Why::DoesNotFit);
+        }
+        let revoked = core_revoked_by(action);
+        let made = wrong_to_make(config, input, &self.board, &self.sent, action);
+        made.or(left_undone(config, &self.board, revoked))
+    }
+
+    /// Takes a permitted action.
+    fn take(&mut self, config: &Config, action: Action)
+        requires table { IsTable config.now }
+        requires ready { IsReady config.now self.old.board }
+        requires names { NamesTable config.now action }
+        requires few { self.old.made < 338 }
+        ensures inside { (h : List PassEntry) (input : Input) (acts : List Action) → let s = setting config.now h input in
+            IsInside self.old s acts → IsPermitted s acts action → IsInside self.new s (acts ++ action ∷ []) }
+        ensures ready { IsReady config.now self.new.board }
+    {
+        note_sent(config, &self.board, &mut self.sent, action);
+        self.board.apply(config, action);
+        self.made += 1;
+    }
+
+    /// Takes these actions, each at its place, where each is permitted and the pass may end after them;
+    /// else names the first that is not.
+    pub fn take_each(
+        &mut self,
+        config: &Config,
+        input: &Input,
+        actions: &[Action],
+    ) -> Result<(), Refused>
+        requires table { IsTable config.now }
+        requires ready { IsReady config.now self.old.board }
+        requires rooms { length input.now.rooms ≡ threads_of_table config.now }
+        ensures exact { (h : List PassEntry) (acts : List Action) → let s = setting config.now h input.entry.now in
+            IsInside self.old s acts → IsOk result ↔ MayFollow s acts actions.now }
+        ensures inside { IsOk result → (h : List PassEntry) (acts : List Action) → let s = setting config.now h input.entry.now in
+            IsInside self.old s acts → IsInside self.new s (acts ++ actions.now) }
+        ensures first { IfErr result (λ refused. (h : List PassEntry) (acts : List Action) → let s = setting config.now h input.entry.now in
+            IsInside self.old s acts → IsFirstWrong s acts actions.now refused) }
+        ensures ready { IsReady config.now self.new.board }
+    {
+        for (place, action) in actions.iter().enumerate() {
+            if let Some(why) = self.wrong_with(config, input, *action) {
+                return Err(Refused { place, why });
+            }
+            self.take(config, *action);
+        }
+        if let Some(why) = left_undone(config, &self.board, None) {
+            let place = actions.len();
+            return Err(Refused { place, why });
+        }
+        Ok(())
+    }
+}
