@@ -1,6 +1,7 @@
 -- From what each thread keeps of its work to the account of the team.
-use Rattle.std.proofs.Common.{◌≡◌, ℕ, suc, ◌+◌, ◌<◌, ◌&&◌, Bool, true, false, nat_eq, Option, option_map, option_to_list, List, [], ◌∷◌, ◌++◌, map, length, sym, refl, ap, ◌∙◌, subst, arith}
+use Rattle.std.proofs.Common.{◌≡◌, ℕ, suc, ◌+◌, ◌-◌, ◌<◌, ◌&&◌, Bool, true, false, nat_eq, Option, option_map, option_to_list, List, [], ◌∷◌, ◌++◌, map, length, set, sym, refl, ap, ◌∙◌, subst, arith}
 use Rattle.std.proofs.lemmas.Bool.{eq-eqb, eqb-true}
+use Rattle.std.proofs.lemmas.List.{length_push}
 use mathlib.Core.Option.{some}
 use lib.ListN.{get_elem?}
 use Rattle.crossbeam_deque.proofs.Lists.{at_map}
@@ -13,11 +14,12 @@ use Rattle.cal_kthread.specs.declared.kernel_end.KernelEnd.{KernelEnd}
 use Rattle.cal_kthread.specs.declared.victims.Victim.{Victim}
 use Rattle.cal_kthread.specs.declared.waiting.Waiting.{Waiting}
 use Rattle.cal_kthread.specs.Account.{IsAccounted, KeepsItsWork, IsSettled, IsDrained, Gathers, HasArrived, stripped, taken_of, stolen_weight, handed_of, kept_of, victims_at, times, names_of, requests_of, waiting_names, StaysSettled}
+use Rattle.cal_kthread.specs.HandingOut.{HandsOutSome}
 use Rattle.cal_kthread.specs.Journal.{arrivals_of, served_of}
 use Rattle.cal_kthread.specs.Places.{Each, one_if}
 use Rattle.cal_kthread.specs.Queues.{QueueId}
-use Rattle.cal_kthread.specs.QueueRule.{weigh}
-use Rattle.cal_kthread.specs.Rests.{RestView, HandsOutOf}
+use Rattle.cal_kthread.specs.QueueRule.{weigh, TookWhatCame}
+use Rattle.cal_kthread.specs.Rests.{RestView, HandsOut, HandsOutOf, to_hand_out}
 use Rattle.cal_kthread.specs.Teams.{Place, place_of_rest, thief_place, lent, lent_to}
 use Rattle.cal_kthread.proofs.Weights.{weigh-append, weigh-set, weigh-one-more, weigh-map, weigh-each, weigh-plus, member, heavy, each-set, map-append, map-at, within, at-get_or}
 
@@ -97,40 +99,87 @@ module _ (before after : List KernelEnd) (work : Each KeepsItsWork before) (gath
         let d = gathered.taken h in let e = same-sum (handed_of h) in let f = gone.2 h in let g = same-sum (kept_of h) in omega (arith, a, b, c, d, e, f, g);
   }
 
--- what a step of handing out keeps
-abbrev Moves : RestView → RestView → Type 0
-Moves before after = (after.queue.shares ≡ before.queue.shares) × (after.queue.pushed ≡ before.queue.pushed) × (after.queue.had ≡ before.queue.had)
-    × ((h : Waiting → ℕ) → weigh h after.queue.handed + (weigh h before.held + weigh h before.left) ≡ weigh h before.queue.handed + (weigh h after.held + weigh h after.left))
-
-moved : (held : List Waiting) (w : Waiting) (before after : RestView) → before.held ≡ held → HandsOutOf held w before after → Moves before after
-moved [] w before after empty is = (
-  ap (λ (r : RestView). r.queue.shares) is,
-  ap (λ (r : RestView). r.queue.pushed) is,
-  ap (λ (r : RestView). r.queue.had) is,
-  λ h. let a : weigh h after.queue.handed ≡ weigh h (before.queue.handed ++ w ∷ []) = ap (λ (r : RestView). weigh h r.queue.handed) is in
+-- a step of handing out
+pub moved : (held : List Waiting) (w : Waiting) (before after : RestView) → before.held ≡ held → HandsOutOf held w before after → HandsOutSome before after
+moved [] w before after empty is = record {
+  place = ap place_of_rest is;
+  victims = ap (λ (r : RestView). r.victims) is;
+  pushed = ap (λ (r : RestView). r.queue.pushed) is;
+  had = ap (λ (r : RestView). r.queue.had) is;
+  kept = λ h. let a : weigh h after.queue.handed ≡ weigh h (before.queue.handed ++ w ∷ []) = ap (λ (r : RestView). weigh h r.queue.handed) is in
       let b = weigh-one-more h before.queue.handed w in let c : weigh h after.held ≡ weigh h before.held = ap (λ (r : RestView). weigh h r.held) is in
-      let d : weigh h after.left ≡ weigh h (before.left ++ w ∷ []) = ap (λ (r : RestView). weigh h r.left) is in let e = weigh-one-more h before.left w in omega (arith, a, b, c, d, e),
-)
-moved (x ∷ xs) w before after holds (same, is) = (
-  ap (λ (r : RestView). r.queue.shares) is,
-  ap (λ (r : RestView). r.queue.pushed) is,
-  ap (λ (r : RestView). r.queue.had) is,
-  λ h. let a : weigh h after.queue.handed ≡ weigh h before.queue.handed = ap (λ (r : RestView). weigh h r.queue.handed) is in
+      let d : weigh h after.left ≡ weigh h (before.left ++ w ∷ []) = ap (λ (r : RestView). weigh h r.left) is in let e = weigh-one-more h before.left w in omega (arith, a, b, c, d, e);
+}
+moved (x ∷ xs) w before after holds (same, is) = record {
+  place = ap place_of_rest is;
+  victims = ap (λ (r : RestView). r.victims) is;
+  pushed = ap (λ (r : RestView). r.queue.pushed) is;
+  had = ap (λ (r : RestView). r.queue.had) is;
+  kept = λ h. let a : weigh h after.queue.handed ≡ weigh h before.queue.handed = ap (λ (r : RestView). weigh h r.queue.handed) is in
       let b : weigh h before.held ≡ h x + weigh h xs = ap (weigh h) holds in let c : weigh h after.held ≡ weigh h xs = ap (λ (r : RestView). weigh h r.held) is in
       let d : weigh h after.left ≡ weigh h (before.left ++ w ∷ []) = ap (λ (r : RestView). weigh h r.left) is in let e = weigh-one-more h before.left w in
-      let f : h w ≡ h x = ap h same in omega (arith, a, b, c, d, e, f),
-)
+      let f : h w ≡ h x = ap h same in omega (arith, a, b, c, d, e, f);
+}
 
-pub stays-settled : StaysSettled
-stays-settled ends k e after w settled at hands is = let m = moved e.rest.held w e.rest after.rest refl hands in let j : after.journal ≡ e.journal = ap (λ (x : KernelEnd). x.journal) is in record {
+abbrev one_each : Waiting → ℕ
+one_each w = 1
+
+pub weigh-length : (ws : List Waiting) → weigh one_each ws ≡ length ws
+weigh-length [] = refl
+weigh-length (w ∷ ws) = let e = weigh-length ws in omega (arith, e)
+
+module _ (before after : KernelEnd) (w : Waiting) (hands : HandsOut w before.rest after.rest) where
+  abbrev step : HandsOutSome before.rest after.rest
+  step = moved before.rest.held w before.rest after.rest refl hands
+
+  -- what it handed out is handed on from what it kept
+  pub keeps-work : after ≡ record before { rest = after.rest } → KeepsItsWork before → KeepsItsWork after
+  keeps-work is work = let m = step in let j : after.journal ≡ before.journal = ap (λ (x : KernelEnd). x.journal) is in record {
+    gone = work.gone;
+    arrived = ap requests_of m.pushed ∙ work.arrived ∙ sym (ap arrivals_of j);
+    served = work.served ∙ sym (ap served_of j);
+    kept = λ h. let a = work.kept h in let b = m.kept h in let c = ap (weigh h) m.had in let d = ap (stolen_weight h) m.victims in omega (arith, a, b, c, d);
+  }
+
+-- each request that is handed out leaves one fewer
+fewer-of : (held : List Waiting) (w : Waiting) (before after : RestView) → before.held ≡ held → HandsOutOf held w before after
+    → (before.held ≡ [] → TookWhatCame after.queue.pushed after.queue.had after.queue.handed) → to_hand_out after + 1 ≡ to_hand_out before
+fewer-of [] w before after empty is came =
+    let a : length after.queue.handed ≡ length (before.queue.handed ++ w ∷ []) = ap (λ (r : RestView). length r.queue.handed) is in
+    let b = length_push before.queue.handed w in
+    let c : length after.held ≡ length before.held = ap (λ (r : RestView). length r.held) is in
+    let d : length after.queue.pushed ≡ length before.queue.pushed = ap (λ (r : RestView). length r.queue.pushed) is in
+    let e : length after.queue.had ≡ length before.queue.had = ap (λ (r : RestView). length r.queue.had) is in
+    let f = came empty one_each in let g = weigh-length after.queue.pushed in let i = weigh-length after.queue.had in let j = weigh-length after.queue.handed in
+    omega (arith, a, b, c, d, e, f, g, i, j)
+fewer-of (x ∷ xs) w before after holds (same, is) came =
+    let a : length after.queue.handed ≡ length before.queue.handed = ap (λ (r : RestView). length r.queue.handed) is in
+    let b : length before.held ≡ length xs + 1 = ap length holds ∙ (let e : length (x ∷ xs) ≡ length xs + 1 = omega arith in e) in
+    let c : length after.held ≡ length xs = ap (λ (r : RestView). length r.held) is in
+    let d : length after.queue.pushed ≡ length before.queue.pushed = ap (λ (r : RestView). length r.queue.pushed) is in
+    let e : length after.queue.had ≡ length before.queue.had = ap (λ (r : RestView). length r.queue.had) is in
+    omega (arith, a, b, c, d, e)
+
+pub one-fewer : (w : Waiting) (before after : RestView) → HandsOut w before after
+    → (before.held ≡ [] → TookWhatCame after.queue.pushed after.queue.had after.queue.handed) → to_hand_out after + 1 ≡ to_hand_out before
+one-fewer w before after hands came = fewer-of before.held w before after refl hands came
+
+-- what one end hands out leaves the team settled
+pub still-settled : (ends : List KernelEnd) (k : ℕ) (e after : KernelEnd) → IsSettled ends → get_elem? ends k ≡ some e
+    → HandsOutSome e.rest after.rest → after.journal ≡ e.journal → IsSettled (set ends k after)
+still-settled ends k e after settled at m j = record {
   gone = settled.gone;
   arrived = each-set (λ (x : KernelEnd). requests_of x.rest.queue.pushed ≡ arrivals_of x.journal) ends k after settled.arrived
-      (ap requests_of m.1 ∙ settled.arrived k e at ∙ sym (ap arrivals_of j));
+      (ap requests_of m.pushed ∙ settled.arrived k e at ∙ sym (ap arrivals_of j));
   served = λ p. let a = settled.served p in let b = weigh-set (served_weight p) ends k e after at in let c : served_weight p after ≡ served_weight p e = ap (λ (l : List Entry). weigh p (served_of l)) j in omega (arith, a, b, c);
-  shares = each-set (λ (x : KernelEnd). x.rest.queue.shares ≡ 16) ends k after settled.shares (m.0 ∙ settled.shares k e at);
+  shares = each-set (λ (x : KernelEnd). x.rest.queue.shares ≡ 16) ends k after settled.shares (ap (λ (p : Place). p.shares) m.place ∙ settled.shares k e at);
   kept = λ h. let a = settled.kept h in let b = weigh-set (queued h) ends k e after at in let c = weigh-set (kept_of h) ends k e after at in
-      let d = ap (weigh h) m.2 in let f = m.3 h in omega (arith, a, b, c, d, f);
+      let d = ap (weigh h) m.had in let f = m.kept h in omega (arith, a, b, c, d, f);
 }
+
+pub stays-settled : StaysSettled
+stays-settled ends k e after w settled at hands is =
+    still-settled ends k e after settled at (moved e.rest.held w e.rest after.rest refl hands) (ap (λ (x : KernelEnd). x.journal) is)
 
 one-true : (b : Bool) → 0 < one_if b → b ≡ true
 one-true true p = refl

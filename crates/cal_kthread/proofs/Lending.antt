@@ -6,7 +6,7 @@ use mathlib.Core.Option.{some}
 use lib.ListN.{get_elem?}
 use Rattle.crossbeam_deque.proofs.Lists.{at_set, at_snoc, at_map}
 use Rattle.cal_kthread.specs.Agreement.{Agrees}
-use Rattle.cal_kthread.specs.Linking.{Lends, unlinked, numbers_at, shares_at, thieves_of}
+use Rattle.cal_kthread.specs.Linking.{Lends, StoleNothing, unlinked, numbers_at, shares_at, thieves_of}
 use Rattle.cal_kthread.specs.Places.{Each, one_if}
 use Rattle.cal_kthread.specs.Queues.{QueueId}
 use Rattle.cal_kthread.specs.QueueRule.{weigh}
@@ -101,7 +101,7 @@ module _ (threads : List KernelView) (owner : ℕ) (lender lent_from : KernelVie
 
   module _ (team : IsTeam (map place threads)) (at : get_elem? threads owner ≡ some lender) (shares : 1 < shares_at owner threads)
       (lent_is : lent_from ≡ record lender { thread = record lender.thread { queue = record lender.thread.queue { shares = lender.thread.queue.shares - 1 } } })
-      (there : get_elem? middle robber ≡ some taker) (number : v.number ≡ owner) (thief : v.thief.queue ≡ lender.thread.queue.queue)
+      (there : get_elem? middle robber ≡ some taker) (number : v.number ≡ owner) (fresh : v.thief.had ≡ []) (thief : v.thief.queue ≡ lender.thread.queue.queue)
       (robbing_is : robbing_now ≡ record taker { thread = record taker.thread { victims = taker.thread.victims ++ v ∷ [] } }) where
     place-lent : place lent_from ≡ record (place lender) { shares = (place lender).shares - 1 }
     place-lent = ap place lent_is
@@ -153,6 +153,14 @@ module _ (threads : List KernelView) (owner : ℕ) (lender lent_from : KernelVie
     robber-within = let a = within (map thieves_of middle) robber (thieves_of taker) (at_map thieves_of middle robber taker there) in
         let b : length (map thieves_of middle) ≡ length (map thieves_of threads) = ap (λ (l : List (List ℕ)). length l) (map-set-like thieves_of threads owner lender lent_from at (ap thieves_of lent_is)) in omega (arith, a, b)
 
+    middle-idle : Each StoleNothing threads → Each StoleNothing middle
+    middle-idle idle = each-set StoleNothing threads owner lent_from idle
+        (subst (λ vs. Each (λ (x : Victim). x.thief.had ≡ []) vs) (sym (ap (λ (t : KernelView). t.thread.victims) lent_is)) (idle owner lender at))
+
+    robbing-idle : StoleNothing taker → StoleNothing robbing_now
+    robbing-idle idle = subst (λ vs. Each (λ (x : Victim). x.thief.had ≡ []) vs) (sym (ap (λ (t : KernelView). t.thread.victims) robbing_is))
+        (λ i x e. ⊎_elim (idle i x) (λ (same : v ≡ x). subst (λ (y : Victim). y.thief.had ≡ []) same fresh) (at_snoc taker.thread.victims v x i e))
+
     pub lends : Lends robber owner threads linked
     lends = record {
       team = team-linked;
@@ -165,4 +173,5 @@ module _ (threads : List KernelView) (owner : ℕ) (lender lent_from : KernelVie
           let b = get_or-set_same (map shares_of threads) owner (shares_of lent_from) 0 w in
           let c : shares_of lent_from ≡ lender.thread.queue.shares - 1 = ap shares_of lent_is in let d = lender-shares in omega (arith, a, b, c, d, shares);
       others_lend = λ i apart. ap (λ (l : List ℕ). get_or l i 0) lends-linked ∙ get_or-set_other (map shares_of threads) owner i (shares_of lent_from) 0 apart;
+      thieves = λ idle. each-set StoleNothing middle robber robbing_now (middle-idle idle) (robbing-idle (middle-idle idle robber taker there));
     }

@@ -3,9 +3,13 @@ pub mod Publishing
 pub mod Robbing
 pub mod Stepping
 pub mod Journals
+pub mod JournalParts
 pub mod Agreeing
 pub mod Turning
+pub mod Turns
 pub mod Accounts
+pub mod HandingOut
+pub mod OnePlace
 pub mod Lending
 pub mod Rounds
 pub mod OpenedTeams

@@ -9,7 +9,7 @@ use Rattle.cal_command.specs.Rings.{SenderView}
 use Rattle.cal_machine.specs.Tasks.{first_thread, task_at}
 use Rattle.cal_machine.specs.declared.task.Task.{Task}
 use Rattle.cal_signal.specs.Ends.{ObserverView}
-use Rattle.cal_kthread.specs.Linking.{Links, IsLinked, unlinked, numbers_at, shares_at, thieves_of}
+use Rattle.cal_kthread.specs.Linking.{Links, IsLinked, StoleNothing, unlinked, numbers_at, shares_at, thieves_of}
 use Rattle.cal_kthread.specs.Opening.{AreOpened}
 use Rattle.cal_kthread.specs.Places.{Each, one_if}
 use Rattle.cal_kthread.specs.Queues.{QueueId}
@@ -17,7 +17,7 @@ use Rattle.cal_kthread.specs.Teams.{Place, IsTeam, place_of, lent, lent_to, thie
 use Rattle.cal_kthread.specs.Threads.{KernelView, IsFresh}
 use Rattle.cal_kthread.specs.declared.victims.Victim.{Victim}
 use Rattle.cal_kthread.specs.QueueRule.{weigh}
-use Rattle.cal_kthread.proofs.Weights.{map-append, map-at, at-get_or, within}
+use Rattle.cal_kthread.proofs.Weights.{map-append, map-at, same-through, at-get_or, within}
 
 at-end : {T : Type 0} (xs : List T) (y x : T) (k : ℕ) → get_elem? (xs ++ y ∷ []) k ≡ some x → (get_elem? xs k ≡ some x) ⊎ ((k ≡ length xs) × (y ≡ x))
 at-end [] y x zero e = inr (refl, some-injective y x e)
@@ -34,16 +34,25 @@ both-more f g xs ys x y all here = map-append f xs (x ∷ []) ∙ (λ i. all i +
 still-fresh : (t : KernelView) → IsFresh t → IsFresh (unlinked t)
 still-fresh t f = record { journal = f.journal; published = f.published; taken = f.taken; shares = refl; pushed = f.pushed; had = f.had; handed = f.handed; victims = refl; core = f.core; current = f.current; front = f.front; misses = f.misses }
 
+-- without thieves nothing was stolen
+fresh-idle : (t : KernelView) → IsFresh t → StoleNothing t
+fresh-idle t f k v e = absurd (some-ne-none v (sym (subst (λ vs. get_elem? vs k ≡ some v) f.victims e)))
+
+pub all-idle : (threads : List KernelView) → Each IsFresh threads → Each StoleNothing threads
+all-idle threads fresh k t e = fresh-idle t (fresh k t e)
+
 pub none-opened : AreOpened [] [] [] []
 none-opened = record {
   numbers = λ k t e. absurd (some-ne-none t (sym e));
   fresh = λ k t e. absurd (some-ne-none t (sym e));
+  thieves = λ k t e. absurd (some-ne-none t (sym e));
   observed = refl;
   watched = refl;
   rings = refl;
   unseen = λ k t e. absurd (some-ne-none t (sym e));
   unwatched = λ k t e. absurd (some-ne-none t (sym e));
   unsent = λ k t e. absurd (some-ne-none t (sym e));
+  free = λ k t e. absurd (some-ne-none t (sym e));
 }
 
 pub none-fresh : Each IsFresh []
@@ -51,17 +60,19 @@ none-fresh k t e = absurd (some-ne-none t (sym e))
 
 pub one-more : (ts : List KernelView) (os : List ObserverView) (ss : List SenderView) (ws : List ObserverView) (t : KernelView) (o : ObserverView) (s : SenderView) (w : ObserverView)
     → AreOpened ts os ss ws → t.number ≡ length ts → IsFresh t → (t.thread.publisher.page ≡ o.page) × (t.thread.publisher.page ≡ w.page)
-    → (o.loads ≡ []) × (o.looks ≡ []) × (w.loads ≡ []) × (w.looks ≡ []) → (t.thread.taker.ring ≡ s.ring) × (s.sent ≡ [])
+    → (o.loads ≡ []) × (o.looks ≡ []) × (w.loads ≡ []) × (w.looks ≡ []) → (t.thread.taker.ring ≡ s.ring) × (s.sent ≡ []) × (s.free ≡ 4)
     → AreOpened (ts ++ t ∷ []) (os ++ o ∷ []) (ss ++ s ∷ []) (ws ++ w ∷ [])
 one-more ts os ss ws t o s w a number fresh page unseen ring = record {
   numbers = λ k x e. ⊎_elim (a.numbers k x) (λ (u : (k ≡ length ts) × (t ≡ x)). sym (ap (λ (y : KernelView). y.number) u.1) ∙ number ∙ sym u.0) (at-end ts t x k e);
   fresh = each-more (λ (x : KernelView). IsFresh (unlinked x)) ts t a.fresh (still-fresh t fresh);
+  thieves = each-more StoleNothing ts t a.thieves (fresh-idle t fresh);
   observed = both-more (λ (x : ObserverView). x.page) (λ (x : KernelView). x.thread.publisher.page) os ts o t a.observed (sym page.0);
   watched = both-more (λ (x : ObserverView). x.page) (λ (x : KernelView). x.thread.publisher.page) ws ts w t a.watched (sym page.1);
   rings = both-more (λ (x : SenderView). x.ring) (λ (x : KernelView). x.thread.taker.ring) ss ts s t a.rings (sym ring.0);
   unseen = each-more (λ (x : ObserverView). (x.loads ≡ []) × (x.looks ≡ [])) os o a.unseen (unseen.0, unseen.1);
   unwatched = each-more (λ (x : ObserverView). (x.loads ≡ []) × (x.looks ≡ [])) ws w a.unwatched (unseen.2, unseen.3);
   unsent = each-more (λ (x : SenderView). x.sent ≡ []) ss s a.unsent ring.1;
+  free = each-more (λ (x : SenderView). x.free ≡ 4) ss s a.free ring.2;
 }
 
 pub more-fresh : (ts : List KernelView) (t : KernelView) → Each IsFresh ts → IsFresh t → Each IsFresh (ts ++ t ∷ [])
@@ -69,27 +80,25 @@ more-fresh = each-more IsFresh
 
 -- what is opened stays so when thieves are given
 pub opened-linked : (before after : List KernelView) (os : List ObserverView) (ss : List SenderView) (ws : List ObserverView) → AreOpened before os ss ws
-    → map unlinked after ≡ map unlinked before → AreOpened after os ss ws
-opened-linked before after os ss ws a same = record {
+    → map unlinked after ≡ map unlinked before → Each StoleNothing after → AreOpened after os ss ws
+opened-linked before after os ss ws a same idle = record {
   numbers = λ k t e. let o = was k t e in sym (ap (λ (x : KernelView). x.number) o.2) ∙ a.numbers k o.0 o.1;
   fresh = λ k t e. let o = was k t e in subst IsFresh o.2 (a.fresh k o.0 o.1);
+  thieves = idle;
   observed = a.observed ∙ sym (pages (λ (x : KernelView). x.thread.publisher.page));
   watched = a.watched ∙ sym (pages (λ (x : KernelView). x.thread.publisher.page));
   rings = a.rings ∙ sym (pages (λ (x : KernelView). x.thread.taker.ring));
   unseen = a.unseen;
   unwatched = a.unwatched;
   unsent = a.unsent;
+  free = a.free;
 }
   where
     was : (k : ℕ) (t : KernelView) → get_elem? after k ≡ some t → (o : KernelView) × (get_elem? before k ≡ some o) × (unlinked o ≡ unlinked t)
     was k t e = map-at unlinked before k (unlinked t) (subst (λ l. get_elem? l k ≡ some (unlinked t)) same (at_map unlinked after k t e))
 
-    map-map : {U : Type 0} (f : KernelView → U) (xs : List KernelView) → map f (map unlinked xs) ≡ map (λ x. f (unlinked x)) xs
-    map-map f [] = refl
-    map-map f (x ∷ xs) = ap (λ us. f (unlinked x) ∷ us) (map-map f xs)
-
     pages : {U : Type 0} (f : KernelView → U) → map (λ x. f (unlinked x)) after ≡ map (λ x. f (unlinked x)) before
-    pages f = sym (map-map f after) ∙ ap (map f) same ∙ map-map f before
+    pages f = same-through f unlinked after before same
 
 abbrev Untouched : ℕ → List KernelView → Type 0
 Untouched k threads = (numbers_at k threads ≡ []) × (shares_at k threads ≡ 16)
@@ -142,6 +151,7 @@ first-before tasks s (suc t) before h = let n = first-suc tasks t (omega (arith,
 pub record LinkedUpTo (tasks : List Task) (t : ℕ) (start threads : List KernelView) : Type 0 where
   pub team : IsTeam (map place threads)
   pub same : map unlinked threads ≡ map unlinked start
+  pub idle : Each StoleNothing threads
   pub done : (s : ℕ) → s < t → IsLinked (first_thread tasks s) (task_at tasks s).limit ((task_at tasks s).limit - 1) threads
   pub due : (k : ℕ) → first_thread tasks t ≤ k → k < length threads → Untouched k threads
 
@@ -149,6 +159,7 @@ pub none-linked : (tasks : List Task) (threads : List KernelView) → Each IsFre
 none-linked tasks threads fresh = record {
   team = fresh-team threads fresh;
   same = refl;
+  idle = all-idle threads fresh;
   done = λ s before. absurd (omega (arith, before));
   due = λ k _ within. untouched threads fresh k within;
 }
@@ -166,6 +177,7 @@ pub one-more-linked : (tasks : List Task) (t : ℕ) (start before after : List K
 one-more-linked tasks t start before after within long so_far links linked = record {
   team = links.team;
   same = links.same ∙ so_far.same;
+  idle = links.thieves so_far.idle;
   done = λ s h. elim (ℕ_discrete s t) [
     | yes e ↦ subst (λ (m : ℕ). IsLinked (first_thread tasks m) (task_at tasks m).limit ((task_at tasks m).limit - 1) after) (sym e) linked
     | no differ ↦ let b = first-before tasks s t (omega (arith, h, differ)) (omega (arith, within)) in let l = so_far.done s (omega (arith, h, differ)) in record {

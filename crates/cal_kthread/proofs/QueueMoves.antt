@@ -7,7 +7,7 @@ use Rattle.crossbeam_deque.proofs.Lists.{at_set, at_snoc}
 use Rattle.cal_kthread.proofs.Weights.{weigh-append, weigh-set, weigh-one-more, member}
 use Rattle.cal_kthread.specs.declared.knowledge.Knowledge.{Knowledge}
 use Rattle.cal_kthread.specs.declared.waiting.Waiting.{Waiting}
-use Rattle.cal_kthread.specs.QueueRule.{weigh, knows, pushed_weight, taken_weight, IdleIsEmpty, Balanced, AllTaken}
+use Rattle.cal_kthread.specs.QueueRule.{weigh, knows, pushed_weight, taken_weight, IdleIsEmpty, Balanced, AllTaken, TookWhatCame}
 
 module _ {V : Type 0} where
   abbrev Empty : (V → ℕ) → (V → ℕ) → List V → Type 0
@@ -36,6 +36,13 @@ idle-set views port w mine others j u e = ⊎_elim (λ (t : (j ≡ port) × (w �
 
 idle-taken : (h : Waiting → ℕ) (v : Knowledge) → Bare v → taken_weight h v ≡ 0
 idle-taken h v bare = let a = ap (weigh h) bare.1 in let b = ap (weigh h) bare.2 in omega arith
+
+-- an end with all shares knows what the queue holds
+whole : (port : ℕ) (v : Knowledge) (items : List Waiting) (views : List Knowledge) → Balanced items views → get_elem? views port ≡ some v → v.shares ≡ 16
+    → (h : Waiting → ℕ) → weigh h v.pushed ≡ weigh h v.had + weigh h v.handed + weigh h items
+whole port v items views b at all h = let p = b.account h in
+    let s = alone shares_of (pushed_weight h) views port v at (b.shares ∙ sym all) (λ j u e z. ap (weigh h) (b.idle j u e z).0) in
+    let t = alone shares_of (taken_weight h) views port v at (b.shares ∙ sym all) (λ j u e z. idle-taken h u (b.idle j u e z)) in omega (arith, p, s, t)
 
 pub begins : Balanced [] (knows 16 [] [] [] ∷ [])
 begins = record { shares = refl; account = λ h. refl; idle = λ j v e z. let is : 16 ≡ v.shares = ap shares_of (only j v e) in absurd (omega arith) }
@@ -76,9 +83,18 @@ pub takes : (port : ℕ) (v : Knowledge) → 0 < v.shares → Takes Balanced por
 takes port v some_shares = gains port v (λ xs. knows v.shares v.pushed (v.had ++ xs) v.handed) some_shares (λ _. refl) (λ _. refl)
     (λ h xs. let m = weigh-append h v.had xs in omega arith)
 
-pub hands_out : (port : ℕ) (v : Knowledge) → 0 < v.shares → Takes Balanced port v 1 (λ xs w. w ≡ knows v.shares v.pushed v.had (v.handed ++ xs))
-hands_out port v some_shares = gains port v (λ xs. knows v.shares v.pushed v.had (v.handed ++ xs)) some_shares (λ _. refl) (λ _. refl)
-    (λ h xs. let m = weigh-append h v.handed xs in omega arith)
+pub hands_out : (port : ℕ) (v : Knowledge) → 0 < v.shares
+    → Takes Balanced port v 1 (λ xs w. (w ≡ knows v.shares v.pushed v.had (v.handed ++ xs)) × (v.shares ≡ 16 → TookWhatCame v.pushed v.had (v.handed ++ xs)))
+hands_out port v some_shares xs items views some_left one b at =
+    let g = gains port v (λ xs. knows v.shares v.pushed v.had (v.handed ++ xs)) some_shares (λ _. refl) (λ _. refl)
+    (λ h xs. let m = weigh-append h v.handed xs in omega arith) xs items views some_left one b at in (
+      g.0,
+      g.1,
+      (
+        g.2,
+        λ all h. let w = whole port v (xs ++ items) views b at all h in let m = weigh-append h xs items in let n = weigh-append h v.handed xs in omega (arith, w, m, n),
+      ),
+    )
 
 pub forks : (port : ℕ) (v : Knowledge) → 1 < v.shares → Forks Balanced port v (knows (v.shares - 1) v.pushed v.had v.handed) (knows 1 [] [] [])
 forks port v more items views b at = let l : Knowledge = knows (v.shares - 1) v.pushed v.had v.handed in let r : Knowledge = knows 1 [] [] [] in record {
@@ -101,6 +117,4 @@ merges port v other u some_shares no_push none_handed items views b at apart the
 
 -- an end with all shares that finds nothing knows that all was taken
 pub finds : (port : ℕ) (v : Knowledge) → Finds Balanced port v (v.shares ≡ 16 → AllTaken v.pushed v.had v.handed)
-finds port v views b at all h = let p = b.account h in
-    let s = alone shares_of (pushed_weight h) views port v at (b.shares ∙ sym all) (λ j u e z. ap (weigh h) (b.idle j u e z).0) in
-    let t = alone shares_of (taken_weight h) views port v at (b.shares ∙ sym all) (λ j u e z. idle-taken h u (b.idle j u e z)) in omega arith
+finds port v views b at all h = let w = whole port v [] views b at all h in omega (arith, w)

@@ -76,13 +76,14 @@ ends first count distance owner threads far all round = record {
 }
 
 pub links-none : (first count : ℕ) (threads : List KernelView) → IsTeam (map (λ k. place_of k.thread) threads) → Links first count threads threads
-links-none first count threads team = record { team = team; same = refl; outside = λ k apart. (refl, refl) }
+links-none first count threads team = record { team = team; same = refl; outside = λ k apart. (refl, refl); thieves = λ idle. idle }
 
 pub links-more : (first count : ℕ) (a b c : List KernelView) → Links first count a b → Links first count b c → Links first count a c
 links-more first count a b c ab bc = record {
   team = bc.team;
   same = bc.same ∙ ab.same;
   outside = λ k apart. ((bc.outside k apart).0 ∙ (ab.outside k apart).0, (bc.outside k apart).1 ∙ (ab.outside k apart).1);
+  thieves = λ idle. bc.thieves (ab.thieves idle);
 }
 
 pub one-link : (first count robber owner : ℕ) (b c : List KernelView) → robber < count → owner < count → Lends (first + robber) (first + owner) b c → Links first count b c
@@ -90,4 +91,5 @@ one-link first count robber owner b c robber_within owner_within lends = record 
   team = lends.team;
   same = lends.same;
   outside = λ k apart. (lends.others_rob k (λ e. let h = apart (omega (arith, e)) in omega (arith, h, e, robber_within)), lends.others_lend k (λ e. let h = apart (omega (arith, e)) in omega (arith, h, e, owner_within)));
+  thieves = lends.thieves;
 }

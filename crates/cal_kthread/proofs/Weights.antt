@@ -81,3 +81,12 @@ module _ {T : Type 0} where
   at-within [] i d h = absurd (omega (arith, h))
   at-within (x ∷ xs) zero d h = refl
   at-within (x ∷ xs) (suc i) d h = at-within xs i d (omega (arith, h))
+
+module _ {T U V : Type 0} where
+  map-through : (f : U → V) (g : T → U) (xs : List T) → map f (map g xs) ≡ map (λ x. f (g x)) xs
+  map-through f g [] = refl
+  map-through f g (x ∷ xs) = ap (λ (vs : List V). f (g x) ∷ vs) (map-through f g xs)
+
+  -- lists that are the same through g are the same through all that g leaves as it was
+  pub same-through : (f : U → V) (g : T → U) (xs ys : List T) → map g xs ≡ map g ys → map (λ x. f (g x)) xs ≡ map (λ y. f (g y)) ys
+  same-through f g xs ys same = sym (map-through f g xs) ∙ ap (map f) same ∙ map-through f g ys

@@ -1,13 +1,17 @@
 pub mod QueueRule
 pub mod Queues
 pub mod Journal
+pub mod Journals
 pub mod Threads
 pub mod Turn
+pub mod Turns
 pub mod Agreement
 pub mod Rests
 pub mod Places
 pub mod Teams
 pub mod Account
+pub mod HandingOut
+pub mod OnePlace
 pub mod TeamTurns
 pub mod Linking
 pub mod Opening

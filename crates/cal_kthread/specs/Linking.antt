@@ -1,6 +1,7 @@
 -- Who steals from whom in a new team.
 use Rattle.std.specs.Prelude.{◌≡◌, ℕ, zero, suc, ◌+◌, ◌-◌, ◌<◌, ◌≤◌, ◌≢◌, nat_lt, if◌then◌else◌, List, [], ◌∷◌, ◌++◌, map, slice_index, slice_index_or}
 use Rattle.cal_kthread.specs.declared.victims.Victim.{Victim}
+use Rattle.cal_kthread.specs.Places.{Each}
 use Rattle.cal_kthread.specs.Teams.{IsTeam, place_of}
 use Rattle.cal_kthread.specs.Threads.{KernelView}
 
@@ -19,6 +20,10 @@ shares_at k threads = slice_index (map (λ (t : KernelView). t.thread.queue.shar
 abbrev pub unlinked : KernelView → KernelView
 unlinked k = record k { thread = record k.thread { queue = record k.thread.queue { shares = 16 }; victims = [] } }
 
+-- the thread's thieves have stolen nothing
+abbrev pub StoleNothing : KernelView → Type 0
+StoleNothing k = Each (λ (v : Victim). v.thief.had ≡ []) k.thread.victims
+
 -- One share of the owner's queue went to a thief of the robber, and nothing else changed.
 pub record Lends (robber owner : ℕ) (before after : List KernelView) : Type 0 where
   pub team : IsTeam (map (λ k. place_of k.thread) after)
@@ -27,12 +32,14 @@ pub record Lends (robber owner : ℕ) (before after : List KernelView) : Type 0 
   pub others_rob : (k : ℕ) → k ≢ robber → numbers_at k after ≡ numbers_at k before
   pub lends : shares_at owner after + 1 ≡ shares_at owner before
   pub others_lend : (k : ℕ) → k ≢ owner → shares_at k after ≡ shares_at k before
+  pub thieves : Each StoleNothing before → Each StoleNothing after
 
 -- Shares went to thieves within the threads from `first` on, of which there are `count`; nothing else changed.
 pub record Links (first count : ℕ) (before after : List KernelView) : Type 0 where
   pub team : IsTeam (map (λ k. place_of k.thread) after)
   pub same : map unlinked after ≡ map unlinked before
   pub outside : (k : ℕ) → (first ≤ k → first + count ≤ k) → (numbers_at k after ≡ numbers_at k before) × (shares_at k after ≡ shares_at k before)
+  pub thieves : Each StoleNothing before → Each StoleNothing after
 
 -- a place in a task of this many threads, counted on past the last to the first
 abbrev pub wrapped : ℕ → ℕ → ℕ

@@ -1,5 +1,5 @@
 -- The rule of a queue: what all its ends pushed is what they took and what the queue holds.
-use Rattle.std.specs.Prelude.{◌≡◌, ℕ, ◌+◌, List, [], ◌∷◌}
+use Rattle.std.specs.Prelude.{◌≡◌, ℕ, ◌+◌, ◌≤◌, List, [], ◌∷◌}
 use mathlib.Core.Option.{some}
 use lib.ListN.{get_elem?}
 use Rattle.cal_kthread.specs.declared.knowledge.Knowledge.{Knowledge}
@@ -35,3 +35,7 @@ pub record Balanced (items : List Waiting) (views : List Knowledge) : Type 0 whe
 -- what was pushed was taken or handed out, each as often
 abbrev pub AllTaken : List Waiting → List Waiting → List Waiting → Type 0
 AllTaken pushed had handed = (h : Waiting → ℕ) → weigh h pushed ≡ weigh h had + weigh h handed
+
+-- what was taken and handed out had come into the queue, each no more often than it came
+abbrev pub TookWhatCame : List Waiting → List Waiting → List Waiting → Type 0
+TookWhatCame pushed had handed = (h : Waiting → ℕ) → weigh h had + weigh h handed ≤ weigh h pushed

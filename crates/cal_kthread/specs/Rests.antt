@@ -1,5 +1,5 @@
 -- What a contract sees of a kernel thread's work when its turns are over.
-use Rattle.std.specs.Prelude.{◌≡◌, Option, None, IfSome, List, [], ◌∷◌, ◌++◌}
+use Rattle.std.specs.Prelude.{◌≡◌, ℕ, ◌+◌, ◌-◌, Option, None, IfSome, List, [], ◌∷◌, ◌++◌, length}
 use Rattle.cal_kthread.specs.declared.waiting.Waiting.{Waiting}
 use Rattle.cal_kthread.specs.declared.victims.Victim.{Victim}
 use Rattle.cal_kthread.specs.Queues.{QueueView}
@@ -26,3 +26,8 @@ HandsOutOf (first ∷ others) waiting before after =
 
 abbrev pub HandsOut : Waiting → RestView → RestView → Type 0
 HandsOut waiting before after = HandsOutOf before.held waiting before after
+
+-- how many requests there are still to hand out, once all shares of the queue are gathered: those held, and of those
+-- that came into the queue the ones that were neither taken nor handed out
+abbrev pub to_hand_out : RestView → ℕ
+to_hand_out r = length r.held + (length r.queue.pushed - (length r.queue.had + length r.queue.handed))

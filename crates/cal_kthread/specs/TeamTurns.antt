@@ -1,5 +1,5 @@
 -- What turns leave of a team: each thread keeps its place, up to its end.
-use Rattle.std.specs.Prelude.{◌≡◌, ℕ, Option, List, map, length, slice_set}
+use Rattle.std.specs.Prelude.{◌≡◌, ℕ, Option, List, [], ◌∷◌, ◌++◌, map, length, slice_set}
 use mathlib.Core.Option.{some}
 use lib.ListN.{get_elem?}
 use Rattle.cal_machine.specs.declared.request.Request.{Request}
@@ -21,6 +21,15 @@ SamePlaceKeepsTeam = (threads : List KernelView) (k : ℕ) (before after : Kerne
 pub record HavePlacesOf (threads : List KernelView) (ends : List KernelEnd) : Type 0 where
   pub count : length ends ≡ length threads
   pub places : (k : ℕ) (thread : KernelView) (e : KernelEnd) → get_elem? threads k ≡ some thread → get_elem? ends k ≡ some e → place_of_rest e.rest ≡ place_of thread.thread
+
+-- The laws of ends that come one by one: no ends have the places of no threads, and one thread more and its end, which
+-- has its place, keep that.
+abbrev pub NoEndsYet : Type 0
+NoEndsYet = HavePlacesOf [] []
+
+abbrev pub OneEndMore : Type 0
+OneEndMore = (threads : List KernelView) (ends : List KernelEnd) (thread : KernelView) (e : KernelEnd) → HavePlacesOf threads ends
+    → place_of_rest e.rest ≡ place_of thread.thread → HavePlacesOf (threads ++ thread ∷ []) (ends ++ e ∷ [])
 
 -- The law of a team's end: ends that have the places of a team's threads are a team, as `settle` asks.
 abbrev pub EndsAreATeam : Type 0

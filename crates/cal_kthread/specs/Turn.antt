@@ -186,7 +186,7 @@ turned now request answers k =
       thread = publication.0;
     }
 
--- a turn may add six entries to a journal, which holds at most this many
+-- A journal holds at most this many entries. A turn asks for room for six; it adds at most five.
 abbrev pub most_entries : ℕ
 most_entries = 1048576
 

@@ -1,10 +1,11 @@
 //! A kernel thread whose turns are over.
-ghost use Rattle.std.specs.Prelude.{◌≡◌, [], MatchOption, option_map};
+ghost use Rattle.std.specs.Prelude.{◌≡◌, ◌+◌, [], IfSome, MatchOption, option_map};
 ghost use Rattle.cal_kthread.specs.Account.{KeepsItsWork};
 ghost use Rattle.cal_kthread.specs.Agreement.{held};
+ghost use Rattle.cal_kthread.specs.Journal.{IsJournal, commands_of, records_of};
 ghost use Rattle.cal_kthread.specs.declared.current.Current.{Current};
-ghost use Rattle.cal_kthread.specs.QueueRule.{AllTaken};
-ghost use Rattle.cal_kthread.specs.Rests.{HandsOut};
+ghost use Rattle.cal_kthread.specs.QueueRule.{AllTaken, TookWhatCame};
+ghost use Rattle.cal_kthread.specs.Rests.{HandsOut, to_hand_out};
 ghost use Rattle.cal_kthread.specs.Teams.{place_of, place_of_rest};
 ghost use Rattle.cal_kthread.specs.declared.waiting.Waiting.{Waiting};
 
@@ -39,6 +40,9 @@ impl KernelThread {
     pub fn end(self) -> KernelEnd
         ensures number { result.number ≡ self.number }
         ensures journal { result.journal ≡ self.journal }
+        ensures is_journal { IsJournal result.journal }
+        ensures page { records_of result.journal ≡ result.publisher.published }
+        ensures ring { commands_of result.journal ≡ result.taker.taken }
         ensures ends { (result.publisher ≡ self.thread.publisher) × (result.taker ≡ self.thread.taker) }
         ensures rest { result.rest ≡ record {
           queue = self.thread.queue;
@@ -84,13 +88,22 @@ fn waiting_of(current: Option<Current>) -> Option<Waiting>
 }
 
 impl KernelEnd {
-    /// Hands out the next request that was not served: the current one, the front, then the queue from its front. A
-    /// request is as it arrived, with its first `work`. None where none was found; where all shares of the queue were
-    /// gathered before, by `settle`, all that came into it was then taken or handed out.
+    /// Hands out the next request that was not served: the current one, the front, then one from the queue. None where
+    /// none was found.
+    ///
+    /// Once all shares of the queue are gathered, by `settle`: one from the queue had come into it, and was neither
+    /// taken nor handed out before; each Some leaves one fewer (`to_hand_out`), so a loop up to None ends; and with
+    /// None all that came into the queue was taken or handed out.
     pub fn left(&mut self) -> Option<Request>
         ensures handed { MatchOption result (self.new ≡ self.old)
             (λ request. (waiting : Waiting) × (waiting.request ≡ request) × HandsOut waiting self.old.rest self.new.rest
             × (self.new ≡ record self.old { rest = self.new.rest })) }
+        ensures came { IfSome result (λ _. self.old.rest.queue.shares ≡ 16 → self.old.rest.held ≡ []
+            → TookWhatCame self.new.rest.queue.pushed self.new.rest.queue.had self.new.rest.queue.handed) }
+        ensures fewer { IfSome result (λ _. self.old.rest.queue.shares ≡ 16
+            → to_hand_out self.new.rest + 1 ≡ to_hand_out self.old.rest) }
+        ensures place { place_of_rest self.new.rest ≡ place_of_rest self.old.rest }
+        ensures work { KeepsItsWork self.old → KeepsItsWork self.new }
         ensures none { MatchOption result
             ((self.old.rest.held ≡ []) × (self.old.rest.queue.shares ≡ 16
             → AllTaken self.old.rest.queue.pushed self.old.rest.queue.had self.old.rest.queue.handed))

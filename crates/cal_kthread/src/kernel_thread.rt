@@ -5,6 +5,7 @@ ghost use Rattle.cal_kthread.specs.declared.fault.TurnFault.TheVariants.{Journal
 ghost use Rattle.cal_kthread.specs.Journal.{IsJournal, records_of, commands_of};
 ghost use Rattle.cal_kthread.specs.Teams.{place_of};
 ghost use Rattle.cal_kthread.specs.Turn.{Answers, AreAnswers, IsFull, noted, turned};
+ghost use Rattle.cal_kthread.specs.Turns.{IsOneTurn};
 ghost use Rattle.cal_signal.specs.Pages.{last_of};
 
 use crate::entry::Entry;
@@ -16,7 +17,7 @@ use std::marker::Model;
 /// How many entries a journal holds at most (this project's own limit).
 const MOST_ENTRIES: usize = 1_048_576;
 
-/// How many entries a turn may ask room for.
+/// How many entries a turn asks room for; it adds at most five.
 const TURN_ENTRIES: usize = 6;
 
 /// A kernel thread. It may be moved to a thread of its own; no call of it waits.
@@ -62,6 +63,10 @@ impl KernelThread {
             (λ _. (answers : Answers) × AreAnswers answers self.old × (self.new ≡ turned now request answers self.old))
             (λ _. self.new ≡ self.old) }
         ensures full { (result ≡ Err JournalFull) ↔ IsFull self.old.journal }
+        ensures added { IfOk result (λ _. IsOneTurn now request self.old.journal self.new.journal) }
+        ensures number { self.new.number ≡ self.old.number }
+        ensures ends { (self.new.thread.publisher.page ≡ self.old.thread.publisher.page)
+            × (self.new.thread.taker.ring ≡ self.old.thread.taker.ring) }
         ensures place { place_of self.new.thread ≡ place_of self.old.thread }
         ensures stamped { IfOk result (λ _. (last_of self.new.thread.publisher.published).stamp ≡ now) }
         ensures journal { IsJournal self.new.journal }

@@ -1,7 +1,10 @@
-//! Laws of a team's turns and of its account, each the contract of a function that does nothing.
+//! Laws of journals, of a team's turns and of its account, each the contract of a function that does nothing.
 
 ghost use Rattle.cal_kthread.specs.Account.{StaysSettled, DrainedIsAccounted};
-ghost use Rattle.cal_kthread.specs.TeamTurns.{TurnKeepsPlace, SamePlaceKeepsTeam, EndsAreATeam};
+ghost use Rattle.cal_kthread.specs.Journals.{EachMayCome, FrontIsJournal, JournalByEntries, OthersChangeNothing, RecordShowsTaken};
+ghost use Rattle.cal_kthread.specs.OnePlace.{NeverIsNowhere, OnceIsInOnePlace};
+ghost use Rattle.cal_kthread.specs.TeamTurns.{TurnKeepsPlace, SamePlaceKeepsTeam, NoEndsYet, OneEndMore, EndsAreATeam};
+ghost use Rattle.cal_kthread.specs.Turns.{OneTurnMore, TurnsAddUp};
 
 /// A turn leaves the thread its place in its team: its queue, its own end's shares of it, and its thieves, each at the
 /// queue of the same thread.
@@ -9,9 +12,31 @@ pub fn turn_keeps_place()
     ensures { TurnKeepsPlace }
 {}
 
+/// What a turn adds (its clause `added`) after some turns makes one turn more.
+pub fn one_turn_more()
+    ensures { OneTurnMore }
+{}
+
+/// Turns of a thread that began with an empty journal publish one record each, with its clock as the stamp; what
+/// arrived is what they were given; and each put at most five entries into the journal. So 209,714 turns never fill it.
+pub fn turns_add_up()
+    ensures { TurnsAddUp }
+{}
+
 /// When one thread of a team changes and keeps its place, as in a `turn` (its clause `place`), they are a team still.
 pub fn same_place_keeps_team()
     ensures { SamePlaceKeepsTeam }
+{}
+
+/// No ends have the places of no threads: where the ends that come back from joins begin.
+pub fn no_ends_yet()
+    ensures { NoEndsYet }
+{}
+
+/// One thread more and its end, which has its place, go to threads and their ends: so ends that come back one by one,
+/// from joins, have the places of the threads so far.
+pub fn one_end_more()
+    ensures { OneEndMore }
 {}
 
 /// Ends that have, one by one, the places of a team's threads are a team, as `settle` asks. `end` keeps its thread's
@@ -30,4 +55,41 @@ pub fn handing_out_stays_settled()
 /// arrived, with its first `work`.
 pub fn drained_is_accounted()
     ensures { DrainedIsAccounted }
+{}
+
+/// Where the account holds, an id that arrived once stands in exactly one place: in one Served entry of one thread, or
+/// in one request that one thread had left.
+pub fn once_is_in_one_place()
+    ensures { OnceIsInOnePlace }
+{}
+
+/// Where the account holds, an id that did not arrive stands nowhere.
+pub fn never_is_nowhere()
+    ensures { NeverIsNowhere }
+{}
+
+/// A list that ends with an entry is a journal exactly where what is before the entry is one, after which the entry may
+/// come.
+pub fn journals_by_entries()
+    ensures { JournalByEntries }
+{}
+
+/// The front of a journal is a journal.
+pub fn front_is_journal()
+    ensures { FrontIsJournal }
+{}
+
+/// Each entry of a journal may come after those before it; so each publication may follow the one before it.
+pub fn each_may_come()
+    ensures { EachMayCome }
+{}
+
+/// The record at place n of a journal's page shows as `taken` how many commands were taken up to the n-th publication.
+pub fn record_shows_taken()
+    ensures { RecordShowsTaken }
+{}
+
+/// Arrivals, thefts and services change neither the state nor the records nor the commands of a journal.
+pub fn others_change_nothing()
+    ensures { OthersChangeNothing }
 {}

@@ -13,6 +13,7 @@
 mod current;
 mod entry;
 mod fault;
+mod handing_out;
 mod journal;
 mod kernel_end;
 mod kernel_thread;
@@ -22,16 +23,11 @@ mod linking;
 mod opening;
 mod queue;
 mod queue_rule;
-#[cfg(test)]
-mod queue_tests;
+mod request_list;
 mod rest;
 mod settling;
-#[cfg(test)]
-mod steal_tests;
 mod steps;
 mod team;
-#[cfg(test)]
-mod team_tests;
 #[cfg(test)]
 mod tests;
 mod thread;
@@ -41,9 +37,11 @@ mod waiting;
 pub use cal_machine::Request;
 pub use entry::Entry;
 pub use fault::TurnFault;
+pub use handing_out::hand_out_all;
 pub use journal::Journal;
 pub use kernel_end::KernelEnd;
 pub use kernel_thread::KernelThread;
+pub use request_list::RequestList;
 pub use rest::Rest;
 pub use settling::settle;
 pub use team::{Team, open_threads};

@@ -31,7 +31,7 @@ pub(crate) fn open_thread(alloc: Global, number: u8) -> Result<Opened, AllocErro
         × (opened.thread.thread.publisher.page ≡ opened.watcher.page)) }
     ensures unseen { IfOk result (λ opened. (opened.observer.loads ≡ []) × (opened.observer.looks ≡ [])
         × (opened.watcher.loads ≡ []) × (opened.watcher.looks ≡ [])) }
-    ensures ring { IfOk result (λ opened. (opened.thread.thread.taker.ring ≡ opened.sender.ring) × (opened.sender.sent ≡ [])) }
+    ensures ring { IfOk result (λ opened. (opened.thread.thread.taker.ring ≡ opened.sender.ring) × (opened.sender.sent ≡ []) × (opened.sender.free ≡ 4)) }
 {
     let (publisher, observer, watcher) = open_watched(alloc)?;
     let (sender, taker) = open_ring(alloc)?;

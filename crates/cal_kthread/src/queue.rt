@@ -1,6 +1,6 @@
 //! The queue of a kernel thread: the thread's own end, and the thieves that steal from it.
-ghost use Rattle.std.specs.Prelude.{◌≡◌, ◌+◌, ◌-◌, ◌<◌, ◌≤◌, [], ◌∷◌, ◌++◌, IfOk, MatchOption, MatchResult};
-ghost use Rattle.cal_kthread.specs.QueueRule.{AllTaken};
+ghost use Rattle.std.specs.Prelude.{◌≡◌, ◌+◌, ◌-◌, ◌<◌, ◌≤◌, [], ◌∷◌, ◌++◌, IfOk, IfSome, MatchOption, MatchResult};
+ghost use Rattle.cal_kthread.specs.QueueRule.{AllTaken, TookWhatCame};
 
 use crate::knowledge::Knowledge;
 use crate::queue_rule::{Balance, HandingOut, OneShare, Pushing, Taking};
@@ -71,8 +71,8 @@ impl OwnQueue {
         }
     }
 
-    /// The request at the front. None where the queue was empty at one moment of the call, and then
-    /// nothing has changed.
+    /// The request at the front. None where none was found, and then nothing has changed. That it finds
+    /// what is there is no promise.
     pub fn pop(&mut self) -> Option<Waiting>
         ensures { MatchOption result (self.new ≡ self.old)
             (λ waiting. self.new ≡ record self.old { had = self.old.had ++ waiting ∷ [] }) }
@@ -112,11 +112,13 @@ impl Model for EndQueue {
 }
 
 impl EndQueue {
-    /// The request at the front, which is handed out at the end of a run. None where the queue was
-    /// empty: with all 16 shares, all that was pushed was then taken or handed out.
+    /// The request at the front, which is handed out at the end of a run; with all 16 shares, one that was
+    /// pushed and was neither taken nor handed out before. None where none was found: with all 16 shares, all
+    /// that was pushed was then taken or handed out.
     pub fn hand_out(&mut self) -> Option<Waiting>
         ensures handed { MatchOption result (self.new ≡ self.old)
             (λ waiting. self.new ≡ record self.old { handed = self.old.handed ++ waiting ∷ [] }) }
+        ensures came { IfSome result (λ _. self.old.shares ≡ 16 → TookWhatCame self.new.pushed self.new.had self.new.handed) }
         ensures empty { MatchOption result
             (self.old.shares ≡ 16 → AllTaken self.old.pushed self.old.had self.old.handed)
             (λ _. Unit {0}) }

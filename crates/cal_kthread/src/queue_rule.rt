@@ -59,15 +59,16 @@ impl Outcome<Waiting, Knowledge> for Taking {
     ghost then = { λ v xs w. w ≡ knows v.shares v.pushed (v.had ++ xs) v.handed };
 }
 
-/// The owner's pop at the end of the run. With all shares, where nothing is found, all that was pushed
-/// was taken or handed out.
+/// The owner's pop at the end of the run. With all shares, what is found had been pushed, and was neither taken nor
+/// handed out before; and where nothing is found, all that was pushed was taken or handed out.
 pub struct HandingOut;
 
 impl Outcome<Waiting, Knowledge> for HandingOut {
-    ghost use Rattle.cal_kthread.specs.QueueRule.{knows, AllTaken};
+    ghost use Rattle.cal_kthread.specs.QueueRule.{knows, AllTaken, TookWhatCame};
     ghost use Rattle.std.specs.Prelude.{◌≡◌, ◌++◌};
 
-    ghost then = { λ v xs w. w ≡ knows v.shares v.pushed v.had (v.handed ++ xs) };
+    ghost then = { λ v xs w. (w ≡ knows v.shares v.pushed v.had (v.handed ++ xs))
+        × (v.shares ≡ 16 → TookWhatCame v.pushed v.had (v.handed ++ xs)) };
 
     ghost empty = { λ v. v.shares ≡ 16 → AllTaken v.pushed v.had v.handed };
 }

@@ -1,6 +1,6 @@
 //! What is left of a kernel thread's work when its turns are over.
-ghost use Rattle.std.specs.Prelude.{◌≡◌, ◌+◌, ◌++◌, [], ◌∷◌, option_to_list, MatchOption};
-ghost use Rattle.cal_kthread.specs.QueueRule.{AllTaken};
+ghost use Rattle.std.specs.Prelude.{◌≡◌, ◌+◌, ◌++◌, [], ◌∷◌, option_to_list, IfSome, MatchOption};
+ghost use Rattle.cal_kthread.specs.QueueRule.{AllTaken, TookWhatCame};
 ghost use Rattle.cal_kthread.specs.Rests.{HandsOut};
 
 use crate::queue::{EndQueue, OwnQueue, Thief};
@@ -64,11 +64,13 @@ impl Rest {
         }
     }
 
-    /// The next request that is handed out: the current one, the front, then the queue from its front.
+    /// The next request that is handed out: the current one, the front, then one from the queue.
     pub(crate) fn hand_out(&mut self) -> Option<Waiting>
         ensures handed { MatchOption result
             ((self.new ≡ self.old) × (self.old.held ≡ []))
             (λ waiting. HandsOut waiting self.old self.new) }
+        ensures came { IfSome result (λ _. self.old.queue.shares ≡ 16 → self.old.held ≡ []
+            → TookWhatCame self.new.queue.pushed self.new.queue.had self.new.queue.handed) }
         ensures none { MatchOption result
             (self.old.queue.shares ≡ 16 → AllTaken self.old.queue.pushed self.old.queue.had self.old.queue.handed)
             (λ _. Unit {0}) }

@@ -2,6 +2,7 @@
 ghost use Rattle.std.specs.Prelude.{◌≡◌, ◌≢◌, ◌+◌, ◌<◌, ℕ, [], map, length, IsTrue, IsFalse};
 ghost use Rattle.cal_machine.specs.Tasks.{threads_in};
 ghost use Rattle.cal_kthread.specs.Account.{KeepsItsWork, IsSettled, Gathers, stripped, victims_at};
+ghost use Rattle.cal_kthread.specs.HandingOut.{HandedOutNothing, run_of};
 ghost use Rattle.cal_kthread.specs.Places.{Each};
 ghost use Rattle.cal_kthread.specs.Teams.{IsTeam, place_of_rest};
 
@@ -12,13 +13,15 @@ use cal_machine::Config;
 /// Gathers all shares of each queue at its own end, with what was stolen from it. Asks for the ends of one team, in
 /// thread order, which the threads of `open_threads` have after any turns: see `laws`. Takes no memory.
 ///
-/// What was handed out and what is still there stays. Where each `left` then answers None, the account holds of the
-/// journals and of what was handed out: see `laws`.
+/// What was handed out and what is still there stays. `hand_out_all` then gives what is left, and the account; it holds
+/// too where each `left` is called up to its None: see `laws`.
 pub fn settle(config: &Config, ends: &mut [KernelEnd])
     requires count { length ends.old ≡ threads_in config.now.tasks }
     requires team { IsTeam (map (λ e. place_of_rest e.rest) ends.old) }
     requires work { Each KeepsItsWork ends.old }
     ensures same { map stripped ends.new ≡ map stripped ends.old }
+    ensures runs { map run_of ends.new ≡ map run_of ends.old }
+    ensures untouched { Each HandedOutNothing ends.old → Each HandedOutNothing ends.new }
     ensures settled { IsSettled ends.new }
 {
     for k in 0..config.threads() {

@@ -1,7 +1,7 @@
 //! A team of kernel threads is opened.
 ghost use Rattle.std.specs.Prelude.{◌≡◌, ◌≤◌, [], map, length, IfOk};
 ghost use Rattle.cal_machine.specs.Tasks.{threads_in};
-ghost use Rattle.cal_kthread.specs.Linking.{unlinked};
+ghost use Rattle.cal_kthread.specs.Linking.{StoleNothing, unlinked};
 ghost use Rattle.cal_kthread.specs.Opening.{AreOpened, AreLinked};
 ghost use Rattle.cal_kthread.specs.Places.{Each};
 ghost use Rattle.cal_kthread.specs.Teams.{IsTeam, place_of};
@@ -87,6 +87,7 @@ fn link_tasks(config: &Config, threads: &mut [KernelThread]) -> Result<(), Alloc
     requires count { length threads.old ≡ threads_in config.now.tasks }
     requires fresh { Each IsFresh threads.old }
     ensures same { IfOk result (λ _. map unlinked threads.new ≡ map unlinked threads.old) }
+    ensures idle { IfOk result (λ _. Each StoleNothing threads.new) }
     ensures team { IfOk result (λ _. IsTeam (map (λ k. place_of k.thread) threads.new)) }
     ensures thieves { IfOk result (λ _. AreLinked config.now.tasks threads.new) }
 {

@@ -1,14 +1,37 @@
-//! What no clause says: that threads open, and that their turns do what the worked examples say.
-ghost use Rattle.std.specs.Prelude.{◌≡◌, ◌≤◌, IfSome};
-ghost use Rattle.cal_signal.specs.Pages.{last_of};
+//! What no clause says: that threads open, serve, steal and end as the worked examples say, also while others do.
+ghost use Rattle.std.specs.Prelude.{◌≡◌, ◌≤◌, IfOk, IfSome, IsTrue, length, map};
+ghost use Rattle.cal_kthread.specs.Account.{IsAccounted, KeepsItsWork};
+ghost use Rattle.cal_kthread.specs.HandingOut.{HandedOutNothing};
+ghost use Rattle.cal_kthread.specs.Places.{Each};
+ghost use Rattle.cal_kthread.specs.Teams.{IsTeam, place_of, place_of_rest};
+ghost use Rattle.cal_machine.specs.Tasks.{threads_in};
 
-use crate::opening::{Opened, open_thread};
-use crate::{Entry, KernelThread, Request, TurnFault};
-use cal_command::Command;
+mod faults;
+mod meetings;
+mod queues;
+mod steals;
+mod teams;
+mod turns;
+
+use crate::laws::{ends_are_a_team, no_ends_yet, one_end_more};
+use crate::{
+    Entry, KernelEnd, KernelThread, Request, RequestList, TurnFault, hand_out_all, settle,
+};
+use cal_command::{Command, Sender};
+use cal_machine::Config;
 use cal_signal::Record;
-use std::test::Fail;
+use std::alloc::{AllocError, Global};
 
-// A record of these words, in their order.
+/// A request of that many turns' work.
+fn request(id: u64, work: u64) -> Request {
+    Request {
+        id,
+        work,
+        misses: 3,
+    }
+}
+
+/// A record of these words, in their order.
 fn record(words: [u64; 9]) -> Record {
     Record {
         taken: words[0],
@@ -23,125 +46,83 @@ fn record(words: [u64; 9]) -> Record {
     }
 }
 
-// The thread after one turn.
-fn after(thread: KernelThread, now: u64, request: Option<Request>) -> Option<KernelThread>
-    requires started { 1 ≤ now }
-    requires later { (last_of thread.thread.publisher.published).stamp ≤ now }
-    requires work { IfSome request (λ arriving. 1 ≤ arriving.work) }
-    ensures { IfSome result (λ turned. (last_of turned.thread.publisher.published).stamp ≡ now) }
+/// Is there no request, or one with work?
+fn may_arrive(arriving: Option<Request>) -> bool
+    ensures { IsTrue result → IfSome arriving (λ request. 1 ≤ request.work) }
 {
-    let mut thread = thread;
-    match thread.turn(now, request) {
-        Ok(()) => Some(thread),
-        Err(_) => None,
+    match arriving {
+        Some(request) => request.work >= 1,
+        None => true,
     }
 }
 
-// How many turns a thread makes that only publishes, and why it stops, where it does before that many.
-fn turns_that_publish(thread: KernelThread, most: u64) -> (u64, Option<TurnFault>)
-    requires { (last_of thread.thread.publisher.published).stamp ≤ 1 }
+/// A turn with this request or none. False where the clock falls or the request has no work: then none is made.
+fn turn(thread: &mut KernelThread, now: u64, arriving: Option<Request>) -> Result<bool, TurnFault>
+    ensures { place_of thread.new.thread ≡ place_of thread.old.thread }
 {
-    let mut thread = thread;
-    for made in 0..most {
-        if let Err(fault) = thread.turn(1, None) {
-            return (made, Some(fault));
+    let (_, last) = thread.thread.publisher.last();
+    if now < 1 || now < last.stamp || !may_arrive(arriving) {
+        return Ok(false);
+    }
+    thread.turn(now, arriving)?;
+    Ok(true)
+}
+
+/// Sends a Run for the core, where there is room.
+fn run(sender: &mut Sender, core: u8) -> bool {
+    if core >= 128 || !sender.room() {
+        return false;
+    }
+    sender.send(Command::Run(core));
+    true
+}
+
+/// The ends of a team's threads, in their order.
+fn ends_of(alloc: Global, threads: Vec<KernelThread>) -> Result<Vec<KernelEnd>, AllocError>
+    requires team { IsTeam (map (λ t. place_of t.thread) threads.items) }
+    ensures team { IfOk result (λ ends. IsTeam (map (λ e. place_of_rest e.rest) ends.items)) }
+    ensures count { IfOk result (λ ends. length ends.items ≡ length threads.items) }
+    ensures work { IfOk result (λ ends. Each KeepsItsWork ends.items) }
+    ensures untouched { IfOk result (λ ends. Each HandedOutNothing ends.items) }
+{
+    let mut ends = Vec::new(alloc);
+    no_ends_yet();
+    for thread in threads {
+        one_end_more();
+        ends.push(thread.end())?;
+    }
+    ends_are_a_team();
+    Ok(ends)
+}
+
+/// What each thread of a team had left, and with it the team's account.
+fn left_of_all(
+    alloc: Global,
+    config: &Config,
+    ends: &mut [KernelEnd],
+) -> Result<Vec<RequestList>, AllocError>
+    requires count { length ends.old ≡ threads_in config.now.tasks }
+    requires team { IsTeam (map (λ e. place_of_rest e.rest) ends.old) }
+    requires work { Each KeepsItsWork ends.old }
+    requires untouched { Each HandedOutNothing ends.old }
+    ensures { IfOk result (λ lefts. IsAccounted (map (λ e. e.journal) ends.new) lefts.items) }
+{
+    settle(config, ends);
+    hand_out_all(alloc, ends)
+}
+
+/// Adds the names that arrived and those that were served, by the journal.
+fn add_names(
+    entries: &[Entry],
+    arrived: &mut Vec<u64>,
+    served: &mut Vec<u64>,
+) -> Result<(), AllocError> {
+    for entry in entries {
+        match entry {
+            Entry::Arrived(request) => arrived.push(request.id)?,
+            Entry::Served { id } => served.push(*id)?,
+            _ => {}
         }
     }
-    (most, None)
-}
-
-#[test]
-fn one_request_served(rt: HostRuntime) -> Result<(), Fail> {
-    let Opened {
-        thread,
-        mut sender,
-        ..
-    } = open_thread(rt.alloc(), 0)?;
-    let request = Request {
-        id: 1,
-        work: 2,
-        misses: 7,
-    };
-    let Some(thread) = after(thread, 100, Some(request)) else {
-        panic!(rt; "turn 0 was refused")
-    };
-    assert!(rt; sender.room());
-    sender.send(Command::Run(0));
-    let Some(thread) = after(thread, 120, None) else {
-        panic!(rt; "turn 1 was refused")
-    };
-    let Some(thread) = after(thread, 140, None) else {
-        panic!(rt; "turn 2 was refused")
-    };
-    let Some(thread) = after(thread, 150, None) else {
-        panic!(rt; "turn 3 was refused")
-    };
-    let journal = [
-        Entry::Arrived(request),
-        Entry::Published(1, record([0, 0, 1, 100, 0, 0, 100, 0, 0])),
-        Entry::Took(1, Command::Run(0)),
-        Entry::Published(2, record([1, 1, 0, 0, 120, 7, 120, 0, 0])),
-        Entry::Served { id: 1 },
-        Entry::Published(3, record([1, 1, 0, 0, 0, 14, 140, 0, 0])),
-        Entry::Yielded,
-        Entry::Published(4, record([1, 0, 0, 0, 0, 14, 150, 0, 0])),
-    ];
-    let done = thread.journal();
-    assert!(rt; done[..] == journal[..]);
-    let mut end = thread.end();
-    assert!(rt; end.left().is_none());
-    Ok(())
-}
-
-// A thread that yielded before it took its Park stays off when it takes it, and goes on a core by the next Run.
-#[test]
-fn yield_before_park(rt: HostRuntime) -> Result<(), Fail> {
-    let Opened {
-        thread,
-        mut sender,
-        ..
-    } = open_thread(rt.alloc(), 2)?;
-    let request = Request {
-        id: 5,
-        work: 2,
-        misses: 1,
-    };
-    assert!(rt; sender.room());
-    sender.send(Command::Run(0));
-    let Some(thread) = after(thread, 205, None) else {
-        panic!(rt; "turn 0 was refused")
-    };
-    assert!(rt; sender.room());
-    sender.send(Command::Park);
-    assert!(rt; sender.room());
-    sender.send(Command::Run(0));
-    let Some(thread) = after(thread, 230, None) else {
-        panic!(rt; "turn 1 was refused")
-    };
-    let Some(thread) = after(thread, 240, Some(request)) else {
-        panic!(rt; "turn 2 was refused")
-    };
-    let journal = [
-        Entry::Took(1, Command::Run(0)),
-        Entry::Yielded,
-        Entry::Published(1, record([1, 0, 0, 0, 0, 0, 205, 0, 0])),
-        Entry::Took(2, Command::Park),
-        Entry::Published(2, record([2, 0, 0, 0, 0, 0, 230, 0, 0])),
-        Entry::Arrived(request),
-        Entry::Took(3, Command::Run(0)),
-        Entry::Published(3, record([3, 1, 0, 0, 240, 1, 240, 0, 0])),
-    ];
-    let done = thread.journal();
-    assert!(rt; done[..] == journal[..]);
-    Ok(())
-}
-
-// A thread that only publishes makes 1,048,571 turns, and its journal is full at the next.
-#[test]
-fn full_journal(rt: HostRuntime) -> Result<(), Fail> {
-    let Opened { thread, .. } = open_thread(rt.alloc(), 0)?;
-    let (made, fault) = turns_that_publish(thread, 2_000_000);
-    assert_eq!(rt; made, 1_048_571);
-    assert!(rt; fault == Some(TurnFault::JournalFull));
     Ok(())
 }

@@ -1,4 +1,4 @@
-use Rattle.std.proofs.Common.{◌≡◌, ◌+◌, ◌≤◌, ◌<◌, ◌∙◌, subst, ap, length, IfSome, Some, arith}
+use Rattle.std.proofs.Common.{◌≡◌, ◌+◌, ◌≤◌, ◌<◌, ◌∙◌, subst, sym, ap, length, IfSome, Some, arith}
 use Rattle.std.specs.Vec.{vec_len}
 use Rattle.cal_signal.specs.declared.record.Record.{Record}
 use Rattle.cal_signal.specs.Ends.{PublisherView}
@@ -13,8 +13,10 @@ use Rattle.cal_kthread.specs.Threads.{ThreadView, KernelView}
 use Rattle.cal_kthread.specs.Turn.{Answers, AreAnswers, noted, shown, turned}
 use Rattle.cal_kthread.proofs.Journals.{length-filter_map}
 use Rattle.cal_kthread.proofs.Publishing.{last_snoc}
-use Rattle.cal_kthread.proofs.TeamTurns.{keeps-place}
+use Rattle.cal_kthread.proofs.TeamTurns.{keeps-page, keeps-place, keeps-ring}
 use Rattle.cal_kthread.proofs.Turning.{turns, agrees}
+use Rattle.cal_kthread.proofs.Turns.{one-turn}
+use Rattle.cal_kthread.specs.Turns.{IsOneTurn}
 use Rattle.cal_kthread.proofs.kernel_thread.KernelThread.turn.Goals as goal
 
 pub publish-publication-requires-clause-room : goal.publish-publication-requires-clause-room
@@ -83,6 +85,22 @@ returns-clause-turned c =
 
 pub returns-clause-place : goal.returns-clause-place
 returns-clause-place c = let t = returns-clause-turned c in ap (λ (k : KernelView). place_of k.thread) t.2 ∙ keeps-place c.args.now c.args.request t.0 c.args.self.now
+
+pub returns-clause-ends : goal.returns-clause-ends
+returns-clause-ends c =
+    let t = returns-clause-turned c in (
+      ap (λ (k : KernelView). k.thread.publisher.page) t.2 ∙ keeps-page c.args.now c.args.request t.0 c.args.self.now,
+      ap (λ (k : KernelView). k.thread.taker.ring) t.2 ∙ keeps-ring c.args.now c.args.request t.0 c.args.self.now,
+    )
+
+pub returns-clause-number : goal.returns-clause-number
+returns-clause-number c = let t = returns-clause-turned c in ap (λ (k : KernelView). k.number) t.2
+
+pub returns-clause-added : goal.returns-clause-added
+returns-clause-added c =
+    let t = returns-clause-turned c in
+    let page = subst (λ (k : KernelView). records_of k.journal ≡ k.thread.publisher.published) c.self.view_is c.self.invariant.0.records in
+    subst (λ (k : KernelView). IsOneTurn c.args.now c.args.request c.args.self.now.journal k.journal) (sym t.2) (one-turn c.args.now c.args.request t.0 c.args.self.now page)
 
 pub returns-clause-journal : goal.returns-clause-journal
 returns-clause-journal c = (agreeing c).is_journal

@@ -1,0 +1,5 @@
+use Rattle.cal_kthread.proofs.JournalParts.{each-may-come}
+use Rattle.cal_kthread.proofs.laws.each_may_come.Goals as goal
+
+pub returns : goal.returns
+returns c = each-may-come

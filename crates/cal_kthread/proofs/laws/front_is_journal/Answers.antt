@@ -1,0 +1,5 @@
+use Rattle.cal_kthread.proofs.JournalParts.{front-is-journal}
+use Rattle.cal_kthread.proofs.laws.front_is_journal.Goals as goal
+
+pub returns : goal.returns
+returns c = front-is-journal

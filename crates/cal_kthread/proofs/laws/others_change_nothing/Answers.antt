@@ -1,0 +1,5 @@
+use Rattle.cal_kthread.proofs.JournalParts.{others-change-nothing}
+use Rattle.cal_kthread.proofs.laws.others_change_nothing.Goals as goal
+
+pub returns : goal.returns
+returns c = others-change-nothing

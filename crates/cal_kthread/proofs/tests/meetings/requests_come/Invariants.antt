@@ -1,0 +1,6 @@
+use Rattle.std.proofs.Common.{◌≡◌}
+use Rattle.cal_kthread.specs.Teams.{place_of}
+use Rattle.cal_kthread.proofs.tests.meetings.requests_come.Given as goal
+
+abbrev pub invariant-loop-id : goal.invariant-loop-id
+invariant-loop-id l = place_of l.thread.thread ≡ place_of l.initial.thread.thread
