@@ -1,0 +1,52 @@
+-- The rounds of a watch, one after the other.
+use Rattle.std.proofs.Common.{◌≡◌, ℕ, ◌<◌, inl, inr, List, [], ◌∷◌, ◌++◌, length, Option, Some, slice_get, refl, sym, ap, ◌∙◌, arith, append_assoc}
+use Rattle.std.proofs.lemmas.Grind.{flat_map-append}
+use Rattle.std.proofs.lemmas.List.{append-nil}
+use Rattle.std.proofs.lemmas.Option.{slice_get_within}
+use Rattle.cal_signal.specs.declared.record.Record.{Record}
+use Rattle.cal_signal.specs.declared.look.Look.{Look}
+use Rattle.cal_signal.specs.Looks.{whole_of}
+use Rattle.cal_signal.specs.Ends.{ObserverView}
+use Rattle.cal_sched.specs.Looking.{HasLooked, HaveLooked}
+use Rattle.cal_sched.specs.Watching.{AreWatched, whole_looks_at, whole_of_some}
+use Rattle.cal_sched.proofs.Lists.{some_same, slice_get_at, last_or_before}
+
+-- one round more gives each page's looks one look more
+whole_looks_at-append : (k : ℕ) (rounds : List (List Look)) (round : List Look) (look : Look) → slice_get round k ≡ Some look
+    → whole_looks_at k (rounds ++ round ∷ []) ≡ whole_looks_at k rounds ++ whole_of look
+whole_looks_at-append k rounds round look at =
+    flat_map-append (λ (r : List Look). whole_of_some (slice_get r k)) rounds (round ∷ [])
+    ∙ ap (λ (o : Option Look). whole_looks_at k rounds ++ (whole_of_some o ++ [])) at
+    ∙ ap (λ (ls : List (ℕ × Record)). whole_looks_at k rounds ++ ls) (append-nil (whole_of look))
+
+pub AreWatched-none : (observers : List ObserverView) → AreWatched observers observers []
+AreWatched-none observers = record {
+  same_many = refl;
+  one_each = λ i round e. absurd (cc);
+  each = λ k was is e f.
+      let same : was ≡ is = some_same was is (sym e ∙ f) in
+      (rw same refl, rw same (sym (append-nil is.looks)));
+}
+
+pub AreWatched-more : (given before after : List ObserverView) (rounds : List (List Look)) (round : List Look)
+    → AreWatched given before rounds → HaveLooked before after round → AreWatched given after (rounds ++ round ∷ [])
+AreWatched-more given before after rounds round watched looked = record {
+  same_many = looked.observers ∙ watched.same_many;
+  one_each = λ i one e. elim (last_or_before rounds round one i e) [
+    | inl h ↦ watched.one_each i one h.1
+    | inr h ↦ rw (← h.1) (looked.one_each ∙ watched.same_many)
+  ];
+  each = λ k was is e f.
+      let many : length before ≡ length given = watched.same_many in
+      let looks : length round ≡ length before = looked.one_each in
+      let lt : k < length given = slice_get_within given k was e in
+      let mid = slice_get_at before k (omega arith) in
+      let found = slice_get_at round k (omega arith) in
+      let so_far = watched.each k was mid.0 e mid.1 in
+      let step : HasLooked mid.0 is found.0 = looked.each k mid.0 is found.0 mid.1 f found.1 in (
+        step.page ∙ so_far.0,
+        step.looks ∙ ap (λ (ls : List (ℕ × Record)). ls ++ whole_of found.0) so_far.1
+            ∙ append_assoc was.looks (whole_looks_at k rounds) (whole_of found.0)
+            ∙ ap (λ (ls : List (ℕ × Record)). was.looks ++ ls) (sym (whole_looks_at-append k rounds round found.0 found.1)),
+      );
+}

@@ -1,0 +1,16 @@
+use Rattle.std.proofs.Common.{◌≡◌, List, length}
+use Rattle.cal_policy.specs.declared.open_input.FoundLook.{FoundLook}
+use Rattle.cal_policy.specs.declared.pass_entry.PassEntry.{PassEntry}
+use Rattle.cal_policy.specs.Book.{AgreesWith}
+use Rattle.cal_policy.specs.Found.{IsOfFound}
+use Rattle.cal_sched.proofs.Found.{FoundBelow}
+use Rattle.cal_sched.proofs.finding.find_each.Given as goal
+
+abbrev pub invariant-loop-k : goal.invariant-loop-k
+invariant-loop-k l = record {
+  threads : l.input.threads ≡ l.initial.input.threads;
+  count : length l.input.seen ≡ l.k;
+  found : (found : List FoundLook)
+      × FoundBelow l.k l.initial.observers l.observers l.initial.senders l.senders found
+      × ((h : List PassEntry) → AgreesWith l.book h → IsOfFound l.config h found l.input);
+}

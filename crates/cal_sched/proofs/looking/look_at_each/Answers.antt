@@ -1,0 +1,40 @@
+use Rattle.std.proofs.Common.{◌≡◌, ◌<◌, Some, slice_get, refl, sym, ◌∙◌, length, arith}
+use Rattle.std.proofs.lemmas.Option.{slice_get_read}
+use Rattle.cal_signal.specs.Ends.{ObserverView}
+use Rattle.cal_sched.specs.Looking.{HasLooked}
+use Rattle.cal_sched.proofs.Lists.{some_same}
+use Rattle.cal_sched.proofs.Looked.{LookedBelow-none, LookedBelow-more, LookedBelow-all}
+use Rattle.cal_sched.proofs.looking.look_at_each.Goals as goal
+
+pub loop-k-init : goal.loop-k-init
+loop-k-init c = record {
+  below = rw c.requires.empty (LookedBelow-none c.args.observers.now);
+  room = c.requires.room;
+  same = refl;
+}
+
+pub loop-k-preserved : goal.loop-k-preserved
+loop-k-preserved c =
+    let before = c.args.observers.now in
+    let now = c.loop-k.observers in
+    let k = c.loop-k.k in
+    let within : k < length now = omega arith in
+    let was : ObserverView = c.index-observers-k.result in
+    let at : slice_get now k ≡ Some was = slice_get_read now (length now) k was refl within c.index-observers-k.is in
+    let looked : HasLooked was c.observe-look.new.self c.observe-look.result = rw c.index-observers-k.is (record {
+      page = c.observe-look.ensures.page;
+      looks = c.observe-look.ensures.looks;
+      found = c.observe-look.ensures.found;
+    }) in
+    record {
+      below = rw c.push_reserved.ensures.items (LookedBelow-more k before now c.loop-k.looks.items c.observe-look.new.self c.observe-look.result c.loop-k-test.true c.loop-k.invariant.below
+          (λ one e. rw (some_same one was (sym e ∙ at)) looked));
+      room = omega (arith, c.loop-k.invariant.room, c.push_reserved.ensures.capacity);
+      same = c.push_reserved.ensures.capacity ∙ c.loop-k.invariant.same;
+    }
+
+pub returns : goal.returns
+returns c = record {
+  looked = LookedBelow-all c.loop-k.k c.args.observers.now c.loop-k.observers c.loop-k.looks.items c.loop-k-test.false (omega arith) c.loop-k.invariant.below;
+  capacity = c.loop-k.invariant.same;
+}

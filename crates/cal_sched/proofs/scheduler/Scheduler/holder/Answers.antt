@@ -1,0 +1,21 @@
+use Rattle.std.proofs.Common.{◌≡◌, ◌<◌, ap, ◌∙◌, arith}
+use Rattle.cal_policy.specs.History.{actions_of, holder_of}
+use Rattle.cal_sched.specs.Scheduler.{SchedulerView}
+use Rattle.cal_sched.proofs.Numbers.{holder_kept}
+use Rattle.cal_sched.proofs.scheduler.Scheduler.holder.Goals as goal
+
+pub returns : goal.returns
+returns c =
+    let s : SchedulerView = record {
+      table = c.self.inside.config;
+      history = c.self.inside.history.items;
+      observers = c.self.inside.observers.items;
+      senders = c.self.inside.senders.items;
+    } in
+    let is : s ≡ c.args.self.now = c.self.view_is in
+    let cores : s.table.cores ≡ c.args.self.now.table.cores = ap (λ (v : SchedulerView). v.table.cores) is in
+    let asked : c.args.core < c.args.self.now.table.cores = c.requires in
+    let low : c.args.core < s.table.cores = omega (arith, cores, asked) in
+    c.holder.ensures s.history c.self.invariant.1
+    ∙ holder_kept s.table s.history c.limits.ensures c.self.invariant.0.legal c.args.core low c.self.invariant.0.few c.threads_are_sent_one_command.ensures c.holders_are_of_their_last_run.ensures
+    ∙ ap (λ (v : SchedulerView). holder_of (actions_of v.history) c.args.core) is

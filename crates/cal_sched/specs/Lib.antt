@@ -1,0 +1,6 @@
+pub mod Looking
+pub mod Spares
+pub mod Watching
+pub mod Scheduler
+pub mod Passing
+pub mod Sending

@@ -1,0 +1,41 @@
+//! What a pass finds: one look at each page, and one question to each ring.
+
+ghost use Rattle.std.specs.Prelude.{◌≡◌, [], List, length};
+ghost use Rattle.cal_policy.specs.declared.open_input.FoundLook.{FoundLook};
+ghost use Rattle.cal_policy.specs.declared.pass_entry.PassEntry.{PassEntry};
+ghost use Rattle.cal_policy.specs.Book.{AgreesWith};
+ghost use Rattle.cal_policy.specs.Found.{IsOfFound};
+ghost use Rattle.cal_policy.specs.Tasks.{threads_of_table};
+ghost use Rattle.cal_sched.specs.Passing.{HaveFound};
+
+use cal_command::Sender;
+use cal_machine::Config;
+use cal_policy::{Book, FoundLook, OpenInput};
+use cal_signal::Observer;
+
+/// Looks once at each page and asks each ring for room, in thread order, and takes what was found
+/// into an input that has no look yet, each look as the book judges it.
+pub(crate) fn find_each(
+    config: &Config,
+    book: &Book,
+    observers: &mut [Observer],
+    senders: &mut [Sender],
+    input: &mut OpenInput,
+)
+    requires pages { length observers.old ≡ threads_of_table config.now }
+    requires rings { length senders.old ≡ threads_of_table config.now }
+    requires threads { input.old.threads ≡ threads_of_table config.now }
+    requires empty { input.old.seen ≡ [] }
+    requires none { (h : List PassEntry) → IsOfFound config.now h [] input.old }
+    ensures threads { input.new.threads ≡ input.old.threads }
+    ensures full { length input.new.seen ≡ input.new.threads }
+    ensures found { (found : List FoundLook)
+        × HaveFound observers.old observers.new senders.old senders.new found
+        × ((h : List PassEntry) → AgreesWith book.now h → IsOfFound config.now h found input.new) }
+{
+    for k in 0..config.threads() {
+        let look = observers[k].observe();
+        let room = senders[k].room();
+        input.look(config, book, FoundLook { look, room });
+    }
+}

@@ -1,0 +1,26 @@
+//! The scheduler beside the kernel threads: it looks at their pages, decides by the policy, and
+//! sends its commands on their rings. A watch looks at the same pages and decides nothing.
+//!
+//! A scheduler has one observer and one sender for each kernel thread of its table. A pass looks
+//! once at each page, asks each ring for room, judges what it found, decides, and sends each
+//! command. What was found and what was decided stands in the history. No call waits, and no lock
+//! stands round any.
+//!
+//! That a scheduler on a core of its own polls the threads' signals and moves cores between tasks
+//! is Caladan's. The commands, their rings and the history are this project's own.
+//!
+//! Not promised: that a look succeeds beside a publisher, or that a ring has room beside a taker.
+#![tactic(auto)]
+
+mod fault;
+mod finding;
+mod looking;
+mod scheduler;
+mod sending;
+#[cfg(test)]
+mod tests;
+mod watch;
+
+pub use fault::PassFault;
+pub use scheduler::{NotMade, Scheduler, SchedulerEnd};
+pub use watch::{NotWatched, Watch};

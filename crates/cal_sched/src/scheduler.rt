@@ -1,0 +1,218 @@
+//! The scheduler: passes over pages and rings.
+
+ghost use Rattle.std.specs.Prelude.{◌≡◌, ◌<◌, ◌≤◌, ◌↔◌, [], Err, length, IfOk, IfErr};
+ghost use Rattle.cal_policy.specs.Counts as counts;
+ghost use Rattle.cal_policy.specs.History.{actions_of, holder_of};
+ghost use Rattle.cal_policy.specs.Tasks.{threads_of_table};
+ghost use Rattle.cal_sched.specs.declared.fault.PassFault.TheVariants.{HistoryFull};
+ghost use Rattle.cal_sched.specs.Passing.{IsPassed};
+ghost use Rattle.cal_sched.specs.Scheduler.{IsKept, HaveSeenNothing, HaveSentNothing, most_passes};
+
+use crate::fault::PassFault;
+use crate::finding::find_each;
+use crate::sending::send_last;
+use cal_command::Sender;
+use cal_laws::{holders_are_of_their_last_run, threads_are_sent_one_command};
+use cal_machine::Config;
+use cal_policy::{Actions, Book, Holder, OpenInput, PassEntry};
+use cal_signal::Observer;
+use std::alloc::{AllocError, Global};
+use std::marker::Model;
+
+/// How many passes a history has at most (this project's own limit).
+const MOST_PASSES: usize = 1_048_576;
+
+/// The scheduler of a table's kernel threads. It may be moved to a thread of its own; no call of it
+/// waits.
+///
+/// A contract sees its table, its history, and its ends of the pages and rings, in thread order.
+/// The history is legal; of each thread the looks that carried a record are, in order, what its
+/// observer found, and what was sent on its ring are its commands.
+#[derive(Drop)]
+pub struct Scheduler {
+    alloc: Global,
+    config: Config,
+    book: Book,
+    history: Vec<PassEntry>,
+    observers: Vec<Observer>,
+    senders: Vec<Sender>,
+}
+
+impl Model for Scheduler {
+    ghost use Rattle.cal_policy.specs.Book.{AgreesWith, IsBookOf};
+    ghost use Rattle.cal_sched.specs.Scheduler.{SchedulerView, IsKept};
+
+    ghost Value = { SchedulerView };
+
+    ghost view = { λ s. record {
+      table = s.config;
+      history = s.history.items;
+      observers = s.observers.items;
+      senders = s.senders.items;
+    } };
+
+    ghost invariant = { λ s. IsKept (record {
+      table = s.config;
+      history = s.history.items;
+      observers = s.observers.items;
+      senders = s.senders.items;
+    }) × AgreesWith s.book s.history.items × IsBookOf s.config s.book };
+}
+
+/// What `Scheduler::new` was given, where memory was refused.
+#[derive(Drop)]
+pub struct NotMade {
+    /// The table.
+    pub config: Config,
+    /// The observers, in thread order.
+    pub observers: Vec<Observer>,
+    /// The senders, in thread order.
+    pub senders: Vec<Sender>,
+}
+
+/// What a scheduler had when it ended.
+#[derive(Drop)]
+pub struct SchedulerEnd {
+    /// The table.
+    pub config: Config,
+    /// Its passes, the first one first.
+    pub history: Vec<PassEntry>,
+    /// Its observers, in thread order.
+    pub observers: Vec<Observer>,
+    /// Its senders, in thread order.
+    pub senders: Vec<Sender>,
+}
+
+impl Scheduler {
+    /// A scheduler that made no pass yet. Asks for an observer that found nothing yet and a sender
+    /// that sent nothing yet for each kernel thread of the table, in thread order. Its error is
+    /// want of memory alone, and hands all three back.
+    pub fn new(
+        alloc: Global,
+        config: Config,
+        observers: Vec<Observer>,
+        senders: Vec<Sender>,
+    ) -> Result<Scheduler, NotMade>
+        requires pages { length observers.items ≡ threads_of_table config }
+        requires rings { length senders.items ≡ threads_of_table config }
+        requires unseen { HaveSeenNothing observers.items }
+        requires unsent { HaveSentNothing senders.items }
+        ensures made { IfOk result (λ made. made ≡ record {
+          table = config;
+          history = [];
+          observers = observers.items;
+          senders = senders.items;
+        }) }
+        ensures handed_back { IfErr result (λ refused.
+            (refused.config ≡ config) × (refused.observers ≡ observers) × (refused.senders ≡ senders)) }
+    {
+        match Book::open(alloc, &config) {
+            Ok(book) => Ok(Scheduler {
+                alloc,
+                config,
+                book,
+                history: Vec::new(alloc),
+                observers,
+                senders,
+            }),
+            Err(AllocError) => Err(NotMade {
+                config,
+                observers,
+                senders,
+            }),
+        }
+    }
+
+    /// One pass, at this clock (in ticks) and bandwidth figure (in the unit of the table's limit):
+    /// looks once at each page, asks each ring for room, in thread order, judges what it found,
+    /// decides, sends each command, and enters the pass into the history. Waits for nobody. A
+    /// record that is refused is no fault: the entry says it, and the record kept before stays.
+    ///
+    /// `HistoryFull` where the history has 1,048,576 passes, which is checked first; `Memory` where
+    /// room for the pass was refused. Then nothing was read and nothing has changed: all the memory
+    /// that a pass takes is taken before its first look, and what its entry does not need is given
+    /// back.
+    pub fn pass(&mut self, now: u64, bandwidth: u64) -> Result<(), PassFault>
+        ensures passed { IfOk result (λ _. IsPassed now bandwidth self.old self.new) }
+        ensures kept { IsKept self.new }
+        ensures full { (result ≡ Err HistoryFull) ↔ (most_passes ≤ length self.old.history) }
+        ensures refused { IfErr result (λ _. self.new ≡ self.old) }
+    {
+        if self.history.len() >= MOST_PASSES {
+            return Err(PassFault::HistoryFull);
+        }
+        self.history.reserve(1)?;
+        let mut found = OpenInput::reserved(self.alloc, &self.config)?;
+        let mut actions = Actions::reserved(self.alloc)?;
+        find_each(
+            &self.config,
+            &self.book,
+            self.observers.as_mut_slice(),
+            self.senders.as_mut_slice(),
+            &mut found,
+        );
+        let input = found.finish(now, bandwidth);
+        self.book.step(&self.config, &input, &mut actions);
+        let actions = actions.list();
+        self.history.push_reserved(PassEntry { input, actions });
+        send_last(
+            &self.config,
+            &self.book,
+            self.history.as_slice(),
+            self.senders.as_mut_slice(),
+        );
+        Ok(())
+    }
+
+    /// Its passes, the first one first.
+    pub fn history(&self) -> &[PassEntry]
+        ensures history { result.now ≡ self.now.history }
+        ensures kept { IsKept self.now }
+    {
+        self.history.as_slice()
+    }
+
+    /// How many cores the task's threads hold or leave.
+    pub fn booked(&self, t: usize) -> u8
+        requires { t < length self.now.table.tasks }
+        ensures { result ≡ counts.booked_by self.now.table (actions_of self.now.history) t }
+    {
+        self.book.booked(&self.config, t)
+    }
+
+    /// Who has the core: the thread, the number of the Run that put it there, and the cause for
+    /// which it was told to leave.
+    pub fn holder(&self, core: u8) -> Holder
+        requires { core < self.now.table.cores }
+        ensures { result ≡ holder_of (actions_of self.now.history) core }
+    {
+        self.config.limits();
+        threads_are_sent_one_command();
+        holders_are_of_their_last_run();
+        self.book.holder(core)
+    }
+
+    /// The table, the history, and the ends of the pages and rings, in thread order. Takes no
+    /// memory.
+    pub fn end(self) -> SchedulerEnd
+        ensures config { result.config ≡ self.table }
+        ensures history { result.history.items ≡ self.history }
+        ensures observers { result.observers.items ≡ self.observers }
+        ensures senders { result.senders.items ≡ self.senders }
+        ensures kept { IsKept self }
+    {
+        let Scheduler {
+            config,
+            history,
+            observers,
+            senders,
+            ..
+        } = self;
+        SchedulerEnd {
+            config,
+            history,
+            observers,
+            senders,
+        }
+    }
+}
