@@ -1,0 +1,15 @@
+use Rattle.std.proofs.Common.{List, sym, subst}
+use Rattle.cal_machine.specs.Table.{Table}
+use Rattle.cal_policy.specs.declared.pass_entry.PassEntry.{PassEntry}
+use Rattle.cal_guard.specs.Permitted.{IsPermittedHistory}
+use Rattle.cal_world.proofs.schedules.points_are_permitted.Goals as goal
+
+pub returns : goal.returns
+returns c = λ table events ok list n le here is.
+    let P : Table → Type 0 = λ t. IsPermittedHistory t here.history in
+    let Q : List PassEntry → Type 0 = λ history. IsPermittedHistory table history in
+    record {
+      permitted = subst P (sym is.its_table) (subst Q (sym is.its_history) (c.histories_are_permitted.ensures table events ok list n le));
+      entry = is.entry;
+      made = is.made;
+    }

@@ -1,0 +1,27 @@
+use Rattle.std.proofs.Common.{◌≡◌, List, [], ◌∷◌, ◌++◌, sym, ap, ◌∙◌, subst}
+use Rattle.cal_world.specs.declared.event.Event.{Event}
+use Rattle.cal_world.specs.World.{IsAllowed, IsLegalList, Past}
+use Rattle.cal_world.specs.Present.{IsPresent}
+use Rattle.cal_world.proofs.Pasts.{list_more}
+use Rattle.cal_world.proofs.Presents.{has_thread}
+use Rattle.cal_world.proofs.world.World.take.Goals as goal
+
+pub note-requires : goal.note-requires
+note-requires c =
+    let P : Past → Type 0 = λ past. IsAllowed past.table past.events c.args.event.now in
+    has_thread c.self.inside.config c.self.inside.events.items c.args.event.now c.self.inside.present c.self.invariant.kept (subst P (sym c.self.view_is) c.requires)
+
+pub invariant_of-self-2 : goal.invariant_of-self-2
+invariant_of-self-2 c =
+    let table = c.self.inside.config in
+    let events : List Event = c.self.inside.events.items in
+    let is = c.self.invariant in
+    let P : Past → Type 0 = λ past. IsAllowed past.table past.events c.args.event.now in
+    let allowed : IsAllowed table events c.args.event.now = subst P (sym c.self.view_is) c.requires in
+    let all : events ++ c.args.event.now ∷ [] ≡ c.push_reserved.new.self.items =
+    sym (c.push_reserved.ensures.items ∙ ap (λ (es : List Event). es ++ c.in_ok-copy.copy ∷ []) c.in_ok-reserve.ensures.items ∙ ap (λ (e : Event). events ++ e ∷ []) c.in_ok-copy.ensures) in
+    let Q : List Event → Type 0 = λ es. IsPresent table es c.note.new.self in record {
+      ok = is.ok;
+      legal = subst (IsLegalList table) all (list_more table events c.args.event.now is.legal allowed);
+      kept = subst Q all (c.in_ok-note.ensures.ok table events is.ok is.legal allowed is.kept);
+    }

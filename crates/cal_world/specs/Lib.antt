@@ -1,0 +1,13 @@
+pub mod Projections
+pub mod Watches
+pub mod Threads
+pub mod Looks
+pub mod World
+pub mod Safe
+pub mod Schedules
+pub mod Reads
+pub mod Outbox
+pub mod Standings
+pub mod Sending
+pub mod Present
+pub mod Worlds

@@ -1,0 +1,29 @@
+//! The model of all schedules: which lists of events there may be, and what holds of every one.
+#![tactic(auto)]
+
+mod event;
+mod illegal;
+mod outbox;
+mod page;
+mod present;
+mod refusing;
+mod replay;
+mod schedules;
+mod sending;
+mod standing;
+mod world;
+
+pub use event::Event;
+pub use illegal::Illegal;
+pub use replay::{Stopped, run_events};
+pub use schedules::{
+    bans_in_events_are_kept, histories_are_legal, histories_are_permitted, legal_lists_are_safe,
+    no_core_runs_two, passes_on_reads_are_allowed, passes_on_reads_are_safe, points_are_legal,
+    points_are_permitted, reads_are_whole, revocations_in_events_have_cause,
+    revocations_in_events_leave_guarantees, taken_were_sent, tasks_run_within_limits,
+    threads_keep_journals, threads_run_by_their_last_run,
+};
+pub use world::World;
+
+#[cfg(test)]
+mod tests;

@@ -1,0 +1,115 @@
+//! The world: the events that were allowed so far.
+
+ghost use Rattle.std.specs.Prelude.{◌≡◌, ℕ, ◌<◌, ◌⊎◌, [], IfOk, IfErr, OnOk, OnErr};
+ghost use Rattle.cal_world.specs.declared.illegal.Illegal.TheVariants.{Memory};
+ghost use Rattle.cal_world.specs.Projections.{history_in};
+ghost use Rattle.cal_world.specs.Threads.{running_on};
+ghost use Rattle.cal_world.specs.World.{IsAllowed, IsRefusal, IsRefusedFor, and_then};
+
+use crate::event::Event;
+use crate::illegal::Illegal;
+use crate::present::Present;
+use crate::schedules::histories_are_legal;
+use cal_machine::Config;
+use cal_policy::PassEntry;
+use std::alloc::{AllocError, Global};
+use std::marker::Model;
+
+/// A list of events, each of which was allowed after those before it. Contracts see the table and
+/// the events.
+///
+/// It keeps what the events come to as plain data, so that a step costs what its kind asks and not
+/// what went before; but a Decide goes over the whole history, by the plain pass.
+#[derive(Drop)]
+pub struct World {
+    alloc: Global,
+    config: Config,
+    events: Vec<Event>,
+    present: Present,
+}
+
+impl Model for World {
+    ghost use Rattle.cal_world.specs.World.{Past};
+    ghost use Rattle.cal_world.specs.Worlds.{IsWorld};
+
+    ghost Value = { Past };
+
+    ghost view = { λ w. record { table = w.config; events = w.events.items } };
+
+    ghost invariant = { λ w. IsWorld w.config w.events.items w.present };
+}
+
+impl World {
+    /// The world in which nothing has happened. Its error is want of memory alone.
+    pub fn start(alloc: Global, config: &Config) -> Result<World, AllocError>
+        ensures table { IfOk result (λ world. world.table ≡ config.now) }
+        ensures events { IfOk result (λ world. world.events ≡ []) }
+    {
+        config.limits();
+        Ok(World {
+            alloc,
+            config: config.copy(alloc)?,
+            events: Vec::new(alloc),
+            present: Present::open(alloc, config.threads())?,
+        })
+    }
+
+    /// The passes so far.
+    pub fn history(&self) -> &[PassEntry]
+        ensures { result.now ≡ history_in self.now.events }
+    {
+        self.present.history.as_slice()
+    }
+
+    /// The core on which kernel thread `k` runs, if it runs on one; None past the last thread.
+    pub fn running(&self, k: u8) -> Option<u8>
+        ensures { result ≡ running_on self.now.events k }
+    {
+        if (k as usize) < self.present.standings.len() {
+            self.present.standings[k as usize].core
+        } else {
+            None
+        }
+    }
+
+    /// Why an event may not come next, the least cause; None where it may. Its error is want of
+    /// memory alone.
+    fn refusal(&self, event: &Event) -> Result<Option<Illegal>, AllocError>
+        ensures { IfOk result (λ refusal.
+            IsRefusal self.now.table self.now.events event.now refusal) }
+    {
+        histories_are_legal();
+        self.present.refusal(self.alloc, &self.config, event)
+    }
+
+    /// Takes in an event that is allowed. After an error, which is want of memory, the world is as
+    /// it was.
+    fn take(&mut self, event: &Event) -> Result<(), AllocError>
+        requires { IsAllowed self.old.table self.old.events event.now }
+        ensures ok { OnOk result (self.new ≡ and_then self.old event.now) }
+        ensures err { OnErr result (self.new ≡ self.old) }
+    {
+        let copy = event.copy(self.alloc)?;
+        self.events.reserve(1)?;
+        self.present.note(self.alloc, event)?;
+        self.events.push_reserved(copy);
+        Ok(())
+    }
+
+    /// Makes one step: exactly an event that is allowed after those before it is taken in. Else the
+    /// answer is the least cause that refuses it, and the world is as it was. In place of any other
+    /// answer there may be `Memory`; then too the world is as it was.
+    pub fn step(&mut self, event: &Event) -> Result<(), Illegal>
+        ensures allowed { OnOk result (IsAllowed self.old.table self.old.events event.now) }
+        ensures taken { OnOk result (self.new ≡ and_then self.old event.now) }
+        ensures refused { IfErr result (λ why.
+            (why ≡ Memory) ⊎ IsRefusedFor self.old.table self.old.events event.now why) }
+        ensures same { OnErr result (self.new ≡ self.old) }
+    {
+        if let Some(why) = self.refusal(event)? {
+            return Err(why);
+        }
+        self.take(event)?;
+        Ok(())
+    }
+}
