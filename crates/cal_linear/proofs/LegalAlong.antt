@@ -1,0 +1,49 @@
+-- Which events may happen after which, and legal lists, told so that one more event is one step.
+use Rattle.std.specs.Prelude.{◌≡◌, ℕ, ◌<◌, ◌≤◌, List, [], ◌∷◌, ◌++◌, length, IsSome}
+use Rattle.cal_machine.specs.Table.{Table}
+use Rattle.cal_signal.specs.declared.record.Record.{Record}
+use Rattle.cal_signal.specs.Pages.{last_of}
+use Rattle.cal_signal.specs.Records.{MayFollow}
+use Rattle.cal_policy.specs.Tasks.{threads_of_table}
+use Rattle.cal_policy.specs.History.{actions_of, sent_to}
+use Rattle.cal_policy.specs.Pass.{IsPass}
+use Rattle.cal_kthread.specs.Journal.{State, state_after, running_word}
+use Rattle.cal_world.specs.declared.event.Event.{Event}
+use Rattle.cal_world.specs.declared.event.Event.TheVariants.{Take, Yield, Publish, Read, Skip, Decide, Watch}
+use Rattle.cal_world.specs.Projections.{history_in}
+use Rattle.cal_world.specs.World.{KeepsNone}
+use Rattle.cal_linear.proofs.Along.{journal_along, published_along, floor_along, watch_floor_along, looks_along}
+
+-- how many commands thread k has taken after these events, and its core
+abbrev pub state_along : List Event → ℕ → State
+state_along events k = state_after (journal_along events k)
+
+-- a record shows that state, and may be published after these ones
+abbrev pub MayBePublished : State → List Record → Record → Type 0
+MayBePublished state published rec = (rec.taken ≡ state.taken) × (rec.running ≡ running_word state.core) × MayFollow (last_of published) rec
+
+-- after these events the scheduler looks at thread k next
+abbrev pub IsTurnOf : List Event → ℕ → Type 0
+IsTurnOf before k = length (looks_along before) ≡ k
+
+-- An event may happen after these ones. A Take: a command was sent and not taken. A Yield: the thread is on a core. A
+-- Publish: the record shows its state, and may follow on its page. A Read: the place is not below the floor, and is
+-- published. Looks come one a thread, in thread order, between two Decides. A Decide: its entry has those looks, and is a
+-- pass. A Watch: as a Read, at any place in the list, with a floor of its own.
+abbrev pub IsAllowedAlong : Table → List Event → Event → Type 0
+IsAllowedAlong table before (Take k) = (k < threads_of_table table) × ((state_along before k).taken < sent_to (actions_of (history_in before)) k)
+IsAllowedAlong table before (Yield k) = (k < threads_of_table table) × IsSome (state_along before k).core
+IsAllowedAlong table before (Publish k rec) = (k < threads_of_table table) × MayBePublished (state_along before k) (published_along before k) rec
+IsAllowedAlong table before (Read k place) = (k < threads_of_table table) × (floor_along before k ≤ place) × (place ≤ length (published_along before k)) × IsTurnOf before k
+IsAllowedAlong table before (Skip k seen) = (k < threads_of_table table) × IsTurnOf before k × KeepsNone seen
+IsAllowedAlong table before (Decide entry) = IsTurnOf before (threads_of_table table) × (looks_along before ≡ entry.input.seen) × IsPass table (history_in before) entry
+IsAllowedAlong table before (Watch k place) = (k < threads_of_table table) × (watch_floor_along before k ≤ place) × (place ≤ length (published_along before k))
+
+-- each of the events is allowed after those before it, which begin with `before`
+abbrev pub AllowedAfter : Table → List Event → List Event → Type 0
+AllowedAfter table before [] = Unit {0}
+AllowedAfter table before (event ∷ events) = IsAllowedAlong table before event × AllowedAfter table (before ++ event ∷ []) events
+
+-- a legal list
+abbrev pub IsLegalAlong : Table → List Event → Type 0
+IsLegalAlong table events = AllowedAfter table [] events

@@ -1,0 +1,10 @@
+use Rattle.std.proofs.Common.{◌≡◌, ◌++◌, take, drop}
+use Rattle.cal_kthread.specs.Journals.{up_to}
+use Rattle.cal_linear.specs.Steps.{events_of}
+use Rattle.cal_linear.proofs.steps.append_upto.Given as goal
+
+abbrev pub invariant-loop-i : goal.invariant-loop-i
+invariant-loop-i l = record {
+  appended : l.events.items ≡ l.fn.events.items ++ events_of l.thread (take l.i l.entries);
+  cut : take l.i l.entries ++ up_to l.left (drop l.i l.entries) ≡ up_to l.publications l.entries;
+}

@@ -1,0 +1,71 @@
+-- When a history, journals and watched rounds are those of one run.
+use Rattle.std.specs.Prelude.{◌≡◌, ℕ, List, [], length, take, Option, Some, None, slice_get, option_map}
+use Rattle.std.specs.List.{flat_map}
+use Rattle.cal_machine.specs.Table.{Table}
+use Rattle.cal_signal.specs.declared.record.Record.{Record}
+use Rattle.cal_signal.specs.declared.look.Look.{Look}
+use Rattle.cal_signal.specs.Pages.{page_of, FitsPage}
+use Rattle.cal_signal.specs.Looks.{whole_of}
+use Rattle.cal_policy.specs.declared.judged_look.Seen.{Seen}
+use Rattle.cal_policy.specs.declared.judged_look.Seen.TheVariants.{Whole}
+use Rattle.cal_policy.specs.declared.pass_entry.PassEntry.{PassEntry}
+use Rattle.cal_policy.specs.Tasks.{threads_of_table}
+use Rattle.cal_policy.specs.History.{actions_of, commands_to}
+use Rattle.cal_policy.specs.Looks.{look_of}
+use Rattle.cal_policy.specs.Pass.{IsLegal}
+use Rattle.cal_kthread.specs.declared.entry.Entry.{Entry}
+use Rattle.cal_kthread.specs.Journal.{IsJournal, records_of, commands_of}
+use Rattle.cal_linear.specs.Steps.{journal_at}
+
+-- the page of thread k: place 0 has the zero record, the others those that it published
+abbrev pub page_at : List (List Entry) → ℕ → List Record
+page_at journals k = page_of (records_of (journal_at journals k))
+
+-- the record stands at this place of thread k's page
+abbrev pub IsPublication : List (List Entry) → ℕ → ℕ → Record → Type 0
+IsPublication journals k number rec = slice_get (page_at journals k) number ≡ Some rec
+
+-- the whole looks at thread k read publications of its
+abbrev pub ArePublications : List (List Entry) → List Seen → Type 0
+ArePublications journals seen =
+    (k number : ℕ) (rec : Record) → slice_get seen k ≡ Some (Whole number rec) →
+    IsPublication journals k number rec
+
+-- these commands are the first ones of those
+abbrev pub AreFirst : {X : Type 0} → List X → List X → Type 0
+AreFirst taken sent = taken ≡ take (length taken) sent
+
+-- The history is legal, and each of the table's threads kept a journal. Each whole look of a pass
+-- is its thread's publication of that place, and the commands that a thread took are the first of
+-- those sent to it.
+pub record AreOfOneRun (table : Table) (history : List PassEntry)
+    (journals : List (List Entry)) : Type 0 where
+  pub legal : IsLegal table history
+  pub count : length journals ≡ threads_of_table table
+  pub kept : (k : ℕ) → IsJournal (journal_at journals k)
+  pub looks : (p : ℕ) (entry : PassEntry) → slice_get history p ≡ Some entry →
+      ArePublications journals entry.input.seen
+  pub first : (k : ℕ) → AreFirst (commands_of (journal_at journals k))
+      (commands_to (actions_of history) k)
+
+-- place and record of a look, where it is whole
+abbrev pub found_by : Option Look → List (ℕ × Record)
+found_by None = []
+found_by (Some look) = whole_of look
+
+-- what all rounds, each with a look at each thread in order, found of thread k
+abbrev pub found_of : List (List Look) → ℕ → List (ℕ × Record)
+found_of watched k = flat_map (λ round. found_by (slice_get round k)) watched
+
+-- what the passes found of thread k, whatever was judged of it
+abbrev pub shown_of : List PassEntry → ℕ → List (ℕ × Record)
+shown_of history k =
+    flat_map (λ entry. found_by (option_map look_of (slice_get entry.input.seen k))) history
+
+-- Each round has a look at each thread. What the rounds found of a thread fits its page: each whole
+-- look is its publication of that place, and places do not fall.
+pub record AreWatched (table : Table) (journals : List (List Entry))
+    (watched : List (List Look)) : Type 0 where
+  pub rounds : (r : ℕ) (round : List Look) → slice_get watched r ≡ Some round →
+      length round ≡ threads_of_table table
+  pub fit : (k : ℕ) → FitsPage (page_at journals k) (found_of watched k)

@@ -1,0 +1,15 @@
+//! The laws, each as the contract of a function that does nothing.
+
+ghost use Rattle.cal_linear.specs.Law.{FittingLooksArePublications, LinearIsLegal};
+
+/// Where a scheduler decided a legal history and its threads kept journals, each on its own, the
+/// steps of all stand in one legal list: `linear`.
+pub fn linear_is_legal()
+    ensures { LinearIsLegal }
+{}
+
+/// Where all looks that carried a record fit the pages, as what closes a page promises, each whole
+/// look is its thread's publication of its place: what `linearise` asks of the looks.
+pub fn fitting_looks_are_publications()
+    ensures { FittingLooksArePublications }
+{}

@@ -1,0 +1,21 @@
+//! The steps of threads that ran at the same time, put into one list of events.
+//!
+//! A scheduler keeps a history and each kernel thread a journal, each on its own and in its own
+//! order. Where they are of one run, as the ends of the run promise together (`AreOfOneRun`,
+//! `AreWatched`), their steps stand in one order that is a legal list of events. So what holds of
+//! every legal list holds of what they did.
+//!
+//! Not promised: that the list is the order in time between threads.
+#![tactic(auto)]
+
+mod front;
+mod law;
+mod linear;
+mod passes;
+mod steps;
+#[cfg(test)]
+mod tests;
+mod watches;
+
+pub use law::{fitting_looks_are_publications, linear_is_legal};
+pub use linear::linearise;
