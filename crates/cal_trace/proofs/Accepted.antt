@@ -1,29 +1,32 @@
 -- The signals of an accepted file fit: the checks of its rows say so.
-use Rattle.std.proofs.Common.{◌≡◌, ◌<◌, ◌≤◌, ◌+◌, ◌==◌, ◌&&◌, nat_lt, ℕ, Bool, true, false, not, List, [], ◌∷◌, ◌++◌, length, Option, Some, None, option_to_list, Result, Ok, Err, slice_get, if◌then◌else◌, ◌⊎◌, inl, inr, subst, refl, sym, ap, ◌∙◌, arith, length-append, codes}
+use Rattle.std.proofs.Common.{◌≡◌, ◌<◌, ◌≤◌, ◌==◌, ◌&&◌, nat_lt, ℕ, Bool, true, false, not, List, [], ◌∷◌, ◌++◌, length, Option, Some, None, option_to_list, Result, Ok, Err, slice_get, if◌then◌else◌, inl, inr, subst, refl, ap, ◌∙◌, arith, length-append, codes}
 use Rattle.std.proofs.lemmas.List.{append-nil, take-append-le, take_all}
-use Rattle.std.proofs.lemmas.Option.{slice_get_past, slice_get_within, slice_get_read, slice_get-get_or}
-use Rattle.std.proofs.Math.ListN.{get_or-append}
-use Rattle.std.proofs.Math.Seq.{get_or-append_seam}
+use Rattle.std.proofs.lemmas.Option.{slice_get_past}
 use Rattle.std.specs.Option.{unwrap_or}
 use Rattle.std.specs.Result.{result_unwrap_or}
 use Rattle.cal_trace.specs.Header.{header_of}
 use Rattle.cal_trace.specs.LookRows.{check, whole_row, busy_row}
 use Rattle.cal_trace.specs.Fields.{has_numbers, number_at}
 use Rattle.cal_trace.specs.Rows.{Fields}
-use Rattle.cal_trace.specs.Shown.{record_of, nothing_shown, is_shaped, is_busy_pair}
-use Rattle.cal_trace.specs.Signals.{SoFar, at_start, passes_of, is_full, next_thread, shown_in, last_answer, last_shown, with_look, add_look, add_pass, add_end, look_row, following, as_look, look_of_whole, look_of_busy, take_look, take_form, form_of, and_then, signals_from, signals_under, signals_of}
+use Rattle.cal_trace.specs.Shown.{record_of}
+use Rattle.cal_signal.specs.Looks.{IsBusyPair}
+use Rattle.cal_signal.specs.Records.{IsShaped}
+use Rattle.cal_signal.specs.Tests.{is_shaped, is_busy_pair}
+use Rattle.cal_signal.proofs.Testing.{shaped_holds, follows_holds, pair_holds}
+use Rattle.cal_lists.proofs.Last.{last_or_before}
+use Rattle.cal_trace.proofs.LastShown.{shown-push}
+use Rattle.cal_trace.specs.Signals.{SoFar, at_start, passes_of, is_full, next_thread, shown_in, last_shown, with_look, add_look, add_pass, add_end, look_row, following, as_look, look_of_whole, look_of_busy, take_look, take_form, take_row, whole, form_of, signals_of}
 use Rattle.cal_trace.specs.declared.fault.FaultKind.{FaultKind}
 use Rattle.cal_trace.specs.declared.fault.FaultKind.TheVariants as kinds
-use Rattle.cal_trace.specs.declared.fault.TraceFault.{TraceFault}
 use Rattle.cal_trace.specs.declared.look_rows.WholeRow.{WholeRow}
 use Rattle.cal_trace.specs.declared.look_rows.BusyRow.{BusyRow}
 use Rattle.cal_trace.specs.declared.look_rows.PassRow.{PassRow}
-use Rattle.cal_trace.specs.declared.shown.Shown.{Shown}
-use Rattle.cal_trace.specs.declared.signals.SignalLook.{SignalLook}
+use Rattle.cal_signal.specs.declared.shown.Shown.{Shown}
+use Rattle.cal_policy.specs.declared.open_input.FoundLook.{FoundLook}
 use Rattle.cal_trace.specs.declared.signals.SignalPass.{SignalPass}
 use Rattle.cal_trace.specs.declared.signal_reading.Form.{Form}
 use Rattle.cal_trace.specs.declared.signal_reading.Form.TheVariants as form
-use Rattle.cal_trace.specs.declared.version.Version.{Version}
+use Rattle.cal_trace.proofs.Readings.{kept_under}
 use Rattle.cal_trace.specs.Fitting.{IsFitting, AreFitting, IsFittingPass, AreFittingPasses}
 
 -- a check that was passed
@@ -39,33 +42,8 @@ both_true false b e = absurd (cc)
 ok_same : {X E : Type 0} (a b : X) → ◌≡◌ {A = Result X E} (Ok a) (Ok b) → a ≡ b
 ok_same a b e = ap (λ r. result_unwrap_or r a) e
 
-some_same : {X : Type 0} (a b : X) → Some a ≡ Some b → a ≡ b
-some_same a b e = ap (λ o. unwrap_or o a) e
-
--- one place more at the end of a list
-slice_get-last : {X : Type 0} (xs : List X) (x : X) → slice_get (xs ++ x ∷ []) (length xs) ≡ Some x
-slice_get-last xs x =
-    slice_get_read (xs ++ x ∷ []) (length (xs ++ x ∷ [])) (length xs) x refl (omega (arith, length-append xs (x ∷ []))) (sym (get_or-append_seam xs x [] x))
-
-slice_get-before : {X : Type 0} (xs : List X) (x : X) (k : ℕ) → k < length xs → slice_get (xs ++ x ∷ []) k ≡ slice_get xs k
-slice_get-before xs x k lt =
-    slice_get-get_or (xs ++ x ∷ []) k x (omega (arith, length-append xs (x ∷ []))) ∙ ap Some (get_or-append xs (x ∷ []) x k lt) ∙ sym (slice_get-get_or xs k x lt)
-
--- a place of a list with one more at its end is one of the list, or the last
-last_or_before : {X : Type 0} (xs : List X) (x y : X) (k : ℕ) → slice_get (xs ++ x ∷ []) k ≡ Some y
-    → ((k < length xs) × (slice_get xs k ≡ Some y)) ⊎ ((k ≡ length xs) × (x ≡ y))
-last_or_before xs x y k e = go (nat_lt k (length xs)) refl
-  where
-    go : (b : Bool) → nat_lt k (length xs) ≡ b → ((k < length xs) × (slice_get xs k ≡ Some y)) ⊎ ((k ≡ length xs) × (x ≡ y))
-    go true h = let lt : k < length xs = grind arith in inl (lt, sym (slice_get-before xs x k lt) ∙ e)
-    go false h =
-        let ge : length xs ≤ k = grind arith in
-        let within : k < length (xs ++ x ∷ []) = slice_get_within (xs ++ x ∷ []) k y e in
-        let here : k ≡ length xs = omega (arith, length-append xs (x ∷ [])) in
-        inr (here, some_same x y (sym (slice_get-last xs x) ∙ rw here at e))
-
 -- one look more
-AreFitting-append : (before : List SignalPass) (looks : List SignalLook) (seen : SignalLook) → AreFitting before looks
+AreFitting-append : (before : List SignalPass) (looks : List FoundLook) (seen : FoundLook) → AreFitting before looks
     → IsFitting (last_shown (length looks) before) seen.look → AreFitting before (looks ++ seen ∷ [])
 AreFitting-append before looks seen fit next k other e = elim (last_or_before looks seen other k e) [
   | inl h ↦ fit k other h.1
@@ -86,15 +64,11 @@ AreFittingPasses-none : (threads : ℕ) → AreFittingPasses threads []
 AreFittingPasses-none threads = record { each = λ p pass e. absurd (cc) }
 
 -- a pass without a look at thread k changes nothing of what it showed last
-last_answer-silent : {X Y : Type 0} (f : X → Option Y) (xs : List X) (x : X) → f x ≡ None → last_answer f (xs ++ x ∷ []) ≡ last_answer f xs
-last_answer-silent f [] x e = rw e refl
-last_answer-silent f (y ∷ ys) x e = rw (last_answer-silent f ys x e) refl
-
 last_shown-silent : (k : ℕ) (passes : List SignalPass) (pass : SignalPass) → length pass.looks ≤ k → last_shown k (passes ++ pass ∷ []) ≡ last_shown k passes
 last_shown-silent k passes pass le =
     let none : slice_get pass.looks k ≡ None = slice_get_past pass.looks k le in
     let silent : shown_in k pass ≡ None = rw none refl in
-    ap (λ o. unwrap_or o nothing_shown) (last_answer-silent (shown_in k) passes pass silent)
+    shown-push k passes pass ∙ ap (λ o. unwrap_or o (last_shown k passes)) silent
 
 -- the looks at hand fit
 abbrev IsHand : ℕ → List SignalPass → Option SignalPass → Type 0
@@ -131,7 +105,7 @@ fits_with_end threads so_far next (Ok n) fit e =
     subst (IsFittingSoFar threads) (ok_same closed next e) (record { before = fit; at_hand = tt })
 
 -- the look of an accepted row is shaped, or has a busy pair
-shaped_row : (thread : ℕ) (fields : Fields) (row : WholeRow) → whole_row thread fields ≡ Ok row → is_shaped row.shown.rec ≡ true
+shaped_row : (thread : ℕ) (fields : Fields) (row : WholeRow) → whole_row thread fields ≡ Ok row → IsShaped row.shown.rec
 shaped_row thread fields row e =
     let found : WholeRow = record { room = number_at fields 2 == 1; shown = record { number = number_at fields 3; rec = record_of fields } } in
     let in_range : Bool = nat_lt (number_at fields 2) 2 && is_shaped (record_of fields) in
@@ -141,9 +115,9 @@ shaped_row thread fields row e =
     let order = check_passed (number_at fields 1 == thread) kinds.Order after_order row numbers.1 in
     let range = check_passed in_range kinds.Range (Ok found) row order.1 in
     let same : found ≡ row = ok_same found row range.1 in
-    subst (λ (r : WholeRow). is_shaped r.shown.rec ≡ true) same (both_true (nat_lt (number_at fields 2) 2) (is_shaped (record_of fields)) range.0).1
+    subst (λ (r : WholeRow). IsShaped r.shown.rec) same (shaped_holds (record_of fields) (both_true (nat_lt (number_at fields 2) 2) (is_shaped (record_of fields)) range.0).1)
 
-busy_pair_row : (thread : ℕ) (fields : Fields) (row : BusyRow) → busy_row thread fields ≡ Ok row → is_busy_pair row.first row.second ≡ true
+busy_pair_row : (thread : ℕ) (fields : Fields) (row : BusyRow) → busy_row thread fields ≡ Ok row → IsBusyPair row.first row.second
 busy_pair_row thread fields row e =
     let found : BusyRow = record { room = number_at fields 2 == 1; first = number_at fields 3; second = number_at fields 4 } in
     let in_range : Bool = nat_lt (number_at fields 2) 2 && is_busy_pair (number_at fields 3) (number_at fields 4) in
@@ -153,24 +127,25 @@ busy_pair_row thread fields row e =
     let order = check_passed (number_at fields 1 == thread) kinds.Order after_order row numbers.1 in
     let range = check_passed in_range kinds.Range (Ok found) row order.1 in
     let same : found ≡ row = ok_same found row range.1 in
-    subst (λ (r : BusyRow). is_busy_pair r.first r.second ≡ true) same (both_true (nat_lt (number_at fields 2) 2) (is_busy_pair (number_at fields 3) (number_at fields 4)) range.0).1
+    subst (λ (r : BusyRow). IsBusyPair r.first r.second) same
+    (pair_holds (number_at fields 3) (number_at fields 4) (both_true (nat_lt (number_at fields 2) 2) (is_busy_pair (number_at fields 3) (number_at fields 4)) range.0).1)
 
-fitting_whole : (last : Shown) (row : Result WholeRow FaultKind) (seen : SignalLook) → ((r : WholeRow) → row ≡ Ok r → is_shaped r.shown.rec ≡ true)
+fitting_whole : (last : Shown) (row : Result WholeRow FaultKind) (seen : FoundLook) → ((r : WholeRow) → row ≡ Ok r → IsShaped r.shown.rec)
     → following last row ≡ Ok seen → IsFitting last seen.look
 fitting_whole last (Err k) seen shaped e = absurd (cc)
 fitting_whole last (Ok row) seen shaped e =
     let passed = check_passed _ _ _ seen e in
     let same : look_of_whole row ≡ seen = ok_same (look_of_whole row) seen passed.1 in
-    subst (λ (s : SignalLook). IsFitting last s.look) same (shaped row refl, passed.0)
+    subst (λ (s : FoundLook). IsFitting last s.look) same (shaped row refl, follows_holds last row.shown passed.0)
 
-fitting_busy : (last : Shown) (row : Result BusyRow FaultKind) (seen : SignalLook) → ((r : BusyRow) → row ≡ Ok r → is_busy_pair r.first r.second ≡ true)
+fitting_busy : (last : Shown) (row : Result BusyRow FaultKind) (seen : FoundLook) → ((r : BusyRow) → row ≡ Ok r → IsBusyPair r.first r.second)
     → as_look row ≡ Ok seen → IsFitting last seen.look
 fitting_busy last (Err k) seen pair e = absurd (cc)
 fitting_busy last (Ok row) seen pair e =
     let same : look_of_busy row ≡ seen = ok_same (look_of_busy row) seen e in
-    subst (λ (s : SignalLook). IsFitting last s.look) same (pair row refl)
+    subst (λ (s : FoundLook). IsFitting last s.look) same (pair row refl)
 
-fitting_row : (form : Form) (k : ℕ) (last : Shown) (fields : Fields) (seen : SignalLook) → look_row form k last fields ≡ Ok seen → IsFitting last seen.look
+fitting_row : (form : Form) (k : ℕ) (last : Shown) (fields : Fields) (seen : FoundLook) → look_row form k last fields ≡ Ok seen → IsFitting last seen.look
 fitting_row form.Busy k last fields seen e = fitting_busy last (busy_row k fields) seen (busy_pair_row k fields) e
 fitting_row form.Whole k last fields seen e = fitting_whole last (whole_row k fields) seen (shaped_row k fields) e
 fitting_row form.Header k last fields seen e = absurd (cc)
@@ -178,9 +153,9 @@ fitting_row form.Pass k last fields seen e = absurd (cc)
 fitting_row form.End k last fields seen e = absurd (cc)
 
 -- one look more at hand
-fits_with_look : (threads : ℕ) (before : List SignalPass) (pass : SignalPass) (ended : Bool) (next : SoFar) (seen : Result SignalLook FaultKind)
+fits_with_look : (threads : ℕ) (before : List SignalPass) (pass : SignalPass) (ended : Bool) (next : SoFar) (seen : Result FoundLook FaultKind)
     → AreFittingPasses threads before → IsHand threads before (Some pass) → length pass.looks < threads
-    → ((s : SignalLook) → seen ≡ Ok s → IsFitting (last_shown (length pass.looks) before) s.look)
+    → ((s : FoundLook) → seen ≡ Ok s → IsFitting (last_shown (length pass.looks) before) s.look)
     → add_look (record { before = before; at_hand = Some pass; ended = ended }) seen ≡ Ok next → IsFittingSoFar threads next
 fits_with_look threads before pass ended next (Err k) fit hand lt fits e = absurd (cc)
 fits_with_look threads before pass ended next (Ok seen) fit hand lt fits e =
@@ -229,35 +204,15 @@ fits_with_form threads before at_hand ended next (Some form.End) fields fit hand
     fits_with_end threads (record { before = before; at_hand = at_hand; ended = ended }) next _ (all_fit threads before at_hand fit hand full.1) passed.1
 
 -- the passes that the rows give in the end
-abbrev ending_where : Bool → List SignalPass → ℕ → Result (List SignalPass) TraceFault
-ending_where ended before row = if ended then Ok before else Err (record { row = row + 1; kind = kinds.Order })
-
-fits_at_end : (threads : ℕ) (ended : Bool) (before passes : List SignalPass) (row : ℕ) → AreFittingPasses threads before
-    → ending_where ended before row ≡ Ok passes → AreFittingPasses threads passes
-fits_at_end threads true before passes row fit e = subst (AreFittingPasses threads) (ok_same before passes e) fit
-fits_at_end threads false before passes row fit e = absurd (cc)
-
--- a row, and then the others
-fits_after : (threads : ℕ) (row : ℕ) (passes : List SignalPass) (taken : Result SoFar FaultKind) (more : SoFar → Result (List SignalPass) TraceFault)
-    → ((next : SoFar) → taken ≡ Ok next → IsFittingSoFar threads next)
-    → ((next : SoFar) → IsFittingSoFar threads next → more next ≡ Ok passes → AreFittingPasses threads passes)
-    → and_then row taken more ≡ Ok passes → AreFittingPasses threads passes
-fits_after threads row passes (Err k) more fits again e = absurd (cc)
-fits_after threads row passes (Ok next) more fits again e = again next (fits next refl) e
-
-fits_from : (threads : ℕ) (version : Version) (so_far : SoFar) (row : ℕ) (rows : List Fields) (passes : List SignalPass) → IsFittingSoFar threads so_far
-    → signals_from threads version so_far row rows ≡ Ok passes → AreFittingPasses threads passes
-unfolding signals_from
-fits_from threads version so_far row [] passes fit e = fits_at_end threads so_far.ended so_far.before passes row fit.before e
-fits_from threads version so_far row (fields ∷ rows) passes fit e =
-    fits_after threads (row + 1) passes (take_form threads so_far (form_of version fields) fields) (λ next. signals_from threads version next (row + 1) rows)
-    (λ next was. fits_with_form threads so_far.before so_far.at_hand so_far.ended next (form_of version fields) fields fit.before fit.at_hand was)
-    (λ next fits same. fits_from threads version next (row + 1) rows passes fits same) e
+fits_at_end : (threads : ℕ) (ended : Bool) (before passes : List SignalPass) → AreFittingPasses threads before → (if ended then Some before else None) ≡ Some passes
+    → AreFittingPasses threads passes
+fits_at_end threads true before passes fit e = let same : before ≡ passes = cc in subst (AreFittingPasses threads) same fit
+fits_at_end threads false before passes fit e = absurd (cc)
 
 -- the signals of an accepted file fit
 pub accepted_fit : (threads : ℕ) (rows : List Fields) (passes : List SignalPass) → signals_of threads rows ≡ Ok passes → AreFittingPasses threads passes
-accepted_fit threads rows passes e = go (header_of (codes "caladan-signals") rows) e
-  where
-    go : (file : Result (Version × List Fields) TraceFault) → signals_under threads file ≡ Ok passes → AreFittingPasses threads passes
-    go (Err fault) e = absurd (cc)
-    go (Ok file) e = fits_from threads file.0 at_start 1 file.1 passes (record { before = AreFittingPasses-none threads; at_hand = tt }) e
+accepted_fit threads rows passes e =
+    kept_under (take_row threads) whole (IsFittingSoFar threads) (AreFittingPasses threads)
+    (λ version so_far next fields fit was. fits_with_form threads so_far.before so_far.at_hand so_far.ended next (form_of version fields) fields fit.before fit.at_hand was)
+    (λ so_far passes fit is. fits_at_end threads so_far.ended so_far.before passes fit.before is)
+    at_start (header_of (codes "caladan-signals") rows) passes (record { before = AreFittingPasses-none threads; at_hand = tt }) e

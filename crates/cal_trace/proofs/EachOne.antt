@@ -14,6 +14,9 @@ cons_at : {X : Type 0} (P : X → Type 0) (x : X) (xs : List X) → P x → Each
 cons_at P x xs p h zero y e = let same : x ≡ y = cc in subst P same p
 cons_at P x xs p h (suc k) y e = h.at k y e
 
+pub each_cons : {X : Type 0} (P : X → Type 0) (x : X) (xs : List X) → P x → Each P xs → Each P (x ∷ xs)
+each_cons P x xs p h = record { at = cons_at P x xs p h }
+
 pub each_none : {X : Type 0} (P : X → Type 0) → Each P []
 each_none P = record { at = λ k y e. cc }
 

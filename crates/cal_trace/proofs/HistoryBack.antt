@@ -6,28 +6,29 @@ use Rattle.cal_policy.specs.declared.judged_look.Seen.{Seen}
 use Rattle.cal_policy.specs.declared.pass_action.Action.{Action}
 use Rattle.cal_policy.specs.declared.pass_entry.PassEntry.{PassEntry}
 use Rattle.cal_trace.specs.Header.{header_of}
-use Rattle.cal_trace.specs.Histories.{SoFar, at_start, take_row, entries_of, is_between, next_thread, with_action, most_actions, history_from, history_under, history_of}
+use Rattle.cal_trace.specs.Histories.{SoFar, at_start, take_row, entries_of, is_between, next_thread, with_action, most_actions, whole, history_of}
 use Rattle.cal_trace.specs.HistoryText.{look_fields, action_fields, look_rows, pass_fields, entry_rows, header_row, end_fields, history_text}
 use Rattle.cal_trace.specs.LookRows.{most_passes}
 use Rattle.cal_trace.specs.Ranges.{Each, HasLookWords, HasActionWord, IsLookInRange, IsActionInRange, IsEntryInRange, IsInRange}
+use Rattle.cal_trace.specs.Reading.{read_from, read_under}
 use Rattle.cal_trace.specs.Rows.{Fields, rows_of}
 use Rattle.cal_trace.specs.Texts.{numbered}
 use Rattle.cal_trace.specs.declared.action_rows.Extent.{Extent}
 use Rattle.cal_trace.specs.declared.version.Version.TheVariants as version
 use Rattle.cal_trace.proofs.EachOne.{each_first, each_other}
-use Rattle.cal_trace.proofs.HistoryRows.{no_row, one_row}
+use Rattle.cal_trace.proofs.Readings.{one_row, ends}
 use Rattle.cal_trace.proofs.Extents.{IsExtent, byte_word}
 use Rattle.cal_trace.proofs.PlainRows.{rows_back}
 use Rattle.cal_trace.proofs.RowsTaken.{within, ended, pass_taken, end_taken, look_taken, action_taken}
 
 -- these rows, after what the rows before have given, are read as this history
 record IsReadAs (extent : Extent) (so_far : SoFar) (rows : List Fields) (history : List PassEntry) : Type 0 where
-  pub from : (row : ℕ) → history_from extent version.Two so_far row rows ≡ Ok history
+  pub from : (row : ℕ) → read_from (take_row extent version.Two) whole so_far row rows ≡ Ok history
 
 row_more : (extent : Extent) (so_far next : SoFar) (fields : Fields) (rows : List Fields) (history : List PassEntry) → take_row extent version.Two so_far fields ≡ Ok next
     → IsReadAs extent next rows history → IsReadAs extent so_far (fields ∷ rows) history
 row_more extent so_far next fields rows history takes more = record {
-  from = λ row. one_row extent version.Two so_far next row fields (fields ∷ rows) rows refl takes ∙ more.from (row + 1);
+  from = λ row. one_row (take_row extent version.Two) whole so_far row next fields rows takes ∙ more.from (row + 1);
 }
 
 -- a pass with these looks and no actions yet
@@ -104,7 +105,7 @@ entries_more : (extent : Extent) (so_far : SoFar) (history : List PassEntry) (co
     → count ≡ length (entries_of so_far) + length history → count ≤ most_passes → Each (IsEntryInRange extent) history
     → IsReadAs extent so_far (flat_map entry_rows history ++ end_fields count ∷ []) (entries_of so_far ++ history)
 entries_more extent so_far [] count few between is most ranges =
-    let done : IsReadAs extent (ended (entries_of so_far)) [] (entries_of so_far) = record { from = λ row. no_row extent version.Two (ended (entries_of so_far)) row [] refl } in
+    let done : IsReadAs extent (ended (entries_of so_far)) [] (entries_of so_far) = record { from = λ row. ends (take_row extent version.Two) whole (ended (entries_of so_far)) row } in
     subst (λ (history : List PassEntry). IsReadAs extent so_far (end_fields count ∷ []) history) (sym (append-nil (entries_of so_far)))
     (row_more extent so_far _ (end_fields count) [] (entries_of so_far) (end_taken extent so_far count between (omega arith) (omega arith)) done)
 entries_more extent so_far (entry ∷ history) count few between is most ranges =
@@ -126,4 +127,4 @@ pub history_back : (extent : Extent) (history : List PassEntry) → IsExtent ext
 history_back extent history few r =
     let rest = flat_map entry_rows history ++ end_fields (length history) ∷ [] in
     let start = entries_more extent at_start history (length history) few refl (omega arith) r.passes r.each in
-    ap (history_of extent) (rows_back extent history few r) ∙ ap (history_under extent) (header_taken rest) ∙ start.from 1
+    ap (history_of extent) (rows_back extent history few r) ∙ ap (read_under (take_row extent) whole at_start) (header_taken rest) ∙ start.from 1

@@ -1,6 +1,6 @@
 -- A legal history that a file can hold is in range.
-use Rattle.std.proofs.Common.{◌≡◌, ◌<◌, ◌≤◌, ◌^◌, ◌%◌, ◌==◌, ◌&&◌, not, ℕ, List, length, take, Bool, true, false, Option, Some, None, inl, inr, MatchOption, nat_lt, nat_le, slice_get, if◌then◌else◌, refl, subst, arith}
-use Rattle.std.proofs.lemmas.Bool.{and_parts, and_from, ltb-true, leb-true, le-leb, lt-ltb, eq-eqb, ne_eqb}
+use Rattle.std.proofs.Common.{◌≡◌, ◌<◌, ◌≤◌, ◌==◌, ◌&&◌, not, ℕ, List, length, take, Bool, true, false, Option, Some, None, MatchOption, nat_lt, nat_le, slice_get, if◌then◌else◌, subst, arith}
+use Rattle.std.proofs.lemmas.Bool.{and_parts, ltb-true, leb-true}
 use Rattle.cal_machine.specs.Machine.{sibling_of}
 use Rattle.cal_machine.specs.Table.{Table, IsTable}
 use Rattle.cal_machine.specs.Tasks.{no_task}
@@ -20,7 +20,7 @@ use Rattle.cal_policy.specs.declared.holding.Holder.{Holder}
 use Rattle.cal_policy.specs.declared.holding.Holder.TheVariants as holders
 use Rattle.cal_policy.specs.declared.judged_look.Seen.{Seen}
 use Rattle.cal_policy.specs.declared.judged_look.Seen.TheVariants as seen
-use Rattle.cal_policy.specs.declared.keeping.Shown.{Shown}
+use Rattle.cal_signal.specs.declared.shown.Shown.{Shown}
 use Rattle.cal_policy.specs.declared.pass_action.Action.{Action}
 use Rattle.cal_policy.specs.declared.pass_action.Action.TheVariants.{Free, Unban, Ban, Revoke, Cap, Grant}
 use Rattle.cal_policy.specs.declared.pass_action.Cause.{Cause}
@@ -32,11 +32,10 @@ use Rattle.cal_trace.specs.Ranges.{IsLookInRange, IsCauseInRange, IsActionInRang
 
 -- a look that fits
 look_ranges : (last : Shown) (look : Seen) → IsFitLook last look → IsLookInRange look
-look_ranges last (seen.Whole number rec) h = and_from (nat_le rec.running 128) (nat_le rec.misses (2 ^ 56)) (le-leb rec.running 128 h.0.0) (le-leb rec.misses (2 ^ 56) h.0.1)
-look_ranges last (seen.Ahead number rec) h = and_from (nat_le rec.running 128) (nat_le rec.misses (2 ^ 56)) (le-leb rec.running 128 h.0.0) (le-leb rec.misses (2 ^ 56) h.0.1)
-look_ranges last (seen.Foreign number rec) h = and_from (nat_le rec.running 128) (nat_le rec.misses (2 ^ 56)) (le-leb rec.running 128 h.0.0) (le-leb rec.misses (2 ^ 56) h.0.1)
-look_ranges last (seen.Busy first second) (inl h) = rw (eq-eqb (first % 2) 1 h.0, eq-eqb second first h.1) refl
-look_ranges last (seen.Busy first second) (inr h) = let even = h.0 in rw (ne_eqb (first % 2) 1 (λ e. omega arith), eq-eqb (first % 2) 0 even, lt-ltb first second h.1) refl
+look_ranges last (seen.Whole number rec) h = h.0
+look_ranges last (seen.Ahead number rec) h = h.0
+look_ranges last (seen.Foreign number rec) h = h.0
+look_ranges last (seen.Busy first second) h = h
 
 -- a class is 1 at least
 idle_least : (banned beside last : Bool) (n : ℕ) → (if banned then None else Some (if beside then 1 else if last then 2 else 3)) ≡ Some n → 1 ≤ n

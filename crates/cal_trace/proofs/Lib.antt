@@ -4,8 +4,9 @@ pub mod Numbers
 pub mod LastShown
 pub mod WholeLooks
 pub mod Refusals
-pub mod SignalRows
-pub mod HistoryRows
+pub mod Checks
+pub mod Readings
+pub mod EachLater
 pub mod Numbered
 pub mod HistoryLines
 pub mod StandingKept
@@ -21,3 +22,4 @@ pub mod RowsTaken
 pub mod HistoryBack
 pub mod ReadInRange
 pub mod LegalInRange
+pub mod ArrivalsFit

@@ -12,18 +12,21 @@ use Rattle.cal_policy.specs.declared.pass_entry.PassEntry.{PassEntry}
 use Rattle.cal_trace.specs.ActionRows.{action_row, made, core_row, ban_row, revoke_row, revoke_for_bandwidth_row, cap_row, grant_row}
 use Rattle.cal_trace.specs.Fields.{number_in, number_at, is_number_at, has_numbers}
 use Rattle.cal_trace.specs.Header.{header_of}
-use Rattle.cal_trace.specs.Histories.{SoFar, at_start, form_of, take_row, take_form, take_look, take_action, seen_row, judged_row, busy_look, add_pass, add_end, add_look, add_action, one_more_action, entries_of, is_full, is_between, next_thread, begun, with_look, with_action, most_actions, and_then, history_from, history_under, history_of}
-use Rattle.cal_trace.specs.LookRows.{check, most_passes, pass_row, whole_row, busy_row, end_row}
+use Rattle.cal_trace.specs.Histories.{SoFar, at_start, form_of, take_row, take_form, take_look, take_action, seen_row, judged_row, busy_look, add_pass, add_end, add_look, add_action, one_more_action, entries_of, is_full, is_between, next_thread, begun, with_look, with_action, most_actions, whole, history_of}
+use Rattle.cal_trace.specs.LookRows.{most_passes, pass_row, whole_row, busy_row, end_row}
 use Rattle.cal_trace.specs.Number.{with_digit, digits_of, number_of}
 use Rattle.cal_trace.specs.Ranges.{Each, IsWord, AreWords, HasLookWords, HasActionWord, HasWords, IsLookInRange, IsActionInRange, IsEntryInRange, IsInRange}
 use Rattle.cal_trace.specs.Rows.{Fields}
-use Rattle.cal_trace.specs.Shown.{record_of, is_shaped, is_busy_pair}
+use Rattle.cal_trace.specs.Shown.{record_of}
+use Rattle.cal_signal.specs.Looks.{IsBusyPair}
+use Rattle.cal_signal.specs.Records.{IsShaped}
+use Rattle.cal_signal.specs.Tests.{is_shaped, is_busy_pair}
+use Rattle.cal_signal.proofs.Testing.{shaped_holds, pair_holds}
 use Rattle.cal_trace.specs.declared.action_rows.ActionForm.{ActionForm}
 use Rattle.cal_trace.specs.declared.action_rows.ActionForm.TheVariants as act
 use Rattle.cal_trace.specs.declared.action_rows.Extent.{Extent}
 use Rattle.cal_trace.specs.declared.fault.FaultKind.{FaultKind}
 use Rattle.cal_trace.specs.declared.fault.FaultKind.TheVariants as kind
-use Rattle.cal_trace.specs.declared.fault.TraceFault.{TraceFault}
 use Rattle.cal_trace.specs.declared.history_reading.Form.{Form}
 use Rattle.cal_trace.specs.declared.history_reading.Form.TheVariants as form
 use Rattle.cal_trace.specs.declared.history_reading.LookForm.{LookForm}
@@ -32,31 +35,10 @@ use Rattle.cal_trace.specs.declared.history_reading.SeenRow.{SeenRow}
 use Rattle.cal_trace.specs.declared.look_rows.WholeRow.{WholeRow}
 use Rattle.cal_trace.specs.declared.look_rows.BusyRow.{BusyRow}
 use Rattle.cal_trace.specs.declared.look_rows.PassRow.{PassRow}
-use Rattle.cal_trace.specs.declared.version.Version.{Version}
 use Rattle.cal_trace.proofs.Conjunctions.{and_four}
+use Rattle.cal_trace.proofs.Checks.{same_ok, check_one, check_two, check_three}
 use Rattle.cal_trace.proofs.EachOne.{each_none, each_push}
-
--- what a check that passed says
-abbrev good : {X : Type 0} → X → Result X FaultKind
-good x = Ok x
-
-same_ok : {X : Type 0} (x y : X) → good x ≡ good y → x ≡ y
-same_ok x y e = cc
-
-check_one : {X : Type 0} (a : Bool) (k : FaultKind) (more : Result X FaultKind) (y : X) → check a k more ≡ Ok y → (a ≡ true) × (more ≡ Ok y)
-check_one true k more y h = (refl, h)
-check_one false k more y h = cc
-
-check_two : {X : Type 0} (a b : Bool) (k l : FaultKind) (x y : X) → check a k (check b l (Ok x)) ≡ Ok y → (a ≡ true) × (b ≡ true) × (x ≡ y)
-check_two true true k l x y h = (refl, refl, same_ok x y h)
-check_two true false k l x y h = cc
-check_two false b k l x y h = cc
-
-check_three : {X : Type 0} (a b c : Bool) (k l m : FaultKind) (x y : X) → check a k (check b l (check c m (Ok x))) ≡ Ok y → (a ≡ true) × (b ≡ true) × (c ≡ true) × (x ≡ y)
-check_three true true true k l m x y h = (refl, refl, refl, same_ok x y h)
-check_three true true false k l m x y h = cc
-check_three true false c k l m x y h = cc
-check_three false b c k l m x y h = cc
+use Rattle.cal_trace.proofs.Readings.{kept_under}
 
 -- a number that a field spells is below 2 ^ 64
 some_if : (t : Bool) (v k : ℕ) → (if t then Some v else None) ≡ Some k → (t ≡ true) × (v ≡ k)
@@ -102,7 +84,7 @@ word_at fields place = word_or (number_in fields place) (λ n e. field_word (fie
 record IsWhole (row : WholeRow) : Type 0 where
   pub place : IsWord row.shown.number
   pub words : AreWords row.shown.rec
-  pub shaped : is_shaped row.shown.rec ≡ true
+  pub shaped : IsShaped row.shown.rec
 
 abbrev whole_of : Fields → WholeRow
 whole_of fields = record { room = number_at fields 2 == 1; shown = record { number = number_at fields 3; rec = record_of fields } }
@@ -123,13 +105,13 @@ record_words fields = record {
 whole_fits : (thread : ℕ) (fields : Fields) (row : WholeRow) → whole_row thread fields ≡ Ok row → IsWhole row
 whole_fits thread fields row h =
     let c = check_three (has_numbers fields) (number_at fields 1 == thread) (nat_lt (number_at fields 2) 2 && is_shaped (record_of fields)) kind.Number kind.Order kind.Range (whole_of fields) row h in
-    subst IsWhole c.3 (record { place = word_at fields 3; words = record_words fields; shaped = (and_parts (nat_lt (number_at fields 2) 2) (is_shaped (record_of fields)) c.2).1 })
+    subst IsWhole c.3 (record { place = word_at fields 3; words = record_words fields; shaped = shaped_holds (record_of fields) (and_parts (nat_lt (number_at fields 2) 2) (is_shaped (record_of fields)) c.2).1 })
 
 -- a row of a busy look
 record IsBusy (row : BusyRow) : Type 0 where
   pub first : IsWord row.first
   pub second : IsWord row.second
-  pub pair : is_busy_pair row.first row.second ≡ true
+  pub pair : IsBusyPair row.first row.second
 
 abbrev busy_of : Fields → BusyRow
 busy_of fields = record { room = number_at fields 2 == 1; first = number_at fields 3; second = number_at fields 4 }
@@ -137,7 +119,7 @@ busy_of fields = record { room = number_at fields 2 == 1; first = number_at fiel
 busy_fits : (thread : ℕ) (fields : Fields) (row : BusyRow) → busy_row thread fields ≡ Ok row → IsBusy row
 busy_fits thread fields row h =
     let c = check_three (has_numbers fields) (number_at fields 1 == thread) (nat_lt (number_at fields 2) 2 && is_busy_pair (number_at fields 3) (number_at fields 4)) kind.Number kind.Order kind.Range (busy_of fields) row h in
-    subst IsBusy c.3 (record { first = word_at fields 3; second = word_at fields 4; pair = (and_parts (nat_lt (number_at fields 2) 2) (is_busy_pair (number_at fields 3) (number_at fields 4)) c.2).1 })
+    subst IsBusy c.3 (record { first = word_at fields 3; second = word_at fields 4; pair = pair_holds (number_at fields 3) (number_at fields 4) (and_parts (nat_lt (number_at fields 2) 2) (is_busy_pair (number_at fields 3) (number_at fields 4)) c.2).1 })
 
 -- a look that was read
 record IsLookRead (look : Seen) : Type 0 where
@@ -372,31 +354,17 @@ row_fits extent so_far next (Some (form.Look look)) fields r h = look_taken_fits
 row_fits extent so_far next (Some (form.Act shape)) fields r h = action_taken_fits extent so_far next shape fields so_far.at_hand refl r h
 
 -- the rows
-end_of_rows : (ended : Bool) (before history : List PassEntry) (fault : TraceFault) → (if ended then Ok before else Err fault) ≡ Ok history → before ≡ history
-end_of_rows true before history fault h = cc
-end_of_rows false before history fault h = cc
-
-after_row : (extent : Extent) (row : ℕ) (r : Result SoFar FaultKind) (more : SoFar → Result (List PassEntry) TraceFault) (history : List PassEntry)
-    → ((next : SoFar) → r ≡ Ok next → more next ≡ Ok history → IsInRange extent history) → and_then row r more ≡ Ok history → IsInRange extent history
-after_row extent row (Err k) more history h e = cc
-after_row extent row (Ok next) more history h e = h next refl e
-
-rows_fit : (extent : Extent) (version : Version) (so_far : SoFar) (row : ℕ) (rows : List Fields) (history : List PassEntry) → IsSoFarRead extent so_far
-    → history_from extent version so_far row rows ≡ Ok history → IsInRange extent history
-unfolding history_from
-rows_fit extent version so_far row [] history r h =
-    let few = r.passes in
-    let done : IsInRange extent so_far.before = record { passes = omega (arith, length-append so_far.before (option_to_list so_far.at_hand)); each = r.before } in
-    subst (IsInRange extent) (end_of_rows so_far.ended so_far.before history (record { row = row + 1; kind = kind.Order }) h) done
-rows_fit extent version so_far row (fields ∷ rows) history r h =
-    after_row extent (row + 1) (take_row extent version so_far fields) (λ next. history_from extent version next (row + 1) rows) history
-    (λ next e more. rows_fit extent version next (row + 1) rows history (row_fits extent so_far next (form_of version fields) fields r e) more) h
-
-under_fits : (extent : Extent) (r : Result (Version × List Fields) TraceFault) (history : List PassEntry) → history_under extent r ≡ Ok history → IsInRange extent history
-under_fits extent (Err fault) history h = cc
-under_fits extent (Ok file) history h =
-    rows_fit extent file.0 at_start 1 file.1 history (record { before = each_none (IsEntryInRange extent); part = λ entry e. cc; passes = omega arith }) h
+end_of_rows : (ended : Bool) (before history : List PassEntry) → (if ended then Some before else None) ≡ Some history → before ≡ history
+end_of_rows true before history h = cc
+end_of_rows false before history h = cc
 
 -- a history that was read is in range
 pub read_in_range : (extent : Extent) (rows : List Fields) (history : List PassEntry) → history_of extent rows ≡ Ok history → IsInRange extent history
-read_in_range extent rows history h = under_fits extent (header_of (codes "caladan-history") rows) history h
+read_in_range extent rows history h =
+    kept_under (take_row extent) whole (IsSoFarRead extent) (IsInRange extent)
+    (λ version so_far next fields r e. row_fits extent so_far next (form_of version fields) fields r e)
+    (λ so_far history r e.
+    let few = r.passes in
+    let done : IsInRange extent so_far.before = record { passes = omega (arith, length-append so_far.before (option_to_list so_far.at_hand)); each = r.before } in
+    subst (IsInRange extent) (end_of_rows so_far.ended so_far.before history e) done)
+    at_start (header_of (codes "caladan-history") rows) history (record { before = each_none (IsEntryInRange extent); part = λ entry e. cc; passes = omega arith }) h

@@ -16,7 +16,8 @@ use Rattle.cal_trace.specs.HistoryText.{room_number, record_fields, look_fields,
 use Rattle.cal_trace.specs.LookRows.{check, most_passes, whole_row, busy_row}
 use Rattle.cal_trace.specs.Ranges.{IsWord, AreWords, HasLookWords, HasActionWord, IsLookInRange, IsCauseInRange, IsActionInRange}
 use Rattle.cal_trace.specs.Rows.{Fields}
-use Rattle.cal_trace.specs.Shown.{is_shaped, is_busy_pair}
+use Rattle.cal_signal.specs.Tests.{is_shaped, is_busy_pair}
+use Rattle.cal_signal.proofs.Testing.{shaped_test, pair_test}
 use Rattle.cal_trace.specs.declared.action_rows.ActionForm.{ActionForm}
 use Rattle.cal_trace.specs.declared.action_rows.ActionForm.TheVariants as act
 use Rattle.cal_trace.specs.declared.action_rows.Extent.{Extent}
@@ -136,18 +137,18 @@ pub look_taken : (extent : Extent) (before : List PassEntry) (entry : PassEntry)
     → take_row extent version.Two (within before entry) (look_fields thread room look) ≡ Ok (within before (with_look (record { seen = look; room = room }) entry))
 look_taken extent before entry thread room (seen.Whole place rec) next is_thread w shaped =
     look_by extent before entry looks.Whole thread (look_fields thread room (seen.Whole place rec)) _ (record_form thread room place rec) next
-    (ap (judged_row (λ (row : WholeRow). seen.Whole row.shown.number row.shown.rec)) (record_read (codes "whole") thread room place rec is_thread w.0 w.1 shaped))
+    (ap (judged_row (λ (row : WholeRow). seen.Whole row.shown.number row.shown.rec)) (record_read (codes "whole") thread room place rec is_thread w.0 w.1 (shaped_test rec shaped)))
 look_taken extent before entry thread room (seen.Ahead place rec) next is_thread w shaped =
     look_by extent before entry looks.Ahead thread (look_fields thread room (seen.Ahead place rec)) _ (ahead_form thread room place rec) next
-    (ap (judged_row (λ (row : WholeRow). seen.Ahead row.shown.number row.shown.rec)) (record_read (codes "ahead") thread room place rec is_thread w.0 w.1 shaped))
+    (ap (judged_row (λ (row : WholeRow). seen.Ahead row.shown.number row.shown.rec)) (record_read (codes "ahead") thread room place rec is_thread w.0 w.1 (shaped_test rec shaped)))
 look_taken extent before entry thread room (seen.Foreign place rec) next is_thread w shaped =
     look_by extent before entry looks.Foreign thread (look_fields thread room (seen.Foreign place rec)) _ (foreign_form thread room place rec) next
-    (ap (judged_row (λ (row : WholeRow). seen.Foreign row.shown.number row.shown.rec)) (record_read (codes "foreign") thread room place rec is_thread w.0 w.1 shaped))
+    (ap (judged_row (λ (row : WholeRow). seen.Foreign row.shown.number row.shown.rec)) (record_read (codes "foreign") thread room place rec is_thread w.0 w.1 (shaped_test rec shaped)))
 look_taken extent before entry thread room (seen.Busy first second) next is_thread w pair =
     look_by extent before entry looks.Busy thread (look_fields thread room (seen.Busy first second)) _
     (busy_form (decimal thread) (decimal (room_number room)) (decimal first) (decimal second)) next
     (ap busy_look (busy_read thread (room_number room) first second (codes "busy") _ _ _ _ (spelled thread is_thread) (spelled (room_number room) (room_word room)) (spelled first w.0) (spelled second w.1)
-    (eq-eqb thread thread refl) (room_small room) pair
+    (eq-eqb thread thread refl) (room_small room) (pair_test first second pair)
     ∙ ap (λ (b : Bool). busy_value b first second) (room_same room)))
 
 -- action rows

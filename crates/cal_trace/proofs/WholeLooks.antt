@@ -3,24 +3,25 @@ use Rattle.std.proofs.Common.{◌≡◌, ◌<◌, ◌∙◌, ℕ, Some, Ok, refl
 use Rattle.std.proofs.lemmas.Bool.Decides.{eqb_tells}
 use Rattle.std.proofs.lemmas.List.{get_or-set_other, get_or-set_same}
 use Rattle.cal_trace.specs.Rows.{Fields}
-use Rattle.cal_trace.specs.Shown.{may_follow, nothing_shown}
+use Rattle.cal_signal.specs.Shown.{nothing_shown}
+use Rattle.cal_signal.specs.Tests.{is_shown_after}
 use Rattle.cal_trace.specs.LookRows.{check, whole_row}
 use Rattle.cal_trace.specs.Signals.{SoFar, passes_of, last_shown, next_thread, one_more, add_look, take_look, look_of_whole, shown_by}
 use Rattle.cal_trace.specs.declared.fault.FaultKind.TheVariants as kind
 use Rattle.cal_trace.specs.declared.look_rows.WholeRow.{WholeRow}
-use Rattle.cal_trace.specs.declared.shown.Shown.{Shown}
-use Rattle.cal_trace.specs.declared.signals.SignalLook.{SignalLook}
+use Rattle.cal_signal.specs.declared.shown.Shown.{Shown}
+use Rattle.cal_policy.specs.declared.open_input.FoundLook.{FoundLook}
 use Rattle.cal_trace.specs.declared.signal_reading.Form.TheVariants as form
 use Rattle.cal_trace.proofs.LastShown.{kept-own, kept-other}
 
 -- what a row of a whole record says, by what its thread showed last
 pub takes-whole : (so_far : SoFar) (threads thread : ℕ) (row : WholeRow) (fields : Fields) (last : Shown) → next_thread threads so_far.at_hand ≡ Ok thread
     → whole_row thread fields ≡ Ok row → last ≡ last_shown thread (passes_of so_far)
-    → take_look so_far form.Whole fields (next_thread threads so_far.at_hand) ≡ add_look so_far (check (may_follow last row.shown) kind.Backwards (Ok (look_of_whole row)))
+    → take_look so_far form.Whole fields (next_thread threads so_far.at_hand) ≡ add_look so_far (check (is_shown_after last row.shown) kind.Backwards (Ok (look_of_whole row)))
 takes-whole so_far threads thread row fields last h1 h2 h3 = rw (h1, h2, h3) refl
 
 -- what each thread showed last, after a whole look
-pub keeps-whole : (so_far : SoFar) (threads thread k : ℕ) (seen : SignalLook) (shown : Shown) (list : List Shown) → next_thread threads so_far.at_hand ≡ Ok thread
+pub keeps-whole : (so_far : SoFar) (threads thread k : ℕ) (seen : FoundLook) (shown : Shown) (list : List Shown) → next_thread threads so_far.at_hand ≡ Ok thread
     → shown_by seen.look ≡ Some shown → thread < length list → get_or list k nothing_shown ≡ last_shown k (passes_of so_far)
     → get_or (slice_set list thread shown) k nothing_shown ≡ last_shown k (passes_of (one_more so_far seen))
 keeps-whole so_far threads thread k seen shown list h some within e =

@@ -1,21 +1,22 @@
 -- Signals that can be decided: one look for each thread in each pass, and each look fits what its thread showed before.
-use Rattle.std.specs.Prelude.{◌≡◌, ℕ, true, List, length, take, Some, slice_get}
+use Rattle.std.specs.Prelude.{◌≡◌, ℕ, List, length, take, Some, slice_get}
 use Rattle.cal_signal.specs.declared.look.Look.{Look}
 use Rattle.cal_signal.specs.declared.look.Look.TheVariants as look
-use Rattle.cal_trace.specs.Shown.{is_shaped, is_busy_pair, may_follow}
+use Rattle.cal_signal.specs.Looks.{IsBusyPair}
+use Rattle.cal_signal.specs.Shown.{IsFitShown}
 use Rattle.cal_trace.specs.Signals.{last_shown}
-use Rattle.cal_trace.specs.declared.shown.Shown.{Shown}
-use Rattle.cal_trace.specs.declared.signals.SignalLook.{SignalLook}
+use Rattle.cal_signal.specs.declared.shown.Shown.{Shown}
+use Rattle.cal_policy.specs.declared.open_input.FoundLook.{FoundLook}
 use Rattle.cal_trace.specs.declared.signals.SignalPass.{SignalPass}
 
 -- a thread that showed this last may give this look
 abbrev pub IsFitting : Shown → Look → Type 0
-IsFitting last (look.Whole number rec) = (is_shaped rec ≡ true) × (may_follow last (record { number = number; rec = rec }) ≡ true)
-IsFitting last (look.Busy first second) = is_busy_pair first second ≡ true
+IsFitting last (look.Whole number rec) = IsFitShown last (record { number = number; rec = rec })
+IsFitting last (look.Busy first second) = IsBusyPair first second
 
 -- each of these looks is one that its thread may give after these passes; the first is thread 0's
-abbrev pub AreFitting : List SignalPass → List SignalLook → Type 0
-AreFitting before looks = (k : ℕ) (seen : SignalLook) → slice_get looks k ≡ Some seen → IsFitting (last_shown k before) seen.look
+abbrev pub AreFitting : List SignalPass → List FoundLook → Type 0
+AreFitting before looks = (k : ℕ) (seen : FoundLook) → slice_get looks k ≡ Some seen → IsFitting (last_shown k before) seen.look
 
 -- a pass after these: one look for each of so many threads, and each fits
 pub record IsFittingPass (threads : ℕ) (before : List SignalPass) (pass : SignalPass) : Type 0 where

@@ -1,5 +1,5 @@
 -- What the rows of a history say.
-use Rattle.std.specs.Prelude.{◌==◌, ◌&&◌, ◌+◌, not, nat_lt, ℕ, List, [], ◌∷◌, ◌++◌, length, codes, Bool, true, false, Option, Some, None, Result, Ok, Err, if◌then◌else◌}
+use Rattle.std.specs.Prelude.{◌==◌, ◌&&◌, not, nat_lt, ℕ, List, [], ◌∷◌, ◌++◌, length, codes, Bool, true, false, Option, Some, None, Result, Ok, Err, if◌then◌else◌}
 use Rattle.std.specs.Option.{option_map, option_to_list}
 use Rattle.cal_policy.specs.declared.judged_look.Seen.{Seen}
 use Rattle.cal_policy.specs.declared.judged_look.Seen.TheVariants as seen
@@ -9,6 +9,7 @@ use Rattle.cal_trace.specs.ActionRows.{action_form, action_row}
 use Rattle.cal_trace.specs.Fields.{is_row, record_fields}
 use Rattle.cal_trace.specs.Header.{header_of}
 use Rattle.cal_trace.specs.LookRows.{check, pass_row, whole_row, busy_row, end_row}
+use Rattle.cal_trace.specs.Reading.{read_under}
 use Rattle.cal_trace.specs.Rows.{Fields}
 use Rattle.cal_trace.specs.declared.action_rows.ActionForm.{ActionForm}
 use Rattle.cal_trace.specs.declared.action_rows.Extent.{Extent}
@@ -155,26 +156,10 @@ take_form extent so_far (Some (form.Act action)) fields = take_action extent so_
 abbrev pub take_row : Extent → Version → SoFar → Fields → Result SoFar FaultKind
 take_row extent version so_far fields = take_form extent so_far (form_of version fields) fields
 
--- after the last row, which has this number: a file ends with its end row
-abbrev pub ending : SoFar → ℕ → Result (List PassEntry) TraceFault
-ending so_far row = if so_far.ended then Ok so_far.before else Err (record { row = row + 1; kind = kind.Order })
-
--- a row with this number, and then the others
-abbrev pub and_then : ℕ → Result SoFar FaultKind → (SoFar → Result (List PassEntry) TraceFault) → Result (List PassEntry) TraceFault
-and_then row (Err k) more = Err (record { row = row; kind = k })
-and_then row (Ok so_far) more = more so_far
-
--- the history of a file, from what its rows up to this number have given and the rows after it
-unfoldable pub history_from : Extent → Version → SoFar → ℕ → List Fields → Result (List PassEntry) TraceFault
-history_from extent version so_far row [] = ending so_far row
-history_from extent version so_far row (fields ∷ rest) =
-    and_then (row + 1) (take_row extent version so_far fields) (λ next. history_from extent version next (row + 1) rest)
-
--- the rows after the header
-abbrev pub history_under : Extent → Result (Version × List Fields) TraceFault → Result (List PassEntry) TraceFault
-history_under extent (Err fault) = Err fault
-history_under extent (Ok file) = history_from extent file.0 at_start 1 file.1
+-- the history of a file that came to its end row
+abbrev pub whole : SoFar → Option (List PassEntry)
+whole so_far = if so_far.ended then Some so_far.before else None
 
 -- the history of a file, for a table of this extent, or the first of its checks that fails, with its row
 abbrev pub history_of : Extent → List Fields → Result (List PassEntry) TraceFault
-history_of extent rows = history_under extent (header_of (codes "caladan-history") rows)
+history_of extent rows = read_under (take_row extent) whole at_start (header_of (codes "caladan-history") rows)

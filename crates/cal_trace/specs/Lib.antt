@@ -5,6 +5,7 @@ pub mod Shown
 pub mod LookRows
 pub mod Answers
 pub mod Header
+pub mod Reading
 pub mod Signals
 pub mod SignalReading
 pub mod ActionRows
@@ -14,7 +15,11 @@ pub mod Texts
 pub mod HistoryText
 pub mod Standing
 pub mod ReportText
+pub mod SummaryText
 pub mod Fitting
 pub mod Ranges
 pub mod Laws
 pub mod WriteFaults
+pub mod Arrivals
+pub mod ArrivalReading
+pub mod FitsTable

@@ -2,7 +2,8 @@
 use Rattle.std.specs.Prelude.{◌==◌, ◌&&◌, nat_lt, ℕ, Bool, Result, Ok, Err, if◌then◌else◌}
 use Rattle.cal_trace.specs.Fields.{number_at, has_numbers}
 use Rattle.cal_trace.specs.Rows.{Fields}
-use Rattle.cal_trace.specs.Shown.{record_of, is_shaped, is_busy_pair}
+use Rattle.cal_trace.specs.Shown.{record_of}
+use Rattle.cal_signal.specs.Tests.{is_shaped, is_busy_pair}
 use Rattle.cal_trace.specs.declared.fault.FaultKind.{FaultKind}
 use Rattle.cal_trace.specs.declared.fault.FaultKind.TheVariants as kind
 use Rattle.cal_trace.specs.declared.look_rows.WholeRow.{WholeRow}

@@ -1,5 +1,5 @@
 -- Histories that a file can hold, for a table: each number is in its range.
-use Rattle.std.specs.Prelude.{◌≡◌, ◌<◌, ◌≤◌, ◌^◌, ⊤, ℕ, true, List, length, Some, slice_get}
+use Rattle.std.specs.Prelude.{◌≡◌, ◌<◌, ◌≤◌, ◌^◌, ⊤, ℕ, List, length, Some, slice_get}
 use Rattle.cal_signal.specs.declared.record.Record.{Record}
 use Rattle.cal_policy.specs.declared.judged_look.Seen.{Seen}
 use Rattle.cal_policy.specs.declared.judged_look.Seen.TheVariants as seen
@@ -10,7 +10,8 @@ use Rattle.cal_policy.specs.declared.pass_action.Cause.TheVariants as causes
 use Rattle.cal_policy.specs.declared.pass_entry.PassEntry.{PassEntry}
 use Rattle.cal_trace.specs.Histories.{most_actions}
 use Rattle.cal_trace.specs.LookRows.{most_passes}
-use Rattle.cal_trace.specs.Shown.{is_shaped, is_busy_pair}
+use Rattle.cal_signal.specs.Looks.{IsBusyPair}
+use Rattle.cal_signal.specs.Records.{IsShaped}
 use Rattle.cal_trace.specs.declared.action_rows.Extent.{Extent}
 
 -- each member of a list is so
@@ -58,10 +59,10 @@ pub record HasWords (entry : PassEntry) : Type 0 where
 
 -- a record has the right shape, a busy look a busy pair
 abbrev pub IsLookInRange : Seen → Type 0
-IsLookInRange (seen.Whole number rec) = is_shaped rec ≡ true
-IsLookInRange (seen.Ahead number rec) = is_shaped rec ≡ true
-IsLookInRange (seen.Foreign number rec) = is_shaped rec ≡ true
-IsLookInRange (seen.Busy first second) = is_busy_pair first second ≡ true
+IsLookInRange (seen.Whole number rec) = IsShaped rec
+IsLookInRange (seen.Ahead number rec) = IsShaped rec
+IsLookInRange (seen.Foreign number rec) = IsShaped rec
+IsLookInRange (seen.Busy first second) = IsBusyPair first second
 
 -- a cause names a core or a task of the table
 abbrev pub IsCauseInRange : Extent → Cause → Type 0

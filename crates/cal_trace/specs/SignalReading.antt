@@ -2,7 +2,7 @@
 use Rattle.std.specs.Prelude.{◌≡◌, ◌<◌, ℕ, slice_index_or}
 use Rattle.std.specs.Option.{option_map}
 use Rattle.std.specs.Vec.{vec_len}
-use Rattle.cal_trace.specs.Shown.{nothing_shown}
+use Rattle.cal_signal.specs.Shown.{nothing_shown}
 use Rattle.cal_trace.specs.Signals.{SoFar, passes_of, last_shown}
 use Rattle.cal_trace.specs.declared.signal_reading.OpenPass.{OpenPass}
 use Rattle.cal_trace.specs.declared.signal_reading.SignalReading.{SignalReading}

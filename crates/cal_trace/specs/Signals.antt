@@ -1,21 +1,24 @@
 -- What the rows of a file of signals say.
-use Rattle.std.specs.Prelude.{◌==◌, ◌&&◌, ◌+◌, not, nat_lt, ℕ, List, [], ◌∷◌, ◌++◌, length, codes, slice_get, Bool, true, false, Option, Some, None, Result, Ok, Err, if◌then◌else◌}
-use Rattle.std.specs.Option.{option_and_then, option_map, option_or, option_to_list, unwrap_or}
+use Rattle.std.specs.Prelude.{◌==◌, ◌&&◌, not, nat_lt, ℕ, List, [], ◌∷◌, ◌++◌, length, codes, slice_get, Bool, true, false, Option, Some, None, Result, Ok, Err, if◌then◌else◌}
+use Rattle.std.specs.Option.{option_and_then, option_map, option_to_list, unwrap_or}
 use Rattle.cal_signal.specs.declared.look.Look.{Look}
 use Rattle.cal_signal.specs.declared.look.Look.TheVariants as look
 use Rattle.cal_trace.specs.Fields.{is_row, record_fields}
 use Rattle.cal_trace.specs.Header.{header_of}
 use Rattle.cal_trace.specs.LookRows.{check, pass_row, whole_row, busy_row, end_row}
+use Rattle.cal_trace.specs.Reading.{read_under}
 use Rattle.cal_trace.specs.Rows.{Fields}
-use Rattle.cal_trace.specs.Shown.{nothing_shown, may_follow}
+use Rattle.cal_signal.specs.Shown.{nothing_shown}
+use Rattle.cal_signal.specs.Tests.{is_shown_after}
+use Rattle.cal_policy.specs.Lists.{last_of}
 use Rattle.cal_trace.specs.declared.fault.FaultKind.{FaultKind}
 use Rattle.cal_trace.specs.declared.fault.FaultKind.TheVariants as kind
 use Rattle.cal_trace.specs.declared.fault.TraceFault.{TraceFault}
 use Rattle.cal_trace.specs.declared.look_rows.WholeRow.{WholeRow}
 use Rattle.cal_trace.specs.declared.look_rows.BusyRow.{BusyRow}
 use Rattle.cal_trace.specs.declared.look_rows.PassRow.{PassRow}
-use Rattle.cal_trace.specs.declared.shown.Shown.{Shown}
-use Rattle.cal_trace.specs.declared.signals.SignalLook.{SignalLook}
+use Rattle.cal_signal.specs.declared.shown.Shown.{Shown}
+use Rattle.cal_policy.specs.declared.open_input.FoundLook.{FoundLook}
 use Rattle.cal_trace.specs.declared.signals.SignalPass.{SignalPass}
 use Rattle.cal_trace.specs.declared.signal_reading.Form.{Form}
 use Rattle.cal_trace.specs.declared.signal_reading.Form.TheVariants as form
@@ -68,41 +71,36 @@ shown_by (look.Busy first second) = None
 abbrev pub shown_in : ℕ → SignalPass → Option Shown
 shown_in k pass = option_and_then (λ seen. shown_by seen.look) (slice_get pass.looks k)
 
--- the last answer that f gives to a member of a list
-abbrev pub last_answer : {X Y : Type 0} → (X → Option Y) → List X → Option Y
-last_answer f [] = None
-last_answer f (x ∷ xs) = option_or (last_answer f xs) (f x)
-
 -- what thread k showed last in these passes
 abbrev pub last_shown : ℕ → List SignalPass → Shown
-last_shown k passes = unwrap_or (last_answer (shown_in k) passes) nothing_shown
+last_shown k passes = unwrap_or (last_of (λ before pass. shown_in k pass) passes) nothing_shown
 
 -- one more look of the pass at hand
-abbrev pub with_look : SignalLook → SignalPass → SignalPass
+abbrev pub with_look : FoundLook → SignalPass → SignalPass
 with_look seen pass = record { now = pass.now; bandwidth = pass.bandwidth; looks = pass.looks ++ seen ∷ [] }
 
 -- the look of a row
-abbrev pub look_of_whole : WholeRow → SignalLook
+abbrev pub look_of_whole : WholeRow → FoundLook
 look_of_whole row = record { look = look.Whole row.shown.number row.shown.rec; room = row.room }
 
-abbrev pub look_of_busy : BusyRow → SignalLook
+abbrev pub look_of_busy : BusyRow → FoundLook
 look_of_busy row = record { look = look.Busy row.first row.second; room = row.room }
 
 -- a whole look, where a thread that showed this last may show it
-abbrev pub following : Shown → Result WholeRow FaultKind → Result SignalLook FaultKind
+abbrev pub following : Shown → Result WholeRow FaultKind → Result FoundLook FaultKind
 following last (Err k) = Err k
-following last (Ok row) = check (may_follow last row.shown) kind.Backwards (Ok (look_of_whole row))
+following last (Ok row) = check (is_shown_after last row.shown) kind.Backwards (Ok (look_of_whole row))
 
-abbrev pub as_look : Result BusyRow FaultKind → Result SignalLook FaultKind
+abbrev pub as_look : Result BusyRow FaultKind → Result FoundLook FaultKind
 as_look (Err k) = Err k
 as_look (Ok row) = Ok (look_of_busy row)
 
 -- the passes with one more look
-abbrev pub one_more : SoFar → SignalLook → SoFar
+abbrev pub one_more : SoFar → FoundLook → SoFar
 one_more so_far seen = record { before = so_far.before; at_hand = option_map (with_look seen) so_far.at_hand; ended = so_far.ended }
 
 -- the passes with the look of a row
-abbrev pub add_look : SoFar → Result SignalLook FaultKind → Result SoFar FaultKind
+abbrev pub add_look : SoFar → Result FoundLook FaultKind → Result SoFar FaultKind
 add_look so_far (Err k) = Err k
 add_look so_far (Ok seen) = Ok (one_more so_far seen)
 
@@ -117,7 +115,7 @@ add_end so_far (Err k) = Err k
 add_end so_far (Ok count) = Ok (record { before = passes_of so_far; at_hand = None; ended = true })
 
 -- what a look row of this form says, where the next look is thread k's, which showed this last
-abbrev pub look_row : Form → ℕ → Shown → Fields → Result SignalLook FaultKind
+abbrev pub look_row : Form → ℕ → Shown → Fields → Result FoundLook FaultKind
 look_row form.Busy k last fields = as_look (busy_row k fields)
 look_row form.Whole k last fields = following last (whole_row k fields)
 look_row form.Header k last fields = Err kind.Order
@@ -142,26 +140,10 @@ take_form threads so_far (Some form.Busy) fields = take_look so_far form.Busy fi
 abbrev pub take_row : ℕ → Version → SoFar → Fields → Result SoFar FaultKind
 take_row threads version so_far fields = take_form threads so_far (form_of version fields) fields
 
--- after the last row, which has this number: a file ends with its end row
-abbrev pub ending : SoFar → ℕ → Result (List SignalPass) TraceFault
-ending so_far row = if so_far.ended then Ok so_far.before else Err (record { row = row + 1; kind = kind.Order })
-
--- a row with this number, and then the others
-abbrev pub and_then : ℕ → Result SoFar FaultKind → (SoFar → Result (List SignalPass) TraceFault) → Result (List SignalPass) TraceFault
-and_then row (Err k) more = Err (record { row = row; kind = k })
-and_then row (Ok so_far) more = more so_far
-
--- the passes of a file, from what its rows up to this number have given and the rows after it
-unfoldable pub signals_from : ℕ → Version → SoFar → ℕ → List Fields → Result (List SignalPass) TraceFault
-signals_from threads version so_far row [] = ending so_far row
-signals_from threads version so_far row (fields ∷ rest) =
-    and_then (row + 1) (take_row threads version so_far fields) (λ next. signals_from threads version next (row + 1) rest)
-
--- the rows after the header
-abbrev pub signals_under : ℕ → Result (Version × List Fields) TraceFault → Result (List SignalPass) TraceFault
-signals_under threads (Err fault) = Err fault
-signals_under threads (Ok file) = signals_from threads file.0 at_start 1 file.1
+-- the passes of a file that came to its end row
+abbrev pub whole : SoFar → Option (List SignalPass)
+whole so_far = if so_far.ended then Some so_far.before else None
 
 -- the passes of a file of signals for so many threads, or the first of its checks that fails, with its row
 abbrev pub signals_of : ℕ → List Fields → Result (List SignalPass) TraceFault
-signals_of threads rows = signals_under threads (header_of (codes "caladan-signals") rows)
+signals_of threads rows = read_under (take_row threads) whole at_start (header_of (codes "caladan-signals") rows)

@@ -9,7 +9,8 @@ use thiserror::Error;
 /// What is wrong with a row (this project's own). `kind as u8` is its number, 1 to 9.
 ///
 /// A file's fault is the first of its rows that has one; within a row the checks come in the order `Fields`, `Order` for
-/// the row's kind at its place, `Number`, `Order` for its thread or its count, `Range`, `Backwards`.
+/// the row's kind at its place, `Number`, `Order` for its thread, its turn or its count, `Range`,
+/// `Backwards`, `Repeated`.
 #[derive(Clone, Copy, Debug, PartialEq, Eq, Error)]
 pub enum FaultKind {
     /// The reader of rows answered an error other than memory. A text in memory gives none.
@@ -24,8 +25,8 @@ pub enum FaultKind {
     /// A field is not a number: `0`, or digits with no zero in front, below 2^64.
     #[error("has a field that is no number")]
     Number = 4,
-    /// The row cannot stand here, is missing, comes after the end row, is of another thread than the next, or counts
-    /// wrongly.
+    /// The row cannot stand here, is missing, comes after the end row, is of another thread than the
+    /// next, counts wrongly, or is a request that does not come after the last one.
     #[error("cannot stand here")]
     Order = 5,
     /// A number is out of its range.
@@ -37,7 +38,7 @@ pub enum FaultKind {
     /// Memory was refused. It may come at any row, and only there.
     #[error("could not be kept, for want of memory")]
     Memory = 8,
-    /// An identity came before. Neither signals nor histories have any, so it never comes.
+    /// The id of a request came before. It comes in arrivals alone.
     #[error("repeats an identity")]
     Repeated = 9,
 }

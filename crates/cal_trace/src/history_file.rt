@@ -2,14 +2,15 @@
 
 ghost use Rattle.std.specs.Prelude.{◌≡◌, codes};
 ghost use Rattle.cal_trace.specs.Answers.{Gives};
-ghost use Rattle.cal_trace.specs.Rows.{IsReading, rest_of, rows_of};
-ghost use Rattle.cal_trace.specs.HistoryReading.{so_far, extent_of};
-ghost use Rattle.cal_trace.specs.Histories.{history_from, history_of};
+ghost use Rattle.cal_trace.specs.Rows.{rows_of};
+ghost use Rattle.cal_trace.specs.HistoryReading.{extent_of};
+ghost use Rattle.cal_trace.specs.Histories.{history_of};
 
 use crate::action_rows::Extent;
-use crate::fault::{FaultKind, TraceFault};
+use crate::fault::TraceFault;
 use crate::header::take_header;
 use crate::history_reading::HistoryReading;
+use crate::reading::take_rows;
 use crate::rows::Rows;
 use cal_machine::Config;
 use cal_policy::PassEntry;
@@ -40,32 +41,9 @@ pub fn read_history(
 {
     let mut rows = Rows::open(alloc, text);
     let version = take_header(&mut rows, b"caladan-history".as_slice())?;
-    take_rows(
+    let history = take_rows(
         &mut rows,
         HistoryReading::new(alloc, version, extent_of(config)),
-    )
-}
-
-// The history of the rows so far and of those still to come.
-fn take_rows(rows: &mut Rows, mut reading: HistoryReading) -> Result<Vec<PassEntry>, TraceFault>
-    requires { IsReading rows.old }
-    ensures { Gives (λ history. history.items) result (history_from reading.extent reading.version (so_far reading) rows.old.number (rest_of rows.old)) }
-{
-    while rows.step()? {
-        if let Err(kind) = reading.take_row(rows.row()) {
-            return Err(TraceFault {
-                row: rows.number(),
-                kind,
-            });
-        }
-    }
-    match reading.end() {
-        Some(history) => Ok(history),
-        None => {
-            Err(TraceFault {
-                row: rows.number() + 1,
-                kind: FaultKind::Order,
-            })
-        }
-    }
+    )?;
+    Ok(history.into_items())
 }

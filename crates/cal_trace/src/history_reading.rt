@@ -8,7 +8,9 @@ use crate::action_rows::{ActionForm, Extent, action_form, action_row};
 use crate::fault::FaultKind;
 use crate::fields::is_row;
 use crate::look_rows::{busy_row, end_row, pass_row, whole_row};
+use crate::reading::Reading;
 use crate::version::Version;
+use cal_lists::Listed;
 use cal_policy::{Action, ActionList, Input, MOST_ACTIONS, PassEntry, Rooms, Seen, SeenList};
 use csv::ByteRecord;
 use std::alloc::Global;
@@ -187,21 +189,6 @@ impl HistoryReading {
         }
     }
 
-    /// Takes one more row.
-    pub(crate) fn take_row(&mut self, row: &ByteRecord) -> Result<(), FaultKind>
-        ensures takes { Takes (λ _. so_far self.new) result (take_row self.old.extent self.old.version (so_far self.old) (fields_of row.now)) }
-        ensures file { IsSameFile self.old self.new }
-    {
-        match form_of(row, self.version) {
-            None => Err(FaultKind::Fields),
-            Some(Form::Header) => Err(FaultKind::Order),
-            Some(Form::Pass) => self.take_pass(row),
-            Some(Form::End) => self.take_end(row),
-            Some(Form::Look(look)) => self.take_look(row, look),
-            Some(Form::Act(action)) => self.take_action(row, action),
-        }
-    }
-
     // How many passes there are, the one at hand with them.
     fn passes(&self) -> usize
         ensures { result ≡ length (entries_of (so_far self.now)) }
@@ -306,11 +293,42 @@ impl HistoryReading {
             _ => Err(FaultKind::Order),
         }
     }
+}
 
-    /// The history, after the last row: none without an end row.
-    pub(crate) fn end(self) -> Option<Vec<PassEntry>>
-        ensures { option_map (λ history. history.items) result ≡ (if self.ended then Some (so_far self).before else None) }
-    {
-        if self.ended { Some(self.before) } else { None }
+impl Reading for HistoryReading {
+    ghost use Rattle.std.specs.Prelude.{⊤};
+    ghost use Rattle.cal_trace.specs.Histories.{SoFar, take_row, whole};
+    ghost use Rattle.cal_trace.specs.HistoryReading.{so_far};
+
+    type Value = Listed<PassEntry>;
+
+    ghost SoFar = { SoFar };
+
+    ghost so_far = { so_far };
+
+    ghost take = { λ reading. take_row reading.extent reading.version };
+
+    ghost whole = { whole };
+
+    // Nothing is kept beside.
+    ghost IsKept = { λ reading. ⊤ };
+
+    fn take_row(&mut self, row: &ByteRecord) -> Result<(), FaultKind> {
+        match form_of(row, self.version) {
+            None => Err(FaultKind::Fields),
+            Some(Form::Header) => Err(FaultKind::Order),
+            Some(Form::Pass) => self.take_pass(row),
+            Some(Form::End) => self.take_end(row),
+            Some(Form::Look(look)) => self.take_look(row, look),
+            Some(Form::Act(action)) => self.take_action(row, action),
+        }
+    }
+
+    fn end(self) -> Option<Listed<PassEntry>> {
+        if self.ended {
+            Some(Listed::new(self.before))
+        } else {
+            None
+        }
     }
 }

@@ -9,8 +9,8 @@ ghost use Rattle.csv.specs.Records.{fields_of};
 
 use crate::fault::FaultKind;
 use crate::fields::{has_numbers, number_at, numbers_of};
-use crate::shown::{Shown, is_busy_pair, is_shaped, record_of};
-use cal_signal::Record;
+use crate::shown::record_of;
+use cal_signal::{Record, Shown, is_busy_pair, shaped};
 use csv::ByteRecord;
 
 /// The most passes that a file may have (this project's own limit).
@@ -109,7 +109,7 @@ pub(crate) fn whole_row(row: &ByteRecord, thread: usize) -> Result<WholeRow, Fau
     }
     let room = numbers.room;
     let rec = numbers.rec;
-    if room >= 2 || !is_shaped(&rec) {
+    if room >= 2 || !shaped(&rec) {
         return Err(FaultKind::Range);
     }
     Ok(WholeRow {

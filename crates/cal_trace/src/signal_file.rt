@@ -3,15 +3,15 @@
 ghost use Rattle.std.specs.Prelude.{◌≡◌, codes};
 ghost use Rattle.cal_machine.specs.Tasks.{threads_in};
 ghost use Rattle.cal_trace.specs.Answers.{Gives};
-ghost use Rattle.cal_trace.specs.Rows.{IsReading, rest_of, rows_of};
-ghost use Rattle.cal_trace.specs.SignalReading.{so_far, IsKept};
-ghost use Rattle.cal_trace.specs.Signals.{signals_from, signals_of};
+ghost use Rattle.cal_trace.specs.Rows.{rows_of};
+ghost use Rattle.cal_trace.specs.Signals.{signals_of};
 
-use crate::fault::{FaultKind, TraceFault};
+use crate::fault::TraceFault;
 use crate::header::take_header;
+use crate::reading::take_rows;
 use crate::rows::Rows;
 use crate::signal_reading::SignalReading;
-use crate::signals::{SignalPass, SignalPasses, Signals};
+use crate::signals::Signals;
 use cal_machine::Config;
 use std::alloc::Global;
 
@@ -29,35 +29,8 @@ pub fn read_signals(alloc: Global, config: &Config, text: &[u8]) -> Result<Signa
     match SignalReading::new(alloc, version, config.threads()) {
         Ok(reading) => {
             let passes = take_rows(&mut rows, reading)?;
-            Ok(Signals {
-                passes: SignalPasses::new(passes),
-            })
+            Ok(Signals { passes })
         }
         Err(kind) => Err(TraceFault { row: 1, kind }),
-    }
-}
-
-// The passes of the rows so far and of those still to come.
-fn take_rows(rows: &mut Rows, mut reading: SignalReading) -> Result<Vec<SignalPass>, TraceFault>
-    requires rows { IsReading rows.old }
-    requires kept { IsKept reading }
-    ensures { Gives (λ passes. passes.items) result (signals_from reading.threads reading.version (so_far reading) rows.old.number (rest_of rows.old)) }
-{
-    while rows.step()? {
-        if let Err(kind) = reading.take_row(rows.row()) {
-            return Err(TraceFault {
-                row: rows.number(),
-                kind,
-            });
-        }
-    }
-    match reading.end() {
-        Some(passes) => Ok(passes),
-        None => {
-            Err(TraceFault {
-                row: rows.number() + 1,
-                kind: FaultKind::Order,
-            })
-        }
     }
 }

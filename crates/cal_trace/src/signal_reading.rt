@@ -7,10 +7,11 @@ ghost use Rattle.csv.specs.Records.{fields_of};
 use crate::fault::FaultKind;
 use crate::fields::is_row;
 use crate::look_rows::{busy_row, end_row, pass_row, whole_row};
-use crate::shown::{Shown, may_follow};
-use crate::signals::{SignalLook, SignalLooks, SignalPass};
+use crate::reading::Reading;
+use crate::signals::{SignalLooks, SignalPass, SignalPasses};
 use crate::version::Version;
-use cal_signal::Look;
+use cal_policy::FoundLook;
+use cal_signal::{Look, Shown, may_follow};
 use csv::ByteRecord;
 use std::alloc::Global;
 
@@ -52,7 +53,7 @@ fn form_of(row: &ByteRecord, version: Version) -> Option<Form>
 struct OpenPass {
     now: u64,
     bandwidth: u64,
-    looks: Vec<SignalLook>,
+    looks: Vec<FoundLook>,
 }
 
 /// What the rows so far have given.
@@ -89,7 +90,7 @@ impl SignalReading {
         ensures threads { IfOk result (λ reading. reading.threads ≡ threads) }
         ensures memory { IfErr result (λ k. k ≡ kind.Memory) }
     {
-        let shown = vec![in alloc; Shown::nothing(); threads]?;
+        let shown = vec![in alloc; Shown::NOTHING; threads]?;
         Ok(SignalReading {
             alloc,
             version,
@@ -99,23 +100,6 @@ impl SignalReading {
             ended: false,
             shown,
         })
-    }
-
-    /// Takes one more row.
-    pub(crate) fn take_row(&mut self, row: &ByteRecord) -> Result<(), FaultKind>
-        requires { IsKept self.old }
-        ensures takes { Takes (λ _. so_far self.new) result (take_row self.old.threads self.old.version (so_far self.old) (fields_of row.now)) }
-        ensures kept { OnOk result (IsKept self.new) }
-        ensures file { IsSameFile self.old self.new }
-    {
-        match form_of(row, self.version) {
-            None => Err(FaultKind::Fields),
-            Some(Form::Header) => Err(FaultKind::Order),
-            Some(Form::Pass) => self.take_pass(row),
-            Some(Form::End) => self.take_end(row),
-            Some(Form::Whole) => self.take_whole(row),
-            Some(Form::Busy) => self.take_busy(row),
-        }
     }
 
     // How many passes there are, the one at hand with them.
@@ -210,7 +194,7 @@ impl SignalReading {
         if !may_follow(&self.shown[thread], &whole.shown) {
             return Err(FaultKind::Backwards);
         }
-        self.add_look(SignalLook {
+        self.add_look(FoundLook {
             look: Look::Whole {
                 number: whole.shown.number,
                 rec: whole.shown.rec,
@@ -229,7 +213,7 @@ impl SignalReading {
     {
         let thread = self.next_thread()?;
         let busy = busy_row(row, thread)?;
-        self.add_look(SignalLook {
+        self.add_look(FoundLook {
             look: Look::Busy {
                 first: busy.first,
                 second: busy.second,
@@ -238,7 +222,7 @@ impl SignalReading {
         })
     }
 
-    fn add_look(&mut self, look: SignalLook) -> Result<(), FaultKind>
+    fn add_look(&mut self, look: FoundLook) -> Result<(), FaultKind>
         ensures added { OnOk result (so_far self.new ≡ one_more (so_far self.old) look) }
         ensures shown { self.new.shown ≡ self.old.shown }
         ensures file { IsSameFile self.old self.new }
@@ -249,11 +233,40 @@ impl SignalReading {
         }
         Ok(())
     }
+}
 
-    /// The passes, after the last row: none without an end row.
-    pub(crate) fn end(self) -> Option<Vec<SignalPass>>
-        ensures { option_map (λ passes. passes.items) result ≡ (if self.ended then Some (so_far self).before else None) }
-    {
-        if self.ended { Some(self.before) } else { None }
+impl Reading for SignalReading {
+    ghost use Rattle.cal_trace.specs.Signals.{SoFar, take_row, whole};
+    ghost use Rattle.cal_trace.specs.SignalReading.{so_far, IsKept};
+
+    type Value = SignalPasses;
+
+    ghost SoFar = { SoFar };
+
+    ghost so_far = { so_far };
+
+    ghost take = { λ reading. take_row reading.threads reading.version };
+
+    ghost whole = { whole };
+
+    ghost IsKept = { IsKept };
+
+    fn take_row(&mut self, row: &ByteRecord) -> Result<(), FaultKind> {
+        match form_of(row, self.version) {
+            None => Err(FaultKind::Fields),
+            Some(Form::Header) => Err(FaultKind::Order),
+            Some(Form::Pass) => self.take_pass(row),
+            Some(Form::End) => self.take_end(row),
+            Some(Form::Whole) => self.take_whole(row),
+            Some(Form::Busy) => self.take_busy(row),
+        }
+    }
+
+    fn end(self) -> Option<SignalPasses> {
+        if self.ended {
+            Some(SignalPasses::new(self.before))
+        } else {
+            None
+        }
     }
 }

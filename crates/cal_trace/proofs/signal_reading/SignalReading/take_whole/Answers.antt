@@ -1,7 +1,7 @@
 use Rattle.std.proofs.Common.{◌<◌, ◌∙◌, sym, ap, refl, length, vec_len}
 use Rattle.std.proofs.lemmas.List.{get_or_default}
 use Rattle.csv.specs.Records.{fields_of}
-use Rattle.cal_trace.specs.Shown.{nothing_shown}
+use Rattle.cal_signal.specs.Shown.{nothing_shown}
 use Rattle.cal_trace.specs.Signals.{SoFar, passes_of, last_shown}
 use Rattle.cal_trace.specs.SignalReading.{so_far}
 use Rattle.cal_trace.proofs.LastShown.{next_below}
@@ -19,7 +19,7 @@ returns-then-not-may_follow-clause-takes c =
     let within : k < length old.shown.items = rw (← c.requires.size, old.shown.ok.0) at below in
     let last = c.index.ensures ∙ get_or_default old.shown.items k c.index.result.now nothing_shown within ∙ c.requires.shown k below in
     let e = takes-whole (so_far old) old.threads k c.in_ok-whole.whole (fields_of c.args.row.now) c.index.result.now (sym c.in_ok-thread.ensures) (sym c.in_ok-whole.ensures) last in
-    e ∙ rw (← c.may_follow.ensures, c.if-not-may_follow.true) refl
+    e ∙ rw (← c.may_follow.ensures.test, c.if-not-may_follow.true) refl
 
 pub returns-clause-takes : goal.returns-clause-takes
 returns-clause-takes c =
@@ -29,7 +29,7 @@ returns-clause-takes c =
     let within : k < length old.shown.items = rw (← c.requires.size, old.shown.ok.0) at below in
     let last = c.index.ensures ∙ get_or_default old.shown.items k c.index.result.now nothing_shown within ∙ c.requires.shown k below in
     let e = takes-whole (so_far old) old.threads k c.in_ok-whole.whole (fields_of c.args.row.now) c.index.result.now (sym c.in_ok-thread.ensures) (sym c.in_ok-whole.ensures) last in
-    e ∙ rw (← c.may_follow.ensures, c.if-not-may_follow.false, c.in_ok-add_look.ensures.added) refl
+    e ∙ rw (← c.may_follow.ensures.test, c.if-not-may_follow.false, c.in_ok-add_look.ensures.added) refl
 
 pub returns-clause-kept : goal.returns-clause-kept
 returns-clause-kept c =
