@@ -1,6 +1,7 @@
 //! Auditing a history against the policy.
 
 ghost use Rattle.std.specs.Prelude.{◌≡◌, ◌≢◌, IfOk, IfErr, IfSome};
+ghost use Rattle.cal_policy.specs.Verdicts.{IsVerdict};
 ghost use Rattle.cal_engine.specs.Outcome.{audit_text, illegal_line, Audits, Gives};
 ghost use Rattle.cal_engine.specs.Runs.{recorded_run_of, within_limit};
 
@@ -9,9 +10,9 @@ use crate::fault::RunFault;
 use crate::input::read_input;
 use crate::parts::read_parts;
 use cal_machine::Config;
-use cal_policy::{PassEntry, Verdict, audit};
+use cal_policy::{Auditor, PassEntry, Verdict};
 use cal_trace::read_history;
-use std::alloc::Global;
+use std::alloc::{AllocError, Global};
 use std::io::{Read, Write};
 
 /// Reads an input of a task table and a history to its end, audits the history, and writes what the audit says and
@@ -33,7 +34,7 @@ pub fn run_audit<R: Read + Drop, W: Write>(
 {
     let input = read_input(alloc, &mut reader)?;
     let (config, history) = recorded_run(alloc, input.as_slice())?;
-    let verdict = audit(alloc, &config, history.as_slice())?;
+    let verdict = audit_in_turn(alloc, &config, history.as_slice())?;
     let answer = audit_text(alloc, &config, history.as_slice(), verdict)?;
     write_answer(answer.as_slice(), writer)?;
     Ok(verdict)
@@ -46,6 +47,21 @@ fn recorded_run(alloc: Global, input: &[u8]) -> Result<(Config, Vec<PassEntry>),
     let (config, trace) = read_parts(alloc, input)?;
     let history = read_history(alloc, &config, trace)?;
     Ok((config, history))
+}
+
+/// What an auditor says of a history, which is handed to it one pass after the other.
+fn audit_in_turn(
+    alloc: Global,
+    config: &Config,
+    history: &[PassEntry],
+) -> Result<Verdict, AllocError>
+    ensures { IfOk result (λ verdict. IsVerdict config.now history.now verdict) }
+{
+    let mut auditor = Auditor::open(alloc, config)?;
+    for entry in history {
+        auditor.next(config, entry);
+    }
+    Ok(auditor.verdict())
 }
 
 /// What the program writes of a verdict. Its fault is `Memory`.

@@ -4,7 +4,7 @@ ghost use Rattle.std.specs.Prelude.{◌≡◌, ◌≢◌, IfOk, IfErr, IfSome};
 ghost use Rattle.cal_machine.specs.Tasks.{threads_in};
 ghost use Rattle.cal_policy.specs.Pass.{IsLegal};
 ghost use Rattle.cal_trace.specs.Fitting.{AreFittingPasses};
-ghost use Rattle.cal_engine.specs.Deciding.{decided, judged_input};
+ghost use Rattle.cal_engine.specs.Deciding.{decided};
 ghost use Rattle.cal_engine.specs.Outcome.{Gives, Reports};
 ghost use Rattle.cal_engine.specs.Runs.{decided_run_of, within_limit};
 
@@ -13,7 +13,7 @@ use crate::fault::RunFault;
 use crate::input::read_input;
 use crate::parts::read_parts;
 use cal_machine::Config;
-use cal_policy::{Actions, Book, Input, PassEntry, Rooms, SeenList};
+use cal_policy::{Actions, Book, PassEntry};
 use cal_trace::{SignalPass, read_signals};
 use std::alloc::{AllocError, Global};
 use std::io::{Read, Write};
@@ -64,43 +64,12 @@ fn decide_passes(
     let mut actions = Actions::reserved(alloc)?;
     let mut history = Vec::with_capacity(alloc, passes.len())?;
     for pass in passes {
-        let input = judge_looks(alloc, config, &book, &pass)?;
+        let looks = pass.looks.as_slice();
+        let input = book.input(alloc, config, pass.now, pass.bandwidth, looks)?;
         actions.clear();
         book.step(config, &input, &mut actions);
         let actions = actions.to_list(alloc)?;
         history.push(PassEntry { input, actions })?;
     }
     Ok(history)
-}
-
-ghost use Rattle.std.specs.Prelude.{length, List};
-ghost use Rattle.cal_policy.specs.Tasks.{threads_of_table};
-ghost use Rattle.cal_policy.specs.Book.{AgreesWith};
-ghost use Rattle.cal_policy.specs.Board.{HasSizes};
-ghost use Rattle.cal_policy.specs.declared.pass_entry.PassEntry.{PassEntry};
-
-/// The input of the next pass of a book: each look as it is judged, and the rooms.
-fn judge_looks(
-    alloc: Global,
-    config: &Config,
-    book: &Book,
-    pass: &SignalPass,
-) -> Result<Input, AllocError>
-    requires { length pass.now.looks ≡ threads_of_table config.now }
-    ensures judged { IfOk result (λ input. (h : List PassEntry) → AgreesWith book.now h → input ≡ judged_input config.now h pass.entry.now) }
-    ensures sizes { IfOk result (HasSizes config.now) }
-{
-    let looks = pass.looks.as_slice();
-    let mut seen = Vec::with_capacity(alloc, looks.len())?;
-    let mut rooms = Vec::with_capacity(alloc, looks.len())?;
-    for k in 0..looks.len() {
-        seen.push(book.judge(config, k, looks[k].look))?;
-        rooms.push(looks[k].room)?;
-    }
-    Ok(Input {
-        now: pass.now,
-        bandwidth: pass.bandwidth,
-        seen: SeenList::new(seen),
-        rooms: Rooms::new(rooms),
-    })
 }
