@@ -1,0 +1,4 @@
+pub mod Fitting
+pub mod NextRequest
+pub mod TurnsGiven
+pub mod Threads

@@ -1,0 +1,5 @@
+use Rattle.cal_run.proofs.Threads.{TurnedUpTo}
+use Rattle.cal_run.proofs.workers.turn_each.Given as goal
+
+abbrev pub invariant-loop-k : goal.invariant-loop-k
+invariant-loop-k l = TurnedUpTo l.arrivals l.j l.k l.initial.workers l.workers

@@ -1,0 +1,63 @@
+-- What a run comes to: each field is promised by every run, in whichever order its threads made
+-- their steps.
+use Rattle.std.specs.Prelude.{◌≡◌, ◌<◌, ℕ, List, [], length, map, min}
+use Rattle.cal_machine.specs.Table.{Table}
+use Rattle.cal_signal.specs.Pages.{FitsPage}
+use Rattle.cal_policy.specs.declared.pass_entry.PassEntry.{PassEntry}
+use Rattle.cal_policy.specs.Tasks.{threads_of_table}
+use Rattle.cal_policy.specs.History.{actions_of, commands_to}
+use Rattle.cal_kthread.specs.Account.{IsAccounted}
+use Rattle.cal_kthread.specs.Journal.{commands_of}
+use Rattle.cal_kthread.specs.OnePlace.{LeftAt, Nowhere, ServedAt, StandsInOnePlace}
+use Rattle.cal_kthread.specs.Turns.{AreTurns}
+use Rattle.cal_linear.specs.Law.{IsLinearised}
+use Rattle.cal_linear.specs.Runs.{AreFirst, AreWatched, page_at, shown_of}
+use Rattle.cal_linear.specs.Steps.{journal_at}
+use Rattle.cal_trace.specs.declared.arrivals.Arrivals.{Arrivals}
+use Rattle.cal_trace.specs.declared.arrivals.GivenPass.{GivenPass}
+use Rattle.cal_run.specs.Given.{IsGiven, turns_given}
+use Rattle.cal_run.specs.declared.outcome.Outcome.{Outcome}
+
+-- the clock and the bandwidth figure of a pass that was made
+abbrev pub figures_of : PassEntry → GivenPass
+figures_of entry = record { now = entry.input.now; bandwidth = entry.input.bandwidth }
+
+-- the most rounds that a watch makes
+abbrev pub most_rounds : ℕ
+most_rounds = 1024
+
+-- An id that was given stands in exactly one place: one thread served its request, once, or one
+-- thread has it left. An id that was not given stands nowhere.
+pub record EachStandsOnce (arrivals : Arrivals) (outcome : Outcome) : Type 0 where
+  pub given : (id : ℕ) → IsGiven arrivals.requests id →
+      StandsInOnePlace outcome.journals outcome.left id
+  pub others : (id : ℕ) → (IsGiven arrivals.requests id → ⊥) →
+      Nowhere (ServedAt outcome.journals id) × Nowhere (LeftAt outcome.left id)
+
+-- What a run on these arrivals comes to.
+pub record IsRun (table : Table) (arrivals : Arrivals) (outcome : Outcome) : Type 0 where
+  -- one pass for each given one, in order, with its clock and its bandwidth figure
+  pub passes : map figures_of outcome.history ≡ arrivals.passes
+  -- one journal for each thread, and in it one turn for each given one, in order: its request
+  -- arrived, where one came, and then it published one record, with its clock as the stamp
+  pub threads : length outcome.journals ≡ threads_of_table table
+  pub turns : (k : ℕ) → k < threads_of_table table →
+      AreTurns (turns_given arrivals.requests arrivals.turns k) [] (journal_at outcome.journals k)
+  -- as many watched rounds as passes, 1,024 at most
+  pub rounds : length outcome.watched ≡ min (length arrivals.passes) most_rounds
+  -- what the passes found of a thread, refused looks too, fits the page of its journal
+  pub looks : (k : ℕ) → FitsPage (page_at outcome.journals k) (shown_of outcome.history k)
+  -- each round has one look at each thread, and what all of them found of a thread fits its page
+  pub watched : AreWatched table outcome.journals outcome.watched
+  -- the commands that a thread took are the first ones of those sent to it
+  pub taken : (k : ℕ) → AreFirst (commands_of (journal_at outcome.journals k))
+      (commands_to (actions_of outcome.history) k)
+  -- the steps of all stand in one legal list, whose projections are the history, the steps of each
+  -- journal and the watched looks
+  pub events : IsLinearised table outcome.history outcome.journals outcome.watched outcome.events
+  -- one list of what is left for each thread; for each id as many requests arrived as were served
+  -- and are left; and each request that is left is one that arrived, its work as at first
+  pub lefts : length outcome.left ≡ threads_of_table table
+  pub account : IsAccounted outcome.journals outcome.left
+  -- and each id stands in one place
+  pub once : EachStandsOnce arrivals outcome

@@ -1,0 +1,22 @@
+//! What a run comes to.
+
+use cal_kthread::{Journal, RequestList};
+use cal_lists::Listed;
+use cal_policy::PassEntry;
+use cal_signal::Round;
+use cal_world::Event;
+
+/// What a run comes to, once its threads have ended and their ends were brought together.
+#[derive(Drop)]
+pub struct Outcome {
+    /// The passes of the scheduler, the first one first.
+    pub history: Listed<PassEntry>,
+    /// What each kernel thread did, in thread order.
+    pub journals: Listed<Journal>,
+    /// The requests that were left with each kernel thread, in thread order.
+    pub left: Listed<RequestList>,
+    /// The steps of the scheduler, of the threads and of the watch in one legal list.
+    pub events: Listed<Event>,
+    /// What the watch found on each thread's page, round by round.
+    pub watched: Listed<Round>,
+}
