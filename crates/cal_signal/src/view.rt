@@ -3,7 +3,7 @@ use std::collections::LinkedList;
 
 /// What one seat at a page knows, and which parts it has. No value of it is ever made.
 pub struct View<T> {
-    /// It has the publisher's part: the next four lines.
+    /// It has the publisher's part: the next three fields.
     pub publishes: bool,
     /// The version that it stored last.
     pub version: u64,
@@ -11,9 +11,9 @@ pub struct View<T> {
     pub published: LinkedList<T>,
     /// The words of the next record that it stored so far.
     pub stored: LinkedList<u64>,
-    /// It has the first observer's part: the last four lines.
+    /// It has the first observer's part: the last four fields.
     pub observes: bool,
-    /// It has the second observer's part: the last four lines.
+    /// It has the second observer's part: the last four fields.
     pub watches: bool,
     /// Each version that it loaded.
     pub loads: LinkedList<u64>,
