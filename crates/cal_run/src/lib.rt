@@ -11,11 +11,13 @@
 mod fault;
 mod headline;
 mod outcome;
+mod parts;
 mod worker;
 mod workers;
 
 pub use fault::SimFault;
 pub use headline::headline_of_runs;
 pub use outcome::Outcome;
+pub use parts::Parts;
 pub use worker::Worker;
 pub use workers::turn_each;

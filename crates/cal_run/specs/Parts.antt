@@ -1,0 +1,70 @@
+-- The parts of a run: its scheduler, its kernel threads and its watch. They belong together by their pages, rings and
+-- places, which no pass, turn or round changes.
+use Rattle.std.specs.Prelude.{◌≡◌, ℕ, List, length, map, min, take}
+use Rattle.atomic_table.specs.Seated.{TableId}
+use Rattle.cal_machine.specs.Table.{Table}
+use Rattle.cal_command.specs.Rings.{RingId, SenderView}
+use Rattle.cal_signal.specs.Ends.{ObserverView}
+use Rattle.cal_policy.specs.Tasks.{threads_of_table}
+use Rattle.cal_sched.specs.Scheduler.{HaveSeenNothing, SchedulerView}
+use Rattle.cal_sched.specs.Watching.{WatchView}
+use Rattle.cal_kthread.specs.Teams.{IsTeam}
+use Rattle.cal_trace.specs.declared.arrivals.Arrivals.{Arrivals}
+use Rattle.cal_run.specs.Outcome.{figures_of, most_rounds}
+use Rattle.cal_run.specs.Turning.{HaveMade, Seat, seats_of}
+use Rattle.cal_run.specs.declared.parts.Parts.{Parts}
+
+-- what a scheduler keeps over its passes
+pub record SchedulerSeat : Type 0 where
+  pub table : Table
+  pub pages : List TableId
+  pub rings : List RingId
+
+abbrev pub scheduler_seat_of : SchedulerView → SchedulerSeat
+scheduler_seat_of s = record {
+  table = s.table;
+  pages = map (λ (o : ObserverView). o.page) s.observers;
+  rings = map (λ (r : SenderView). r.ring) s.senders;
+}
+
+-- what a watch keeps over its rounds
+pub record WatchSeat : Type 0 where
+  pub given : List ObserverView
+  pub pages : List TableId
+  pub most : ℕ
+
+abbrev pub watch_seat_of : WatchView → WatchSeat
+watch_seat_of w = record {
+  given = w.given;
+  pages = map (λ (o : ObserverView). o.page) w.observers;
+  most = w.most;
+}
+
+-- They are of this table and of one team: in thread order, the scheduler has the other ends of each thread's page and
+-- ring, and the watch the second observer of each page, which had seen nothing when it was handed in.
+pub record AreOfOneTeam (table : Table) (scheduler : SchedulerSeat) (seats : List Seat) (watch : WatchSeat) : Type 0 where
+  pub table : scheduler.table ≡ table
+  pub threads : length seats ≡ threads_of_table table
+  pub pages : scheduler.pages ≡ map (λ (s : Seat). s.page) seats
+  pub rings : scheduler.rings ≡ map (λ (s : Seat). s.ring) seats
+  pub watched : watch.pages ≡ map (λ (s : Seat). s.page) seats
+  pub unwatched : HaveSeenNothing watch.given
+  pub team : IsTeam (map (λ (s : Seat). s.place) seats)
+
+-- the scheduler has made the first p passes of those given, and no other
+abbrev pub HasPassed : Arrivals → ℕ → SchedulerView → Type 0
+HasPassed arrivals p scheduler = map figures_of scheduler.history ≡ take p arrivals.passes
+
+-- how many rounds the watch of a run makes
+abbrev pub rounds_of : Arrivals → ℕ
+rounds_of arrivals = min (length arrivals.passes) most_rounds
+
+-- the parts of a run on these arrivals, of which the first p passes, the first j turns of each thread and r rounds are
+-- made
+pub record AreParts (table : Table) (arrivals : Arrivals) (p j r : ℕ) (parts : Parts) : Type 0 where
+  pub together : AreOfOneTeam table (scheduler_seat_of parts.scheduler) (seats_of parts.workers.items)
+      (watch_seat_of parts.watch)
+  pub passes : HasPassed arrivals p parts.scheduler
+  pub turns : HaveMade arrivals j parts.workers.items
+  pub rounds : length parts.watch.rounds ≡ r
+  pub most : parts.watch.most ≡ rounds_of arrivals

@@ -1,0 +1,15 @@
+//! The parts of a run.
+
+use crate::worker::Worker;
+use cal_sched::{Scheduler, Watch};
+
+/// The parts of a run, which belong together (`AreParts`). Each may be moved to a thread of its own.
+#[derive(Drop)]
+pub struct Parts {
+    /// The scheduler.
+    pub scheduler: Scheduler,
+    /// The kernel threads, in thread order, with the turns that they are given.
+    pub workers: Vec<Worker>,
+    /// The watch beside them.
+    pub watch: Watch,
+}
