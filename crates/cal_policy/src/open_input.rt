@@ -68,6 +68,28 @@ impl OpenInput {
         })
     }
 
+    /// An input with no look yet, in the memory of one that is used up. It takes memory only where that
+    /// has no room for one look at each thread of the table. Its error is want of memory alone.
+    pub fn again(used: Input, config: &Config) -> Result<OpenInput, AllocError>
+        ensures threads { IfOk result (λ given. given.threads ≡ threads_of_table config.now) }
+        ensures empty { IfOk result (λ given. given.seen ≡ []) }
+        ensures found { IfOk result (λ given. (h : List PassEntry) → IsOfFound config.now h [] given) }
+    {
+        let threads = config.threads();
+        let Input { seen, rooms, .. } = used;
+        let mut seen = seen.into_items();
+        let mut rooms = rooms.into_items();
+        seen.clear();
+        rooms.clear();
+        seen.reserve(threads)?;
+        rooms.reserve(threads)?;
+        Ok(OpenInput {
+            threads,
+            seen,
+            rooms,
+        })
+    }
+
     /// Takes what was found of the next thread, with the look as the book judges it. It takes no
     /// memory.
     pub fn look(&mut self, config: &Config, book: &Book, found: FoundLook)
