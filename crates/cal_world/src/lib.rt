@@ -24,3 +24,6 @@ pub use schedules::{
     threads_keep_journals, threads_run_by_their_last_run,
 };
 pub use world::World;
+
+#[cfg(test)]
+mod tests;
