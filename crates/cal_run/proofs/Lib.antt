@@ -1,4 +1,13 @@
 pub mod Fitting
+pub mod Members
 pub mod NextRequest
 pub mod TurnsGiven
 pub mod Threads
+pub mod Opened
+pub mod Passes
+pub mod WatchRounds
+pub mod RunRounds
+pub mod GivenOnce
+pub mod Ends
+pub mod Closed
+pub mod Runs

@@ -1,12 +1,11 @@
 -- Which request comes next to a thread.
-use Rattle.std.proofs.Common.{◌≡◌, ◌≢◌, ℕ, ◌<◌, ◌≤◌, ◌⊎◌, inl, inr, ◌+◌, zero, suc, Bool, true, false, List, [], ◌∷◌, length, Some, None, Option, refl, sym, ap, ◌∙◌, arith, subst, ⊎_elim, eqb, ◌&&◌, cond, get_or, nat_lt}
+use Rattle.std.proofs.Common.{◌≡◌, ℕ, ◌<◌, ◌≤◌, ◌⊎◌, inl, inr, ◌+◌, zero, suc, Bool, true, false, List, [], ◌∷◌, length, Some, None, Option, refl, sym, ap, ◌∙◌, arith, subst, ⊎_elim, ◌&&◌, get_or, nat_lt}
 use Rattle.std.specs.Prelude.{◌==◌, if◌then◌else◌}
 use Rattle.std.specs.List.{slice_get, filter_map, cons_option}
 use Rattle.std.proofs.lemmas.Bool.Decides.{nat_tests}
 use Rattle.std.proofs.lemmas.Bool.{cases_lt, eqb-true, ltb-true}
 use Rattle.std.proofs.lemmas.Option.{slice_get_within, slice_get-get_or, get_or_from_slice_get}
 use Rattle.std.specs.List.Sorted.{IsNonDecreasingBy, IsPartitionPoint}
-use Rattle.cal_machine.specs.declared.request.Request.{Request}
 use Rattle.cal_trace.specs.FitsTable.{EachLater, ComesBefore}
 use Rattle.cal_trace.specs.declared.arrivals.Arrival.{Arrival}
 use Rattle.cal_run.specs.Given.{coming_to, request_at}

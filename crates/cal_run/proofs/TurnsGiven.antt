@@ -1,5 +1,5 @@
 -- What is given to a thread, turn by turn.
-use Rattle.std.proofs.Common.{◌≡◌, ℕ, ◌+◌, zero, suc, List, [], ◌∷◌, ◌++◌, Some, take, ap, ◌∙◌, refl, arith}
+use Rattle.std.proofs.Common.{◌≡◌, ℕ, ◌+◌, zero, suc, List, [], ◌∷◌, ◌++◌, Some, take, ap, ◌∙◌, arith}
 use Rattle.std.specs.List.{slice_get}
 use Rattle.cal_trace.specs.declared.arrivals.Arrival.{Arrival}
 use Rattle.cal_run.specs.Given.{request_at, turns_from}

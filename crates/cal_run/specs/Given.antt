@@ -1,5 +1,5 @@
 -- Of what is given to a run, what is given to each kernel thread.
-use Rattle.std.specs.Prelude.{ℕ, ◌≡◌, ◌<◌, ◌≤◌, ◌⊎◌, ◌+◌, ◌==◌, ◌&&◌, List, [], ◌∷◌, Option, Some, None, slice_get, if◌then◌else◌}
+use Rattle.std.specs.Prelude.{ℕ, ◌≡◌, ◌+◌, ◌==◌, ◌&&◌, List, [], ◌∷◌, Option, Some, None, slice_get, if◌then◌else◌}
 use Rattle.std.specs.List.{filter_map}
 use Rattle.cal_machine.specs.declared.request.Request.{Request}
 use Rattle.cal_kthread.specs.Turns as turns

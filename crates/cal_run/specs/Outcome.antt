@@ -1,6 +1,6 @@
 -- What a run comes to: each field is promised by every run, in whichever order its threads made
 -- their steps.
-use Rattle.std.specs.Prelude.{◌≡◌, ◌<◌, ℕ, List, [], length, map, min}
+use Rattle.std.specs.Prelude.{◌≡◌, ◌<◌, ℕ, [], length, map, min}
 use Rattle.cal_machine.specs.Table.{Table}
 use Rattle.cal_signal.specs.Pages.{FitsPage}
 use Rattle.cal_policy.specs.declared.pass_entry.PassEntry.{PassEntry}

@@ -43,7 +43,7 @@ watch_seat_of w = record {
 -- They are of this table and of one team: in thread order, the scheduler has the other ends of each thread's page and
 -- ring, and the watch the second observer of each page, which had seen nothing when it was handed in.
 pub record AreOfOneTeam (table : Table) (scheduler : SchedulerSeat) (seats : List Seat) (watch : WatchSeat) : Type 0 where
-  pub table : scheduler.table ≡ table
+  pub same_table : scheduler.table ≡ table
   pub threads : length seats ≡ threads_of_table table
   pub pages : scheduler.pages ≡ map (λ (s : Seat). s.page) seats
   pub rings : scheduler.rings ≡ map (λ (s : Seat). s.ring) seats

@@ -20,6 +20,11 @@ FitSomeTable arrivals = (threads : ℕ) × Fits threads arrivals
 abbrev pub MadeNoTurn : KernelView → Type 0
 MadeNoTurn thread = (thread.journal ≡ []) × (thread.thread.publisher.published ≡ [])
 
+-- so did each of these
+abbrev pub HaveMadeNoTurn : List KernelView → Type 0
+HaveMadeNoTurn threads = (k : ℕ) (thread : KernelView) → slice_get threads k ≡ Some thread →
+    MadeNoTurn thread
+
 -- a request that comes to a thread before thread k's turn j, in the order of threads and then turns
 abbrev pub IsBefore : ℕ → ℕ → Arrival → Type 0
 IsBefore k j arrival = (arrival.thread < k) ⊎ ((arrival.thread ≡ k) × (arrival.turn < j))

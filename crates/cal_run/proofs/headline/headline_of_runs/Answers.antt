@@ -1,4 +1,4 @@
-use Rattle.std.proofs.Common.{◌≡◌, List, length, take, subst, arith}
+use Rattle.std.proofs.Common.{List, length, subst, arith}
 use Rattle.std.proofs.Math.Seq.{take-length}
 use Rattle.cal_world.specs.Projections.{history_in}
 use Rattle.cal_world.specs.declared.event.Event.{Event}

@@ -1,8 +1,6 @@
-use Rattle.std.proofs.Common.{◌≡◌, ◌+◌, ◌<◌, ◌≤◌, length, sym, ap, slice_index_or, Some, arith}
-use Rattle.std.specs.List.{slice_get}
+use Rattle.std.proofs.Common.{sym, slice_index_or, arith}
 use Rattle.std.proofs.lemmas.Option.{slice_get-get_or}
 use Rattle.cal_trace.specs.declared.arrivals.Arrival.{Arrival}
-use Rattle.cal_run.specs.Given.{coming_to}
 use Rattle.cal_run.proofs.NextRequest.{apart_from, comes_next, is_other, next_after_all, next_after_it, next_after_other, none_is_next, other_is_next}
 use Rattle.cal_run.proofs.worker.coming.Goals as goal
 

@@ -1,0 +1,69 @@
+//! A whole run on one thread.
+
+ghost use Rattle.std.specs.Prelude.{◌≡◌, ◌<◌, [], ℕ, length, map, min, IfOk, IfErr};
+ghost use Rattle.cal_kthread.specs.Account.{IsAccounted};
+ghost use Rattle.cal_kthread.specs.Journal.{commands_of};
+ghost use Rattle.cal_kthread.specs.Turns.{AreTurns};
+ghost use Rattle.cal_linear.specs.Law.{IsLinearised};
+ghost use Rattle.cal_linear.specs.Runs.{AreFirst, AreWatched, page_at, shown_of};
+ghost use Rattle.cal_linear.specs.Steps.{journal_at};
+ghost use Rattle.cal_policy.specs.History.{actions_of, commands_to};
+ghost use Rattle.cal_policy.specs.Tasks.{threads_of_table};
+ghost use Rattle.cal_run.specs.Given.{turns_given};
+ghost use Rattle.cal_run.specs.Headline.{Headline};
+ghost use Rattle.cal_run.specs.Outcome.{EachStandsOnce, IsRun, figures_of, most_rounds};
+ghost use Rattle.cal_run.specs.declared.fault.SimFault.TheVariants.{Memory};
+ghost use Rattle.cal_signal.specs.Pages.{FitsPage};
+ghost use Rattle.cal_trace.specs.FitsTable.{FitsTable};
+
+use crate::closing::close_parts;
+use crate::fault::SimFault;
+use crate::headline::headline_of_runs;
+use crate::opening::open_parts;
+use crate::outcome::Outcome;
+use crate::rounds::make_rounds;
+use cal_machine::Config;
+use cal_trace::Arrivals;
+use std::alloc::Global;
+
+/// A whole run on one thread: a scheduler, the kernel threads of the table and a watch make the
+/// passes and the turns that are given. In round `r` comes first pass `r`, then turn `r` of each
+/// thread in thread order, then round `r` of the watch, each if there is one; then the threads end.
+///
+/// Asks for arrivals that fit the table. The error is want of memory alone; nothing is left of the
+/// run then. (That one thread makes all steps in this order is this project's own.)
+///
+/// Not promised: that a pass sees the turns of the round before, which is tested.
+pub fn lockstep(alloc: Global, config: &Config, arrivals: &Arrivals) -> Result<Outcome, SimFault>
+    requires fits { FitsTable config.now arrivals.now }
+    ensures run { IfOk result (IsRun config.now arrivals.now) }
+    ensures passes { IfOk result (λ outcome.
+        map figures_of outcome.history ≡ arrivals.now.passes) }
+    ensures threads { IfOk result (λ outcome.
+        length outcome.journals ≡ threads_of_table config.now) }
+    ensures turns { IfOk result (λ outcome. (k : ℕ) → k < threads_of_table config.now →
+        AreTurns (turns_given arrivals.now.requests arrivals.now.turns k) []
+        (journal_at outcome.journals k)) }
+    ensures rounds { IfOk result (λ outcome.
+        length outcome.watched ≡ min (length arrivals.now.passes) most_rounds) }
+    ensures looks { IfOk result (λ outcome. (k : ℕ) →
+        FitsPage (page_at outcome.journals k) (shown_of outcome.history k)) }
+    ensures watched { IfOk result (λ outcome.
+        AreWatched config.now outcome.journals outcome.watched) }
+    ensures taken { IfOk result (λ outcome. (k : ℕ) →
+        AreFirst (commands_of (journal_at outcome.journals k))
+        (commands_to (actions_of outcome.history) k)) }
+    ensures events { IfOk result (λ outcome. IsLinearised config.now outcome.history
+        outcome.journals outcome.watched outcome.events) }
+    ensures lefts { IfOk result (λ outcome. length outcome.left ≡ threads_of_table config.now) }
+    ensures account { IfOk result (λ outcome. IsAccounted outcome.journals outcome.left) }
+    ensures once { IfOk result (λ outcome. EachStandsOnce arrivals.now outcome) }
+    ensures headline { IfOk result (Headline config.now) }
+    ensures memory { IfErr result (λ fault. fault ≡ Memory) }
+{
+    headline_of_runs();
+    config.limits();
+    let mut parts = open_parts(alloc, config, arrivals)?;
+    make_rounds(&mut parts, arrivals)?;
+    close_parts(alloc, config, arrivals, parts)
+}
