@@ -1,0 +1,5 @@
+pub mod Pairs
+pub mod Ends
+pub mod Workers
+pub mod Together
+pub mod Sent

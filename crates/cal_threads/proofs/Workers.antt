@@ -1,0 +1,63 @@
+-- The kernel threads of a run, before and after their turns.
+use Rattle.std.proofs.Common.{◌≡◌, ℕ, ◌+◌, zero, suc, List, [], ◌∷◌, Some, length, arith, subst, sym, ap, ◌∙◌}
+use Rattle.std.specs.List.{AllZip, slice_get}
+use Rattle.cal_trace.specs.declared.arrivals.Arrivals.{Arrivals}
+use Rattle.cal_run.specs.Turning.{HasMade, HaveMade, seat_of, seats_of}
+use Rattle.cal_run.specs.declared.worker.Worker.{Worker}
+use Rattle.cal_threads.specs.Promises.{HasMadeTurns, IsKept, IsOf}
+use Rattle.cal_threads.specs.declared.kernel_threads.Turned.{Turned}
+use Rattle.cal_threads.proofs.Pairs.{pairs_map, pairs_place}
+
+-- a thread that made turns is known by its own number
+pub by_its_number : (arrivals : Arrivals) (k j : ℕ) (worker : Worker) → HasMade arrivals k j worker → HasMade arrivals worker.number j worker
+by_its_number arrivals k j worker made = let P : ℕ → Type 0 = λ n. HasMade arrivals n j worker in subst P (sym made.number) made
+
+-- each of these threads, the first of which is thread k, has made j turns
+pub record HaveMadeFrom (arrivals : Arrivals) (k j : ℕ) (workers : List Worker) : Type 0 where
+  pub at : (i : ℕ) (worker : Worker) → slice_get workers i ≡ Some worker → HasMade arrivals (k + i) j worker
+
+pub from_the_first : (arrivals : Arrivals) (k j : ℕ) (workers : List Worker) → k ≡ 0 → HaveMade arrivals j workers → HaveMadeFrom arrivals k j workers
+from_the_first arrivals k j workers none made = record {
+  at = λ i worker at.
+      let P : ℕ → Type 0 = λ n. HasMade arrivals n j worker in
+      let same : i ≡ k + i = omega (arith, none) in
+      subst P same (made i worker at);
+}
+
+-- the first of them
+pub first_of_rest : (arrivals : Arrivals) (k j : ℕ) (worker : Worker) (rest workers : List Worker) → workers ≡ worker ∷ rest → HaveMadeFrom arrivals k j workers → HasMade arrivals k j worker
+first_of_rest arrivals k j worker rest workers is made =
+    let P : ℕ → Type 0 = λ n. HasMade arrivals n j worker in
+    let same : k + 0 ≡ k = omega arith in
+    let first = ap (λ (ws : List Worker). slice_get ws 0) is in
+    subst P same (made.at 0 worker first)
+
+-- and those after it
+pub rest_of_rest : (arrivals : Arrivals) (k n j : ℕ) (worker : Worker) (rest workers : List Worker) → workers ≡ worker ∷ rest → n ≡ k + 1 → HaveMadeFrom arrivals k j workers → HaveMadeFrom arrivals n j rest
+rest_of_rest arrivals k n j worker rest workers is next made = record {
+  at = λ i other at.
+      let P : ℕ → Type 0 = λ m. HasMade arrivals m j other in
+      let same : k + suc i ≡ n + i = omega (arith, next) in
+      let there = ap (λ (ws : List Worker). slice_get ws (suc i)) is ∙ at in
+      subst P same (made.at (suc i) other there);
+}
+
+-- each made all its turns, and so did the threads of the run
+pub all_made : (arrivals : Arrivals) (before after : List Worker) → HaveMade arrivals 0 before → AllZip (λ was is. HasMadeTurns arrivals was.number was is) before after →
+    HaveMade arrivals (length arrivals.turns) after
+all_made arrivals before after none pairs k worker at =
+    let was = pairs_place _ before after pairs k worker at in
+    let P : ℕ → Type 0 = λ n. HasMade arrivals n (length arrivals.turns) worker in
+    subst P (none k was.0 was.1).number was.2.turns
+
+pub all_seated : (arrivals : Arrivals) (before after : List Worker) → AllZip (λ was is. HasMadeTurns arrivals was.number was is) before after → seats_of after ≡ seats_of before
+all_seated arrivals before after pairs = pairs_map (λ (w : Worker). seat_of w.thread) (λ (w : Worker). seat_of w.thread) _ (λ was is made. made.seat) before after pairs
+
+-- what keeps the promise of a kernel thread has made the turns that are given to that thread
+pub kept_of : {G : Type 0} (threads : ℕ) (arrivals : Arrivals) (gate : G) (was : Worker) (promise : Turned G) (is : Worker) →
+    IsOf threads arrivals gate was promise → IsKept promise is → HasMadeTurns arrivals was.number was is
+kept_of threads arrivals gate was promise is of kept =
+    let P : Worker → Type 0 = λ w. HasMadeTurns promise.arrivals.now promise.k w is in
+    let Q : ℕ → Type 0 = λ k. HasMadeTurns promise.arrivals.now k was is in
+    let R : Arrivals → Type 0 = λ a. HasMadeTurns a was.number was is in
+    subst R of.arrivals_are (subst Q (sym of.number) (subst P of.worker_is kept))

@@ -1,0 +1,15 @@
+use Rattle.std.proofs.Common.{◌≡◌}
+use Rattle.cal_threads.proofs.Ends.{gate_of_both}
+use Rattle.cal_threads.proofs.Together.{kept_passes, ran}
+use Rattle.cal_threads.proofs.running.run_within.Goals as goal
+
+-- The scheduler and the others came back, each as was promised.
+pub returns-in-Ok-clause-ran : goal.returns-in-Ok-clause-ran
+returns-in-Ok-clause-ran g c =
+    let both = c.in-Ok.ensures.values in
+    let joined = rw both.0 at c.join-scheduler.ensures in
+    let turns = rw both.1 at c.run_others-others.ensures.turns in
+    let seats = rw both.1 at c.run_others-others.ensures.seats in
+    let rounds = rw both.1 at c.run_others-others.ensures.rounds in
+    let passes = kept_passes _ _ c.args.arrivals.now _ c.args.parts.scheduler c.in_ok-passing.ensures.was c.in_ok-passing.ensures.arrivals joined in
+    ran _ _ c.args.parts _ c.requires.parts passes turns seats rounds

@@ -1,0 +1,23 @@
+-- The numbers of faults, by which one is answered of several.
+use Rattle.std.specs.Prelude.{◌≡◌, ℕ, ◌⊎◌, min, Result, Ok, Err}
+use Rattle.cal_run.specs.declared.fault.SimFault.{SimFault}
+use Rattle.cal_run.specs.declared.fault.SimFault.TheVariants.{Memory, Spawn, Gate}
+
+abbrev pub number_of : SimFault → ℕ
+number_of Memory = 1
+number_of Spawn = 2
+number_of Gate = 3
+
+-- the one of these two that has the least number
+abbrev pub IsLeast : SimFault → SimFault → SimFault → Type 0
+IsLeast a b least = ((least ≡ a) ⊎ (least ≡ b))
+    × (number_of least ≡ min (number_of a) (number_of b))
+
+-- the fault of these two results, or the least of their faults; there is none where both have a
+-- value
+abbrev pub IsFaultOf : {A B : Type 0} → Result A SimFault → Result B SimFault → SimFault →
+    Type 0
+IsFaultOf (Ok a) (Ok b) fault = ⊥
+IsFaultOf (Ok a) (Err e) fault = fault ≡ e
+IsFaultOf (Err e) (Ok b) fault = fault ≡ e
+IsFaultOf (Err e) (Err f) fault = IsLeast e f fault

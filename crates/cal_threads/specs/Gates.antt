@@ -1,0 +1,16 @@
+-- When a gate may end a worker.
+use Rattle.std.specs.Prelude.{◌≡◌, ℕ, ◌<◌, ◌⊎◌, Bool, false}
+use Rattle.cal_run.specs.declared.fault.SimFault.{SimFault}
+use Rattle.cal_run.specs.declared.fault.SimFault.TheVariants.{Memory, Gate}
+
+-- one of the first n questions may be answered by no
+abbrev pub MayRefuse : (ℕ → Bool → Type 0) → ℕ → Type 0
+MayRefuse answers n = (i : ℕ) × (i < n) × answers i false
+
+-- one of the first n questions of one of so many kernel threads may be answered by no
+abbrev pub MayRefuseOne : (ℕ → ℕ → Bool → Type 0) → ℕ → ℕ → Type 0
+MayRefuseOne answers threads n = (k : ℕ) × (k < threads) × MayRefuse (answers k) n
+
+-- why a worker ended: memory was refused, or it was the gate, which may have refused
+abbrev pub EndedBy : Type 0 → SimFault → Type 0
+EndedBy may_refuse fault = (fault ≡ Memory) ⊎ ((fault ≡ Gate) × may_refuse)

@@ -1,0 +1,45 @@
+-- What the threads of a run promise.
+use Rattle.std.specs.Prelude.{◌≡◌, ℕ, ◌<◌, Bool, length, min}
+use Rattle.cal_sched.specs.Scheduler.{SchedulerView}
+use Rattle.cal_sched.specs.Watching.{WatchView}
+use Rattle.cal_trace.specs.declared.arrivals.Arrivals.{Arrivals}
+use Rattle.cal_run.specs.Parts.{HasPassed, scheduler_seat_of, watch_seat_of}
+use Rattle.cal_run.specs.Turning.{HasMade, seat_of}
+use Rattle.cal_run.specs.declared.worker.Worker.{Worker}
+use Rattle.cal_threads.specs.Gates.{MayRefuse}
+use Rattle.cal_threads.specs.declared.kernel_threads.Turned.{Turned}
+
+-- the scheduler is in its seat, and has made all its passes
+pub record HasMadePasses (arrivals : Arrivals) (before after : SchedulerView) : Type 0 where
+  pub passes : HasPassed arrivals (length arrivals.passes) after
+  pub seat : scheduler_seat_of after ≡ scheduler_seat_of before
+
+-- the watch is in its seat, and has made as many rounds as passes, up to the last one that it was
+-- made for
+pub record HasMadeRounds (passes : ℕ) (before after : WatchView) : Type 0 where
+  pub rounds : length after.rounds ≡ min passes before.most
+  pub seat : watch_seat_of after ≡ watch_seat_of before
+
+-- the kernel thread is in its seat, and has made all its turns, which are those given to thread k
+pub record HasMadeTurns (arrivals : Arrivals) (k : ℕ) (before after : Worker) : Type 0 where
+  pub turns : HasMade arrivals k (length arrivals.turns) after
+  pub seat : seat_of after.thread ≡ seat_of before.thread
+
+module _ {G : Type 0} where
+  -- the promise is of this kernel thread, one of so many, on these arrivals and with this gate
+  pub record IsOf (threads : ℕ) (arrivals : Arrivals) (gate : G) (worker : Worker)
+      (promise : Turned G) : Type 0 where
+    pub worker_is : promise.was.value ≡ worker
+    pub number : worker.number ≡ promise.k
+    pub place : promise.k < threads
+    pub arrivals_are : promise.arrivals.now ≡ arrivals
+    pub gate_is : promise.gate.now ≡ gate
+
+  -- the promise is kept by this kernel thread
+  abbrev pub IsKept : Turned G → Worker → Type 0
+  IsKept promise worker = HasMadeTurns promise.arrivals.now promise.k promise.was.value worker
+
+  -- the gate may end the thread that made this promise
+  abbrev pub MayEnd : (G → ℕ → ℕ → Bool → Type 0) → Turned G → Type 0
+  MayEnd answers promise =
+      MayRefuse (answers promise.gate.now promise.k) (length promise.arrivals.now.turns)

@@ -1,0 +1,82 @@
+//! A run in threads, from a table and arrivals to what it comes to.
+
+ghost use Rattle.std.specs.Prelude.{◌≡◌, ◌<◌, ◌⊎◌, ℕ, [], IfOk, IfErr, length, map, min};
+ghost use Rattle.cal_kthread.specs.Account.{IsAccounted};
+ghost use Rattle.cal_kthread.specs.Journal.{commands_of};
+ghost use Rattle.cal_kthread.specs.Turns.{AreTurns};
+ghost use Rattle.cal_linear.specs.Law.{IsLinearised};
+ghost use Rattle.cal_linear.specs.Runs.{AreFirst, AreWatched, page_at, shown_of};
+ghost use Rattle.cal_linear.specs.Steps.{journal_at};
+ghost use Rattle.cal_policy.specs.History.{actions_of, commands_to};
+ghost use Rattle.cal_policy.specs.Tasks.{threads_of_table};
+ghost use Rattle.cal_run.specs.Given.{turns_given};
+ghost use Rattle.cal_run.specs.Headline.{Headline};
+ghost use Rattle.cal_run.specs.Outcome.{EachStandsOnce, IsRun, figures_of, most_rounds};
+ghost use Rattle.cal_run.specs.declared.fault.SimFault.TheVariants.{Gate as GateFault};
+ghost use Rattle.cal_signal.specs.Pages.{FitsPage};
+ghost use Rattle.cal_threads.specs.Gates.{MayRefuse, MayRefuseOne};
+ghost use Rattle.cal_trace.specs.FitsTable.{FitsTable};
+
+use crate::gate::Gate;
+use crate::running::run_threads;
+use cal_machine::Config;
+use cal_run::{Outcome, SimFault, close_parts, headline_of_runs, open_parts};
+use cal_trace::Arrivals;
+use std::alloc::Global;
+use std::sync::Wait;
+use std::thread::Threads;
+
+/// A run on these arrivals, in threads: one for the scheduler, one for each kernel thread and one
+/// for the watch, all at the same time. Before each pass and each turn the gate is asked; where it
+/// answers false, that worker ends. Asks that the arrivals fit the table.
+///
+/// What it comes to is what every run comes to, whatever the order of the threads' steps, and the
+/// headline holds of it.
+///
+/// `Memory` where memory was refused, `Spawn` where a thread could not be started, and `Gate` where
+/// the gate ended a worker, which comes only where it may answer false; of several faults the one
+/// with the least number. Every thread that was started has ended before the answer.
+pub fn simulate<R: Threads + Wait + Sync, G: Gate + Sync>(
+    rt: &R,
+    alloc: Global,
+    config: &Config,
+    arrivals: &Arrivals,
+    gate: &G,
+) -> Result<Outcome, SimFault>
+    requires fits { FitsTable config.now arrivals.now }
+    ensures run { IfOk result (IsRun config.now arrivals.now) }
+    ensures passes { IfOk result (λ outcome.
+        map figures_of outcome.history ≡ arrivals.now.passes) }
+    ensures threads { IfOk result (λ outcome.
+        length outcome.journals ≡ threads_of_table config.now) }
+    ensures turns { IfOk result (λ outcome. (k : ℕ) → k < threads_of_table config.now →
+        AreTurns (turns_given arrivals.now.requests arrivals.now.turns k) []
+        (journal_at outcome.journals k)) }
+    ensures rounds { IfOk result (λ outcome.
+        length outcome.watched ≡ min (length arrivals.now.passes) most_rounds) }
+    ensures looks { IfOk result (λ outcome. (k : ℕ) →
+        FitsPage (page_at outcome.journals k) (shown_of outcome.history k)) }
+    ensures watched { IfOk result (λ outcome.
+        AreWatched config.now outcome.journals outcome.watched) }
+    ensures taken { IfOk result (λ outcome. (k : ℕ) →
+        AreFirst (commands_of (journal_at outcome.journals k))
+        (commands_to (actions_of outcome.history) k)) }
+    ensures events { IfOk result (λ outcome.
+        IsLinearised config.now outcome.history outcome.journals outcome.watched outcome.events) }
+    ensures lefts { IfOk result (λ outcome. length outcome.left ≡ threads_of_table config.now) }
+    ensures account { IfOk result (λ outcome. IsAccounted outcome.journals outcome.left) }
+    ensures once { IfOk result (λ outcome. EachStandsOnce arrivals.now outcome) }
+    ensures headline { IfOk result (Headline config.now) }
+    ensures gate { IfErr result (λ fault. fault ≡ GateFault →
+        MayRefuse (G.answers_pass gate.now) (length arrivals.now.passes)
+        ⊎ MayRefuseOne (G.answers_turn gate.now) (threads_of_table config.now)
+        (length arrivals.now.turns)) }
+{
+    config.limits();
+    headline_of_runs();
+    let parts = open_parts(alloc, config, arrivals)?;
+    match run_threads(rt, alloc, arrivals, gate, parts) {
+        Ok(parts) => close_parts(alloc, config, arrivals, parts),
+        Err(fault) => Err(fault),
+    }
+}
