@@ -1,4 +1,5 @@
 pub mod LinesOf
 pub mod Decided
 pub mod Reading
+pub mod InThreads
 pub mod CommandWords

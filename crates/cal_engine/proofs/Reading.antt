@@ -3,16 +3,16 @@ use Rattle.std.proofs.Common.{◌≡◌, ◌≤◌, ◌++◌, nat_lt, ℕ, false
 use Rattle.std.proofs.lemmas.List.{append-nil}
 use Rattle.std.specs.Io.KnownBytes.{Consumes, IsAtEnd}
 use Rattle.cal_engine.specs.Outcome.{Decided, Failed}
-use Rattle.cal_engine.specs.Runs.{Run, within_limit}
+use Rattle.cal_engine.specs.Runs.{within_limit}
 use Rattle.cal_engine.specs.declared.fault.RunFault.{RunFault}
 use Rattle.cal_engine.specs.declared.fault.RunFault.TheVariants as fault
 use Rattle.cal_engine.specs.declared.input.TheConstants.{INPUT_LIMIT}
 
-within : (text : List ℕ) (outcome : Result Run RunFault) → length text ≤ INPUT_LIMIT → within_limit text outcome ≡ outcome
+pub within : {X : Type 0} (text : List ℕ) (outcome : Result X RunFault) → length text ≤ INPUT_LIMIT → within_limit text outcome ≡ outcome
 within text outcome le = let no : nat_lt INPUT_LIMIT (length text) ≡ false = grind arith in rw no refl
 
 -- a fault of an input fails as it must
-failed : (f : RunFault) (outcome : Result Run RunFault) → Decided f (outcome ≡ Err f) → Failed f outcome
+failed : {X : Type 0} (f : RunFault) (outcome : Result X RunFault) → Decided f (outcome ≡ Err f) → Failed f outcome
 failed fault.Length outcome h = h
 failed fault.Separator outcome h = h
 failed (fault.Config f) outcome h = h
@@ -24,7 +24,7 @@ failed fault.Spawn outcome h = absurd h
 failed fault.Gate outcome h = absurd h
 
 -- a fault of the text that was read is the input's
-pub refused : (old new : Option (List ℕ)) (text : List ℕ) (outcome : List ℕ → Result Run RunFault) (f : RunFault) → Consumes old new text → IsAtEnd new → length text ≤ INPUT_LIMIT
+pub refused : {X : Type 0} (old new : Option (List ℕ)) (text : List ℕ) (outcome : List ℕ → Result X RunFault) (f : RunFault) → Consumes old new text → IsAtEnd new → length text ≤ INPUT_LIMIT
     → Decided f (outcome text ≡ Err f) → IfSome old (λ input. Failed f (within_limit input (outcome input)))
 refused None new text outcome f took ends le h = tt
 refused (Some input) None text outcome f took ends le h = absurd took

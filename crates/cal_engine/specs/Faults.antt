@@ -2,6 +2,8 @@
 use Rattle.std.specs.Prelude.{ℕ, List, ◌++◌, codes, decimal}
 use Rattle.cal_machine.specs.declared.fault.ConfigFault.{ConfigFault}
 use Rattle.cal_machine.specs.declared.fault.ConfigFault.TheVariants as config
+use Rattle.cal_run.specs.declared.fault.SimFault.{SimFault}
+use Rattle.cal_run.specs.declared.fault.SimFault.TheVariants as sim
 use Rattle.cal_trace.specs.declared.fault.FaultKind.{FaultKind}
 use Rattle.cal_trace.specs.declared.fault.FaultKind.TheVariants as kind
 use Rattle.cal_trace.specs.declared.write_fault.WriteFault.{WriteFault}
@@ -85,3 +87,9 @@ status_of fault.Gate = 3
 abbrev pub fault_of_writing : WriteFault → RunFault
 fault_of_writing write.Write = fault.Write
 fault_of_writing write.Memory = fault.Memory
+
+-- a run came to no outcome
+abbrev pub fault_of_run : SimFault → RunFault
+fault_of_run sim.Memory = fault.Memory
+fault_of_run sim.Spawn = fault.Spawn
+fault_of_run sim.Gate = fault.Gate

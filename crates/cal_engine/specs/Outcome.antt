@@ -32,7 +32,7 @@ Decided fault.Gate P = ⊥
 
 -- What a fault says of the input: nothing where the reader failed; that there is a run where the writer did, since
 -- writing comes last; else that it is the input's first, want of memory aside.
-abbrev pub Failed : RunFault → Result Run RunFault → Type 0
+abbrev pub Failed : {X : Type 0} → RunFault → Result X RunFault → Type 0
 Failed fault.Read outcome = ⊤
 Failed fault.Write outcome = IsOk outcome
 Failed f outcome = Decided f (outcome ≡ Err f)

@@ -4,6 +4,7 @@ use Rattle.cal_policy.specs.declared.verdict.Verdict.{Verdict}
 use Rattle.cal_policy.specs.declared.verdict.Verdict.TheVariants.{Legal, Illegal}
 use Rattle.cal_engine.specs.Outcome.{Failed, IsAudit, Reports}
 use Rattle.cal_engine.specs.Runs.{Run, decided_run_of, recorded_run_of, within_limit}
+use Rattle.cal_engine.specs.Running.{run_input_of, Runs, RunsInThreads}
 use Rattle.cal_engine.specs.declared.command_line.Job.{Job}
 use Rattle.cal_engine.specs.declared.command_line.Job.TheVariants as job
 use Rattle.cal_engine.specs.declared.fault.RunFault.{RunFault}
@@ -27,4 +28,8 @@ AuditsBy (Err f) outcome old new = Failed f outcome
 -- it must of the input
 abbrev pub DoesJob : Job → Result ℕ RunFault → List ℕ → Option (List ℕ) → Option (List ℕ) → Type 0
 DoesJob job.Decide answer input old new = Reports answer (within_limit input (decided_run_of input)) old new × IfOk answer (λ status. status ≡ 0)
+DoesJob (job.Lockstep summary) answer input old new =
+    Runs summary answer (within_limit input (run_input_of input)) old new × IfOk answer (λ status. status ≡ 0)
+DoesJob (job.Sim summary) answer input old new =
+    RunsInThreads summary answer (within_limit input (run_input_of input)) old new × IfOk answer (λ status. status ≡ 0)
 DoesJob job.Audit answer input old new = AuditsBy answer (within_limit input (recorded_run_of input)) old new

@@ -66,5 +66,5 @@ abbrev pub recorded_run_of : List ℕ → Result Run RunFault
 recorded_run_of input = recorded_run (parts_of input)
 
 -- what an input asks for, where it is within the limit
-abbrev pub within_limit : List ℕ → Result Run RunFault → Result Run RunFault
+abbrev pub within_limit : {X : Type 0} → List ℕ → Result X RunFault → Result X RunFault
 within_limit input outcome = if nat_lt INPUT_LIMIT (length input) then Err fault.Length else outcome

@@ -5,6 +5,7 @@ ghost use Rattle.std.specs.Io.KnownBytes.{Appends};
 ghost use Rattle.cal_engine.specs.Faults.{fault_line_of, status_of};
 
 use cal_machine::ConfigFault;
+use cal_run::SimFault;
 use cal_trace::{FaultKind, TraceFault, WriteFault};
 use std::alloc::{AllocError, AllocFailed};
 use std::error::Error;
@@ -28,9 +29,9 @@ pub enum RunFault {
     Memory,
     /// The writer answered an error.
     Write,
-    /// A thread could not be started. No engine starts one yet, so none answers it.
+    /// A thread could not be started. Only a run in threads answers it.
     Spawn,
-    /// A gate ended a worker. No engine has workers yet, so none answers it.
+    /// A gate ended a worker. No engine answers it: the gate of its runs lets everything through.
     Gate,
 }
 
@@ -112,6 +113,20 @@ impl From<TraceFault> for RunFault {
 
     fn from(fault: TraceFault) -> RunFault {
         RunFault::Trace(fault)
+    }
+}
+
+impl From<SimFault> for RunFault {
+    ghost use Rattle.cal_engine.specs.Faults.{fault_of_run};
+
+    ghost from_gives = { λ fault e. e ≡ fault_of_run fault };
+
+    fn from(fault: SimFault) -> RunFault {
+        match fault {
+            SimFault::Memory => RunFault::Memory,
+            SimFault::Spawn => RunFault::Spawn,
+            SimFault::Gate => RunFault::Gate,
+        }
     }
 }
 

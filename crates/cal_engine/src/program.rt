@@ -8,32 +8,38 @@ use crate::auditing::run_audit;
 use crate::command_line::{Job, words};
 use crate::deciding::decide;
 use crate::fault::{RunFault, fault_line, status};
+use crate::running::run_lockstep;
+use crate::simulating::run_sim;
 use cal_policy::Verdict;
 use clap::error::{Error, ErrorKind};
 use std::alloc::Global;
 use std::io::{Read, Write};
+use std::sync::Wait;
+use std::thread::Threads;
 
 /// Runs the program on its name and the words after it and on an input, and answers its exit status: 0 is done (help
 /// too), 1 is an illegal history, 2 is bad words or a refused input, 3 is memory or the writer. The words are read before
-/// the input.
+/// the input. Only a run in threads, of the word `sim`, uses `rt`, and waits, at its joins.
 ///
 /// The answer goes to `output`, and help too; what is wrong with the words (`clap`'s text) or the one line of a fault
 /// goes to `errors`. All of it is this project's own, but for `clap`'s texts.
-pub fn run_program<R: Read + Drop, W: Write, E: Write>(
+pub fn run_program<H: Threads + Wait + Sync, R: Read + Drop, W: Write, E: Write>(
+    rt: &H,
     alloc: Global,
     named: &[String],
     reader: R,
     output: &mut W,
     errors: &mut E,
 ) -> u8 {
-    match answer_words(alloc, named, reader, output, errors) {
+    match answer_words(rt, alloc, named, reader, output, errors) {
         Ok(status) => status,
         Err(fault) => end_with(&fault, errors),
     }
 }
 
 /// Does what the words after the first one ask for, and answers the exit status where there is no fault.
-fn answer_words<R: Read + Drop, W: Write, E: Write>(
+fn answer_words<H: Threads + Wait + Sync, R: Read + Drop, W: Write, E: Write>(
+    rt: &H,
     alloc: Global,
     named: &[String],
     reader: R,
@@ -45,7 +51,7 @@ fn answer_words<R: Read + Drop, W: Write, E: Write>(
         given.push(word.as_str())?;
     }
     match words(alloc, given.as_slice()) {
-        Ok(job) => do_job(alloc, job, reader, output),
+        Ok(job) => do_job(rt, alloc, job, reader, output),
         Err(error) => refuse_words(&error, output, errors),
     }
 }
@@ -60,7 +66,8 @@ pub fn end_with<E: Write>(fault: &RunFault, errors: &mut E) -> u8
 }
 
 /// Does a job on an input, and answers the exit status where there is no fault.
-fn do_job<R: Read + Drop, W: Write>(
+fn do_job<H: Threads + Wait + Sync, R: Read + Drop, W: Write>(
+    rt: &H,
     alloc: Global,
     job: Job,
     reader: R,
@@ -71,6 +78,14 @@ fn do_job<R: Read + Drop, W: Write>(
     match job {
         Job::Decide => {
             decide(alloc, reader, output)?;
+            Ok(0)
+        }
+        Job::Lockstep(summary) => {
+            run_lockstep(alloc, reader, summary, output)?;
+            Ok(0)
+        }
+        Job::Sim(summary) => {
+            run_sim(rt, alloc, reader, summary, output)?;
             Ok(0)
         }
         Job::Audit => {

@@ -8,7 +8,9 @@ mod many_cores;
 mod programs;
 mod refused_memory;
 mod reports;
+mod runs_in_threads;
 mod tables;
+mod whole_runs;
 
 use crate::deciding::decided_run;
 use crate::{RunFault, Verdict, decide, fault_line, run_audit, split_input, status};

@@ -10,6 +10,7 @@ use std::{env, io};
 fn main(rt: HostRuntime) -> ExitCode {
     let status = match given_words(&rt) {
         Ok(words) => run_program(
+            &rt,
             rt.alloc(),
             words.as_slice(),
             rt.stdin(),

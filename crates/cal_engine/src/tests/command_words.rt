@@ -8,6 +8,13 @@ use std::test::Fail;
 fn words_of_each_job(rt: HostRuntime) -> Result<(), Fail> {
     assert_eq!(rt; words(rt.alloc(), &[])?, Job::Decide);
     assert_eq!(rt; words(rt.alloc(), &["decide"])?, Job::Decide);
+    assert_eq!(rt; words(rt.alloc(), &["lockstep"])?, Job::Lockstep(false));
+    assert_eq!(rt;
+        words(rt.alloc(), &["lockstep", "--summary"])?,
+        Job::Lockstep(true)
+    );
+    assert_eq!(rt; words(rt.alloc(), &["sim"])?, Job::Sim(false));
+    assert_eq!(rt; words(rt.alloc(), &["sim", "--summary"])?, Job::Sim(true));
     assert_eq!(rt; words(rt.alloc(), &["audit"])?, Job::Audit);
     Ok(())
 }
@@ -23,6 +30,14 @@ fn other_words_are_refused(rt: HostRuntime) -> Result<(), Fail> {
         ),
         (["audit", "decide"].as_slice(), ErrorKind::UnknownArgument),
         (["--summary"].as_slice(), ErrorKind::UnknownArgument),
+        (
+            ["--summary", "lockstep"].as_slice(),
+            ErrorKind::UnknownArgument,
+        ),
+        (
+            ["lockstep", "--summary", "--summary"].as_slice(),
+            ErrorKind::ArgumentConflict,
+        ),
         (["--help"].as_slice(), ErrorKind::DisplayHelp),
         (["help"].as_slice(), ErrorKind::DisplayHelp),
     ] {

@@ -1,12 +1,15 @@
 //! Whole runs of the program: what it writes on its two outputs, and its exit status.
 
+use super::whole_runs::{ONE_GRANT, ONE_REQUEST};
 use super::{REPORT, TABLE, TRACE};
 use crate::run_program;
 use std::alloc::{AllocError, Global};
 use std::io;
 use std::io::{Read, Write};
 use std::process::Abort;
+use std::sync::Wait;
 use std::test::Fail;
+use std::thread::Threads;
 
 /// The history of `one_grant`, with the class that its grant has.
 const GRANT: &str = "\
@@ -26,7 +29,7 @@ pub(super) fn named(alloc: Global, words: &[&str]) -> Result<Vec<String>, AllocE
 }
 
 /// These words, over this input, have this exit status, answer and line of a fault.
-fn assert_run<R: Abort + AllocGlobal>(
+fn assert_run<R: Abort + AllocGlobal + Threads + Wait + Sync>(
     rt: &R,
     words: &[&str],
     input: &str,
@@ -36,6 +39,7 @@ fn assert_run<R: Abort + AllocGlobal>(
     let mut errors = Vec::new(rt.alloc());
     let named = named(rt.alloc(), words)?;
     let status = run_program(
+        rt,
         rt.alloc(),
         named.as_slice(),
         input.as_bytes(),
@@ -60,6 +64,9 @@ fn each_job_and_a_fault_of_each(rt: HostRuntime) -> Result<(), Fail> {
     let header = "caladan_sim: trace row 1 fault 2\n";
     assert_run(&rt, &[], signals.as_str(), (0, REPORT, ""))?;
     assert_run(&rt, &["decide"], signals.as_str(), (0, REPORT, ""))?;
+    let arrivals = format!(in rt.alloc(); "{TABLE}---\n{ONE_REQUEST}")?;
+    assert_run(&rt, &["lockstep"], arrivals.as_str(), (0, ONE_GRANT, ""))?;
+    assert_run(&rt, &["lockstep"], signals.as_str(), (2, "", header))?;
     assert_run(&rt, &["audit"], legal.as_str(), (0, report.as_str(), ""))?;
     assert_run(
         &rt,
@@ -110,6 +117,7 @@ fn words_are_read_first(rt: HostRuntime) -> Result<(), Fail> {
         let mut errors = Vec::new(rt.alloc());
         let named = named(rt.alloc(), words)?;
         let ended = run_program(
+            &rt,
             rt.alloc(),
             named.as_slice(),
             Failing,
@@ -130,6 +138,7 @@ fn reader_or_output_that_fails(rt: HostRuntime) -> Result<(), Fail> {
     let mut errors = Vec::new(rt.alloc());
     let named_audit = named(rt.alloc(), &["audit"])?;
     let ended = run_program(
+        &rt,
         rt.alloc(),
         named_audit.as_slice(),
         Failing,
@@ -143,6 +152,7 @@ fn reader_or_output_that_fails(rt: HostRuntime) -> Result<(), Fail> {
         let named = named(rt.alloc(), words.as_slice())?;
         let mut errors = Vec::new(rt.alloc());
         let ended = run_program(
+            &rt,
             rt.alloc(),
             named.as_slice(),
             input.as_bytes(),
@@ -162,6 +172,7 @@ fn errors_that_fail(rt: HostRuntime) -> Result<(), Fail> {
         let named = named(rt.alloc(), words.as_slice())?;
         let mut output = Vec::new(rt.alloc());
         let ended = run_program(
+            &rt,
             rt.alloc(),
             named.as_slice(),
             Failing,

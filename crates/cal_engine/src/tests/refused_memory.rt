@@ -2,9 +2,11 @@
 //! answers want of memory by its name, with nothing written, or what it answers with ample memory.
 
 use super::programs::named;
+use super::whole_runs::{ONE_GRANT, ONE_REQUEST};
 use super::{REPORT, TABLE, TRACE};
 use crate::{
-    Job, RunFault, Verdict, decide, fault_line, read_input, run_audit, run_program, status, words,
+    Job, RunFault, Verdict, decide, fault_line, read_input, run_audit, run_lockstep, run_program,
+    status, words,
 };
 use clap::error::ErrorKind;
 use std::alloc::{AllocError, Global};
@@ -41,6 +43,18 @@ fn refused_memory_of_decide(rt: HostRuntime) -> Result<(), Fail> {
     };
     match decide(rt.alloc(), input.as_bytes(), &mut written) {
         Ok(()) => assert_eq!(rt; written.as_slice(), REPORT.as_bytes()),
+        Err(fault) => assert_memory(&rt, &fault, written.as_slice())?,
+    }
+    Ok(())
+}
+
+#[test]
+fn refused_memory_of_run_lockstep(rt: HostRuntime) -> Result<(), Fail> {
+    let Ok((input, mut written)) = input_and_room(rt.alloc(), ONE_REQUEST) else {
+        return Ok(());
+    };
+    match run_lockstep(rt.alloc(), input.as_bytes(), false, &mut written) {
+        Ok(()) => assert_eq!(rt; written.as_slice(), ONE_GRANT.as_bytes()),
         Err(fault) => assert_memory(&rt, &fault, written.as_slice())?,
     }
     Ok(())
@@ -99,6 +113,7 @@ fn refused_memory_of_run_program(rt: HostRuntime) -> Result<(), Fail> {
         return Ok(());
     };
     let ended = run_program(
+        &rt,
         rt.alloc(),
         named.as_slice(),
         input.as_bytes(),

@@ -4,7 +4,7 @@ use Rattle.clap.specs.Built.{AddsSubcommand}
 use Rattle.clap.specs.Simple.{App, app_of, app_of_fields, new_app, on_top, with_subcommand}
 use Rattle.clap.specs.declared.builder.command.Command.{Command}
 use Rattle.clap.specs.declared.builder.command.Command.TheOpen.{Command-F}
-use Rattle.cal_engine.specs.CommandWords.{bare_program}
+use Rattle.cal_engine.specs.CommandWords.{bare_program, run_word}
 use Rattle.cal_engine.proofs.command_line.program.Goals as goal
 
 pub returns : goal.returns
@@ -15,9 +15,18 @@ returns c =
     ∙ ap (on_top (λ s. record s { no_binary_name = true })) c.new-3.ensures.app in
     let decide_is : app_of c.about-decide.result ≡ new_app (codes "decide") = ap app_of_fields c.about-decide.ensures ∙ c.new.ensures.app in
     let audit_is : app_of c.about-audit.result ≡ new_app (codes "audit") = ap app_of_fields c.about-audit.ensures ∙ c.new-2.ensures.app in
-    let half_is : app_of c.in_ok-subcommand.field-0 ≡ with_subcommand bare_program (new_app (codes "decide")).top =
+    let one_is : app_of c.in_ok-subcommand.field-0 ≡ with_subcommand bare_program (new_app (codes "decide")).top =
     c.in_ok-subcommand.ensures.shape (ap (λ (f : Command-F Command). f.has_globals) c.about-decide.ensures ∙ c.new.ensures.local)
     ∙ ap₂ with_subcommand bare_is (ap (λ (a : App). a.top) decide_is) in
-    IfOk-weaker c.subcommand-2.result _ _ (λ whole (adds : AddsSubcommand c.in_ok-subcommand.field-0 c.about-audit.result whole).
+    let two_is : app_of c.in_ok-subcommand-2.field-0
+    ≡ with_subcommand (with_subcommand bare_program (new_app (codes "decide")).top) (run_word (codes "lockstep")).top =
+    c.in_ok-subcommand-2.ensures.shape c.in_ok-lockstep.ensures.local
+    ∙ ap₂ with_subcommand one_is (ap (λ (a : App). a.top) c.in_ok-lockstep.ensures.shape) in
+    let three_is : app_of c.in_ok-subcommand-3.field-0
+    ≡ with_subcommand (with_subcommand (with_subcommand bare_program (new_app (codes "decide")).top) (run_word (codes "lockstep")).top)
+    (run_word (codes "sim")).top =
+    c.in_ok-subcommand-3.ensures.shape c.in_ok-sim.ensures.local
+    ∙ ap₂ with_subcommand two_is (ap (λ (a : App). a.top) c.in_ok-sim.ensures.shape) in
+    IfOk-weaker c.subcommand-4.result _ _ (λ whole (adds : AddsSubcommand c.in_ok-subcommand-3.field-0 c.about-audit.result whole).
     adds.shape (ap (λ (f : Command-F Command). f.has_globals) c.about-audit.ensures ∙ c.new-2.ensures.local)
-    ∙ ap₂ with_subcommand half_is (ap (λ (a : App). a.top) audit_is)) c.subcommand-2.ensures
+    ∙ ap₂ with_subcommand three_is (ap (λ (a : App). a.top) audit_is)) c.subcommand-4.ensures

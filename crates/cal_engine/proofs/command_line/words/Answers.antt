@@ -1,19 +1,18 @@
-use Rattle.std.proofs.Common.{◌≡◌, List, map, option_map, Err, ap, ◌∙◌, rules, Bor}
+use Rattle.std.proofs.Common.{◌≡◌, List, Option, map, Err, sym, ap, subst, ◌∙◌, rules, Bor}
 use Rattle.clap.specs.Simple.{App, is_simple, subcommand_of}
 use Rattle.clap.specs.Takes.{takes}
 use Rattle.clap.specs.Walk.{Row, Text}
-use Rattle.cal_engine.specs.CommandWords.{job_named}
-use Rattle.cal_engine.proofs.CommandWords.{asked_is_taken, made_is_asked, name_of_rows, program_is_simple}
+use Rattle.cal_engine.specs.CommandWords.{Names}
+use Rattle.cal_engine.proofs.CommandWords.{asked_is_named, asked_is_taken, program_is_simple}
 use Rattle.cal_engine.proofs.command_line.words.Goals as goal
 
 pub returns : goal.returns
 returns c =
     let texts : List Text = map (λ (word : Bor Text). word.now) c.args.words.now in
     let rows = (c.in_ok-matches.ensures.matches (ap is_simple c.in_ok-program.ensures ∙ program_is_simple)).1 in
-    λ asked asks. c.job_named.ensures
-    ∙ ap job_named (c.subcommand_name.ensures ∙ name_of_rows c.in_ok-matches.matches
-    ∙ ap (option_map (λ (p : Text × List Row). p.0)) (rows ∙ ap (λ (a : App). subcommand_of a texts) c.in_ok-program.ensures))
-    ∙ made_is_asked texts asked asks
+    let same = rows ∙ ap (λ (a : App). subcommand_of a texts) c.in_ok-program.ensures in
+    λ asked asks. c.job_named.ensures asked
+    (subst (λ (o : Option (Text × List Row)). Names o asked) (sym same) (asked_is_named texts asked asks))
 
 pub returns-in_err-matches : goal.returns-in_err-matches
 returns-in_err-matches c =
