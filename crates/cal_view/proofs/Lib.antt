@@ -1,0 +1,3 @@
+pub mod StaysKept
+pub mod Showing
+pub mod RecordedRuns

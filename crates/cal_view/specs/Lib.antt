@@ -1,0 +1,4 @@
+pub mod Spans
+pub mod Tracking
+pub mod Recording
+pub mod Laws

@@ -1,0 +1,102 @@
+//! What the words of a command line ask for.
+
+use clap::{Arg, ArgAction, ArgMatches, Command, Error};
+use std::alloc::{AllocError, Global};
+
+/// What the program is to do with its input (this project's own words).
+#[derive(Clone, Copy, Debug, PartialEq, Eq)]
+pub enum Job {
+    /// Write the history that signals lead to, with the task table in front or without it.
+    History {
+        table: bool,
+    },
+    /// Draw passes of a history.
+    Picture {
+        from: Option<usize>,
+        passes: Option<usize>,
+    },
+    /// Write a history as trace events.
+    Timeline,
+    /// Say how the program is used.
+    Help,
+}
+
+/// What the words after the program's name ask for; no words are `Job::Help`.
+///
+/// The error is clap's own. A word that is not in the table is refused; a request for help is an
+/// error of the kind `DisplayHelp`, whose text goes to the standard output; want of memory has the
+/// kind `OutOfMemory`.
+pub fn words<'a>(alloc: Global, words: &'a [&'a str]) -> Result<Job, Error> {
+    let matches = program(alloc)?.try_get_matches_from(words)?;
+    Ok(job_of(&matches))
+}
+
+/// How the program is used.
+pub fn help(alloc: Global) -> Result<String, AllocError> {
+    program(alloc)?.render_help()
+}
+
+/// The program, with a subcommand for each word.
+fn program<'a>(alloc: Global) -> Result<Command<'a>, AllocError> {
+    let history = Command::new(alloc, "history")
+        .about("Decide the passes of a signal trace, and write them as a history")
+        .arg(table_word(alloc))?;
+    let picture = Command::new(alloc, "picture")
+        .about("Draw a history as one SVG")
+        .arg(from_word(alloc))?
+        .arg(passes_word(alloc))?;
+    let timeline = Command::new(alloc, "timeline").about(
+        "Write a history as trace events, for Perfetto and chrome://tracing",
+    );
+    Command::new(alloc, "caladan_view")
+        .about("Looks at runs of the core scheduler of Caladan: an input on standard input")
+        .no_binary_name(true)
+        .subcommand(history)?
+        .subcommand(picture)?
+        .subcommand(timeline)
+}
+
+fn table_word<'a>(alloc: Global) -> Arg<'a> {
+    Arg::new(alloc, "table")
+        .long("table")
+        .action(ArgAction::SetTrue)
+        .help("Put the task table and the line --- in front")
+}
+
+fn from_word<'a>(alloc: Global) -> Arg<'a> {
+    Arg::new(alloc, "from")
+        .long("from")
+        .action(ArgAction::Set)
+        .value_name("PASS")
+        .value_parser(clap::value_parser!(u64))
+        .help("The first pass that is shown [default: 0]")
+}
+
+fn passes_word<'a>(alloc: Global) -> Arg<'a> {
+    Arg::new(alloc, "passes")
+        .long("passes")
+        .action(ArgAction::Set)
+        .value_name("N")
+        .value_parser(clap::value_parser!(u64).range(1..=1000))
+        .help("How many passes are shown, 1 to 1000 [default: those that fit]")
+}
+
+/// The job of a parsed command line.
+fn job_of(matches: &ArgMatches<'_>) -> Job {
+    match matches.subcommand() {
+        Some((name, own)) if name == "history" => Job::History {
+            table: own.get_flag("table"),
+        },
+        Some((name, own)) if name == "picture" => Job::Picture {
+            from: number(own, "from"),
+            passes: number(own, "passes"),
+        },
+        Some((name, _)) if name == "timeline" => Job::Timeline,
+        _ => Job::Help,
+    }
+}
+
+fn number(matches: &ArgMatches<'_>, id: &str) -> Option<usize> {
+    let number = matches.get_one::<u64>(id)?;
+    Some(number as usize)
+}

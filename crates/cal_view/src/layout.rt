@@ -1,0 +1,303 @@
+//! Where on the paper everything stands, in whole pixels.
+
+use crate::bans::BanSpan;
+use crate::span::Span;
+use crate::story::Story;
+use crate::window::{Columns, Window};
+use cal_machine::Config;
+use std::alloc::{AllocError, Global};
+
+/// The height of the bandwidth lane and of the overview.
+pub const BAND: u64 = 40;
+
+const RIGHT: u64 = 96;
+
+const CANVAS_LEAST: u64 = 860;
+/// A lane of this height or more has thread numbers in it.
+const NUMBERS: u64 = 12;
+
+/// The sizes of the lanes of cores, by how many cores there are.
+#[derive(Clone, Copy, Debug, PartialEq, Eq)]
+pub struct Sizes {
+    /// The height of a lane.
+    pub lane: u64,
+    /// The part of it that marks bans, below.
+    pub rail: u64,
+    /// The rest: the height of a span.
+    pub tall: u64,
+    /// The gap between siblings.
+    pub inner: u64,
+    /// The gap between pairs.
+    pub outer: u64,
+    /// Half the height of a mark.
+    pub mark: u64,
+    /// How far below a lane's top its words stand.
+    pub foot: u64,
+    /// Whether threads have their numbers.
+    pub numbers: bool,
+}
+
+/// The lane of a task: its top stands for the limit and its base for no core.
+#[derive(Clone, Copy, Debug, PartialEq, Eq)]
+pub struct TaskLane {
+    pub top: u64,
+    pub base: u64,
+    /// The height of a core.
+    pub unit: u64,
+}
+
+/// What stands on the paper for some cores.
+#[derive(Clone, Copy, Debug, PartialEq, Eq)]
+pub enum Ground {
+    /// A pair of siblings, by its lower core, each in a lane.
+    Pair { core: u8, top: u64 },
+    /// The cores from one to before another, free in all passes shown, in one line.
+    Idle { from: u8, to: u8, top: u64 },
+}
+
+/// Where everything stands.
+#[derive(Drop)]
+pub struct Layout {
+    pub sizes: Sizes,
+    /// At most six tasks: two lines for each.
+    pub few: bool,
+    pub canvas: u64,
+    pub overview: Option<u64>,
+    pub axis: u64,
+    pub tasks: Vec<TaskLane>,
+    pub tasks_top: u64,
+    pub bandwidth: u64,
+    pub cores_top: u64,
+    pub grounds: Vec<Ground>,
+    /// The top of each core's lane.
+    pub tops: [u64; 128],
+    pub bottom: u64,
+    /// The axis is told again below where the lanes are high.
+    pub second_axis: Option<u64>,
+    pub legend: u64,
+    pub height: u64,
+}
+
+/// Lane, rail, gap between siblings and gap between pairs.
+fn lanes_of(cores: u8) -> (u64, u64, u64, u64) {
+    match cores {
+        0..=4 => (26, 4, 2, 10),
+        5..=8 => (22, 4, 2, 9),
+        9..=16 => (18, 3, 1, 7),
+        17..=32 => (14, 3, 1, 6),
+        33..=64 => (12, 2, 1, 5),
+        _ => (9, 2, 1, 4),
+    }
+}
+
+fn sizes_of(cores: u8, width: u64, count: usize) -> Sizes {
+    let (lane, rail, inner, outer) = lanes_of(cores);
+    let tall = lane.saturating_sub(rail);
+    let step = width.checked_div(count as u64).unwrap_or(width);
+    let mark = (tall.saturating_sub(1) / 2)
+        .min(step.saturating_sub(2) / 2)
+        .min(6)
+        .max(2);
+    let low = if tall > 10 { 3 } else { 2 };
+    Sizes {
+        lane,
+        rail,
+        tall,
+        inner,
+        outer,
+        mark,
+        foot: (tall / 2).saturating_add(low),
+        numbers: lane >= NUMBERS,
+    }
+}
+
+/// The lanes of the tasks, from this height down, and where they end.
+fn task_lanes(
+    alloc: Global,
+    config: &Config,
+    few: bool,
+    top: u64,
+) -> Result<(Vec<TaskLane>, u64), AllocError> {
+    let (most, least, gap) = if few { (36, 24, 16) } else { (24, 16, 12) };
+    let mut lanes = Vec::new(alloc);
+    let mut y = top;
+    for task in 0..config.tasks() {
+        let limit = u64::from(config.task(task).limit);
+        let unit = 12u64.min(scaled_unit(most, limit)).max(2);
+        let high = unit.saturating_mul(limit);
+        let first = y.saturating_add(u64::saturating_sub(least, high));
+        let base = first.saturating_add(high);
+        lanes.push(TaskLane {
+            top: first,
+            base,
+            unit,
+        })?;
+        y = base.saturating_add(gap);
+    }
+    Ok((lanes, y))
+}
+
+fn scaled_unit(most: u64, limit: u64) -> u64 {
+    most.checked_div(limit).unwrap_or(most)
+}
+
+/// Which pairs have a span or a ban that shows.
+fn used_pairs(spans: &[Span], bans: &[BanSpan]) -> [bool; 128] {
+    let mut used = [false; 128];
+    for span in spans {
+        used[(span.core / 2) as usize] = true;
+    }
+    for ban in bans {
+        used[(ban.core / 2) as usize] = true;
+    }
+    used
+}
+
+/// The first core, of a used pair or past them all, from this pair on.
+fn next_used(used: &[bool; 128], from: u8, cores: u8) -> u8 {
+    let mut core = from;
+    for pair in from / 2..cores / 2 {
+        if used[pair as usize] {
+            break;
+        }
+        core = core.saturating_add(2);
+    }
+    core.min(cores)
+}
+
+/// The lanes of the cores, from this height down. Three idle pairs in a row or more are one line.
+fn grounds_of(
+    alloc: Global,
+    used: &[bool; 128],
+    cores: u8,
+    sizes: Sizes,
+    top: u64,
+) -> Result<(Vec<Ground>, u64), AllocError> {
+    let mut grounds = Vec::new(alloc);
+    let mut y = top;
+    let mut core = 0u8;
+    for _ in 0..64 {
+        if core >= cores {
+            break;
+        }
+        let next = next_used(used, core, cores);
+        if next.saturating_sub(core) > 4 {
+            grounds.push(Ground::Idle {
+                from: core,
+                to: next,
+                top: y,
+            })?;
+            core = next;
+            y = y.saturating_add(14).saturating_add(sizes.outer);
+        } else {
+            grounds.push(Ground::Pair { core, top: y })?;
+            core = core.saturating_add(2);
+            let pair = sizes.lane.saturating_mul(2).saturating_add(sizes.inner);
+            y = y.saturating_add(pair).saturating_add(sizes.outer);
+        }
+    }
+    Ok((grounds, y.saturating_sub(sizes.outer)))
+}
+
+fn put_top(tops: &mut [u64; 128], core: u8, top: u64) {
+    if core < 128 {
+        tops[core as usize] = top;
+    }
+}
+
+fn tops_of(grounds: &[Ground], sizes: Sizes) -> [u64; 128] {
+    let mut tops = [0; 128];
+    for ground in grounds {
+        match *ground {
+            Ground::Pair { core, top } => {
+                put_top(&mut tops, core, top);
+                let below = top.saturating_add(sizes.lane).saturating_add(sizes.inner);
+                put_top(&mut tops, core.saturating_add(1), below);
+            }
+            Ground::Idle { .. } => {}
+        }
+    }
+    tops
+}
+
+/// How wide the paper is: room for the widest words at the right.
+fn canvas_of(config: &Config, columns: &Columns) -> u64 {
+    let limit = digits(config.bandwidth_limit()).saturating_add(6);
+    let words = limit.saturating_mul(7).saturating_add(16);
+    let wide = columns.right.saturating_add(RIGHT.max(words));
+    wide.max(CANVAS_LEAST)
+}
+
+/// How many digits a number has.
+pub fn digits(number: u64) -> u64 {
+    let mut digits = 1u64;
+    let mut rest = number / 10;
+    for _ in 0..20 {
+        if rest == 0 {
+            break;
+        }
+        rest /= 10;
+        digits = digits.saturating_add(1);
+    }
+    digits
+}
+
+impl Layout {
+    /// Where everything stands of a story.
+    pub fn new(
+        alloc: Global,
+        config: &Config,
+        story: &Story,
+        window: Window,
+        columns: &Columns,
+    ) -> Result<Layout, AllocError> {
+        let cores = config.machine().cores();
+        let sizes = sizes_of(cores, columns.width(), window.count);
+        let few = config.tasks() <= 6;
+        let cut = window.count < window.all;
+        let overview = if cut { Some(90u64) } else { None };
+        let axis = if cut { 178u64 } else { 92 };
+        let tasks_top = axis + 28;
+        let (tasks, tasks_end) = task_lanes(alloc, config, few, tasks_top + 18)?;
+        let bandwidth = tasks_end.saturating_add(4);
+        let cores_top = bandwidth.saturating_add(BAND + 12);
+        let used = used_pairs(story.spans.as_slice(), story.bans.as_slice());
+        let first = cores_top.saturating_add(18);
+        let (grounds, bottom) = grounds_of(alloc, &used, cores, sizes, first)?;
+        let high = bottom.saturating_sub(axis) > 700;
+        let second_axis = if high {
+            Some(bottom.saturating_add(14))
+        } else {
+            None
+        };
+        let under = if high { 58u64 } else { 30 };
+        let legend = bottom.saturating_add(under);
+        let tops = tops_of(grounds.as_slice(), sizes);
+        Ok(Layout {
+            sizes,
+            few,
+            canvas: canvas_of(config, columns),
+            overview,
+            axis,
+            tasks,
+            tasks_top,
+            bandwidth,
+            cores_top,
+            grounds,
+            tops,
+            bottom,
+            second_axis,
+            legend,
+            height: legend.saturating_add(115),
+        })
+    }
+
+    /// The top of a core's lane.
+    pub fn top(&self, core: u8) -> u64 {
+        if core < 128 {
+            self.tops[core as usize]
+        } else {
+            0
+        }
+    }
+}

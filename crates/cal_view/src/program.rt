@@ -1,0 +1,152 @@
+//! A whole run of the program: words and an input in; an answer, an error line and an exit status
+//! out.
+
+use crate::command_line::{Job, help, words};
+use crate::fault::fault_line;
+use crate::picture::draw_picture;
+use crate::recording::record;
+use crate::timeline::write_timeline;
+use crate::window::Window;
+use cal_engine::{RunFault, read_input, read_parts, status};
+use cal_machine::Config;
+use cal_policy::PassEntry;
+use cal_trace::read_history;
+use clap::error::{Error, ErrorKind};
+use std::alloc::Global;
+use std::io::{BufWriter, Read, Write};
+
+/// Runs the program on its name and the words after it and on an input, and answers its exit
+/// status: 0 is done (help too), 2 is bad words or a refused input, 3 is memory or the writer. The
+/// words are read before the input.
+///
+/// The answer goes to `output`, and help too; what is wrong with the words (`clap`'s text) or the
+/// one line of a fault goes to `errors`.
+pub fn run_program<R: Read + Drop, W: Write, E: Write>(
+    alloc: Global,
+    named: &[String],
+    reader: R,
+    output: &mut W,
+    errors: &mut E,
+) -> u8 {
+    match answer_words(alloc, named, reader, output, errors) {
+        Ok(status) => status,
+        Err(fault) => end_with(&fault, errors),
+    }
+}
+
+/// Writes the line of a fault, and answers the exit status after it. Where the writer answers an
+/// error the status is the same. Takes no memory.
+pub fn end_with<E: Write>(fault: &RunFault, errors: &mut E) -> u8 {
+    let _ = fault_line(fault, errors);
+    status(fault)
+}
+
+/// Does what the words after the first one ask for, and answers the exit status where there is no
+/// fault.
+fn answer_words<R: Read + Drop, W: Write, E: Write>(
+    alloc: Global,
+    named: &[String],
+    reader: R,
+    output: &mut W,
+    errors: &mut E,
+) -> Result<u8, RunFault> {
+    let mut given = Vec::new(alloc);
+    for word in named.iter().skip(1) {
+        given.push(word.as_str())?;
+    }
+    match words(alloc, given.as_slice()) {
+        Ok(Job::Help) => say_help(alloc, errors),
+        Ok(job) => {
+            do_job(alloc, job, reader, output)?;
+            Ok(0)
+        }
+        Err(error) => refuse_words(&error, output, errors),
+    }
+}
+
+/// Says how the program is used, where no word was given. That is no job, so the status is 2.
+fn say_help<E: Write>(alloc: Global, errors: &mut E) -> Result<u8, RunFault> {
+    let text = help(alloc)?;
+    match errors.write_all(text.as_bytes()) {
+        Ok(()) => Ok(2),
+        Err(_) => Err(RunFault::Write),
+    }
+}
+
+/// Does a job on an input. What is written goes through a buffer.
+fn do_job<R: Read + Drop, W: Write>(
+    alloc: Global,
+    job: Job,
+    reader: R,
+    output: &mut W,
+) -> Result<(), RunFault> {
+    let mut buffer = match BufWriter::new(alloc, output) {
+        Ok(buffer) => buffer,
+        Err(_) => return Err(RunFault::Memory),
+    };
+    match job {
+        Job::History { table } => record(alloc, reader, table, &mut buffer)?,
+        Job::Picture { from, passes } => picture(alloc, reader, from, passes, &mut buffer)?,
+        Job::Timeline => timeline(alloc, reader, &mut buffer)?,
+        Job::Help => {}
+    }
+    match buffer.flush() {
+        Ok(()) => Ok(()),
+        Err(_) => Err(RunFault::Write),
+    }
+}
+
+/// The task table of an input, and its history as it stands there.
+fn recorded<R: Read + Drop>(
+    alloc: Global,
+    mut reader: R,
+) -> Result<(Config, Vec<PassEntry>), RunFault> {
+    let input = read_input(alloc, &mut reader)?;
+    let (config, trace) = read_parts(alloc, input.as_slice())?;
+    let history = read_history(alloc, &config, trace)?;
+    Ok((config, history))
+}
+
+/// Reads an input of a table and a history, and draws the passes that were asked for.
+fn picture<R: Read + Drop, W: Write>(
+    alloc: Global,
+    reader: R,
+    from: Option<usize>,
+    passes: Option<usize>,
+    writer: &mut W,
+) -> Result<(), RunFault> {
+    let (config, history) = recorded(alloc, reader)?;
+    let window = Window::new(history.len(), from, passes);
+    draw_picture(alloc, &config, history.as_slice(), window, writer)
+}
+
+/// Reads an input of a table and a history, and writes it as trace events.
+fn timeline<R: Read + Drop, W: Write>(
+    alloc: Global,
+    reader: R,
+    writer: &mut W,
+) -> Result<(), RunFault> {
+    let (config, history) = recorded(alloc, reader)?;
+    write_timeline(alloc, &config, history.as_slice(), writer)
+}
+
+/// Writes what `clap` says of the words, and answers the exit status: 0 for help, 2 for bad words.
+/// The faults are `Memory`, where the words were refused for want of it, and `Write`.
+fn refuse_words<W: Write, E: Write>(
+    error: &Error,
+    output: &mut W,
+    errors: &mut E,
+) -> Result<u8, RunFault> {
+    if error.kind() == ErrorKind::OutOfMemory {
+        return Err(RunFault::Memory);
+    }
+    let (written, status) = if error.use_stderr() {
+        (write!(errors, "{error}"), 2)
+    } else {
+        (write!(output, "{error}"), 0)
+    };
+    match written {
+        Ok(()) => Ok(status),
+        Err(_) => Err(RunFault::Write),
+    }
+}
