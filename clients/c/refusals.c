@@ -1,0 +1,90 @@
+/* Each refusal of each call, and that nothing has changed after it. Exits with 1 at the first that is not
+ * as caladan.h says. */
+#include "caladan.h"
+#include <stdio.h>
+#include <string.h>
+
+static const char TABLE[] = "cores = 2\nbandwidth_limit = 1000\n\n[[task]]\nkind = \"lc\"\nguaranteed = 1\nlimit = 1\ndelay = 10\nrequest = 50\n";
+
+#define WANT(got, wanted) do { unsigned long long g = (got), w = (wanted); \
+    if (g != w) { printf("line %d: %s is %llu, not %llu\n", __LINE__, #got, g, w); return 1; } } while (0)
+
+static uint8_t open_text(const char *text, caladan *handle) { return caladan_open((const uint8_t *)text, strlen(text), handle); }
+
+static int closed(void) {
+    caladan handle = CALADAN_CLOSED;
+    caladan_holder_of_core holder = {9, 9, 9, 9};
+    caladan_counts counts = {9, 9, 9};
+    caladan_look look = {0};
+    caladan_action actions[CALADAN_MOST_ACTIONS];
+    uint8_t judged = 77;
+    size_t made = 99;
+    WANT(caladan_threads(&handle), 0);
+    WANT(caladan_bandwidth_limit(&handle), 0);
+    WANT(caladan_holder(&handle, 0, &holder), CALADAN_IS_CLOSED);
+    WANT(caladan_task(&handle, 0, &counts), CALADAN_IS_CLOSED);
+    WANT(caladan_pass(&handle, 1, 0, &look, 1, &judged, 1, actions, CALADAN_MOST_ACTIONS, &made), CALADAN_IS_CLOSED);
+    WANT(made, 0);
+    WANT(judged, 77);
+    WANT(holder.state, 9);
+    WANT(counts.cap, 9);
+    WANT(caladan_close(&handle), CALADAN_IS_CLOSED);
+    WANT(open_text("cores = 3\n", &handle), CALADAN_MISSING_KEY);
+    WANT(open_text("cores", &handle), CALADAN_NOT_TOML);
+    WANT(handle.open, 0);
+    return 0;
+}
+
+static int opened(void) {
+    caladan handle = CALADAN_CLOSED;
+    static caladan_action actions[CALADAN_MOST_ACTIONS];
+    caladan_look look = {.room = 1, .number = 1, .queued = 1, .oldest = 100, .stamp = 105};
+    caladan_look wrong = look, torn = {.busy = 1, .room = 1, .number = 2, .second = 2};
+    caladan_holder_of_core holder;
+    caladan_counts counts;
+    uint8_t judged[1] = {77};
+    size_t made;
+    wrong.running = 129;
+    WANT(open_text(TABLE, &handle), CALADAN_DONE);
+    WANT(open_text(TABLE, &handle), CALADAN_IS_OPEN);
+    WANT(caladan_threads(&handle), 1);
+    WANT(caladan_bandwidth_limit(&handle), 1000);
+    for (int again = 0; again < 3; again++) {
+        WANT(caladan_pass(&handle, 111, 0, &look, 1, judged, 1, actions, 337, &made), CALADAN_NO_ROOM);
+        WANT(caladan_pass(&handle, 111, 0, &look, 1, judged, 0, actions, CALADAN_MOST_ACTIONS, &made), CALADAN_NO_ROOM);
+        WANT(caladan_pass(&handle, 111, 0, &look, 0, judged, 1, actions, CALADAN_MOST_ACTIONS, &made), CALADAN_WRONG_COUNT);
+        WANT(caladan_pass(&handle, 111, 0, &wrong, 1, judged, 1, actions, CALADAN_MOST_ACTIONS, &made), CALADAN_UNFIT);
+        WANT(caladan_pass(&handle, 111, 0, &torn, 1, judged, 1, actions, CALADAN_MOST_ACTIONS, &made), CALADAN_UNFIT);
+        WANT(made, 0);
+        WANT(judged[0], 77);
+        WANT(caladan_holder(&handle, 0, &holder), CALADAN_DONE);
+        WANT(holder.state, CALADAN_CORE_FREE);
+    }
+    WANT(caladan_pass(&handle, 111, 0, &look, 1, judged, 1, actions, CALADAN_MOST_ACTIONS, &made), CALADAN_DONE);
+    WANT(made, 1);
+    WANT(judged[0], CALADAN_KEPT);
+    WANT(actions[0].kind, CALADAN_GRANT);
+    WANT(actions[0].core, 0);
+    WANT(actions[0].core_class, 3);
+    WANT(caladan_holder(&handle, 0, &holder), CALADAN_DONE);
+    WANT(holder.state, CALADAN_CORE_HELD);
+    WANT(caladan_holder(&handle, 2, &holder), CALADAN_NO_SUCH);
+    WANT(caladan_holder(&handle, 255, &holder), CALADAN_NO_SUCH);
+    WANT(caladan_task(&handle, 0, &counts), CALADAN_DONE);
+    WANT(counts.held, 1);
+    WANT(counts.booked, 1);
+    WANT(counts.cap, 1);
+    WANT(caladan_task(&handle, 1, &counts), CALADAN_NO_SUCH);
+    WANT(caladan_close(&handle), CALADAN_DONE);
+    WANT(caladan_close(&handle), CALADAN_IS_CLOSED);
+    WANT(open_text(TABLE, &handle), CALADAN_DONE);
+    WANT(caladan_close(&handle), CALADAN_DONE);
+    return 0;
+}
+
+int main(void) {
+    WANT(caladan_version(), CALADAN_VERSION);
+    if (closed() || opened()) return 1;
+    puts("refusals: ok");
+    return 0;
+}

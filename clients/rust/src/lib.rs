@@ -1,0 +1,171 @@
+//! The decisions of a core scheduler, proved: a safe wrapper of `caladan.h`, which says more.
+//!
+//! The wrapper keeps what the header asks of a caller: a handle is owned by one `Scheduler`, which is
+//! neither copied nor sent to another thread, and each slice is passed with its length.
+
+use std::marker::PhantomData;
+
+/// The most actions that a pass has.
+pub const MOST_ACTIONS: usize = 338;
+
+#[repr(C)]
+struct Handle {
+    open: bool,
+    at: *mut u8,
+}
+
+/// What the look at one thread's page found, and whether the thread's command ring had room.
+#[repr(C)]
+#[derive(Clone, Copy, Debug, Default, PartialEq, Eq)]
+pub struct Look {
+    pub busy: u8,
+    pub room: u8,
+    pub number: u64,
+    pub second: u64,
+    /// The record's nine words: taken, running, queued, oldest, started, misses, stamp, paused, since.
+    pub words: [u64; 9],
+}
+
+/// One action of a pass, in the numbers of `caladan.h`.
+#[repr(C)]
+#[derive(Clone, Copy, Debug, Default, PartialEq, Eq)]
+pub struct Action {
+    pub kind: u8,
+    pub core: u8,
+    pub thread: u8,
+    pub core_class: u8,
+    pub cause: u8,
+    pub by: u8,
+    pub task: u8,
+    pub cap: u8,
+    pub started: u64,
+}
+
+/// What a task has, in cores.
+#[repr(C)]
+#[derive(Clone, Copy, Debug, Default, PartialEq, Eq)]
+pub struct Counts {
+    pub held: u8,
+    pub booked: u8,
+    pub cap: u8,
+}
+
+/// Why a call did nothing, as a number of `caladan.h`.
+#[derive(Clone, Copy, Debug, PartialEq, Eq)]
+pub struct Refused(pub u8);
+
+extern "C" {
+    fn caladan_open(table: *const u8, length: usize, handle: *mut Handle) -> u8;
+    fn caladan_threads(handle: *mut Handle) -> usize;
+    fn caladan_bandwidth_limit(handle: *mut Handle) -> u64;
+    #[allow(clippy::too_many_arguments)]
+    fn caladan_pass(
+        handle: *mut Handle,
+        now: u64,
+        bandwidth: u64,
+        looks: *const Look,
+        count: usize,
+        judged: *mut u8,
+        judged_room: usize,
+        actions: *mut Action,
+        room: usize,
+        made: *mut usize,
+    ) -> u8;
+    fn caladan_task(handle: *mut Handle, task: usize, counts: *mut Counts) -> u8;
+    fn caladan_close(handle: *mut Handle) -> u8;
+}
+
+fn answered(answer: u8) -> Result<(), Refused> {
+    if answer == 0 { Ok(()) } else { Err(Refused(answer)) }
+}
+
+/// A task table and its passes. After a refusal nothing has changed.
+pub struct Scheduler {
+    handle: Handle,
+    judged: Vec<u8>,
+    actions: Vec<Action>,
+    made: usize,
+    /// Neither `Send` nor `Sync`.
+    on_its_thread: PhantomData<*mut u8>,
+}
+
+impl Scheduler {
+    /// Opens the task table that a text spells. Its error is the table's first fault.
+    pub fn open(table: &str) -> Result<Scheduler, Refused> {
+        let mut handle = Handle { open: false, at: std::ptr::null_mut() };
+        answered(unsafe { caladan_open(table.as_ptr(), table.len(), &mut handle) })?;
+        let threads = unsafe { caladan_threads(&mut handle) };
+        Ok(Scheduler {
+            handle,
+            judged: vec![0; threads],
+            actions: vec![Action::default(); MOST_ACTIONS],
+            made: 0,
+            on_its_thread: PhantomData,
+        })
+    }
+
+    /// How many kernel threads the table has.
+    pub fn threads(&self) -> usize {
+        self.judged.len()
+    }
+
+    /// The bandwidth figure above which a best-effort task loses a core.
+    pub fn bandwidth_limit(&mut self) -> u64 {
+        unsafe { caladan_bandwidth_limit(&mut self.handle) }
+    }
+
+    /// The next pass, on one look for each thread: its actions, and what was judged of each look.
+    pub fn pass(&mut self, now: u64, bandwidth: u64, looks: &[Look]) -> Result<(&[Action], &[u8]), Refused> {
+        answered(unsafe {
+            caladan_pass(
+                &mut self.handle,
+                now,
+                bandwidth,
+                looks.as_ptr(),
+                looks.len(),
+                self.judged.as_mut_ptr(),
+                self.judged.len(),
+                self.actions.as_mut_ptr(),
+                self.actions.len(),
+                &mut self.made,
+            )
+        })?;
+        Ok((&self.actions[..self.made], &self.judged))
+    }
+
+    /// What a task has, where the table has it.
+    pub fn task(&mut self, task: usize) -> Option<Counts> {
+        let mut counts = Counts::default();
+        answered(unsafe { caladan_task(&mut self.handle, task, &mut counts) }).ok()?;
+        Some(counts)
+    }
+}
+
+impl Drop for Scheduler {
+    fn drop(&mut self) {
+        unsafe { caladan_close(&mut self.handle) };
+    }
+}
+
+#[cfg(test)]
+mod tests {
+    use super::{Look, Refused, Scheduler};
+
+    const TABLE: &str = "cores = 2\nbandwidth_limit = 1000\n\n[[task]]\nkind = \"lc\"\nguaranteed = 1\nlimit = 1\ndelay = 10\nrequest = 50\n";
+
+    #[test]
+    fn one_grant() {
+        let mut scheduler = Scheduler::open(TABLE).unwrap();
+        let look = Look { room: 1, number: 1, words: [0, 0, 1, 100, 0, 0, 105, 0, 0], ..Look::default() };
+        assert_eq!(scheduler.pass(111, 0, &[]), Err(Refused(13)));
+        let (actions, judged) = scheduler.pass(111, 0, &[look]).unwrap();
+        assert_eq!((actions.len(), actions[0].kind, actions[0].core_class, judged), (1, 6, 3, &[1u8][..]));
+        assert_eq!(scheduler.task(0).unwrap().held, 1);
+        assert_eq!(scheduler.task(1), None);
+    }
+
+    #[test]
+    fn no_table() {
+        assert_eq!(Scheduler::open("cores = 3\n").err(), Some(Refused(3)));
+    }
+}

@@ -1,0 +1,34 @@
+-- The pointer, where it keeps something, and its parts own what a box at the same types owns.
+use mir.Syntax.{impl, tnil, dnil}
+use mathlib.Core.List.{[]}
+use mathlib.Core.Path.{sym}
+use mathlib.Core.Bool.{true≢false}
+use Rattle.std.specs.Prelude.{◌≡◌, true, false, Option, Some, None}
+use Rattle.std.specs.Option.{is_some}
+use mathlib.Core.Path.{refl}
+use denote.Signature.{Slot, plain}
+use Rattle.std.proofs.BoxSteps.Form.{Bx}
+use Rattle.std.specs.contracts.alloc.Global as Heap
+use Rattle.std.specs.contracts.impls.GlobalAllocator.TheImpl.{ghosts, dict}
+use Rattle.std.proofs.alloc.Global.TheLaws as heap
+use Rattle.caladan_c.specs.contracts.scheduler.Scheduler as Scheduler
+use Rattle.caladan_c.proofs.scheduler.Scheduler.TheLaws as scheduler
+use Rattle.caladan_c.specs.contracts.handle.loose.Loose as Loose
+use Rattle.caladan_c.specs.contracts.handle.pointer.Pointer as Pointer
+
+abbrev pub E : Bx
+E = record { row = Scheduler.the_row; laws = scheduler.the_row_laws; al = record { row = Heap.the_row; laws = heap.the_row_laws; g = ghosts; d = dict; drops = impl [] tnil dnil } }
+
+abbrev pub FromLoose : Slot 0
+FromLoose = plain (λ _. Loose.the_row Scheduler.the_row Heap.the_row ghosts)
+
+abbrev pub FromPointer : Slot 0
+FromPointer = plain (λ _. Pointer.the_row)
+
+abbrev pub FromAlloc : Slot 0
+FromAlloc = plain (λ _. Heap.the_row)
+
+-- what is kept, where something is
+pub kept_of : {A : Type 0} (maybe : Option A) → is_some maybe ≡ true → (x : A) × (maybe ≡ Some x)
+kept_of (Some x) e = (x, refl)
+kept_of None e = absurd (true≢false (sym e))

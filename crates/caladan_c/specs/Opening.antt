@@ -1,0 +1,30 @@
+-- What C learns of opening a table.
+use Rattle.std.specs.Prelude.{◌≡◌, ℕ, [], Option, Result, Ok, Err}
+use Rattle.std.specs.Option.{IsSomeAnd}
+use Rattle.cal_machine.specs.Table.{Table}
+use Rattle.cal_machine.specs.declared.fault.ConfigFault.{ConfigFault}
+use Rattle.cal_machine.specs.declared.fault.ConfigFault.TheVariants.{NotToml, UnknownKey, MissingKey, WrongType, OutOfRange, BestEffortGuarantee, GuaranteesExceedCores, TooManyThreads, Memory}
+use Rattle.caladan_c.specs.Passing.{StandsAfter}
+use Rattle.caladan_c.specs.Standing.{Standing}
+
+-- the number of a table's fault
+abbrev pub number_of : ConfigFault → ℕ
+number_of NotToml = 1
+number_of UnknownKey = 2
+number_of MissingKey = 3
+number_of WrongType = 4
+number_of OutOfRange = 5
+number_of BestEffortGuarantee = 6
+number_of GuaranteesExceedCores = 7
+number_of TooManyThreads = 8
+number_of Memory = 9
+
+-- a scheduler of this table, after no pass
+pub record IsNew (read : Table) (scheduler : Standing) : Type 0 where
+  pub table : scheduler.table ≡ read
+  pub stands : StandsAfter scheduler []
+
+-- the number is what the text comes to: 0 and a scheduler of its table, or its first fault's
+abbrev pub Says : Result Table ConfigFault → ℕ → Option Standing → Type 0
+Says (Ok table) number kept = (number ≡ 0) × IsSomeAnd kept (IsNew table)
+Says (Err fault) number kept = number ≡ number_of fault

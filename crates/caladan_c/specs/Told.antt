@@ -1,0 +1,58 @@
+-- What C is told of a pass: its actions, and what was judged of its looks.
+use Rattle.std.specs.Prelude.{◌≡◌, ℕ, List, length, Some, slice_get}
+use Rattle.cal_policy.specs.declared.judged_look.Seen.{Seen}
+use Rattle.cal_policy.specs.declared.judged_look.Seen.TheVariants.{Whole, Busy, Ahead, Foreign}
+use Rattle.cal_policy.specs.declared.pass_action.Action.{Action}
+use Rattle.cal_policy.specs.declared.pass_action.Action.TheVariants.{Free, Unban, Ban, Revoke, Cap, Grant}
+use Rattle.cal_policy.specs.declared.pass_action.Cause.TheVariants as causes
+use Rattle.cal_policy.specs.declared.pass_action.Cause.{Cause}
+use Rattle.cal_policy.specs.declared.holding.Holder.{Holder}
+use Rattle.cal_policy.specs.declared.holding.Holder.TheVariants as holders
+use Rattle.cal_policy.specs.Counts.{held_by, booked_by, cap_of}
+use Rattle.cal_machine.specs.Table.{Table}
+use Rattle.caladan_c.specs.declared.counts.Counts.{Counts}
+use Rattle.caladan_c.specs.declared.told_holder.ToldHolder.{ToldHolder}
+use Rattle.caladan_c.specs.declared.told.Told.{Told}
+
+-- the action in numbers; what its kind does not name is 0
+abbrev pub told_of : Action → Told
+told_of (Free core) = record { kind = 1; core = core; thread = 0; class = 0; cause = 0; by = 0; task = 0; cap = 0; started = 0 }
+told_of (Unban core) = record { kind = 2; core = core; thread = 0; class = 0; cause = 0; by = 0; task = 0; cap = 0; started = 0 }
+told_of (Ban core thread started) = record { kind = 3; core = core; thread = thread; class = 0; cause = 0; by = 0; task = 0; cap = 0; started = started }
+told_of (Revoke core (causes.Ban by)) = record { kind = 4; core = core; thread = 0; class = 0; cause = 1; by = by; task = 0; cap = 0; started = 0 }
+told_of (Revoke core causes.Bandwidth) = record { kind = 4; core = core; thread = 0; class = 0; cause = 2; by = 0; task = 0; cap = 0; started = 0 }
+told_of (Revoke core (causes.Preempt task)) = record { kind = 4; core = core; thread = 0; class = 0; cause = 3; by = 0; task = task; cap = 0; started = 0 }
+told_of (Cap task cap) = record { kind = 5; core = 0; thread = 0; class = 0; cause = 0; by = 0; task = task; cap = cap; started = 0 }
+told_of (Grant core thread class) = record { kind = 6; core = core; thread = thread; class = class; cause = 0; by = 0; task = 0; cap = 0; started = 0 }
+
+-- what was judged of a look, as a number
+abbrev pub judgement_of : Seen → ℕ
+judgement_of (Whole number rec) = 1
+judgement_of (Busy first second) = 2
+judgement_of (Ahead number rec) = 3
+judgement_of (Foreign number rec) = 4
+
+-- of each look C was told what was judged of it
+abbrev pub AreJudgements : List Seen → List ℕ → Type 0
+AreJudgements looks out = (k : ℕ) (seen : Seen) → slice_get looks k ≡ Some seen → slice_get out k ≡ Some (judgement_of seen)
+
+-- C was told exactly these actions, in order
+pub record AreTold (actions : List Action) (made : ℕ) (out : List Told) : Type 0 where
+  pub count : made ≡ length actions
+  pub each : (k : ℕ) (action : Action) → slice_get actions k ≡ Some action → slice_get out k ≡ Some (told_of action)
+
+-- a cause as two numbers: its kind, and what it names
+abbrev pub cause_of : Cause → ℕ × ℕ
+cause_of (causes.Ban by) = (1, by)
+cause_of causes.Bandwidth = (2, 0)
+cause_of (causes.Preempt task) = (3, task)
+
+-- who has a core, in numbers
+abbrev pub told_holder_of : Holder → ToldHolder
+told_holder_of holders.Free = record { state = 0; thread = 0; cause = 0; cause_of = 0 }
+told_holder_of (holders.Held placement) = record { state = 1; thread = placement.thread; cause = 0; cause_of = 0 }
+told_holder_of (holders.Leaving placement cause) = record { state = 2; thread = placement.thread; cause = (cause_of cause).0; cause_of = (cause_of cause).1 }
+
+-- what a task has after these actions
+abbrev pub counts_of : Table → List Action → ℕ → Counts
+counts_of table x task = record { held = held_by table x task; booked = booked_by table x task; cap = cap_of table x task }

@@ -1,0 +1,205 @@
+//! A scheduler: its table, and the book of its passes.
+
+ghost use Rattle.std.specs.Prelude.{◌≡◌, ◌≢◌, ◌<◌, ◌≤◌, Err, IfOk, IfErr, OnErr, List, [], length, nat_lt};
+ghost use Rattle.cal_machine.specs.Outcome.{Gives};
+ghost use Rattle.cal_machine.specs.Reading.{table_in};
+ghost use Rattle.cal_policy.specs.declared.pass_entry.PassEntry.{PassEntry};
+ghost use Rattle.cal_policy.specs.Board.{HasSizes};
+ghost use Rattle.cal_policy.specs.Book.{AgreesWith};
+ghost use Rattle.cal_policy.specs.Judging.{IsInput};
+ghost use Rattle.cal_policy.specs.Tasks.{threads_of_table};
+ghost use Rattle.cal_policy.specs.History.{actions_of, holder_of};
+ghost use Rattle.cal_policy.specs.Board.{kept_holder};
+ghost use Rattle.caladan_c.specs.Found.{input_of};
+ghost use Rattle.caladan_c.specs.Told.{counts_of};
+ghost use Rattle.std.specs.Option.{is_some, IfSome};
+
+use crate::answer::Refusal;
+use crate::counts::Counts;
+use crate::found::{Found, found_look};
+use crate::judgement::tell_judgements;
+use cal_machine::{Config, ConfigFault};
+use cal_policy::{
+    Action, Actions, Book, Holder, Input, OpenInput, Rooms, SeenList, legal_is_short,
+    one_pass_more_is_legal,
+};
+use std::alloc::{AllocError, Global};
+use std::marker::Model;
+use std::mem;
+
+/// A table, the book of the passes so far, and the actions of the last one.
+#[derive(Drop)]
+pub struct Scheduler {
+    config: Config,
+    book: Book,
+    made: Actions,
+    /// The input of the last pass, whose memory the next one takes.
+    used: Input,
+}
+
+impl Model for Scheduler {
+    ghost use Rattle.cal_policy.specs.Book.{IsBookOf};
+    ghost use Rattle.caladan_c.specs.Standing.{Standing};
+
+    ghost Value = { Standing };
+
+    ghost view = { λ s. record { table = s.config; book = s.book; made = s.made } };
+
+    ghost invariant = { λ s. IsBookOf s.config s.book };
+}
+
+/// An input of nothing. It takes no memory.
+fn nothing(alloc: Global) -> Input {
+    Input {
+        now: 0,
+        bandwidth: 0,
+        seen: SeenList::new(Vec::new(alloc)),
+        rooms: Rooms::new(Vec::new(alloc)),
+    }
+}
+
+/// The input of the next pass of a book, of what was found, in the memory of one that is used up.
+#[tactic(auto, using(crate::proofs::Passed::founds_more))]
+fn judge_looks(
+    used: Input,
+    config: &Config,
+    book: &Book,
+    now: u64,
+    bandwidth: u64,
+    looks: &[Found],
+) -> Result<Input, AllocError>
+    requires { length looks.now ≡ threads_of_table config.now }
+    ensures judged { IfOk result (λ input. (h : List PassEntry) → AgreesWith book.now h → input ≡ input_of config.now h now bandwidth looks.now) }
+    ensures sizes { IfOk result (HasSizes config.now) }
+{
+    let mut open = OpenInput::again(used, config)?;
+    for one in looks {
+        open.look(config, book, found_look(one));
+    }
+    Ok(open.finish(now, bandwidth))
+}
+
+ghost use Rattle.caladan_c.specs.Passing.{StandsAfter, IsPassed};
+ghost use Rattle.caladan_c.specs.Told.{AreJudgements};
+ghost use Rattle.caladan_c.specs.declared.answer.Refusal.TheVariants.{WrongCount, NoRoom, Unfit};
+
+impl Scheduler {
+    /// A scheduler of this table that has made no pass, or the table's fault. It takes all the memory
+    /// that its passes need.
+    pub fn open(alloc: Global, table: &[u8]) -> Result<Scheduler, ConfigFault>
+        ensures table { Gives (λ scheduler. scheduler.table) result (table_in table.now) }
+        ensures new { IfOk result (λ scheduler. StandsAfter scheduler []) }
+    {
+        let config = Config::read(alloc, table)?;
+        let book = Book::open(alloc, &config)?;
+        let made = Actions::reserved(alloc)?;
+        let seen = Vec::with_capacity(alloc, config.threads())?;
+        let rooms = Vec::with_capacity(alloc, config.threads())?;
+        let used = Input {
+            now: 0,
+            bandwidth: 0,
+            seen: SeenList::new(seen),
+            rooms: Rooms::new(rooms),
+        };
+        Ok(Scheduler {
+            config,
+            book,
+            made,
+            used,
+        })
+    }
+
+    /// How many kernel threads there are.
+    pub fn threads(&self) -> usize
+        ensures { result ≡ threads_of_table self.now.table }
+    {
+        self.config.threads()
+    }
+
+    /// The actions of the last pass.
+    pub fn made(&self) -> &[Action]
+        ensures { result.now ≡ self.now.made }
+    {
+        self.made.as_slice()
+    }
+
+    /// The bandwidth above which a best-effort task loses a core.
+    pub fn bandwidth_limit(&self) -> u64
+        ensures { result ≡ self.now.table.bandwidth_limit }
+    {
+        self.config.bandwidth_limit()
+    }
+
+    /// Who has a core, where the table has it.
+    pub fn holder(&self, core: u8) -> Option<Holder>
+        ensures there { is_some result ≡ nat_lt core self.now.table.cores }
+        ensures holder { IfSome result (λ holder. (h : List PassEntry) → StandsAfter self.now h →
+            holder ≡ kept_holder (holder_of (actions_of h) core)) }
+    {
+        self.config.limits();
+        if core < self.config.machine().cores() {
+            Some(self.book.holder(core))
+        } else {
+            None
+        }
+    }
+
+    /// How many cores a task holds, how many it books, and its cap, where the table has it.
+    pub fn counts(&self, task: usize) -> Option<Counts>
+        ensures there { is_some result ≡ nat_lt task (length self.now.table.tasks) }
+        ensures counts { IfSome result (λ counted. (h : List PassEntry) → StandsAfter self.now h →
+            counted ≡ counts_of self.now.table (actions_of h) task) }
+    {
+        if task < self.config.tasks() {
+            Some(Counts {
+                held: self.book.held(&self.config, task),
+                booked: self.book.booked(&self.config, task),
+                cap: self.book.cap(&self.config, task),
+            })
+        } else {
+            None
+        }
+    }
+
+    /// Makes the next pass, whose actions are then in `made`, and tells what was judged of each look; or
+    /// says why it may not be given these looks.
+    pub fn pass(
+        &mut self,
+        alloc: Global,
+        now: u64,
+        bandwidth: u64,
+        looks: &[Found],
+        judged: &mut [u8],
+    ) -> Result<(), Refusal>
+        ensures passed { IfOk result (λ _. (h : List PassEntry) → StandsAfter self.old h →
+            IsPassed self.old h (input_of self.old.table h now bandwidth looks.now) self.new) }
+        ensures judged { IfOk result (λ _. (h : List PassEntry) → StandsAfter self.old h →
+            AreJudgements (input_of self.old.table h now bandwidth looks.now).seen judged.new) }
+        ensures unfit { result ≡ Err Unfit → (h : List PassEntry) → StandsAfter self.old h →
+            IsInput self.old.table h (input_of self.old.table h now bandwidth looks.now) → ⊥ }
+        ensures count { result ≡ Err WrongCount → length looks.now ≢ threads_of_table self.old.table }
+        ensures room { result ≡ Err NoRoom → length judged.old < threads_of_table self.old.table }
+        ensures refused { OnErr result ((self.new ≡ self.old) × (judged.new ≡ judged.old)) }
+    {
+        if looks.len() != self.config.threads() {
+            return Err(Refusal::WrongCount);
+        }
+        if judged.len() < looks.len() {
+            return Err(Refusal::NoRoom);
+        }
+        let used = mem::replace(&mut self.used, nothing(alloc));
+        let input = judge_looks(used, &self.config, &self.book, now, bandwidth, looks)?;
+        if !self.book.fits(&self.config, &input) {
+            self.used = input;
+            return Err(Refusal::Unfit);
+        }
+        self.config.limits();
+        legal_is_short();
+        one_pass_more_is_legal();
+        self.made.clear();
+        self.book.step(&self.config, &input, &mut self.made);
+        tell_judgements(input.seen.as_slice(), judged);
+        self.used = input;
+        Ok(())
+    }
+}

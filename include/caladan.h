@@ -1,0 +1,157 @@
+/* caladan.h: the decisions of a core scheduler, proved, for C.
+ *
+ * A scheduler is opened for a task table. Each pass is given what was found of each kernel thread, and
+ * answers what the scheduler is to do: free, ban, revoke and grant cores. docs/POLICY.md says what a
+ * pass is. Link with libcaladan_c.a and the heap that Rattle programs use (liblibc_c.a of the kit).
+ *
+ * What each call answers is proved: it stands in crates/caladan_c/src/lib.rt, as the clauses of the
+ * function of that name. Nothing checks what a caller in C owes:
+ *  - A handle begins as CALADAN_CLOSED and is only changed by these calls. It is not copied to be used
+ *    twice, and nobody reads or writes what it points to. One call at a time on a handle, on the thread
+ *    that opened it.
+ *  - Pointers are not null, are aligned, and have room for as many elements as the number after them
+ *    says. No two arguments overlap, but for those that are only read (const).
+ *  - malloc, realloc and free are of one allocator, and blocks are aligned to each power of two up to 16
+ *    that divides their size. No call comes from a signal handler, nor from the forked child of a
+ *    process with threads.
+ */
+#ifndef CALADAN_H
+#define CALADAN_H
+#include <stdbool.h>
+#include <stddef.h>
+#include <stdint.h>
+
+#ifdef __cplusplus
+extern "C" {
+#endif
+
+/* The version of this interface, which caladan_version answers. */
+#define CALADAN_VERSION 1
+
+/* What a call answers. Up to CALADAN_TOO_MANY_THREADS it is the first fault of a table. */
+enum {
+    CALADAN_DONE = 0,
+    CALADAN_NOT_TOML = 1,
+    CALADAN_UNKNOWN_KEY = 2,
+    CALADAN_MISSING_KEY = 3,
+    CALADAN_WRONG_TYPE = 4,
+    CALADAN_OUT_OF_RANGE = 5,
+    CALADAN_BEST_EFFORT_GUARANTEE = 6,
+    CALADAN_GUARANTEES_EXCEED_CORES = 7,
+    CALADAN_TOO_MANY_THREADS = 8,
+    CALADAN_NO_MEMORY = 9,
+    CALADAN_IS_CLOSED = 10,   /* the handle is closed */
+    CALADAN_IS_OPEN = 11,     /* the handle is open */
+    CALADAN_WRONG_COUNT = 13, /* not one look for each thread */
+    CALADAN_NO_ROOM = 14,     /* too little room for what the call is to write */
+    CALADAN_UNFIT = 15,       /* a look does not fit what its thread showed before, or has not the right shape */
+    CALADAN_NO_SUCH = 16      /* the table has no such core or task */
+};
+
+/* A scheduler, or nothing. */
+typedef struct caladan {
+    bool open;
+    void *at;
+} caladan;
+#ifdef __cplusplus
+#define CALADAN_CLOSED (caladan{false, nullptr})
+#else
+#define CALADAN_CLOSED ((caladan){false, NULL})
+#endif
+
+/* What the look at one thread's page found, and whether the thread's command ring had room. */
+typedef struct caladan_look {
+    uint8_t busy;    /* not 0: no record, number and second are the two versions that were loaded */
+    uint8_t room;    /* not 0: the ring had room */
+    uint64_t number; /* the record's place; of a busy look the first version */
+    uint64_t second; /* of a busy look the second version */
+    /* the record's nine words, in the order in which they lie on a page; not read of a busy look */
+    uint64_t taken;   /* commands taken so far */
+    uint64_t running; /* 0 off a core, else the core's number plus one */
+    uint64_t queued;  /* 0 without a queued request */
+    uint64_t oldest;  /* when the oldest queued request came */
+    uint64_t started; /* when the current request was begun or resumed, or 0 */
+    uint64_t misses;  /* cache misses so far */
+    uint64_t stamp;   /* when the record was published */
+    uint64_t paused;  /* 0 without a suspended request */
+    uint64_t since;   /* when the suspended request came */
+} caladan_look;
+
+/* What was judged of a look. A record that is ahead (it acknowledges more commands than were sent) or
+ * foreign (it shows its thread on a core that the thread was not given) is not kept. */
+enum { CALADAN_KEPT = 1, CALADAN_BUSY = 2, CALADAN_AHEAD = 3, CALADAN_FOREIGN = 4 };
+
+/* The kinds of actions, and the causes of a revocation. */
+enum {
+    CALADAN_FREE = 1,
+    CALADAN_UNBAN = 2,
+    CALADAN_BAN = 3,
+    CALADAN_REVOKE = 4, /* the core's thread is to be sent Park */
+    CALADAN_CAP = 5,
+    CALADAN_GRANT = 6 /* the thread is to be sent Run of the core */
+};
+enum { CALADAN_FOR_BAN = 1, CALADAN_FOR_BANDWIDTH = 2, CALADAN_FOR_TASK = 3 };
+
+/* One action of a pass. What its kind does not name is 0. */
+typedef struct caladan_action {
+    uint8_t kind;
+    uint8_t core;
+    uint8_t thread;     /* of a ban, the thread on the sibling; of a grant, who is granted the core */
+    uint8_t core_class; /* of a grant: why this core, 1 to 5 */
+    uint8_t cause;      /* of a revocation */
+    uint8_t by;         /* of a revocation for a ban: the core that it was banned for */
+    uint8_t task;       /* of a cap, or of a revocation for a task */
+    uint8_t cap;        /* of a cap: the most cores that the task may book */
+    uint64_t started;   /* of a ban: when the request was begun */
+} caladan_action;
+
+/* The most actions that a pass has. */
+#define CALADAN_MOST_ACTIONS 338
+
+/* Who has a core. */
+enum { CALADAN_CORE_FREE = 0, CALADAN_CORE_HELD = 1, CALADAN_CORE_LEAVING = 2 };
+typedef struct caladan_holder_of_core {
+    uint8_t state;
+    uint8_t thread;   /* unless the core is free */
+    uint8_t cause;    /* of a core that is being left: why */
+    uint8_t cause_of; /* for a ban, the core that was banned for; for a task, the task */
+} caladan_holder_of_core;
+
+/* What a task has, in cores. */
+typedef struct caladan_counts {
+    uint8_t held;   /* its threads hold them */
+    uint8_t booked; /* its threads hold or leave them */
+    uint8_t cap;    /* its last cap, else its limit */
+} caladan_counts;
+
+uint32_t caladan_version(void);
+
+/* Opens the task table that a text spells (docs/POLICY.md), in a closed handle. Takes all the memory
+ * that passes need. DONE, the table's fault, NO_MEMORY or IS_OPEN; unless DONE the handle is as before. */
+uint8_t caladan_open(const uint8_t *table, size_t length, caladan *handle);
+
+/* How many kernel threads the table has; 0 of a closed handle. */
+size_t caladan_threads(caladan *handle);
+
+/* The bandwidth figure above which a best-effort task loses a core; 0 of a closed handle. */
+uint64_t caladan_bandwidth_limit(caladan *handle);
+
+/* The next pass. looks: one for each thread, in thread order. judged: room for as many. actions: room
+ * for CALADAN_MOST_ACTIONS. DONE, IS_CLOSED, NO_ROOM, WRONG_COUNT or UNFIT; unless DONE nothing has
+ * changed, but that *made is 0. NO_MEMORY is an answer too, though no pass asks for memory. */
+uint8_t caladan_pass(caladan *handle, uint64_t now, uint64_t bandwidth, const caladan_look *looks, size_t count,
+                     uint8_t *judged, size_t judged_room, caladan_action *actions, size_t room, size_t *made);
+
+/* Who has a core: DONE, IS_CLOSED or NO_SUCH. */
+uint8_t caladan_holder(caladan *handle, uint8_t core, caladan_holder_of_core *holder);
+
+/* What a task has: DONE, IS_CLOSED or NO_SUCH. */
+uint8_t caladan_task(caladan *handle, size_t task, caladan_counts *counts);
+
+/* Lets go of what the handle keeps: DONE, or IS_CLOSED. The handle is closed then. */
+uint8_t caladan_close(caladan *handle);
+
+#ifdef __cplusplus
+}
+#endif
+#endif
