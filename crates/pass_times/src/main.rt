@@ -1,0 +1,210 @@
+//! Times passes of the scheduler over pages and rings whose threads take what they are sent, work,
+//! yield and ask again, and beside each pass a bare reading of the same pages.
+//!
+//! Its words: passes, and the five rates of `Rates` in order. Its input: a task table. It prints
+//! nanoseconds a pass: of a bare reading, of a pass, of a pass in the first and in the last tenth;
+//! and how many records were published and actions made a pass. bench/measure_passes runs it,
+//! and nothing is promised of what it prints.
+#![tactic(auto)]
+
+mod load;
+mod random;
+
+use cal_machine::Config;
+use cal_run::{Worker, open_parts};
+use cal_sched::Scheduler;
+use cal_signal::Observer;
+use cal_trace::read_arrivals;
+use load::{Load, Rates};
+use random::Random;
+use std::io::{Read, Write};
+use std::process::ExitCode;
+use std::time::Instant;
+use std::{env, io};
+
+/// What is added up over passes.
+#[derive(Clone, Copy)]
+struct Sums {
+    passes: u64,
+    reading: u128,
+    passing: u128,
+    published: u64,
+    actions: u64,
+}
+
+/// What is timed.
+#[derive(Drop)]
+struct Machine {
+    scheduler: Scheduler,
+    observers: Vec<Observer>,
+    loads: Vec<Load>,
+    random: Random,
+}
+
+fn main(rt: HostRuntime) -> ExitCode {
+    match measure(&rt) {
+        Ok(()) => ExitCode::from(0),
+        Err(_) => ExitCode::from(2),
+    }
+}
+
+fn refused() -> io::Error {
+    io::Error::from(io::ErrorKind::InvalidInput)
+}
+
+fn measure(rt: &HostRuntime) -> io::Result<()> {
+    let words = given(rt)?;
+    let [passes, turns, yields, asks, begins, waits] = &words[..] else {
+        return Err(refused());
+    };
+    let rates = Rates {
+        turns: *turns,
+        yields: *yields,
+        asks: *asks,
+        begins: *begins,
+        waits: *waits,
+    };
+    let passes = *passes;
+    let mut machine = open(rt)?;
+    let tenth = passes / 10;
+    let first = machine.pass_often(rt, 0, tenth, rates)?;
+    let middle = machine.pass_often(rt, tenth, passes.saturating_sub(tenth), rates)?;
+    let last = machine.pass_often(rt, passes.saturating_sub(tenth), passes, rates)?;
+    let all = first.with(middle).with(last);
+    writeln!(
+        &mut rt.stdout(),
+        "{} {} {} {} {} {}",
+        each(all.reading, all.passes),
+        each(all.passing, all.passes),
+        each(first.passing, first.passes),
+        each(last.passing, last.passes),
+        each(all.published as u128 * 100, all.passes),
+        each(all.actions as u128 * 100, all.passes),
+    )
+}
+
+/// The words after the program's name, as numbers.
+fn given(rt: &HostRuntime) -> io::Result<Vec<u64>> {
+    let mut numbers = Vec::new(rt.alloc());
+    for word in env::args(rt)?.skip(1) {
+        numbers.push(word.parse::<u64>().unwrap_or(0))?;
+    }
+    Ok(numbers)
+}
+
+fn each(sum: u128, count: u64) -> u128 {
+    sum.checked_div(count as u128).unwrap_or(0)
+}
+
+impl Sums {
+    fn new() -> Sums {
+        Sums {
+            passes: 0,
+            reading: 0,
+            passing: 0,
+            published: 0,
+            actions: 0,
+        }
+    }
+
+    fn with(self, more: Sums) -> Sums {
+        Sums {
+            passes: self.passes.saturating_add(more.passes),
+            reading: self.reading.saturating_add(more.reading),
+            passing: self.passing.saturating_add(more.passing),
+            published: self.published.saturating_add(more.published),
+            actions: self.actions.saturating_add(more.actions),
+        }
+    }
+}
+
+/// A scheduler over the table on the standard input, a second observer of each page, and what
+/// stands for each kernel thread.
+fn open(rt: &HostRuntime) -> io::Result<Machine> {
+    let mut text = Vec::new(rt.alloc());
+    rt.stdin().read_to_end(&mut text)?;
+    let Ok(config) = Config::read(rt.alloc(), text.as_slice()) else {
+        return Err(refused());
+    };
+    let Ok(arrivals) = read_arrivals(rt.alloc(), &config, b"caladan-arrivals,1\nend,0\n") else {
+        return Err(refused());
+    };
+    let Ok(parts) = open_parts(rt.alloc(), &config, &arrivals) else {
+        return Err(refused());
+    };
+    let (observers, _) = parts.watch.end();
+    Ok(Machine {
+        scheduler: parts.scheduler,
+        observers,
+        loads: loads_of(rt, parts.workers)?,
+        random: Random::new(),
+    })
+}
+
+fn loads_of(rt: &HostRuntime, workers: Vec<Worker>) -> io::Result<Vec<Load>> {
+    let mut loads = Vec::new(rt.alloc());
+    for worker in workers {
+        let end = worker.thread.end();
+        loads.push(Load {
+            publisher: end.publisher,
+            taker: end.taker,
+        })?;
+    }
+    Ok(loads)
+}
+
+impl Machine {
+    /// The passes from one to another, each after the threads' turns.
+    fn pass_often(
+        &mut self,
+        rt: &HostRuntime,
+        from: u64,
+        to: u64,
+        rates: Rates,
+    ) -> io::Result<Sums> {
+        let mut sums = Sums::new();
+        for p in from..to {
+            let now = p.saturating_mul(10).saturating_add(1000);
+            let published = self.turn_each(now, rates);
+            let begun = Instant::now(rt)?;
+            let _ = self.scheduler.pass(now.saturating_add(5), 0);
+            let passed = Instant::now(rt)?;
+            self.read_each();
+            let read = Instant::now(rt)?;
+            sums = sums.with(Sums {
+                passes: 1,
+                reading: read.duration_since(passed).as_nanos(),
+                passing: passed.duration_since(begun).as_nanos(),
+                published,
+                actions: self.last_actions(),
+            });
+        }
+        Ok(sums)
+    }
+
+    /// How many actions the last pass made.
+    fn last_actions(&self) -> u64 {
+        match self.scheduler.history().last() {
+            Some(entry) => entry.actions.as_slice().len() as u64,
+            None => 0,
+        }
+    }
+
+    /// Some of the threads have a turn. How many of them published a record.
+    fn turn_each(&mut self, now: u64, rates: Rates) -> u64 {
+        let mut published = 0_u64;
+        for k in 0..self.loads.len() {
+            if self.random.one_in(rates.turns) && self.loads[k].turn(now, rates, &mut self.random) {
+                published = published.saturating_add(1);
+            }
+        }
+        published
+    }
+
+    /// Looks once at each page.
+    fn read_each(&mut self) {
+        for k in 0..self.observers.len() {
+            let _ = self.observers[k].observe();
+        }
+    }
+}
