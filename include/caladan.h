@@ -45,7 +45,10 @@ enum {
     CALADAN_WRONG_COUNT = 13, /* not one look for each thread */
     CALADAN_NO_ROOM = 14,     /* too little room for what the call is to write */
     CALADAN_UNFIT = 15,       /* a look does not fit what its thread showed before, or has not the right shape */
-    CALADAN_NO_SUCH = 16      /* the table has no such core or task */
+    CALADAN_NO_SUCH = 16,     /* the table has no such core or task */
+    CALADAN_NO_ACTION = 17,   /* an action that is none: its kind, its cause, or a field that is not 0 */
+    CALADAN_NO_JUDGEMENT = 19, /* a number that is no judgement of its look */
+    CALADAN_ILLEGAL = 20      /* a recorded pass is not legal */
 };
 
 /* A scheduler, or nothing. */
@@ -150,6 +153,38 @@ uint8_t caladan_task(caladan *handle, size_t task, caladan_counts *counts);
 
 /* Lets go of what the handle keeps: DONE, or IS_CLOSED. The handle is closed then. */
 uint8_t caladan_close(caladan *handle);
+
+/* An audit of passes that were recorded, by this scheduler or by another that says it keeps the policy.
+ * It is handed one pass after the other, from the first, and says at any time whether all of them are
+ * legal: each was given looks that it may be given after those before it, and did exactly what the
+ * policy does on them, in that order. Each pass costs the work of that pass alone. */
+typedef struct caladan_audit {
+    bool open;
+    void *at;
+} caladan_audit;
+#ifdef __cplusplus
+#define CALADAN_AUDIT_CLOSED (caladan_audit{false, nullptr})
+#else
+#define CALADAN_AUDIT_CLOSED ((caladan_audit){false, NULL})
+#endif
+
+/* Opens an audit of the task table that a text spells, in a closed handle, as caladan_open does. */
+uint8_t caladan_audit_open(const uint8_t *table, size_t length, caladan_audit *audit);
+
+/* The next recorded pass: its looks, what was judged of each (the same count), and its actions, as
+ * caladan_pass takes and answers them. DONE where it was taken, legal or not; else IS_CLOSED,
+ * WRONG_COUNT (not one judgement for each look), NO_ACTION, NO_JUDGEMENT (BUSY is the judgement of a
+ * busy look, KEPT, AHEAD or FOREIGN of another) or NO_MEMORY, and then nothing has changed. It may be
+ * given more or fewer looks than the table has threads: such a pass is taken, and is not legal. */
+uint8_t caladan_audit_pass(caladan_audit *audit, uint64_t now, uint64_t bandwidth, const caladan_look *looks, size_t count,
+                           const uint8_t *judged, size_t judged_count, const caladan_action *actions, size_t made);
+
+/* What the audit says of the passes so far: DONE, each is legal; ILLEGAL, and *pass is the first that is
+ * not, counted from 0 (passes after it are not looked at); IS_CLOSED. Only ILLEGAL writes *pass. */
+uint8_t caladan_audit_verdict(caladan_audit *audit, uint64_t *pass);
+
+/* Lets go of what the audit keeps: DONE, or IS_CLOSED. The handle is closed then. */
+uint8_t caladan_audit_close(caladan_audit *audit);
 
 #ifdef __cplusplus
 }

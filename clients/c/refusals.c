@@ -82,9 +82,57 @@ static int opened(void) {
     return 0;
 }
 
+static uint8_t verdict_of(caladan_audit *audit, uint64_t *pass) {
+    *pass = 77;
+    return caladan_audit_verdict(audit, pass);
+}
+
+static int audited(void) {
+    caladan_audit audit = CALADAN_AUDIT_CLOSED;
+    caladan_look look = {.room = 1, .number = 1, .queued = 1, .oldest = 100, .stamp = 105};
+    caladan_look quiet = {.room = 1, .number = 1, .queued = 1, .oldest = 100, .stamp = 105};
+    caladan_look torn = {.busy = 1, .room = 1, .number = 3, .second = 3};
+    caladan_action grant = {.kind = CALADAN_GRANT, .core_class = 3}, none = grant, more = grant;
+    caladan_action cause = {.kind = CALADAN_REVOKE, .cause = 4};
+    uint8_t kept = CALADAN_KEPT, busy = CALADAN_BUSY, wrong = 5;
+    uint64_t pass;
+    none.kind = 7;
+    more.cap = 1;
+    WANT(verdict_of(&audit, &pass), CALADAN_IS_CLOSED);
+    WANT(pass, 77);
+    WANT(caladan_audit_pass(&audit, 111, 0, &look, 1, &kept, 1, &grant, 1), CALADAN_IS_CLOSED);
+    WANT(caladan_audit_close(&audit), CALADAN_IS_CLOSED);
+    WANT(caladan_audit_open((const uint8_t *)"cores", 5, &audit), CALADAN_NOT_TOML);
+    for (int illegal = 0; illegal < 2; illegal++) {
+        WANT(caladan_audit_open((const uint8_t *)TABLE, strlen(TABLE), &audit), CALADAN_DONE);
+        WANT(caladan_audit_open((const uint8_t *)TABLE, strlen(TABLE), &audit), CALADAN_IS_OPEN);
+        WANT(verdict_of(&audit, &pass), CALADAN_DONE);
+        WANT(caladan_audit_pass(&audit, 111, 0, &look, 1, &kept, 0, &grant, 1), CALADAN_WRONG_COUNT);
+        WANT(caladan_audit_pass(&audit, 111, 0, &look, 1, &wrong, 1, &grant, 1), CALADAN_NO_JUDGEMENT);
+        WANT(caladan_audit_pass(&audit, 111, 0, &look, 1, &busy, 1, &grant, 1), CALADAN_NO_JUDGEMENT);
+        WANT(caladan_audit_pass(&audit, 111, 0, &torn, 1, &kept, 1, &grant, 1), CALADAN_NO_JUDGEMENT);
+        WANT(caladan_audit_pass(&audit, 111, 0, &look, 1, &kept, 1, &none, 1), CALADAN_NO_ACTION);
+        WANT(caladan_audit_pass(&audit, 111, 0, &look, 1, &kept, 1, &more, 1), CALADAN_NO_ACTION);
+        WANT(caladan_audit_pass(&audit, 111, 0, &look, 1, &kept, 1, &cause, 1), CALADAN_NO_ACTION);
+        WANT(verdict_of(&audit, &pass), CALADAN_DONE);
+        WANT(pass, 77);
+        WANT(caladan_audit_pass(&audit, 111, 0, &look, 1, &kept, 1, &grant, 1), CALADAN_DONE);
+        WANT(verdict_of(&audit, &pass), CALADAN_DONE);
+        WANT(caladan_audit_pass(&audit, 112, 0, &quiet, 1, &kept, 1, &grant, (size_t)illegal), CALADAN_DONE);
+        WANT(verdict_of(&audit, &pass), illegal ? CALADAN_ILLEGAL : CALADAN_DONE);
+        WANT(pass, illegal ? 1 : 77);
+        WANT(caladan_audit_pass(&audit, 113, 0, &look, 0, &kept, 0, &grant, 0), CALADAN_DONE);
+        WANT(verdict_of(&audit, &pass), CALADAN_ILLEGAL);
+        WANT(pass, illegal ? 1 : 2);
+        WANT(caladan_audit_close(&audit), CALADAN_DONE);
+    }
+    WANT(caladan_audit_close(&audit), CALADAN_IS_CLOSED);
+    return 0;
+}
+
 int main(void) {
     WANT(caladan_version(), CALADAN_VERSION);
-    if (closed() || opened()) return 1;
+    if (closed() || opened() || audited()) return 1;
     puts("refusals: ok");
     return 0;
 }

@@ -1,2 +1,5 @@
 mod AsBox
 mod Passed
+mod AsAuditBox
+mod OneMore
+mod NoneSuch

@@ -4,3 +4,6 @@ pub mod Found
 pub mod Told
 pub mod Passing
 pub mod Opening
+pub mod Recorded
+pub mod Audited
+pub mod AuditHandles

@@ -27,6 +27,8 @@ pub enum Refusal {
     NoAction = 17,
     /// An action is not permitted at its place.
     NotPermitted = 18,
+    /// A number is no judgement of its look.
+    NoJudgement = 19,
 }
 
 impl From<AllocError> for Refusal {

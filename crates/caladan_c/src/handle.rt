@@ -3,6 +3,8 @@
 ghost use Rattle.std.specs.Prelude.{◌≡◌, Option, Some, None};
 ghost use Rattle.std.specs.Option.{is_some, option_map};
 
+pub mod audit;
+mod audit_pointer;
 mod loose;
 mod pointer;
 

@@ -1,14 +1,17 @@
 //! The decision core behind a C interface: a task table is opened, each pass is given what was found of
-//! the threads and answers its actions, and the handle is closed.
+//! the threads and answers its actions, and the handle is closed. An audit takes recorded passes and says
+//! whether all are legal.
 //!
 //! `include/caladan.h` says the same to C. A call answers 0, or why it did nothing, as a number.
 #![tactic(auto)]
 
 mod answer;
+mod audit;
 mod counts;
 mod found;
 mod handle;
 mod judgement;
+mod recorded;
 mod scheduler;
 mod told;
 mod told_holder;
@@ -26,15 +29,21 @@ ghost use Rattle.caladan_c.specs.Found.{input_of};
 ghost use Rattle.caladan_c.specs.Opening.{Says, IsNew};
 ghost use Rattle.caladan_c.specs.Passing.{StandsAfter, IsPassed};
 ghost use Rattle.caladan_c.specs.Told.{AreTold, AreJudgements, counts_of, told_holder_of};
+ghost use Rattle.caladan_c.specs.Audited.{Audits, SaysAudit, TookRecorded};
+ghost use Rattle.cal_policy.specs.Verdicts.{IsVerdict};
+ghost use Rattle.cal_policy.specs.declared.verdict.Verdict.TheVariants.{Legal, Illegal};
 ghost use Rattle.std.specs.Prelude.{IfOk, OnErr, Err, []};
 ghost use Rattle.caladan_c.specs.declared.answer.Refusal.TheVariants.{Unfit};
 
 use answer::Refusal;
+use audit::Audit;
 use cal_machine::ConfigFault;
-use cal_policy::MOST_ACTIONS;
+use cal_policy::{MOST_ACTIONS, Verdict};
 use counts::Counts;
 use found::Found;
 use handle::Handle;
+use handle::audit::AuditHandle;
+use recorded::entry_of;
 use scheduler::Scheduler;
 use std::alloc::Global;
 use told::{Told, tell_all};
@@ -250,6 +259,134 @@ pub extern "C" fn caladan_task(
 /// Lets go of what the handle keeps: 0; 10 it is closed already.
 #[unsafe(no_mangle)]
 pub extern "C" fn caladan_close(alloc: Global, handle: &mut Handle) -> u8
+    ensures already { is_some handle.old.pointer.kept ≡ false → result ≡ 10 }
+    ensures closed { is_some handle.old.pointer.kept ≡ true → result ≡ 0 }
+    ensures after { handle.new.pointer.kept ≡ None }
+{
+    match handle.take(alloc) {
+        None => Refusal::Closed as u8,
+        Some(kept) => {
+            drop(kept);
+            0
+        }
+    }
+}
+
+/// A new audit on the heap.
+fn open_audit(alloc: Global, table: &[u8]) -> Result<Box<Audit>, ConfigFault>
+    ensures table { Gives (λ opened. opened.value.table) result (table_in table.now) }
+    ensures new { IfOk result (λ opened. Audits opened.value []) }
+{
+    let audit = Audit::open(alloc, table)?;
+    Ok(Box::new(alloc, audit)?)
+}
+
+/// Opens an audit of the table that a text spells, in a closed handle: 0, or the table's fault, 1 to 9.
+#[unsafe(no_mangle)]
+pub extern "C" fn caladan_audit_open(alloc: Global, table: &[u8], handle: &mut AuditHandle) -> u8
+    ensures already { is_some handle.old.pointer.kept ≡ true → result ≡ 11 }
+    ensures opened { is_some handle.old.pointer.kept ≡ false → result ≢ 9 →
+        SaysAudit (table_in table.now) result handle.new.pointer.kept }
+    ensures refused { result ≢ 0 → handle.new ≡ handle.old }
+{
+    if handle.is_open() {
+        return Refusal::Open as u8;
+    }
+    match open_audit(alloc, table) {
+        Ok(opened) => {
+            *handle = AuditHandle::of(opened);
+            0
+        }
+        Err(first) => first as u8,
+    }
+}
+
+/// Hands the audit the next recorded pass: what was found of the threads, what was judged of each look,
+/// and the actions. 0, whether or not the pass is legal; 10 the handle is closed; 13 there is not one
+/// judgement for each look; 17 an action is none; 19 a number is no judgement of its look; 9 no memory.
+/// After another number than 0 nothing has changed.
+#[unsafe(no_mangle)]
+pub extern "C" fn caladan_audit_pass(
+    alloc: Global,
+    handle: &mut AuditHandle,
+    now: u64,
+    bandwidth: u64,
+    looks: &[Found],
+    judged: &[u8],
+    actions: &[Told],
+) -> u8
+    ensures closed { is_some handle.old.pointer.kept ≡ false → result ≡ 10 }
+    ensures taken { result ≡ 0 → ForSome handle.old.pointer.kept (λ a. IsSomeAnd handle.new.pointer.kept
+        (TookRecorded a now bandwidth looks.now judged.now actions.now)) }
+    ensures refused { result ≢ 0 → handle.new.pointer.kept ≡ handle.old.pointer.kept }
+{
+    match handle.take(alloc) {
+        None => Refusal::Closed as u8,
+        Some(mut kept) => {
+            let answer = take_recorded(&mut kept, alloc, now, bandwidth, looks, judged, actions);
+            *handle = AuditHandle::of(kept);
+            match answer {
+                Ok(()) => 0,
+                Err(refusal) => refusal as u8,
+            }
+        }
+    }
+}
+
+/// The same of an open handle's audit.
+fn take_recorded(
+    kept: &mut Audit,
+    alloc: Global,
+    now: u64,
+    bandwidth: u64,
+    looks: &[Found],
+    judged: &[u8],
+    actions: &[Told],
+) -> Result<(), Refusal>
+    ensures taken { IfOk result (λ _.
+        TookRecorded kept.old now bandwidth looks.now judged.now actions.now kept.new) }
+    ensures refused { OnErr result (kept.new ≡ kept.old) }
+{
+    let entry = entry_of(alloc, now, bandwidth, looks, judged, actions)?;
+    kept.next(&entry);
+    Ok(())
+}
+
+/// What the audit says of the passes so far: 0 each is legal; 20 one is not, and `pass` is the first that
+/// is not, counted from 0; 10 the handle is closed.
+#[unsafe(no_mangle)]
+pub extern "C" fn caladan_audit_verdict(
+    alloc: Global,
+    handle: &mut AuditHandle,
+    pass: &mut u64,
+) -> u8
+    ensures closed { is_some handle.old.pointer.kept ≡ false → result ≡ 10 }
+    ensures legal { result ≡ 0 → ForSome handle.old.pointer.kept (λ a. (h : List PassEntry) →
+        Audits a h → IsVerdict a.table h Legal) }
+    ensures illegal { result ≡ 20 → ForSome handle.old.pointer.kept (λ a. (h : List PassEntry) →
+        Audits a h → IsVerdict a.table h (Illegal pass.new)) }
+    ensures other { result ≢ 20 → pass.new ≡ pass.old }
+    ensures same { handle.new.pointer.kept ≡ handle.old.pointer.kept }
+{
+    match handle.take(alloc) {
+        None => Refusal::Closed as u8,
+        Some(kept) => {
+            let verdict = kept.verdict();
+            *handle = AuditHandle::of(kept);
+            match verdict {
+                Verdict::Legal => 0,
+                Verdict::Illegal { pass: first } => {
+                    *pass = first;
+                    20
+                }
+            }
+        }
+    }
+}
+
+/// Lets go of what the handle keeps: 0; 10 it is closed already.
+#[unsafe(no_mangle)]
+pub extern "C" fn caladan_audit_close(alloc: Global, handle: &mut AuditHandle) -> u8
     ensures already { is_some handle.old.pointer.kept ≡ false → result ≡ 10 }
     ensures closed { is_some handle.old.pointer.kept ≡ true → result ≡ 0 }
     ensures after { handle.new.pointer.kept ≡ None }

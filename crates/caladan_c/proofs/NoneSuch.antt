@@ -1,0 +1,14 @@
+-- A list with an element that is no image is the image of no list.
+use Rattle.std.proofs.Common.{◌≡◌, ℕ, List, Option, Some, None, Bool, true, false, length, map, slice_get, sym, ap, ◌∙◌}
+use mathlib.Core.Bool.{true≢false}
+use Rattle.std.specs.Option.{is_some, option_map, unwrap_or}
+use Rattle.std.proofs.lemmas.Option.{slice_get-map}
+
+-- what is kept of an element is an image of one
+image_of : {A B : Type 0} (f : A → B) (x : Option A) (y : B) → option_map f x ≡ Some y → ((x : A) → f x ≡ y → ⊥) → ⊥
+image_of f (Some x) y e never = never x (ap (λ o. unwrap_or o y) e)
+image_of f None y e never = true≢false (sym (ap is_some e))
+
+pub none_such : {A B : Type 0} (f : A → B) (xs : List A) (ys : List B) (k : ℕ) (y : B)
+    → slice_get ys k ≡ Some y → ((x : A) → f x ≡ y → ⊥) → map f xs ≡ ys → ⊥
+none_such f xs ys k y at never e = image_of f (slice_get xs k) y (sym (slice_get-map f xs k) ∙ ap (λ l. slice_get l k) e ∙ at) never

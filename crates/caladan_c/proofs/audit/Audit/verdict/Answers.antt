@@ -1,0 +1,9 @@
+use Rattle.std.proofs.Common.{List, subst}
+use Rattle.cal_policy.specs.Verdicts.{IsVerdict}
+use Rattle.cal_policy.specs.declared.pass_entry.PassEntry.{PassEntry}
+use Rattle.caladan_c.specs.Audited.{Audited, Audits}
+use Rattle.caladan_c.proofs.audit.Audit.verdict.Goals as goal
+
+pub returns : goal.returns
+returns c = subst (λ (a : Audited). (h : List PassEntry) → Audits a h → IsVerdict a.table h c.verdict.result) c.self.view_is
+    (λ h audits. c.verdict.ensures c.self.inside.config h audits)

@@ -1,0 +1,10 @@
+use Rattle.std.proofs.Common.{refl}
+use Rattle.std.proofs.lemmas.Option.{slice_get-get_or}
+use Rattle.caladan_c.specs.Told.{told_of}
+use Rattle.caladan_c.proofs.NoneSuch.{none_such}
+use Rattle.caladan_c.proofs.recorded.actions_in.Goals as goal
+
+-- src/recorded.rt:149:21
+pub returns-in-None-clause-none : goal.returns-in-None-clause-none
+returns-in-None-clause-none c = λ _ actions e.
+    none_such told_of actions c.args.told.now c.loop-one.one-index _ (slice_get-get_or c.args.told.now c.loop-one.one-index _ c.loop-one-test.true) (c.in-None.ensures.none refl) e

@@ -1,0 +1,8 @@
+use Rattle.std.proofs.Common.{◌≡◌, take, map}
+use Rattle.caladan_c.specs.Told.{told_of}
+use Rattle.caladan_c.proofs.recorded.actions_in.Given as goal
+
+abbrev pub invariant-loop-one : goal.invariant-loop-one
+invariant-loop-one l = record {
+  actions : map told_of l.actions.items ≡ take l.one-index l.told;
+}

@@ -1,0 +1,42 @@
+-- An audit, as contracts see it, and what C learns of opening one and of handing it a pass.
+use Rattle.std.specs.Prelude.{◌≡◌, ℕ, ◌<◌, ◌^◌, [], List, ◌∷◌, ◌++◌, length, Option, Result, Ok, Err}
+use Rattle.std.specs.Option.{IsSomeAnd}
+use Rattle.cal_machine.specs.Table.{Table}
+use Rattle.cal_machine.specs.declared.fault.ConfigFault.{ConfigFault}
+use Rattle.cal_policy.specs.Auditing.{IsAuditOf}
+use Rattle.cal_policy.specs.declared.auditor.Auditor.{Auditor}
+use Rattle.cal_policy.specs.declared.pass_entry.PassEntry.{PassEntry}
+use Rattle.caladan_c.specs.Opening.{number_of}
+use Rattle.caladan_c.specs.Recorded.{IsRecorded}
+use Rattle.caladan_c.specs.declared.found.Found.{Found}
+use Rattle.caladan_c.specs.declared.told.Told.{Told}
+
+-- its table, and the auditor of the passes so far
+pub record Audited : Type 0 where
+  pub table : Table
+  pub auditor : Auditor
+
+-- it was handed these passes, and what it says is true of them
+abbrev pub Audits : Audited → List PassEntry → Type 0
+Audits audit history = IsAuditOf audit.table history audit.auditor
+
+-- an audit of this table, of no pass
+pub record IsNewAudit (read : Table) (audit : Audited) : Type 0 where
+  pub table : audit.table ≡ read
+  pub audits : Audits audit []
+
+-- the number is what the text comes to: 0 and an audit of its table, or its first fault's
+abbrev pub SaysAudit : Result Table ConfigFault → ℕ → Option Audited → Type 0
+SaysAudit (Ok table) number kept = (number ≡ 0) × IsSomeAnd kept (IsNewAudit table)
+SaysAudit (Err fault) number kept = number ≡ number_of fault
+
+-- the audit took this entry as the next pass of its history
+pub record HasTaken (old : Audited) (entry : PassEntry) (new : Audited) : Type 0 where
+  pub table : new.table ≡ old.table
+  pub audits : (h : List PassEntry) → length h < 2 ^ 64 → Audits old h → Audits new (h ++ entry ∷ [])
+
+-- what was recorded is a pass, and the audit took it as the next one of its history
+pub record TookRecorded (old : Audited) (now bandwidth : ℕ) (looks : List Found) (judged : List ℕ) (actions : List Told) (new : Audited) : Type 0 where
+  pub entry : PassEntry
+  pub recorded : IsRecorded now bandwidth looks judged actions entry
+  pub taken : HasTaken old entry new
