@@ -1,3 +1,4 @@
 pub mod StaysKept
 pub mod Showing
+pub mod HoldersKept
 pub mod RecordedRuns

@@ -1,5 +1,5 @@
 -- What was written of the run that was read is the input's.
-use Rattle.std.proofs.Common.{◌≡◌, ◌≤◌, ◌++◌, ◌∙◌, nat_lt, ℕ, Bool, false, List, length, Option, Some, None, IfSome, IfErr, OnOk, IsOk, Result, Ok, Err, refl, rules, sym, ap, subst, arith}
+use Rattle.std.proofs.Common.{◌≡◌, ◌≤◌, ◌++◌, ◌∙◌, nat_lt, ℕ, Bool, false, List, length, Option, Some, None, IfSome, IfErr, OnOk, Result, Ok, Err, refl, sym, ap, subst, arith}
 use Rattle.std.proofs.lemmas.List.{append-nil}
 use Rattle.std.specs.Io.KnownBytes.{Appends, Consumes, IsAtEnd}
 use Rattle.cal_engine.specs.Outcome.{Failed}

@@ -1,12 +1,12 @@
 -- The spans of a history show what its cores are in.
-use Rattle.std.proofs.Common.{◌≡◌, ◌⊎◌, ◌<◌, ◌≤◌, ◌+◌, ◌==◌, ◌∙◌, ℕ, zero, suc, List, [], ◌∷◌, ◌++◌, length, map, take, drop, Option, Some, None, IfSome, option_map, inl, inr, refl, sym, ap, subst, arith, add-one, add-zero, append_assoc}
+use Rattle.std.proofs.Common.{◌≡◌, ◌⊎◌, ◌<◌, ◌≤◌, ◌+◌, ◌∙◌, ℕ, zero, suc, List, [], ◌∷◌, ◌++◌, map, take, drop, Option, Some, None, IfSome, option_map, inl, inr, refl, sym, ap, subst, arith, add-zero, append_assoc}
 use Rattle.std.specs.List.{Contains}
 use Rattle.std.proofs.lemmas.Bool.Decides.{eqb_tells}
 use Rattle.std.proofs.lemmas.List.{append-nil}
 use Rattle.std.proofs.lemmas.List.Elements.{Contains-append_left, Contains-append_right, Contains-append_cases, Contains-push, Contains-push_cases}
 use Rattle.cal_lists.proofs.Last.{some_same}
 use Rattle.cal_policy.proofs.Lists.{each_of_append}
-use Rattle.cal_policy.specs.Lists.{each_after, each_of}
+use Rattle.cal_policy.specs.Lists.{each_after}
 use Rattle.cal_policy.specs.declared.pass_action.Action.{Action}
 use Rattle.cal_policy.specs.declared.pass_action.Action.TheVariants.{Free, Unban, Ban, Revoke, Cap, Grant}
 use Rattle.cal_policy.specs.declared.pass_action.Cause.{Cause}
@@ -80,14 +80,14 @@ all-any [] = tt
 all-any (m ∷ moves) = (tt, all-any moves)
 
 -- a span that a core is in is the core's, and has not ended
-stay-open : (moves : List Move) (c : ℕ) → IfSome (stay_of moves c) (λ s. (s.core ≡ c) × (s.to ≡ None))
+pub stay-open : (moves : List Move) (c : ℕ) → IfSome (stay_of moves c) (λ s. (s.core ≡ c) × (s.to ≡ None))
 stay-open moves c = after-keeps (λ s. (s.core ≡ c) × (s.to ≡ None)) (λ p. Unit {0}) c (λ p core thread class r e. (e, refl)) (λ p cause s h. h) moves (all-any moves) None tt
 
 stay-began : (n : ℕ) (moves : List Move) (c : ℕ) → AllPasses (λ p. p < n) moves → IfSome (stay_of moves c) (λ s. s.from < n)
 stay-began n moves c all = after-keeps (λ s. s.from < n) (λ p. p < n) c (λ p core thread class r e. r) (λ p cause s h. h) moves all None tt
 
 -- what is said of a span that is there
-of-some : (P : Span → Type 0) (o : Option Span) (s : Span) → o ≡ Some s → IfSome o P → P s
+pub of-some : (P : Span → Type 0) (o : Option Span) (s : Span) → o ≡ Some s → IfSome o P → P s
 of-some P o s e h = subst (λ (q : Option Span). IfSome q P) e h
 
 -- the spans that cores are in

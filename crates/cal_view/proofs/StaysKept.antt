@@ -4,7 +4,7 @@ use Rattle.std.proofs.lemmas.Bool.Decides.{eqb_tells}
 use Rattle.std.proofs.lemmas.List.{append-nil, get_or-set_other, get_or-set_same}
 use Rattle.cal_policy.proofs.Lists.{each_of_push}
 use Rattle.cal_policy.specs.declared.pass_action.Action.{Action}
-use Rattle.cal_policy.specs.declared.pass_action.Action.TheVariants.{Free, Unban, Ban, Revoke, Cap, Grant}
+use Rattle.cal_policy.specs.declared.pass_action.Action.TheVariants.{Free, Revoke, Grant}
 use Rattle.cal_policy.specs.declared.pass_action.Cause.{Cause}
 use Rattle.cal_policy.specs.declared.pass_entry.PassEntry.{PassEntry}
 use Rattle.cal_view.specs.Spans.{Move, made_in, moves_from, granted, revoked, stay_made, stay_after, stay_of, ended_by, ended_of}

@@ -1,7 +1,16 @@
 -- What the spans of every history tell.
 use Rattle.std.specs.Prelude.{◌≡◌, ◌<◌, ◌≤◌, ℕ, List, take, Option, Some, None}
 use Rattle.std.specs.List.{Contains}
+use Rattle.cal_machine.specs.Table.{Table, IsTable}
+use Rattle.cal_policy.specs.declared.holding.Holder.{Holder}
+use Rattle.cal_policy.specs.declared.holding.Holder.TheVariants as holders
+use Rattle.cal_policy.specs.declared.holding.Placement as placements
+use Rattle.cal_policy.specs.declared.pass_action.Cause.{Cause}
 use Rattle.cal_policy.specs.declared.pass_entry.PassEntry.{PassEntry}
+use Rattle.cal_policy.specs.Board.{placement_of}
+use Rattle.cal_policy.specs.History.{actions_of, holder_of}
+use Rattle.cal_policy.specs.Orderly.{IsOrderly}
+use Rattle.cal_policy.specs.Pass.{IsLegal}
 use Rattle.cal_view.specs.Spans.{moves_of, stay_of, spans_of}
 use Rattle.cal_view.specs.declared.span.Span.{Span}
 
@@ -36,3 +45,49 @@ ShownAreStays = (cores : ℕ) (history : List PassEntry) (n : ℕ) (span : Span)
 abbrev pub SpansAreApart : Type 0
 SpansAreApart = (cores : ℕ) (history : List PassEntry) (n : ℕ) (one other : Span) → Contains (spans_of cores history) one → Contains (spans_of cores history) other
     → one.core ≡ other.core → Shows one n → Shows other n → IsOf one other
+
+-- a stay of thread k that is not being left
+pub record IsHeldStay (stay : Option Span) (k : ℕ) : Type 0 where
+  pub span : Span
+  pub there : stay ≡ Some span
+  pub thread : span.thread ≡ k
+  pub not_left : span.left ≡ None
+
+-- a stay of thread k that is being left, for this cause
+pub record IsLeftStay (stay : Option Span) (k : ℕ) (cause : Cause) : Type 0 where
+  pub span : Span
+  pub there : stay ≡ Some span
+  pub thread : span.thread ≡ k
+  pub since : ℕ
+  pub left : span.left ≡ Some (record { pass = since; cause = cause })
+
+-- what a holder says of the span that its core is in: a free core is in none; a core that is held,
+-- in one of the holder's thread that is not being left; a core that is being left, in one of that
+-- thread that is being left, for the holder's cause
+abbrev pub IsStayOf : Holder → Option Span → Type 0
+IsStayOf holders.Free stay = stay ≡ None
+IsStayOf (holders.Held placement) stay = IsHeldStay stay placement.thread
+IsStayOf (holders.Leaving placement cause) stay = IsLeftStay stay placement.thread cause
+
+-- after the first n passes of an orderly history the span that a core is in is as its holder says
+abbrev pub StaysAreHolders : Type 0
+StaysAreHolders = (table : Table) (history : List PassEntry) (n c : ℕ) → IsOrderly table history
+    → IsStayOf (holder_of (actions_of (take n history)) c) (stay_of (moves_of (take n history)) c)
+
+-- whoever holds or leaves a core after the first n passes of an orderly history: a span of the
+-- history shows the thread there
+abbrev pub HoldersAreShown : Type 0
+HoldersAreShown = (cores : ℕ) (table : Table) (history : List PassEntry) (n c : ℕ) (placement : placements.Placement) → IsOrderly table history → c < cores
+    → placement_of (holder_of (actions_of (take n history)) c) ≡ Some placement
+    → (span : Span) × Contains (spans_of cores history) span × (span.core ≡ c) × (span.thread ≡ placement.thread) × Shows span n
+
+-- a span of an orderly history that shows after the first n passes is of the thread that holds or
+-- leaves its core there
+abbrev pub ShownAreHolders : Type 0
+ShownAreHolders = (cores : ℕ) (table : Table) (history : List PassEntry) (n : ℕ) (span : Span) → IsOrderly table history → Contains (spans_of cores history) span
+    → Shows span n → (placement : placements.Placement) × (placement_of (holder_of (actions_of (take n history)) span.core) ≡ Some placement)
+    × (span.thread ≡ placement.thread)
+
+-- a legal history is orderly
+abbrev pub LegalIsOrderly : Type 0
+LegalIsOrderly = (table : Table) (history : List PassEntry) → IsTable table → IsLegal table history → IsOrderly table history

@@ -32,7 +32,10 @@ mod window;
 pub use bans::BanSpan;
 pub use command_line::{Job, words};
 pub use fault::fault_line;
-pub use laws::{shown_are_stays, spans_are_apart, stays_are_shown};
+pub use laws::{
+    holders_are_shown, legal_is_orderly, shown_are_holders, shown_are_stays, spans_are_apart,
+    stays_are_holders, stays_are_shown,
+};
 pub use picture::draw_picture;
 pub use program::{end_with, run_program};
 pub use recording::record;
