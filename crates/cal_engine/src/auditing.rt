@@ -40,8 +40,9 @@ pub fn run_audit<R: Read + Drop, W: Write>(
     Ok(verdict)
 }
 
-/// The task table of an input, and its history as it stands there.
-fn recorded_run(alloc: Global, input: &[u8]) -> Result<(Config, Vec<PassEntry>), RunFault>
+/// The task table of an input, and its history as it stands there. The faults come in this order:
+/// `Separator`, `Config`, `Trace`; `Memory` may come at any place.
+pub fn recorded_run(alloc: Global, input: &[u8]) -> Result<(Config, Vec<PassEntry>), RunFault>
     ensures { Gives (λ r. record { table = r.0; history = r.1.items }) result (recorded_run_of input.now) }
 {
     let (config, trace) = read_parts(alloc, input)?;

@@ -17,14 +17,13 @@ mod running;
 mod separator;
 mod simulating;
 
-pub use auditing::run_audit;
+pub use auditing::{recorded_run, run_audit};
 pub use cal_policy::Verdict;
 pub use command_line::{Job, words};
 pub use deciding::{decide, decided_run};
 pub use fault::{RunFault, fault_line, status};
 pub use input::{INPUT_LIMIT, read_input};
-pub use parts::read_parts;
-pub use program::{end_with, run_program};
+pub use program::{end_with, refuse_words, run_program};
 pub use running::run_lockstep;
 pub use separator::split_input;
 pub use simulating::run_sim;

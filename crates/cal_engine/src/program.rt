@@ -1,6 +1,6 @@
 //! A whole run of the program: words and an input in; an answer, an error line and an exit status out.
 
-ghost use Rattle.std.specs.Prelude.{◌≡◌, IfSome};
+ghost use Rattle.std.specs.Prelude.{◌≡◌, ◌⊎◌, IfErr, IfOk, IfSome};
 ghost use Rattle.cal_engine.specs.Faults.{status_of};
 ghost use Rattle.cal_engine.specs.Program.{DoesJob, verdict_status};
 
@@ -107,11 +107,14 @@ fn verdict_status(verdict: Verdict) -> u8
 
 /// Writes what `clap` says of the words, and answers the exit status: 0 for help, 2 for bad words. The faults are
 /// `Memory`, where the words were refused for want of it, and `Write`.
-fn refuse_words<W: Write, E: Write>(
+pub fn refuse_words<W: Write, E: Write>(
     error: &Error,
     output: &mut W,
     errors: &mut E,
-) -> Result<u8, RunFault> {
+) -> Result<u8, RunFault>
+    ensures status { IfOk result (λ status. (status ≡ 0) ⊎ (status ≡ 2)) }
+    ensures kind { IfErr result (λ fault. (fault ≡ RunFault.Memory) ⊎ (fault ≡ RunFault.Write)) }
+{
     if error.kind() == ErrorKind::OutOfMemory {
         return Err(RunFault::Memory);
     }

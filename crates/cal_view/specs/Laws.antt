@@ -1,7 +1,7 @@
 -- What the spans of every history tell.
 use Rattle.std.specs.Prelude.{◌≡◌, ◌<◌, ◌≤◌, ℕ, List, take, Option, Some, None}
 use Rattle.std.specs.List.{Contains}
-use Rattle.cal_machine.specs.Table.{Table, IsTable}
+use Rattle.cal_machine.specs.Table.{Table}
 use Rattle.cal_policy.specs.declared.holding.Holder.{Holder}
 use Rattle.cal_policy.specs.declared.holding.Holder.TheVariants as holders
 use Rattle.cal_policy.specs.declared.holding.Placement as placements
@@ -10,7 +10,6 @@ use Rattle.cal_policy.specs.declared.pass_entry.PassEntry.{PassEntry}
 use Rattle.cal_policy.specs.Board.{placement_of}
 use Rattle.cal_policy.specs.History.{actions_of, holder_of}
 use Rattle.cal_policy.specs.Orderly.{IsOrderly}
-use Rattle.cal_policy.specs.Pass.{IsLegal}
 use Rattle.cal_view.specs.Spans.{moves_of, stay_of, spans_of}
 use Rattle.cal_view.specs.declared.span.Span.{Span}
 
@@ -87,7 +86,3 @@ abbrev pub ShownAreHolders : Type 0
 ShownAreHolders = (cores : ℕ) (table : Table) (history : List PassEntry) (n : ℕ) (span : Span) → IsOrderly table history → Contains (spans_of cores history) span
     → Shows span n → (placement : placements.Placement) × (placement_of (holder_of (actions_of (take n history)) span.core) ≡ Some placement)
     × (span.thread ≡ placement.thread)
-
--- a legal history is orderly
-abbrev pub LegalIsOrderly : Type 0
-LegalIsOrderly = (table : Table) (history : List PassEntry) → IsTable table → IsLegal table history → IsOrderly table history

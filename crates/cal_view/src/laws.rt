@@ -1,6 +1,6 @@
 //! What the spans of every history tell, each law the contract of a function that does nothing.
 
-ghost use Rattle.cal_view.specs.Laws.{HoldersAreShown, LegalIsOrderly, ShownAreHolders};
+ghost use Rattle.cal_view.specs.Laws.{HoldersAreShown, ShownAreHolders};
 ghost use Rattle.cal_view.specs.Laws.{ShownAreStays, SpansAreApart, StaysAreHolders, StaysAreShown};
 
 /// After any number of passes: whatever span a core is in, one of the spans of the history shows it
@@ -36,9 +36,4 @@ pub fn holders_are_shown()
 /// holds or leaves its core. So none shows of a free core.
 pub fn shown_are_holders()
     ensures { ShownAreHolders }
-{}
-
-/// A legal history is orderly, so what is said of orderly ones holds of it.
-pub fn legal_is_orderly()
-    ensures { LegalIsOrderly }
 {}

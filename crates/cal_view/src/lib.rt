@@ -2,7 +2,8 @@
 //! histories from signals, and from histories pictures and trace events.
 //!
 //! The spans of a history, who had which core from which pass to which, are `spans_of`; what they
-//! tell of every history stands in `laws`. How they are drawn is only tested.
+//! tell of every history, and of every orderly one, stands in `laws`. How they are drawn is only
+//! tested.
 #![tactic(auto)]
 
 mod bandwidth;
@@ -33,8 +34,8 @@ pub use bans::BanSpan;
 pub use command_line::{Job, words};
 pub use fault::fault_line;
 pub use laws::{
-    holders_are_shown, legal_is_orderly, shown_are_holders, shown_are_stays, spans_are_apart,
-    stays_are_holders, stays_are_shown,
+    holders_are_shown, shown_are_holders, shown_are_stays, spans_are_apart, stays_are_holders,
+    stays_are_shown,
 };
 pub use picture::draw_picture;
 pub use program::{end_with, run_program};

@@ -7,11 +7,9 @@ use crate::picture::draw_picture;
 use crate::recording::record;
 use crate::timeline::write_timeline;
 use crate::window::Window;
-use cal_engine::{RunFault, read_input, read_parts, status};
+use cal_engine::{RunFault, read_input, recorded_run, refuse_words, status};
 use cal_machine::Config;
 use cal_policy::PassEntry;
-use cal_trace::read_history;
-use clap::error::{Error, ErrorKind};
 use std::alloc::Global;
 use std::io::{BufWriter, Read, Write};
 
@@ -96,15 +94,13 @@ fn do_job<R: Read + Drop, W: Write>(
     }
 }
 
-/// The task table of an input, and its history as it stands there.
+/// Reads an input of a task table and a history to its end.
 fn recorded<R: Read + Drop>(
     alloc: Global,
     mut reader: R,
 ) -> Result<(Config, Vec<PassEntry>), RunFault> {
     let input = read_input(alloc, &mut reader)?;
-    let (config, trace) = read_parts(alloc, input.as_slice())?;
-    let history = read_history(alloc, &config, trace)?;
-    Ok((config, history))
+    recorded_run(alloc, input.as_slice())
 }
 
 /// Reads an input of a table and a history, and draws the passes that were asked for.
@@ -128,25 +124,4 @@ fn timeline<R: Read + Drop, W: Write>(
 ) -> Result<(), RunFault> {
     let (config, history) = recorded(alloc, reader)?;
     write_timeline(alloc, &config, history.as_slice(), writer)
-}
-
-/// Writes what `clap` says of the words, and answers the exit status: 0 for help, 2 for bad words.
-/// The faults are `Memory`, where the words were refused for want of it, and `Write`.
-fn refuse_words<W: Write, E: Write>(
-    error: &Error,
-    output: &mut W,
-    errors: &mut E,
-) -> Result<u8, RunFault> {
-    if error.kind() == ErrorKind::OutOfMemory {
-        return Err(RunFault::Memory);
-    }
-    let (written, status) = if error.use_stderr() {
-        (write!(errors, "{error}"), 2)
-    } else {
-        (write!(output, "{error}"), 0)
-    };
-    match written {
-        Ok(()) => Ok(status),
-        Err(_) => Err(RunFault::Write),
-    }
 }

@@ -16,7 +16,7 @@ mod scheduler;
 mod told;
 mod told_holder;
 
-ghost use Rattle.std.specs.Prelude.{◌≡◌, ◌≢◌, ◌≤◌, List, None, length, true, false};
+ghost use Rattle.std.specs.Prelude.{◌≡◌, ◌≢◌, ◌⊎◌, ◌<◌, ◌≤◌, List, None, length, true, false};
 ghost use Rattle.std.specs.Option.{is_some, ForSome, IsSomeAnd};
 ghost use Rattle.cal_machine.specs.Reading.{table_in};
 ghost use Rattle.cal_machine.specs.Outcome.{Gives};
@@ -205,7 +205,8 @@ pub extern "C" fn caladan_holder(
     ensures closed { is_some handle.old.pointer.kept ≡ false → result ≡ 10 }
     ensures told { result ≡ 0 → ForSome handle.old.pointer.kept (λ s. (h : List PassEntry) → StandsAfter s h →
         holder.new ≡ told_holder_of (kept_holder (holder_of (actions_of h) core))) }
-    ensures no_core { result ≡ 16 → ForSome handle.old.pointer.kept (λ s. s.table.cores ≤ core) }
+    ensures there { ForSome handle.old.pointer.kept (λ s. core < s.table.cores → result ≡ 0) }
+    ensures no_core { ForSome handle.old.pointer.kept (λ s. s.table.cores ≤ core → result ≡ 16) }
     ensures refused { result ≢ 0 → holder.new ≡ holder.old }
     ensures same { handle.new.pointer.kept ≡ handle.old.pointer.kept }
 {
@@ -236,7 +237,8 @@ pub extern "C" fn caladan_task(
     ensures closed { is_some handle.old.pointer.kept ≡ false → result ≡ 10 }
     ensures told { result ≡ 0 → ForSome handle.old.pointer.kept (λ s. (h : List PassEntry) → StandsAfter s h →
         counts.new ≡ counts_of s.table (actions_of h) task) }
-    ensures no_task { result ≡ 16 → ForSome handle.old.pointer.kept (λ s. length s.table.tasks ≤ task) }
+    ensures there { ForSome handle.old.pointer.kept (λ s. task < length s.table.tasks → result ≡ 0) }
+    ensures no_task { ForSome handle.old.pointer.kept (λ s. length s.table.tasks ≤ task → result ≡ 16) }
     ensures refused { result ≢ 0 → counts.new ≡ counts.old }
     ensures same { handle.new.pointer.kept ≡ handle.old.pointer.kept }
 {
@@ -365,6 +367,7 @@ pub extern "C" fn caladan_audit_verdict(
         Audits a h → IsVerdict a.table h Legal) }
     ensures illegal { result ≡ 20 → ForSome handle.old.pointer.kept (λ a. (h : List PassEntry) →
         Audits a h → IsVerdict a.table h (Illegal pass.new)) }
+    ensures answers { ForSome handle.old.pointer.kept (λ _. (result ≡ 0) ⊎ (result ≡ 20)) }
     ensures other { result ≢ 20 → pass.new ≡ pass.old }
     ensures same { handle.new.pointer.kept ≡ handle.old.pointer.kept }
 {
