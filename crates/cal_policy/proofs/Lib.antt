@@ -21,6 +21,7 @@ pub mod Numbering
 pub mod Fits
 pub mod Branches
 pub mod LegalOrderly
+pub mod Losing
 pub mod Pairs
 pub mod Bandwidth
 pub mod Apart

@@ -1,7 +1,7 @@
 //! Which core a task is to have.
 
-ghost use Rattle.std.specs.Prelude.{◌≡◌, ◌<◌, ◌≤◌, ◌&&◌, not, nat_lt, List, length, Option, Some, None, if◌then◌else◌};
-ghost use Rattle.std.specs.Option.{IfSome, option_map};
+ghost use Rattle.std.specs.Prelude.{◌≡◌, ◌<◌, ◌≤◌, ◌&&◌, not, nat_lt, ℕ, false, List, length, Option, Some, None, if◌then◌else◌};
+ghost use Rattle.std.specs.Option.{IfSome, is_some, option_map};
 ghost use Rattle.cal_machine.specs.Table.{IsTable};
 ghost use Rattle.cal_machine.specs.Machine.{sibling_of};
 ghost use Rattle.cal_policy.specs.declared.pass_action.Action.{Action};
@@ -13,6 +13,7 @@ ghost use Rattle.cal_policy.specs.History.{holder_of, last_thread, is_banned};
 ghost use Rattle.cal_policy.specs.Grants as grants;
 ghost use Rattle.cal_policy.specs.Grants.{class_by, is_granted_in, none_leaves_for};
 ghost use Rattle.cal_policy.specs.Board.{Agrees, Stands, IsReady, placement_of};
+ghost use Rattle.cal_policy.specs.Counts.{held_by};
 ghost use Rattle.cal_policy.specs.Survey.{Surveys};
 ghost use Rattle.cal_policy.specs.Choice.{best_below};
 ghost use Rattle.cal_policy.specs.Among.{class_among};
@@ -195,9 +196,37 @@ fn may_have_revoked(config: &Config, survey: &Survey, task: usize) -> bool
     critical && awaits_none
 }
 
+/// Whether the other task may lose a core to this one: it holds one, and what it holds has a class for
+/// this one.
+fn may_lose(config: &Config, survey: &Survey, task: usize, other: usize) -> bool
+    requires table { IsTable config.now }
+    requires task { task < length config.now.tasks }
+    requires other { other < length config.now.tasks }
+    ensures { (x : List Action) → Surveys config.now (holder_of x) survey.now →
+        result ≡ (nat_lt 0 (held_by config.now x other) && is_some (grants.burst_class config.now x task other)) }
+{
+    let class = burst_class(config, survey, task, other);
+    survey.held[other] > 0 && class.is_some()
+}
+
+/// Whether some task may lose a core to this one.
+fn some_may_lose(config: &Config, survey: &Survey, task: usize) -> bool
+    requires table { IsTable config.now }
+    requires task { task < length config.now.tasks }
+    ensures none { result ≡ false → (x : List Action) → Surveys config.now (holder_of x) survey.now → (other : ℕ) → other < length config.now.tasks →
+        (nat_lt 0 (held_by config.now x other) && is_some (grants.burst_class config.now x task other)) ≡ false }
+{
+    for other in 0..config.tasks() {
+        if may_lose(config, survey, task, other) {
+            return true;
+        }
+    }
+    false
+}
+
 /// The core of the least class for the task, of those with that class the lowest. A free core is of
 /// a lesser class than any that is held, so those that are taken are gone over only where no free one
-/// will do.
+/// will do, and some task may lose one.
 pub fn choose_core(
     config: &Config,
     input: &Input,
@@ -218,6 +247,9 @@ pub fn choose_core(
         return Some(idle);
     }
     if !may_have_revoked(config, survey, task) {
+        return None;
+    }
+    if !some_may_lose(config, survey, task) {
         return None;
     }
     choose_among(config, input, board, survey, task, &board.sets.taken)
