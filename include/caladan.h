@@ -5,7 +5,8 @@
  * pass is. Link with libcaladan_c.a and the heap that Rattle programs use (liblibc_c.a of the kit).
  *
  * What each call answers is proved: it stands in crates/caladan_c/src/lib.rt, as the clauses of the
- * function of that name. Nothing checks what a caller in C owes:
+ * function of that name, and docs/PROMISES.md says what is by no clause. Nothing checks what a caller
+ * in C owes:
  *  - A handle begins as CALADAN_CLOSED and is only changed by these calls. It is not copied to be used
  *    twice, and nobody reads or writes what it points to. One call at a time on a handle, on the thread
  *    that opened it.
@@ -47,6 +48,7 @@ enum {
     CALADAN_UNFIT = 15,       /* a look does not fit what its thread showed before, or has not the right shape */
     CALADAN_NO_SUCH = 16,     /* the table has no such core or task */
     CALADAN_NO_ACTION = 17,   /* an action that is none: its kind, its cause, or a field that is not 0 */
+    CALADAN_NOT_PERMITTED = 18, /* an action is not permitted at its place */
     CALADAN_NO_JUDGEMENT = 19, /* a number that is no judgement of its look */
     CALADAN_ILLEGAL = 20      /* a recorded pass is not legal */
 };
@@ -100,7 +102,7 @@ typedef struct caladan_action {
     uint8_t kind;
     uint8_t core;
     uint8_t thread;     /* of a ban, the thread on the sibling; of a grant, who is granted the core */
-    uint8_t core_class; /* of a grant: why this core, 1 to 5 */
+    uint8_t core_class; /* of a grant: why this core, 1 to 3; a recorded one may say up to 5 */
     uint8_t cause;      /* of a revocation */
     uint8_t by;         /* of a revocation for a ban: the core that it was banned for */
     uint8_t task;       /* of a cap, or of a revocation for a task */
@@ -140,8 +142,10 @@ size_t caladan_threads(caladan *handle);
 uint64_t caladan_bandwidth_limit(caladan *handle);
 
 /* The next pass. looks: one for each thread, in thread order. judged: room for as many. actions: room
- * for CALADAN_MOST_ACTIONS. DONE, IS_CLOSED, NO_ROOM, WRONG_COUNT or UNFIT; unless DONE nothing has
- * changed, but that *made is 0. NO_MEMORY is an answer too, though no pass asks for memory. */
+ * for CALADAN_MOST_ACTIONS. WRONG_COUNT exactly where there is not one look for each thread, else
+ * NO_ROOM exactly where one of the rooms is too little, else DONE or UNFIT; of a closed handle
+ * IS_CLOSED. Unless DONE nothing has changed, but that *made is 0. NO_MEMORY is not ruled out by proof,
+ * though no pass asks for memory. */
 uint8_t caladan_pass(caladan *handle, uint64_t now, uint64_t bandwidth, const caladan_look *looks, size_t count,
                      uint8_t *judged, size_t judged_room, caladan_action *actions, size_t room, size_t *made);
 
@@ -185,6 +189,75 @@ uint8_t caladan_audit_verdict(caladan_audit *audit, uint64_t *pass);
 
 /* Lets go of what the audit keeps: DONE, or IS_CLOSED. The handle is closed then. */
 uint8_t caladan_audit_close(caladan_audit *audit);
+
+/* A guard, for who chooses the actions by a policy of his own. It is handed one pass after the other,
+ * with the actions that were chosen, and lets a pass through where each of them is permitted at its
+ * place: then every history of passes that went through keeps the laws that docs/PROMISES.md lists
+ * under cal_guard, whoever chose. (No core has two threads, no task more cores than its limit, no
+ * revocation goes below a guarantee, no banned core is granted or stays held, and more.) A pass without
+ * actions is always let through, so a policy may always do nothing. A Ban of a core that is held is
+ * followed at once by the revocation of that core, and a Cap below what the task holds by those that
+ * bring it down to it. */
+typedef struct caladan_guard {
+    bool open;
+    void *at;
+} caladan_guard;
+#ifdef __cplusplus
+#define CALADAN_GUARD_CLOSED (caladan_guard{false, nullptr})
+#else
+#define CALADAN_GUARD_CLOSED ((caladan_guard){false, NULL})
+#endif
+
+/* Why an action is not permitted. They are asked in this order, and the first is told. */
+enum {
+    CALADAN_WHY_TOO_MANY = 1,       /* the pass has CALADAN_MOST_ACTIONS before it */
+    CALADAN_WHY_DOES_NOT_FIT = 2,   /* it names no core, thread or task of the table, or does not fit the state:
+                                       a free of a free core, a ban of a banned one or of its sibling, a
+                                       revocation of one that is not held, a cap above the limit, a grant of
+                                       a core that is not free or to a thread that has one, .. */
+    CALADAN_WHY_NOT_LEFT = 3,       /* free: the core's thread was not shown to have left it */
+    CALADAN_WHY_BANNED = 4,         /* grant: the core is banned */
+    CALADAN_WHY_AT_LIMIT = 5,       /* grant: the task books as many cores as its limit */
+    CALADAN_WHY_AT_CAP = 6,         /* grant: the best-effort task books as many cores as its cap */
+    CALADAN_WHY_AT_GUARANTEE = 7,   /* revocation: the task holds no more than it is guaranteed */
+    CALADAN_WHY_RING_FULL = 8,      /* grant, revocation: the thread's ring has no room */
+    CALADAN_WHY_SECOND_COMMAND = 9, /* grant, revocation: the thread was sent a command in this pass */
+    CALADAN_WHY_BANNED_HELD = 10,   /* a core that is banned and held is not the next to be revoked */
+    CALADAN_WHY_OVER_CAP = 11       /* a best-effort task holds more than its cap, and does not lose a core next */
+};
+
+/* Where a pass was stopped, and why. */
+typedef struct caladan_refused {
+    size_t place;  /* the number of the first action that is not permitted, from 0; the number of them all
+                      where each is, and the pass may not end after them (BANNED_HELD, OVER_CAP) */
+    uint8_t why;   /* CALADAN_WHY_.. */
+    uint8_t names; /* for BANNED_HELD the core, for OVER_CAP the task; else 0 */
+} caladan_refused;
+
+/* Opens a guard of the task table that a text spells, in a closed handle, as caladan_open does. Takes
+ * all the memory that passes of at most CALADAN_MOST_ACTIONS actions need. */
+uint8_t caladan_guard_open(const uint8_t *table, size_t length, caladan_guard *guard);
+
+/* The next pass: one look for each thread, in thread order, room for as many judgements, and the
+ * actions that were chosen, as caladan_pass answers them (what a kind does not name is 0). DONE: the
+ * pass went through and what was judged of each look is written. NOT_PERMITTED: *refused says which
+ * action and why; no other answer writes it. WRONG_COUNT exactly where there is not one look for each
+ * thread, else NO_ROOM exactly where there is too little room for judgements, else UNFIT (as
+ * caladan_pass answers it), NO_ACTION, or NO_MEMORY, which is asked for only where more than
+ * CALADAN_MOST_ACTIONS actions are handed in; of a closed handle IS_CLOSED. Unless DONE the guard is as
+ * before and nothing is judged: the same pass may be handed in again with other actions. */
+uint8_t caladan_guard_pass(caladan_guard *guard, uint64_t now, uint64_t bandwidth, const caladan_look *looks, size_t count,
+                           uint8_t *judged, size_t judged_room, const caladan_action *actions, size_t made,
+                           caladan_refused *refused);
+
+/* Who has a core after the passes that went through: DONE, IS_CLOSED or NO_SUCH. */
+uint8_t caladan_guard_holder(caladan_guard *guard, uint8_t core, caladan_holder_of_core *holder);
+
+/* What a task has after them: DONE, IS_CLOSED or NO_SUCH. */
+uint8_t caladan_guard_task(caladan_guard *guard, size_t task, caladan_counts *counts);
+
+/* Lets go of what the guard keeps: DONE, or IS_CLOSED. The handle is closed then. */
+uint8_t caladan_guard_close(caladan_guard *guard);
 
 #ifdef __cplusplus
 }

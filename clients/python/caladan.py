@@ -1,8 +1,12 @@
 #!/usr/bin/env python3
-"""Reads a task table, a line ---, and a file of signals on standard input, makes the passes through
-caladan.h, and prints the report of caladan_sim.
+"""Reads a task table, a line ---, and a file on standard input.
 
-    caladan.py LIBRARY < INPUT
+    caladan.py LIBRARY < INPUT          a file of signals: makes the passes through caladan.h, and prints
+                                        the report of caladan_sim
+    caladan.py LIBRARY audit < INPUT    a history: prints 'legal', or the first pass that is not, as
+                                        caladan_sim audit does; then it exits with 1
+    caladan.py LIBRARY guard < INPUT    a history: hands its actions to a guard, and prints 'permitted', or
+                                        the first pass and action that are not, and why; then it exits with 1
 
 LIBRARY is libcaladan_c as a shared object. Exits with 2 where the input is refused."""
 import ctypes
@@ -26,36 +30,88 @@ Handle = structure("Handle", [("open", ctypes.c_bool), ("at", ctypes.c_void_p)])
 Look = structure("Look", [("busy", U8), ("room", U8), *((word, U64) for word in ("number", "second") + WORDS)])
 Action = structure("Action", [*((word, U8) for word in ("kind", "core", "thread", "core_class", "cause", "by", "task", "cap")), ("started", U64)])
 Counts = structure("Counts", [("held", U8), ("booked", U8), ("cap", U8)])
+Refused = structure("Refused", [("place", SIZE), ("why", U8), ("names", U8)])
+ILLEGAL, NOT_PERMITTED = 20, 18
+WHY = ("", "too many", "does not fit", "not left", "banned", "at limit", "at cap", "at guarantee", "ring full",
+       "second command", "banned held", "over cap")
 
 
-class Scheduler:
-    """A task table and its passes; ValueError with the answer where a call is refused."""
+class Kept:
+    """What a handle keeps; ValueError with the answer where a call is refused."""
+    prefix = "caladan_"
 
     def __init__(self, library, table):
         self.library, self.handle = library, Handle()
-        library.caladan_threads.restype = SIZE
-        self.answered(library.caladan_open(table, SIZE(len(table)), ctypes.byref(self.handle)))
-        self.threads = library.caladan_threads(ctypes.byref(self.handle))
+        self.answered(getattr(library, self.prefix + "open")(table, SIZE(len(table)), ctypes.byref(self.handle)))
+
+    def call(self, name, *arguments):
+        return getattr(self.library, self.prefix + name)(ctypes.byref(self.handle), *arguments)
 
     def answered(self, answer):
         if answer & 255:
             raise ValueError(answer & 255)
 
-    def run(self, now, bandwidth, looks):
-        """The next pass: what was judged of each look, and the actions."""
-        judged, actions, made = (U8 * self.threads)(), (Action * MOST_ACTIONS)(), SIZE()
-        self.answered(self.library.caladan_pass(
-            ctypes.byref(self.handle), U64(now), U64(bandwidth), (Look * len(looks))(*looks), SIZE(len(looks)),
-            judged, SIZE(self.threads), actions, SIZE(MOST_ACTIONS), ctypes.byref(made)))
-        return list(judged), actions[:made.value]
+    def close(self):
+        self.answered(self.call("close"))
+
+
+class Counted(Kept):
+    """One that says what a task has."""
 
     def task(self, number):
         counts = Counts()
-        self.answered(self.library.caladan_task(ctypes.byref(self.handle), SIZE(number), ctypes.byref(counts)))
+        self.answered(self.call("task", SIZE(number), ctypes.byref(counts)))
         return counts
 
-    def close(self):
-        self.answered(self.library.caladan_close(ctypes.byref(self.handle)))
+
+class Scheduler(Counted):
+    """A task table and its passes."""
+
+    def __init__(self, library, table):
+        super().__init__(library, table)
+        library.caladan_threads.restype = SIZE
+        self.threads = self.call("threads")
+
+    def run(self, now, bandwidth, looks):
+        """The next pass: what was judged of each look, and the actions."""
+        judged, actions, made = (U8 * self.threads)(), (Action * MOST_ACTIONS)(), SIZE()
+        self.answered(self.call("pass", U64(now), U64(bandwidth), (Look * len(looks))(*looks), SIZE(len(looks)),
+                                judged, SIZE(self.threads), actions, SIZE(MOST_ACTIONS), ctypes.byref(made)))
+        return list(judged), actions[:made.value]
+
+
+class Audit(Kept):
+    """Recorded passes, one after the other, and whether all of them are legal."""
+    prefix = "caladan_audit_"
+
+    def take(self, now, bandwidth, looks, judged, actions):
+        """Takes the next recorded pass, legal or not."""
+        self.answered(self.call("pass", U64(now), U64(bandwidth), (Look * len(looks))(*looks), SIZE(len(looks)),
+                                (U8 * len(judged))(*judged), SIZE(len(judged)), (Action * len(actions))(*actions), SIZE(len(actions))))
+
+    def verdict(self):
+        """None where all passes so far are legal, else the number of the first that is not."""
+        first = U64()
+        answer = self.call("verdict", ctypes.byref(first)) & 255
+        if answer == ILLEGAL:
+            return first.value
+        self.answered(answer)
+
+
+class Guard(Counted):
+    """Passes whose actions somebody else chose."""
+    prefix = "caladan_guard_"
+
+    def run(self, now, bandwidth, looks, actions):
+        """The next pass, where its actions are permitted: what was judged of each look, and None; else
+        None, and the first action that is not, with why."""
+        judged, refused = (U8 * len(looks))(), Refused()
+        answer = self.call("pass", U64(now), U64(bandwidth), (Look * len(looks))(*looks), SIZE(len(looks)), judged, SIZE(len(looks)),
+                           (Action * len(actions))(*actions), SIZE(len(actions)), ctypes.byref(refused)) & 255
+        if answer == NOT_PERMITTED:
+            return None, refused
+        self.answered(answer)
+        return list(judged), None
 
 
 def look_of(row):
@@ -89,16 +145,75 @@ def report(scheduler, table, rows):
         yield f"task {number} {kind} held {has.held} leaving {has.booked - has.held}{cap}"
 
 
+JUDGEMENTS = {"whole": 1, "busy": 2, "ahead": 3, "foreign": 4}
+KINDS = {"free": 1, "unban": 2, "ban": 3, "revoke": 4, "cap": 5, "grant": 6}
+FIELDS = {1: ("core",), 2: ("core",), 3: ("core", "thread", "started"), 5: ("task", "cap"), 6: ("core", "thread", "core_class")}
+CAUSES = {"ban": (1, "by"), "bandwidth": (2, None), "preempt": (3, "task")}
+
+
+def action_of(row):
+    kind = KINDS[row[0]]
+    if kind != 4:
+        return Action(kind=kind, **{name: int(field) for name, field in zip(FIELDS[kind], row[1:])})
+    cause, names = CAUSES[row[2]]
+    return Action(kind=kind, core=int(row[1]), cause=cause, **({names: int(row[3])} if names else {}))
+
+
+def recorded(rows):
+    """The passes of a history: each with its clock, its bandwidth, its looks, judgements and actions."""
+    passes = []
+    for row in rows:
+        if row[0] == "pass":
+            passes.append((int(row[1]), int(row[2]), [], [], []))
+        elif row[0] in JUDGEMENTS:
+            passes[-1][2].append(look_of(row))
+            passes[-1][3].append(JUDGEMENTS[row[0]])
+        elif row[0] in KINDS:
+            passes[-1][4].append(action_of(row))
+        elif row[0] == "end":
+            return passes
+    raise IndexError("no end")
+
+
+def audited(library, table, rows):
+    audit = Audit(library, table)
+    for each in recorded(rows):
+        audit.take(*each)
+    first = audit.verdict()
+    audit.close()
+    return "legal" if first is None else f"illegal pass {first}", first is not None
+
+
+def guarded(library, table, rows):
+    guard = Guard(library, table)
+    for number, (now, bandwidth, looks, judged, actions) in enumerate(recorded(rows)):
+        said, refused = guard.run(now, bandwidth, looks, actions)
+        if refused:
+            return f"refused pass {number} action {refused.place} {WHY[refused.why]}", True
+        if said != judged:
+            return f"judged otherwise in pass {number}", True
+    guard.close()
+    return "permitted", False
+
+
+def decided(library, table, rows):
+    scheduler = Scheduler(library, table)
+    said = "\n".join(report(scheduler, table.decode(), rows))
+    scheduler.close()
+    return said, False
+
+
 def main():
     table, trace = (re.split(r"^---\r?\n", sys.stdin.read(), maxsplit=1, flags=re.MULTILINE) + [""])[:2]
+    rows = [line.split(",") for line in trace.splitlines()[1:]]
+    call = {"decide": decided, "audit": audited, "guard": guarded}[sys.argv[2] if len(sys.argv) > 2 else "decide"]
     try:
-        scheduler = Scheduler(ctypes.CDLL(sys.argv[1]), table.encode())
-        for line in report(scheduler, table, [line.split(",") for line in trace.splitlines()[1:]]):
-            print(line)
-        scheduler.close()
-    except (ValueError, IndexError) as refused:
-        print(f"caladan.py: refused {refused}", file=sys.stderr)
+        said, refused = call(ctypes.CDLL(sys.argv[1]), table.encode(), rows)
+    except (ValueError, IndexError, KeyError) as why:
+        print(f"caladan.py: refused {why}", file=sys.stderr)
         sys.exit(2)
+    print(said)
+    sys.exit(1 if refused else 0)
 
 
 if __name__ == "__main__":

@@ -50,6 +50,17 @@ pub struct Counts {
     pub cap: u8,
 }
 
+/// Where a guard stopped a pass, and why, in the numbers of `caladan.h`.
+#[repr(C)]
+#[derive(Clone, Copy, Debug, Default, PartialEq, Eq)]
+pub struct Stopped {
+    /// The number of the first action that is not permitted; of them all, where the pass may not end.
+    pub place: usize,
+    pub why: u8,
+    /// The core or task that the reason names, else 0.
+    pub names: u8,
+}
+
 /// Why a call did nothing, as a number of `caladan.h`.
 #[derive(Clone, Copy, Debug, PartialEq, Eq)]
 pub struct Refused(pub u8);
@@ -73,7 +84,40 @@ extern "C" {
     ) -> u8;
     fn caladan_task(handle: *mut Handle, task: usize, counts: *mut Counts) -> u8;
     fn caladan_close(handle: *mut Handle) -> u8;
+    fn caladan_audit_open(table: *const u8, length: usize, handle: *mut Handle) -> u8;
+    #[allow(clippy::too_many_arguments)]
+    fn caladan_audit_pass(
+        handle: *mut Handle,
+        now: u64,
+        bandwidth: u64,
+        looks: *const Look,
+        count: usize,
+        judged: *const u8,
+        judged_count: usize,
+        actions: *const Action,
+        made: usize,
+    ) -> u8;
+    fn caladan_audit_verdict(handle: *mut Handle, pass: *mut u64) -> u8;
+    fn caladan_audit_close(handle: *mut Handle) -> u8;
+    fn caladan_guard_open(table: *const u8, length: usize, handle: *mut Handle) -> u8;
+    #[allow(clippy::too_many_arguments)]
+    fn caladan_guard_pass(
+        handle: *mut Handle,
+        now: u64,
+        bandwidth: u64,
+        looks: *const Look,
+        count: usize,
+        judged: *mut u8,
+        judged_room: usize,
+        actions: *const Action,
+        made: usize,
+        refused: *mut Stopped,
+    ) -> u8;
+    fn caladan_guard_task(handle: *mut Handle, task: usize, counts: *mut Counts) -> u8;
+    fn caladan_guard_close(handle: *mut Handle) -> u8;
 }
+
+const CLOSED: Handle = Handle { open: false, at: std::ptr::null_mut() };
 
 fn answered(answer: u8) -> Result<(), Refused> {
     if answer == 0 { Ok(()) } else { Err(Refused(answer)) }
@@ -92,7 +136,7 @@ pub struct Scheduler {
 impl Scheduler {
     /// Opens the task table that a text spells. Its error is the table's first fault.
     pub fn open(table: &str) -> Result<Scheduler, Refused> {
-        let mut handle = Handle { open: false, at: std::ptr::null_mut() };
+        let mut handle = CLOSED;
         answered(unsafe { caladan_open(table.as_ptr(), table.len(), &mut handle) })?;
         let threads = unsafe { caladan_threads(&mut handle) };
         Ok(Scheduler {
@@ -147,9 +191,129 @@ impl Drop for Scheduler {
     }
 }
 
+/// What an audit says of the passes so far.
+#[derive(Clone, Copy, Debug, PartialEq, Eq)]
+pub enum Verdict {
+    Legal,
+    /// This pass, counted from 0, is the first that is not legal.
+    Illegal { pass: u64 },
+}
+
+/// An audit of recorded passes, handed over one after the other.
+pub struct Audit {
+    handle: Handle,
+    /// Neither `Send` nor `Sync`.
+    on_its_thread: PhantomData<*mut u8>,
+}
+
+impl Audit {
+    /// Opens an audit of the task table that a text spells. Its error is the table's first fault.
+    pub fn open(table: &str) -> Result<Audit, Refused> {
+        let mut handle = CLOSED;
+        answered(unsafe { caladan_audit_open(table.as_ptr(), table.len(), &mut handle) })?;
+        Ok(Audit { handle, on_its_thread: PhantomData })
+    }
+
+    /// Takes the next recorded pass, legal or not: its looks, what was judged of each, and its actions.
+    pub fn pass(&mut self, now: u64, bandwidth: u64, looks: &[Look], judged: &[u8], actions: &[Action]) -> Result<(), Refused> {
+        answered(unsafe {
+            caladan_audit_pass(
+                &mut self.handle,
+                now,
+                bandwidth,
+                looks.as_ptr(),
+                looks.len(),
+                judged.as_ptr(),
+                judged.len(),
+                actions.as_ptr(),
+                actions.len(),
+            )
+        })
+    }
+
+    /// What the audit says of the passes so far.
+    pub fn verdict(&mut self) -> Verdict {
+        let mut pass = 0;
+        match unsafe { caladan_audit_verdict(&mut self.handle, &mut pass) } {
+            0 => Verdict::Legal,
+            _ => Verdict::Illegal { pass },
+        }
+    }
+}
+
+impl Drop for Audit {
+    fn drop(&mut self) {
+        unsafe { caladan_audit_close(&mut self.handle) };
+    }
+}
+
+/// Why a guard let a pass not through.
+#[derive(Clone, Copy, Debug, PartialEq, Eq)]
+pub enum NotThrough {
+    /// An action is not permitted at its place.
+    Stopped(Stopped),
+    /// The call was refused.
+    Refused(Refused),
+}
+
+/// A guard of passes whose actions somebody else chose.
+pub struct Guard {
+    handle: Handle,
+    judged: Vec<u8>,
+    /// Neither `Send` nor `Sync`.
+    on_its_thread: PhantomData<*mut u8>,
+}
+
+impl Guard {
+    /// Opens a guard of the task table that a text spells. Its error is the table's first fault.
+    pub fn open(table: &str) -> Result<Guard, Refused> {
+        let mut handle = CLOSED;
+        answered(unsafe { caladan_guard_open(table.as_ptr(), table.len(), &mut handle) })?;
+        Ok(Guard { handle, judged: Vec::new(), on_its_thread: PhantomData })
+    }
+
+    /// Lets the next pass through, where each of its actions is permitted: what was judged of each look.
+    pub fn pass(&mut self, now: u64, bandwidth: u64, looks: &[Look], actions: &[Action]) -> Result<&[u8], NotThrough> {
+        self.judged.resize(looks.len(), 0);
+        let mut stopped = Stopped::default();
+        let answer = unsafe {
+            caladan_guard_pass(
+                &mut self.handle,
+                now,
+                bandwidth,
+                looks.as_ptr(),
+                looks.len(),
+                self.judged.as_mut_ptr(),
+                self.judged.len(),
+                actions.as_ptr(),
+                actions.len(),
+                &mut stopped,
+            )
+        };
+        match answer {
+            0 => Ok(&self.judged),
+            18 => Err(NotThrough::Stopped(stopped)),
+            _ => Err(NotThrough::Refused(Refused(answer))),
+        }
+    }
+
+    /// What a task has, where the table has it.
+    pub fn task(&mut self, task: usize) -> Option<Counts> {
+        let mut counts = Counts::default();
+        answered(unsafe { caladan_guard_task(&mut self.handle, task, &mut counts) }).ok()?;
+        Some(counts)
+    }
+}
+
+impl Drop for Guard {
+    fn drop(&mut self) {
+        unsafe { caladan_guard_close(&mut self.handle) };
+    }
+}
+
 #[cfg(test)]
 mod tests {
-    use super::{Look, Refused, Scheduler};
+    use super::{Action, Audit, Guard, Look, NotThrough, Refused, Scheduler, Stopped, Verdict};
 
     const TABLE: &str = "cores = 2\nbandwidth_limit = 1000\n\n[[task]]\nkind = \"lc\"\nguaranteed = 1\nlimit = 1\ndelay = 10\nrequest = 50\n";
 
@@ -162,6 +326,35 @@ mod tests {
         assert_eq!((actions.len(), actions[0].kind, actions[0].core_class, judged), (1, 6, 3, &[1u8][..]));
         assert_eq!(scheduler.task(0).unwrap().held, 1);
         assert_eq!(scheduler.task(1), None);
+    }
+
+    fn waits() -> Look {
+        Look { room: 1, number: 1, words: [0, 0, 1, 100, 0, 0, 105, 0, 0], ..Look::default() }
+    }
+
+    fn grant(class: u8) -> Action {
+        Action { kind: 6, core_class: class, ..Action::default() }
+    }
+
+    #[test]
+    fn audit_names_the_pass() {
+        let mut audit = Audit::open(TABLE).unwrap();
+        assert_eq!(audit.pass(111, 0, &[waits()], &[], &[]), Err(Refused(13)));
+        audit.pass(111, 0, &[waits()], &[1], &[grant(3)]).unwrap();
+        assert_eq!(audit.verdict(), Verdict::Legal);
+        audit.pass(112, 0, &[waits()], &[1], &[grant(3)]).unwrap();
+        assert_eq!(audit.verdict(), Verdict::Illegal { pass: 1 });
+    }
+
+    #[test]
+    fn guard_names_the_action() {
+        let mut guard = Guard::open(TABLE).unwrap();
+        let twice = guard.pass(111, 0, &[waits()], &[grant(1), grant(1)]);
+        assert_eq!(twice, Err(NotThrough::Stopped(Stopped { place: 1, why: 2, names: 0 })));
+        assert_eq!(guard.task(0).unwrap().held, 0);
+        assert_eq!(guard.pass(111, 0, &[waits()], &[grant(1)]), Ok(&[1u8][..]));
+        assert_eq!(guard.task(0).unwrap().held, 1);
+        assert_eq!(guard.pass(112, 0, &[], &[]), Err(NotThrough::Refused(Refused(13))));
     }
 
     #[test]

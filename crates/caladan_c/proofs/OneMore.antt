@@ -1,9 +1,9 @@
 -- One more of what was recorded.
 use Rattle.std.proofs.Common.{◌≡◌, ℕ, ◌++◌, ◌∷◌, [], List, Bool, map}
 use Rattle.std.proofs.lemmas.List.{map-append}
-use Rattle.cal_policy.specs.Looks.{look_of}
-use Rattle.cal_policy.specs.declared.judged_look.Seen.{Seen}
-use Rattle.cal_policy.specs.declared.pass_action.Action.{Action}
+use Rattle.cal_policy.specs.History.Looks.{look_of}
+use Rattle.cal_policy.specs.declared.history.look.Seen.{Seen}
+use Rattle.cal_policy.specs.declared.history.action.Action.{Action}
 use Rattle.caladan_c.specs.Found.{look_in}
 use Rattle.caladan_c.specs.Recorded.{room_in}
 use Rattle.caladan_c.specs.Told.{judgement_of, told_of}

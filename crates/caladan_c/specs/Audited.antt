@@ -3,9 +3,9 @@ use Rattle.std.specs.Prelude.{◌≡◌, ℕ, ◌<◌, ◌^◌, [], List, ◌∷
 use Rattle.std.specs.Option.{IsSomeAnd}
 use Rattle.cal_machine.specs.Table.{Table}
 use Rattle.cal_machine.specs.declared.fault.ConfigFault.{ConfigFault}
-use Rattle.cal_policy.specs.Auditing.{IsAuditOf}
+use Rattle.cal_policy.specs.Auditor.{IsAuditOf}
 use Rattle.cal_policy.specs.declared.auditor.Auditor.{Auditor}
-use Rattle.cal_policy.specs.declared.pass_entry.PassEntry.{PassEntry}
+use Rattle.cal_policy.specs.declared.history.entry.PassEntry.{PassEntry}
 use Rattle.caladan_c.specs.Opening.{number_of}
 use Rattle.caladan_c.specs.Recorded.{IsRecorded}
 use Rattle.caladan_c.specs.declared.found.Found.{Found}

@@ -3,10 +3,10 @@ use Rattle.std.specs.Prelude.{ℕ, ◌==◌, not, List, map, if◌then◌else◌
 use Rattle.cal_signal.specs.declared.look.Look.{Look}
 use Rattle.cal_signal.specs.declared.look.Look.TheVariants.{Whole, Busy}
 use Rattle.cal_machine.specs.Table.{Table}
-use Rattle.cal_policy.specs.declared.open_input.FoundLook.{FoundLook}
-use Rattle.cal_policy.specs.declared.pass_entry.PassEntry.{PassEntry}
-use Rattle.cal_policy.specs.declared.pass_input.Input.{Input}
-use Rattle.cal_policy.specs.Found.{judged_input}
+use Rattle.cal_policy.specs.declared.judgement.open_input.FoundLook.{FoundLook}
+use Rattle.cal_policy.specs.declared.history.entry.PassEntry.{PassEntry}
+use Rattle.cal_policy.specs.declared.history.input.Input.{Input}
+use Rattle.cal_policy.specs.Judgement.OpenInput.{judged_input}
 use Rattle.caladan_c.specs.declared.found.Found.{Found}
 
 -- the look: busy where `busy` is not 0, else of the nine words

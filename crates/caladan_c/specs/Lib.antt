@@ -7,3 +7,5 @@ pub mod Opening
 pub mod Recorded
 pub mod Audited
 pub mod AuditHandles
+pub mod Gated
+pub mod GateHandles

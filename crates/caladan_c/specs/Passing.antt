@@ -1,13 +1,14 @@
 -- When a scheduler stands after a history, and what a pass makes of it.
-use Rattle.std.specs.Prelude.{◌≡◌, ℕ, ◌≤◌, List, [], ◌∷◌, ◌++◌, length}
+use Rattle.std.specs.Prelude.{◌≡◌, ℕ, ◌<◌, ◌≤◌, ◌⊎◌, List, [], ◌∷◌, ◌++◌, length}
 use Rattle.cal_machine.specs.Table.{Table}
-use Rattle.cal_policy.specs.declared.pass_entry.PassEntry.{PassEntry}
-use Rattle.cal_policy.specs.declared.pass_input.Input.{Input}
+use Rattle.cal_policy.specs.declared.history.entry.PassEntry.{PassEntry}
+use Rattle.cal_policy.specs.declared.history.input.Input.{Input}
 use Rattle.cal_policy.specs.Book.{AgreesWith}
-use Rattle.cal_policy.specs.Judging.{IsInput}
+use Rattle.cal_policy.specs.Judgement.Judging.{IsInput}
 use Rattle.cal_policy.specs.Pass.{pass_of, IsLegal}
 use Rattle.cal_policy.specs.Setting.{setting}
 use Rattle.caladan_c.specs.Standing.{Standing}
+use Rattle.caladan_c.specs.declared.told.Told.{Told}
 
 -- the history is legal, and the scheduler's book agrees with it
 pub record StandsAfter (scheduler : Standing) (history : List PassEntry) : Type 0 where
@@ -25,3 +26,11 @@ pub record IsPassed (old : Standing) (history : List PassEntry) (given : Input) 
   pub short : length new.made ≤ 338
   pub table : new.table ≡ old.table
   pub after : StandsAfter new (history ++ passed old.table history given ∷ [])
+
+-- room for a judgement of each look, and for the most actions that a pass has
+abbrev pub HasRoom : ℕ → List ℕ → List Told → Type 0
+HasRoom threads judged actions = (threads ≤ length judged) × (338 ≤ length actions)
+
+-- too little room for one of them
+abbrev pub IsShort : ℕ → List ℕ → List Told → Type 0
+IsShort threads judged actions = (length judged < threads) ⊎ (length actions < 338)

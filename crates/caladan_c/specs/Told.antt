@@ -1,14 +1,14 @@
 -- What C is told of a pass: its actions, and what was judged of its looks.
 use Rattle.std.specs.Prelude.{◌≡◌, ℕ, List, length, Some, slice_get}
-use Rattle.cal_policy.specs.declared.judged_look.Seen.{Seen}
-use Rattle.cal_policy.specs.declared.judged_look.Seen.TheVariants.{Whole, Busy, Ahead, Foreign}
-use Rattle.cal_policy.specs.declared.pass_action.Action.{Action}
-use Rattle.cal_policy.specs.declared.pass_action.Action.TheVariants.{Free, Unban, Ban, Revoke, Cap, Grant}
-use Rattle.cal_policy.specs.declared.pass_action.Cause.TheVariants as causes
-use Rattle.cal_policy.specs.declared.pass_action.Cause.{Cause}
-use Rattle.cal_policy.specs.declared.holding.Holder.{Holder}
-use Rattle.cal_policy.specs.declared.holding.Holder.TheVariants as holders
-use Rattle.cal_policy.specs.Counts.{held_by, booked_by, cap_of}
+use Rattle.cal_policy.specs.declared.history.look.Seen.{Seen}
+use Rattle.cal_policy.specs.declared.history.look.Seen.TheVariants.{Whole, Busy, Ahead, Foreign}
+use Rattle.cal_policy.specs.declared.history.action.Action.{Action}
+use Rattle.cal_policy.specs.declared.history.action.Action.TheVariants.{Free, Unban, Ban, Revoke, Cap, Grant}
+use Rattle.cal_policy.specs.declared.history.action.Cause.TheVariants as causes
+use Rattle.cal_policy.specs.declared.history.action.Cause.{Cause}
+use Rattle.cal_policy.specs.declared.board.holders.Holder.{Holder}
+use Rattle.cal_policy.specs.declared.board.holders.Holder.TheVariants as holders
+use Rattle.cal_policy.specs.Board.Counts.{held_by, booked_by, cap_of}
 use Rattle.cal_machine.specs.Table.{Table}
 use Rattle.caladan_c.specs.declared.counts.Counts.{Counts}
 use Rattle.caladan_c.specs.declared.told_holder.ToldHolder.{ToldHolder}

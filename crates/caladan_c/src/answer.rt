@@ -13,8 +13,6 @@ pub enum Refusal {
     Closed = 10,
     /// The handle is open.
     Open = 11,
-    /// The handle was opened for something else.
-    WrongKind = 12,
     /// There is not one look for each thread.
     WrongCount = 13,
     /// There is too little room for what the call is to write.
@@ -25,8 +23,6 @@ pub enum Refusal {
     NoSuch = 16,
     /// An action is none: its kind, or its cause, is no number of one.
     NoAction = 17,
-    /// An action is not permitted at its place.
-    NotPermitted = 18,
     /// A number is no judgement of its look.
     NoJudgement = 19,
 }

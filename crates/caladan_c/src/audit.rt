@@ -3,8 +3,8 @@
 ghost use Rattle.std.specs.Prelude.{◌≡◌, IfOk, List, []};
 ghost use Rattle.cal_machine.specs.Outcome.{Gives};
 ghost use Rattle.cal_machine.specs.Reading.{table_in};
-ghost use Rattle.cal_policy.specs.Verdicts.{IsVerdict};
-ghost use Rattle.cal_policy.specs.declared.pass_entry.PassEntry.{PassEntry};
+ghost use Rattle.cal_policy.specs.Verdict.{IsVerdict};
+ghost use Rattle.cal_policy.specs.declared.history.entry.PassEntry.{PassEntry};
 
 use cal_machine::{Config, ConfigFault};
 use cal_policy::{Auditor, PassEntry, Verdict};
@@ -19,7 +19,7 @@ pub struct Audit {
 }
 
 impl Model for Audit {
-    ghost use Rattle.cal_policy.specs.Auditing.{IsAuditorOf};
+    ghost use Rattle.cal_policy.specs.Auditor.{IsAuditorOf};
     ghost use Rattle.caladan_c.specs.Audited.{Audited};
 
     ghost Value = { Audited };

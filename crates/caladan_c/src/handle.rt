@@ -5,6 +5,8 @@ ghost use Rattle.std.specs.Option.{is_some, option_map};
 
 pub mod audit;
 mod audit_pointer;
+pub mod gate;
+mod gate_pointer;
 mod loose;
 mod pointer;
 

@@ -1,6 +1,6 @@
 //! The decision core behind a C interface: a task table is opened, each pass is given what was found of
 //! the threads and answers its actions, and the handle is closed. An audit takes recorded passes and says
-//! whether all are legal.
+//! whether all are legal. A guard lets passes through whose actions somebody else chose.
 //!
 //! `include/caladan.h` says the same to C. A call answers 0, or why it did nothing, as a number.
 #![tactic(auto)]
@@ -9,45 +9,54 @@ mod answer;
 mod audit;
 mod counts;
 mod found;
+mod gate;
 mod handle;
 mod judgement;
 mod recorded;
 mod scheduler;
 mod told;
 mod told_holder;
+mod told_refused;
 
-ghost use Rattle.std.specs.Prelude.{◌≡◌, ◌≢◌, ◌⊎◌, ◌<◌, ◌≤◌, List, None, length, true, false};
-ghost use Rattle.std.specs.Option.{is_some, ForSome, IsSomeAnd};
+ghost use Rattle.std.specs.Prelude.{◌≡◌, ◌≢◌, ◌⊎◌, ◌<◌, ◌≤◌, List, None, length, map, true, false};
+ghost use Rattle.std.specs.Option.{is_some, ForSome, IfSome, IsSomeAnd};
 ghost use Rattle.cal_machine.specs.Reading.{table_in};
 ghost use Rattle.cal_machine.specs.Outcome.{Gives};
 ghost use Rattle.cal_policy.specs.Board.{kept_holder};
 ghost use Rattle.cal_policy.specs.History.{actions_of, holder_of};
-ghost use Rattle.cal_policy.specs.Judging.{IsInput};
+ghost use Rattle.cal_policy.specs.Judgement.Judging.{IsInput};
 ghost use Rattle.cal_policy.specs.Tasks.{threads_of_table};
-ghost use Rattle.cal_policy.specs.declared.pass_entry.PassEntry.{PassEntry};
+ghost use Rattle.cal_policy.specs.declared.history.entry.PassEntry.{PassEntry};
 ghost use Rattle.caladan_c.specs.Found.{input_of};
 ghost use Rattle.caladan_c.specs.Opening.{Says, IsNew};
-ghost use Rattle.caladan_c.specs.Passing.{StandsAfter, IsPassed};
-ghost use Rattle.caladan_c.specs.Told.{AreTold, AreJudgements, counts_of, told_holder_of};
+ghost use Rattle.caladan_c.specs.Passing.{StandsAfter, IsPassed, HasRoom, IsShort};
+ghost use Rattle.caladan_c.specs.Told.{AreTold, AreJudgements, counts_of, told_of, told_holder_of};
+ghost use Rattle.caladan_c.specs.Gated.{GuardsAfter, SaysGate, WentThrough, WasStopped, WasStoppedAt};
+ghost use Rattle.cal_policy.specs.declared.history.action.Action.{Action};
 ghost use Rattle.caladan_c.specs.Audited.{Audits, SaysAudit, TookRecorded};
-ghost use Rattle.cal_policy.specs.Verdicts.{IsVerdict};
+ghost use Rattle.cal_policy.specs.Verdict.{IsVerdict};
 ghost use Rattle.cal_policy.specs.declared.verdict.Verdict.TheVariants.{Legal, Illegal};
-ghost use Rattle.std.specs.Prelude.{IfOk, OnErr, Err, []};
-ghost use Rattle.caladan_c.specs.declared.answer.Refusal.TheVariants.{Unfit};
+ghost use Rattle.std.specs.Prelude.{IfOk, IfErr, IfNone, OnErr, Err, []};
+ghost use Rattle.caladan_c.specs.declared.answer.Refusal.TheVariants.{Memory, NoAction, NoJudgement, NoRoom, Unfit, WrongCount};
+ghost use Rattle.caladan_c.specs.Recorded.{AreNoJudgements, AreNoActions};
 
 use answer::Refusal;
 use audit::Audit;
+use cal_guard::Refused;
 use cal_machine::ConfigFault;
 use cal_policy::{MOST_ACTIONS, Verdict};
 use counts::Counts;
 use found::Found;
+use gate::Gate;
 use handle::Handle;
 use handle::audit::AuditHandle;
+use handle::gate::GateHandle;
 use recorded::entry_of;
 use scheduler::Scheduler;
 use std::alloc::Global;
 use told::{Told, tell_all};
 use told_holder::{ToldHolder, tell_holder};
+use told_refused::{ToldRefused, tell_refused};
 
 /// The version of this interface.
 #[unsafe(no_mangle)]
@@ -145,6 +154,11 @@ pub extern "C" fn caladan_pass(
         AreJudgements (input_of s.table h now bandwidth looks.now).seen judged.new) }
     ensures unfit { result ≡ 15 → ForSome handle.old.pointer.kept (λ s. (h : List PassEntry) → StandsAfter s h →
         IsInput s.table h (input_of s.table h now bandwidth looks.now) → ⊥) }
+    ensures wrong_count { ForSome handle.old.pointer.kept (λ s. length looks.now ≢ threads_of_table s.table → result ≡ 13) }
+    ensures no_room { ForSome handle.old.pointer.kept (λ s. length looks.now ≡ threads_of_table s.table →
+        IsShort (threads_of_table s.table) judged.old actions.old → result ≡ 14) }
+    ensures answers { ForSome handle.old.pointer.kept (λ s. length looks.now ≡ threads_of_table s.table →
+        HasRoom (threads_of_table s.table) judged.old actions.old → (result ≡ 0) ⊎ (result ≡ 15) ⊎ (result ≡ 9)) }
     ensures refused { result ≢ 0 → (handle.new.pointer.kept ≡ handle.old.pointer.kept)
         × (actions.new ≡ actions.old) × (judged.new ≡ judged.old) × (made.new ≡ 0) }
 {
@@ -183,10 +197,20 @@ fn pass(
         AreJudgements (input_of kept.old.table h now bandwidth looks.now).seen judged.new) }
     ensures unfit { result ≡ Err Unfit → (h : List PassEntry) → StandsAfter kept.old h →
         IsInput kept.old.table h (input_of kept.old.table h now bandwidth looks.now) → ⊥ }
+    ensures wrong_count { length looks.now ≢ threads_of_table kept.old.table → result ≡ Err WrongCount }
+    ensures no_room { length looks.now ≡ threads_of_table kept.old.table →
+        IsShort (threads_of_table kept.old.table) judged.old actions.old → result ≡ Err NoRoom }
+    ensures answers { length looks.now ≡ threads_of_table kept.old.table →
+        HasRoom (threads_of_table kept.old.table) judged.old actions.old →
+        IfErr result (λ why. (why ≡ Unfit) ⊎ (why ≡ Memory)) }
     ensures refused { OnErr result ((kept.new ≡ kept.old)
         × (actions.new ≡ actions.old) × (judged.new ≡ judged.old) × (made.new ≡ 0)) }
 {
-    if actions.len() < MOST_ACTIONS {
+    let threads = kept.threads();
+    if looks.len() != threads {
+        return Err(Refusal::WrongCount);
+    }
+    if judged.len() < threads || actions.len() < MOST_ACTIONS {
         return Err(Refusal::NoRoom);
     }
     kept.pass(alloc, now, bandwidth, looks, judged)?;
@@ -320,6 +344,11 @@ pub extern "C" fn caladan_audit_pass(
     ensures closed { is_some handle.old.pointer.kept ≡ false → result ≡ 10 }
     ensures taken { result ≡ 0 → ForSome handle.old.pointer.kept (λ a. IsSomeAnd handle.new.pointer.kept
         (TookRecorded a now bandwidth looks.now judged.now actions.now)) }
+    ensures no_judgement { result ≡ 19 → AreNoJudgements looks.now judged.now }
+    ensures no_action { result ≡ 17 → AreNoActions actions.now }
+    ensures wrong_count { ForSome handle.old.pointer.kept (λ _. length looks.now ≢ length judged.now → result ≡ 13) }
+    ensures answers { ForSome handle.old.pointer.kept (λ _. length looks.now ≡ length judged.now →
+        (result ≡ 0) ⊎ (result ≡ 19) ⊎ (result ≡ 17) ⊎ (result ≡ 9)) }
     ensures refused { result ≢ 0 → handle.new.pointer.kept ≡ handle.old.pointer.kept }
 {
     match handle.take(alloc) {
@@ -347,6 +376,11 @@ fn take_recorded(
 ) -> Result<(), Refusal>
     ensures taken { IfOk result (λ _.
         TookRecorded kept.old now bandwidth looks.now judged.now actions.now kept.new) }
+    ensures no_judgement { result ≡ Err NoJudgement → AreNoJudgements looks.now judged.now }
+    ensures no_action { result ≡ Err NoAction → AreNoActions actions.now }
+    ensures wrong_count { length looks.now ≢ length judged.now → result ≡ Err WrongCount }
+    ensures why { length looks.now ≡ length judged.now →
+        IfErr result (λ why. (why ≡ NoJudgement) ⊎ (why ≡ NoAction) ⊎ (why ≡ Memory)) }
     ensures refused { OnErr result (kept.new ≡ kept.old) }
 {
     let entry = entry_of(alloc, now, bandwidth, looks, judged, actions)?;
@@ -390,6 +424,207 @@ pub extern "C" fn caladan_audit_verdict(
 /// Lets go of what the handle keeps: 0; 10 it is closed already.
 #[unsafe(no_mangle)]
 pub extern "C" fn caladan_audit_close(alloc: Global, handle: &mut AuditHandle) -> u8
+    ensures already { is_some handle.old.pointer.kept ≡ false → result ≡ 10 }
+    ensures closed { is_some handle.old.pointer.kept ≡ true → result ≡ 0 }
+    ensures after { handle.new.pointer.kept ≡ None }
+{
+    match handle.take(alloc) {
+        None => Refusal::Closed as u8,
+        Some(kept) => {
+            drop(kept);
+            0
+        }
+    }
+}
+
+/// A new gate on the heap.
+fn open_gate(alloc: Global, table: &[u8]) -> Result<Box<Gate>, ConfigFault>
+    ensures table { Gives (λ opened. opened.value.table) result (table_in table.now) }
+    ensures new { IfOk result (λ opened. GuardsAfter opened.value []) }
+{
+    let gate = Gate::open(alloc, table)?;
+    Ok(Box::new(alloc, gate)?)
+}
+
+/// Opens a guard of the table that a text spells, in a closed handle: 0, or the table's fault, 1 to 9.
+#[unsafe(no_mangle)]
+pub extern "C" fn caladan_guard_open(alloc: Global, table: &[u8], handle: &mut GateHandle) -> u8
+    ensures already { is_some handle.old.pointer.kept ≡ true → result ≡ 11 }
+    ensures opened { is_some handle.old.pointer.kept ≡ false → result ≢ 9 →
+        SaysGate (table_in table.now) result handle.new.pointer.kept }
+    ensures refused { result ≢ 0 → handle.new ≡ handle.old }
+{
+    if handle.is_open() {
+        return Refusal::Open as u8;
+    }
+    match open_gate(alloc, table) {
+        Ok(opened) => {
+            *handle = GateHandle::of(opened);
+            0
+        }
+        Err(first) => first as u8,
+    }
+}
+
+/// Hands the guard the next pass: what was found of each thread, in thread order, and the actions that
+/// somebody chose. 0: each is permitted at its place, the pass went through, and what was judged of each
+/// look is written; 18: one is not, and `refused` says which and why; 10 the handle is closed; 13 there
+/// is not one look for each thread; 14 there is not room for a judgement of each; 15 a look does not fit
+/// what its thread showed before, or has not the right shape; 17 an action is none; 9 no memory. After
+/// another number than 0 nothing has changed, but that 18 writes `refused`.
+#[unsafe(no_mangle)]
+pub extern "C" fn caladan_guard_pass(
+    alloc: Global,
+    handle: &mut GateHandle,
+    now: u64,
+    bandwidth: u64,
+    looks: &[Found],
+    judged: &mut [u8],
+    actions: &[Told],
+    refused: &mut ToldRefused,
+) -> u8
+    ensures closed { is_some handle.old.pointer.kept ≡ false → result ≡ 10 }
+    ensures through { result ≡ 0 → ForSome handle.old.pointer.kept (λ g. (h : List PassEntry) → GuardsAfter g h →
+        IsSomeAnd handle.new.pointer.kept (WentThrough g h (input_of g.table h now bandwidth looks.now) actions.now)) }
+    ensures judged { result ≡ 0 → ForSome handle.old.pointer.kept (λ g. (h : List PassEntry) → GuardsAfter g h →
+        AreJudgements (input_of g.table h now bandwidth looks.now).seen judged.new) }
+    ensures stopped { result ≡ 18 → ForSome handle.old.pointer.kept (λ g. (h : List PassEntry) → GuardsAfter g h →
+        WasStoppedAt g h (input_of g.table h now bandwidth looks.now) actions.now refused.new) }
+    ensures unfit { result ≡ 15 → ForSome handle.old.pointer.kept (λ g. (h : List PassEntry) → GuardsAfter g h →
+        IsInput g.table h (input_of g.table h now bandwidth looks.now) → ⊥) }
+    ensures no_action { result ≡ 17 → (chosen : List Action) → map told_of chosen ≡ actions.now → ⊥ }
+    ensures wrong_count { ForSome handle.old.pointer.kept (λ g. length looks.now ≢ threads_of_table g.table → result ≡ 13) }
+    ensures no_room { ForSome handle.old.pointer.kept (λ g. length looks.now ≡ threads_of_table g.table →
+        length judged.old < threads_of_table g.table → result ≡ 14) }
+    ensures answers { ForSome handle.old.pointer.kept (λ g. length looks.now ≡ threads_of_table g.table →
+        threads_of_table g.table ≤ length judged.old →
+        (result ≡ 0) ⊎ (result ≡ 18) ⊎ (result ≡ 15) ⊎ (result ≡ 17) ⊎ (result ≡ 9)) }
+    ensures unchanged { result ≢ 0 → (handle.new.pointer.kept ≡ handle.old.pointer.kept) × (judged.new ≡ judged.old) }
+    ensures told { result ≢ 18 → refused.new ≡ refused.old }
+{
+    match handle.take(alloc) {
+        None => Refusal::Closed as u8,
+        Some(mut kept) => {
+            let said = guarded_pass(&mut kept, alloc, now, bandwidth, looks, judged, actions);
+            *handle = GateHandle::of(kept);
+            match said {
+                Ok(None) => 0,
+                Ok(Some(first)) => {
+                    *refused = tell_refused(first);
+                    18
+                }
+                Err(refusal) => refusal as u8,
+            }
+        }
+    }
+}
+
+/// The same of an open handle's gate.
+fn guarded_pass(
+    kept: &mut Gate,
+    alloc: Global,
+    now: u64,
+    bandwidth: u64,
+    looks: &[Found],
+    judged: &mut [u8],
+    actions: &[Told],
+) -> Result<Option<Refused>, Refusal>
+    ensures through { IfOk result (λ said. IfNone said ((h : List PassEntry) → GuardsAfter kept.old h →
+        WentThrough kept.old h (input_of kept.old.table h now bandwidth looks.now) actions.now kept.new)) }
+    ensures judged { IfOk result (λ said. IfNone said ((h : List PassEntry) → GuardsAfter kept.old h →
+        AreJudgements (input_of kept.old.table h now bandwidth looks.now).seen judged.new)) }
+    ensures stopped { IfOk result (λ said. IfSome said (λ first. (h : List PassEntry) → GuardsAfter kept.old h →
+        WasStopped kept.old h (input_of kept.old.table h now bandwidth looks.now) actions.now first)) }
+    ensures unfit { result ≡ Err Unfit → (h : List PassEntry) → GuardsAfter kept.old h →
+        IsInput kept.old.table h (input_of kept.old.table h now bandwidth looks.now) → ⊥ }
+    ensures no_action { result ≡ Err NoAction → (chosen : List Action) → map told_of chosen ≡ actions.now → ⊥ }
+    ensures wrong_count { length looks.now ≢ threads_of_table kept.old.table → result ≡ Err WrongCount }
+    ensures no_room { length looks.now ≡ threads_of_table kept.old.table →
+        length judged.old < threads_of_table kept.old.table → result ≡ Err NoRoom }
+    ensures answers { length looks.now ≡ threads_of_table kept.old.table → threads_of_table kept.old.table ≤ length judged.old →
+        IfErr result (λ why. (why ≡ Unfit) ⊎ (why ≡ NoAction) ⊎ (why ≡ Memory)) }
+    ensures stands { IfOk result (λ said. IfSome said (λ _. (kept.new ≡ kept.old) × (judged.new ≡ judged.old))) }
+    ensures refused { OnErr result ((kept.new ≡ kept.old) × (judged.new ≡ judged.old)) }
+{
+    let threads = kept.threads();
+    if looks.len() != threads {
+        return Err(Refusal::WrongCount);
+    }
+    if judged.len() < threads {
+        return Err(Refusal::NoRoom);
+    }
+    kept.pass(alloc, now, bandwidth, looks, judged, actions)
+}
+
+/// Who has a core after the passes that went through: 0; 10 the handle is closed; 16 the table has no
+/// such core.
+#[unsafe(no_mangle)]
+pub extern "C" fn caladan_guard_holder(
+    alloc: Global,
+    handle: &mut GateHandle,
+    core: u8,
+    holder: &mut ToldHolder,
+) -> u8
+    ensures closed { is_some handle.old.pointer.kept ≡ false → result ≡ 10 }
+    ensures told { result ≡ 0 → ForSome handle.old.pointer.kept (λ g. (h : List PassEntry) → GuardsAfter g h →
+        holder.new ≡ told_holder_of (kept_holder (holder_of (actions_of h) core))) }
+    ensures there { ForSome handle.old.pointer.kept (λ g. core < g.table.cores → result ≡ 0) }
+    ensures no_core { ForSome handle.old.pointer.kept (λ g. g.table.cores ≤ core → result ≡ 16) }
+    ensures refused { result ≢ 0 → holder.new ≡ holder.old }
+    ensures same { handle.new.pointer.kept ≡ handle.old.pointer.kept }
+{
+    match handle.take(alloc) {
+        None => Refusal::Closed as u8,
+        Some(kept) => {
+            let found = kept.holder(core);
+            *handle = GateHandle::of(kept);
+            match found {
+                Some(found) => {
+                    *holder = tell_holder(found);
+                    0
+                }
+                None => Refusal::NoSuch as u8,
+            }
+        }
+    }
+}
+
+/// What a task has after the passes that went through: 0; 10 the handle is closed; 16 the table has no
+/// such task.
+#[unsafe(no_mangle)]
+pub extern "C" fn caladan_guard_task(
+    alloc: Global,
+    handle: &mut GateHandle,
+    task: usize,
+    counts: &mut Counts,
+) -> u8
+    ensures closed { is_some handle.old.pointer.kept ≡ false → result ≡ 10 }
+    ensures told { result ≡ 0 → ForSome handle.old.pointer.kept (λ g. (h : List PassEntry) → GuardsAfter g h →
+        counts.new ≡ counts_of g.table (actions_of h) task) }
+    ensures there { ForSome handle.old.pointer.kept (λ g. task < length g.table.tasks → result ≡ 0) }
+    ensures no_task { ForSome handle.old.pointer.kept (λ g. length g.table.tasks ≤ task → result ≡ 16) }
+    ensures refused { result ≢ 0 → counts.new ≡ counts.old }
+    ensures same { handle.new.pointer.kept ≡ handle.old.pointer.kept }
+{
+    match handle.take(alloc) {
+        None => Refusal::Closed as u8,
+        Some(kept) => {
+            let found = kept.counts(task);
+            *handle = GateHandle::of(kept);
+            match found {
+                Some(found) => {
+                    *counts = found;
+                    0
+                }
+                None => Refusal::NoSuch as u8,
+            }
+        }
+    }
+}
+
+/// Lets go of what the handle keeps: 0; 10 it is closed already.
+#[unsafe(no_mangle)]
+pub extern "C" fn caladan_guard_close(alloc: Global, handle: &mut GateHandle) -> u8
     ensures already { is_some handle.old.pointer.kept ≡ false → result ≡ 10 }
     ensures closed { is_some handle.old.pointer.kept ≡ true → result ≡ 0 }
     ensures after { handle.new.pointer.kept ≡ None }

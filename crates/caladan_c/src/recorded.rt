@@ -1,15 +1,15 @@
 //! A pass that C recorded, read back.
 
-ghost use Rattle.std.specs.Prelude.{◌≡◌, ℕ, IfOk, length, map, List, Err, Some, None};
+ghost use Rattle.std.specs.Prelude.{◌≡◌, ◌≢◌, ◌⊎◌, ℕ, IfOk, IfErr, length, map, List, Err, Some, None};
 ghost use Rattle.std.specs.Option.{IfSome};
-ghost use Rattle.cal_policy.specs.Looks.{look_of};
-ghost use Rattle.cal_policy.specs.declared.judged_look.Seen.{Seen};
-ghost use Rattle.cal_policy.specs.declared.pass_action.Action.{Action};
-ghost use Rattle.cal_policy.specs.declared.pass_action.Action.TheVariants.{Revoke};
-ghost use Rattle.cal_policy.specs.declared.pass_action.Cause.{Cause};
-ghost use Rattle.caladan_c.specs.declared.answer.Refusal.TheVariants.{NoAction};
+ghost use Rattle.cal_policy.specs.History.Looks.{look_of};
+ghost use Rattle.cal_policy.specs.declared.history.look.Seen.{Seen};
+ghost use Rattle.cal_policy.specs.declared.history.action.Action.{Action};
+ghost use Rattle.cal_policy.specs.declared.history.action.Action.TheVariants.{Revoke};
+ghost use Rattle.cal_policy.specs.declared.history.action.Cause.{Cause};
+ghost use Rattle.caladan_c.specs.declared.answer.Refusal.TheVariants.{Memory, NoAction, NoJudgement, WrongCount};
 ghost use Rattle.caladan_c.specs.Found.{look_in};
-ghost use Rattle.caladan_c.specs.Recorded.{IsRecorded, room_in};
+ghost use Rattle.caladan_c.specs.Recorded.{IsRecorded, AreNoJudgements, AreNoActions, room_in};
 ghost use Rattle.caladan_c.specs.Told.{judgement_of, told_of, cause_of};
 
 use crate::answer::Refusal;
@@ -44,6 +44,8 @@ fn seen_in(alloc: Global, looks: &[Found], judged: &[u8]) -> Result<SeenList, Re
     requires { length looks.now ≡ length judged.now }
     ensures looks { IfOk result (λ seen. map look_of seen ≡ map look_in looks.now) }
     ensures judged { IfOk result (λ seen. map judgement_of seen ≡ judged.now) }
+    ensures none { result ≡ Err NoJudgement → AreNoJudgements looks.now judged.now }
+    ensures why { IfErr result (λ why. (why ≡ NoJudgement) ⊎ (why ≡ Memory)) }
 {
     let mut seen = Vec::with_capacity(alloc, looks.len())?;
     for (k, one) in looks.iter().enumerate() {
@@ -132,13 +134,15 @@ fn action_in(told: &Told) -> Option<Action>
     }
 }
 
-/// The actions.
+/// Reads the actions into a list that is used again. It takes memory only where that has too little
+/// room.
 #[tactic(auto, using(crate::proofs::OneMore::actions_more))]
-fn actions_in(alloc: Global, told: &[Told]) -> Result<ActionList, Refusal>
-    ensures actions { IfOk result (λ actions. map told_of actions ≡ told.now) }
+pub fn read_actions(actions: &mut Vec<Action>, told: &[Told]) -> Result<(), Refusal>
+    ensures actions { IfOk result (λ _. map told_of actions.new.items ≡ told.now) }
     ensures none { result ≡ Err NoAction → (actions : List Action) → map told_of actions ≡ told.now → ⊥ }
+    ensures why { IfErr result (λ why. (why ≡ NoAction) ⊎ (why ≡ Memory)) }
 {
-    let mut actions = Vec::with_capacity(alloc, told.len())?;
+    actions.clear();
     for one in told {
         match action_in(one) {
             Some(action) => {
@@ -149,6 +153,17 @@ fn actions_in(alloc: Global, told: &[Told]) -> Result<ActionList, Refusal>
             None => return Err(Refusal::NoAction),
         }
     }
+    Ok(())
+}
+
+/// The actions.
+fn actions_in(alloc: Global, told: &[Told]) -> Result<ActionList, Refusal>
+    ensures actions { IfOk result (λ actions. map told_of actions ≡ told.now) }
+    ensures none { result ≡ Err NoAction → (actions : List Action) → map told_of actions ≡ told.now → ⊥ }
+    ensures why { IfErr result (λ why. (why ≡ NoAction) ⊎ (why ≡ Memory)) }
+{
+    let mut actions = Vec::with_capacity(alloc, told.len())?;
+    read_actions(&mut actions, told)?;
     Ok(ActionList::new(actions))
 }
 
@@ -161,7 +176,12 @@ pub fn entry_of(
     judged: &[u8],
     told: &[Told],
 ) -> Result<PassEntry, Refusal>
-    ensures { IfOk result (IsRecorded now bandwidth looks.now judged.now told.now) }
+    ensures recorded { IfOk result (IsRecorded now bandwidth looks.now judged.now told.now) }
+    ensures no_judgement { result ≡ Err NoJudgement → AreNoJudgements looks.now judged.now }
+    ensures no_action { result ≡ Err NoAction → AreNoActions told.now }
+    ensures wrong_count { length looks.now ≢ length judged.now → result ≡ Err WrongCount }
+    ensures why { length looks.now ≡ length judged.now →
+        IfErr result (λ why. (why ≡ NoJudgement) ⊎ (why ≡ NoAction) ⊎ (why ≡ Memory)) }
 {
     if looks.len() != judged.len() {
         return Err(Refusal::WrongCount);

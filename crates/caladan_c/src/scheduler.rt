@@ -1,12 +1,12 @@
 //! A scheduler: its table, and the book of its passes.
 
-ghost use Rattle.std.specs.Prelude.{◌≡◌, ◌≢◌, ◌<◌, ◌≤◌, Err, IfOk, IfErr, OnErr, List, [], length, nat_lt};
+ghost use Rattle.std.specs.Prelude.{◌≡◌, ◌⊎◌, ◌≤◌, Err, IfOk, IfErr, OnErr, List, [], length, nat_lt};
 ghost use Rattle.cal_machine.specs.Outcome.{Gives};
 ghost use Rattle.cal_machine.specs.Reading.{table_in};
-ghost use Rattle.cal_policy.specs.declared.pass_entry.PassEntry.{PassEntry};
+ghost use Rattle.cal_policy.specs.declared.history.entry.PassEntry.{PassEntry};
 ghost use Rattle.cal_policy.specs.Board.{HasSizes};
 ghost use Rattle.cal_policy.specs.Book.{AgreesWith};
-ghost use Rattle.cal_policy.specs.Judging.{IsInput};
+ghost use Rattle.cal_policy.specs.Judgement.Judging.{IsInput};
 ghost use Rattle.cal_policy.specs.Tasks.{threads_of_table};
 ghost use Rattle.cal_policy.specs.History.{actions_of, holder_of};
 ghost use Rattle.cal_policy.specs.Board.{kept_holder};
@@ -49,7 +49,7 @@ impl Model for Scheduler {
 }
 
 /// An input of nothing. It takes no memory.
-fn nothing(alloc: Global) -> Input {
+pub fn nothing(alloc: Global) -> Input {
     Input {
         now: 0,
         bandwidth: 0,
@@ -81,7 +81,7 @@ fn judge_looks(
 
 ghost use Rattle.caladan_c.specs.Passing.{StandsAfter, IsPassed};
 ghost use Rattle.caladan_c.specs.Told.{AreJudgements};
-ghost use Rattle.caladan_c.specs.declared.answer.Refusal.TheVariants.{WrongCount, NoRoom, Unfit};
+ghost use Rattle.caladan_c.specs.declared.answer.Refusal.TheVariants.{Memory, Unfit};
 
 impl Scheduler {
     /// A scheduler of this table that has made no pass, or the table's fault. It takes all the memory
@@ -171,25 +171,20 @@ impl Scheduler {
         looks: &[Found],
         judged: &mut [u8],
     ) -> Result<(), Refusal>
+        requires count { length looks.now ≡ threads_of_table self.old.table }
+        requires room { threads_of_table self.old.table ≤ length judged.old }
         ensures passed { IfOk result (λ _. (h : List PassEntry) → StandsAfter self.old h →
             IsPassed self.old h (input_of self.old.table h now bandwidth looks.now) self.new) }
         ensures judged { IfOk result (λ _. (h : List PassEntry) → StandsAfter self.old h →
             AreJudgements (input_of self.old.table h now bandwidth looks.now).seen judged.new) }
         ensures unfit { result ≡ Err Unfit → (h : List PassEntry) → StandsAfter self.old h →
             IsInput self.old.table h (input_of self.old.table h now bandwidth looks.now) → ⊥ }
-        ensures count { result ≡ Err WrongCount → length looks.now ≢ threads_of_table self.old.table }
-        ensures room { result ≡ Err NoRoom → length judged.old < threads_of_table self.old.table }
+        ensures why { IfErr result (λ why. (why ≡ Unfit) ⊎ (why ≡ Memory)) }
         ensures refused { OnErr result ((self.new ≡ self.old) × (judged.new ≡ judged.old)) }
     {
-        if looks.len() != self.config.threads() {
-            return Err(Refusal::WrongCount);
-        }
-        if judged.len() < looks.len() {
-            return Err(Refusal::NoRoom);
-        }
         let used = mem::replace(&mut self.used, nothing(alloc));
         let input = judge_looks(used, &self.config, &self.book, now, bandwidth, looks)?;
-        if !self.book.fits(&self.config, &input) {
+        if !self.book.made_fits(&self.config, &input) {
             self.used = input;
             return Err(Refusal::Unfit);
         }

@@ -1,5 +1,5 @@
 use Rattle.std.proofs.Common.{◌≡◌, ◌≤◌, length, ℕ, ◌<◌, Some, slice_get}
-use Rattle.cal_policy.specs.declared.judged_look.Seen.{Seen}
+use Rattle.cal_policy.specs.declared.history.look.Seen.{Seen}
 use Rattle.caladan_c.specs.Told.{judgement_of}
 use Rattle.caladan_c.proofs.judgement.tell_judgements.Given as goal
 

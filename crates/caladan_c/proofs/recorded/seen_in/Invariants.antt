@@ -1,5 +1,5 @@
 use Rattle.std.proofs.Common.{◌≡◌, length, take, map}
-use Rattle.cal_policy.specs.Looks.{look_of}
+use Rattle.cal_policy.specs.History.Looks.{look_of}
 use Rattle.caladan_c.specs.Found.{look_in}
 use Rattle.caladan_c.specs.Told.{judgement_of}
 use Rattle.caladan_c.proofs.recorded.seen_in.Given as goal

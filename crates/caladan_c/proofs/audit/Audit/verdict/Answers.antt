@@ -1,6 +1,6 @@
 use Rattle.std.proofs.Common.{List, subst}
-use Rattle.cal_policy.specs.Verdicts.{IsVerdict}
-use Rattle.cal_policy.specs.declared.pass_entry.PassEntry.{PassEntry}
+use Rattle.cal_policy.specs.Verdict.{IsVerdict}
+use Rattle.cal_policy.specs.declared.history.entry.PassEntry.{PassEntry}
 use Rattle.caladan_c.specs.Audited.{Audited, Audits}
 use Rattle.caladan_c.proofs.audit.Audit.verdict.Goals as goal
 

@@ -2,7 +2,7 @@ use Rattle.std.proofs.Common.{refl}
 use Rattle.std.proofs.lemmas.Option.{slice_get-get_or}
 use Rattle.caladan_c.specs.Told.{told_of}
 use Rattle.caladan_c.proofs.NoneSuch.{none_such}
-use Rattle.caladan_c.proofs.recorded.actions_in.Goals as goal
+use Rattle.caladan_c.proofs.recorded.read_actions.Goals as goal
 
 -- src/recorded.rt:149:21
 pub returns-in-None-clause-none : goal.returns-in-None-clause-none

@@ -1,6 +1,6 @@
 use Rattle.std.proofs.Common.{◌≡◌, take, map}
 use Rattle.caladan_c.specs.Told.{told_of}
-use Rattle.caladan_c.proofs.recorded.actions_in.Given as goal
+use Rattle.caladan_c.proofs.recorded.read_actions.Given as goal
 
 abbrev pub invariant-loop-one : goal.invariant-loop-one
 invariant-loop-one l = record {

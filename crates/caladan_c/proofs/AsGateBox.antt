@@ -1,0 +1,29 @@
+-- The same of a pointer that keeps a gate.
+use mir.Syntax.{impl, tnil, dnil}
+use mathlib.Core.List.{[]}
+use mathlib.Core.Path.{sym}
+use mathlib.Core.Bool.{true≢false}
+use Rattle.std.specs.Prelude.{◌≡◌, true, false, Option, Some, None}
+use Rattle.std.specs.Option.{is_some}
+use mathlib.Core.Path.{refl}
+use denote.Signature.{Slot, plain}
+use Rattle.std.proofs.BoxSteps.Form.{Bx}
+use Rattle.std.specs.contracts.alloc.Global as Heap
+use Rattle.std.specs.contracts.impls.GlobalAllocator.TheImpl.{ghosts, dict}
+use Rattle.std.proofs.alloc.Global.TheLaws as heap
+use Rattle.caladan_c.specs.contracts.gate.Gate as Gate
+use Rattle.caladan_c.proofs.gate.Gate.TheLaws as gate
+use Rattle.caladan_c.specs.contracts.handle.loose.Loose as Loose
+use Rattle.caladan_c.specs.contracts.handle.gate_pointer.GatePointer as Pointer
+
+abbrev pub E : Bx
+E = record { row = Gate.the_row; laws = gate.the_row_laws; al = record { row = Heap.the_row; laws = heap.the_row_laws; g = ghosts; d = dict; drops = impl [] tnil dnil } }
+
+abbrev pub FromLoose : Slot 0
+FromLoose = plain (λ _. Loose.the_row Gate.the_row Heap.the_row ghosts)
+
+abbrev pub FromPointer : Slot 0
+FromPointer = plain (λ _. Pointer.the_row)
+
+abbrev pub FromAlloc : Slot 0
+FromAlloc = plain (λ _. Heap.the_row)

@@ -1,0 +1,15 @@
+use Rattle.std.proofs.Common.{◌<◌, length, arith, refl, ap, ◌∙◌}
+use Rattle.std.specs.Option.{option_map}
+use Rattle.std.proofs.lemmas.Option.{slice_get-get_or, slice_get-map}
+use Rattle.cal_policy.specs.History.Looks.{look_of}
+use Rattle.caladan_c.specs.Found.{look_in}
+use Rattle.caladan_c.specs.Told.{judgement_of}
+use Rattle.caladan_c.proofs.NoneSuch.{none_such_both}
+use Rattle.caladan_c.proofs.recorded.seen_in.Goals as goal
+
+pub returns-in-None-clause-none : goal.returns-in-None-clause-none
+returns-in-None-clause-none c = λ _ seen e d.
+    let within : c.loop-k.k < length c.args.judged.now = omega (arith, c.requires, c.loop-k-test.true) in
+    none_such_both look_of judgement_of seen _ c.args.judged.now c.loop-k.k _ _
+    (slice_get-map look_in c.args.looks.now c.loop-k.k ∙ ap (option_map look_in) (slice_get-get_or c.args.looks.now c.loop-k.k _ c.loop-k-test.true))
+    (slice_get-get_or c.args.judged.now c.loop-k.k _ within) (c.in-None.ensures.none refl) e d

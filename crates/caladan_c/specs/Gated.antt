@@ -1,0 +1,96 @@
+-- A gate, as contracts see it, and what C learns of opening one and of handing it a pass.
+use Rattle.std.specs.Prelude.{◌≡◌, ℕ, [], List, map, Option, Result, Ok, Err}
+use Rattle.std.specs.Option.{IsSomeAnd}
+use Rattle.cal_machine.specs.Table.{Table}
+use Rattle.cal_machine.specs.declared.fault.ConfigFault.{ConfigFault}
+use Rattle.cal_policy.specs.declared.history.action.Action.{Action}
+use Rattle.cal_policy.specs.declared.history.entry.PassEntry.{PassEntry}
+use Rattle.cal_policy.specs.declared.history.input.Input.{Input}
+use Rattle.cal_policy.specs.Judgement.Judging.{IsInput}
+use Rattle.cal_policy.specs.Setting.{setting}
+use Rattle.cal_guard.specs.declared.guard.Guard.{Guard}
+use Rattle.cal_guard.specs.declared.refusal.Why.{Why}
+use Rattle.cal_guard.specs.declared.refusal.Why.TheVariants.{TooMany, DoesNotFit, NotLeft, Banned, AtLimit, AtCap, AtGuarantee, NoRoom, SecondCommand, BannedHeld, OverCap}
+use Rattle.cal_guard.specs.declared.refusal.Refused.{Refused}
+use Rattle.cal_guard.specs.Guarded.{Keeps, and_then}
+use Rattle.cal_guard.specs.Permitted.{ArePermitted, IsPermittedHistory}
+use Rattle.cal_guard.specs.Refusals.{IsFirstWrong}
+use Rattle.caladan_c.specs.Opening.{number_of}
+use Rattle.caladan_c.specs.Told.{told_of}
+use Rattle.caladan_c.specs.declared.told.Told.{Told}
+use Rattle.caladan_c.specs.declared.told_refused.ToldRefused.{ToldRefused}
+
+-- its table, and the guard of the passes so far
+pub record Gated : Type 0 where
+  pub table : Table
+  pub guard : Guard
+
+-- the history is permitted, and the gate's guard keeps what it comes to
+pub record GuardsAfter (gate : Gated) (history : List PassEntry) : Type 0 where
+  pub permitted : IsPermittedHistory gate.table history
+  pub keeps : Keeps gate.guard history
+
+-- a gate of this table, after no pass
+pub record IsNewGate (read : Table) (gate : Gated) : Type 0 where
+  pub table : gate.table ≡ read
+  pub guards : GuardsAfter gate []
+
+-- the number is what the text comes to: 0 and a gate of its table, or its first fault's
+abbrev pub SaysGate : Result Table ConfigFault → ℕ → Option Gated → Type 0
+SaysGate (Ok table) number kept = (number ≡ 0) × IsSomeAnd kept (IsNewGate table)
+SaysGate (Err fault) number kept = number ≡ number_of fault
+
+-- the pass went through: these actions are the ones that C told, each is permitted at its place, and
+-- the gate stands after the pass
+pub record WentThrough (old : Gated) (history : List PassEntry) (given : Input) (told : List Told) (new : Gated) : Type 0 where
+  pub chosen : List Action
+  pub actions : map told_of chosen ≡ told
+  pub input : IsInput old.table history given
+  pub permitted : ArePermitted (setting old.table history given) chosen
+  pub table : new.table ≡ old.table
+  pub after : GuardsAfter new (and_then history given chosen)
+
+-- the pass was stopped: of the actions that C told this is the first that is not permitted, and why
+pub record WasStopped (old : Gated) (history : List PassEntry) (given : Input) (told : List Told) (refused : Refused) : Type 0 where
+  pub chosen : List Action
+  pub actions : map told_of chosen ≡ told
+  pub input : IsInput old.table history given
+  pub first : IsFirstWrong (setting old.table history given) [] chosen refused
+
+-- why an action is not permitted, as a number
+abbrev pub why_number : Why → ℕ
+why_number TooMany = 1
+why_number DoesNotFit = 2
+why_number NotLeft = 3
+why_number Banned = 4
+why_number AtLimit = 5
+why_number AtCap = 6
+why_number AtGuarantee = 7
+why_number NoRoom = 8
+why_number SecondCommand = 9
+why_number (BannedHeld core) = 10
+why_number (OverCap task) = 11
+
+-- the core or task that it names; of the others 0
+abbrev pub why_names : Why → ℕ
+why_names TooMany = 0
+why_names DoesNotFit = 0
+why_names NotLeft = 0
+why_names Banned = 0
+why_names AtLimit = 0
+why_names AtCap = 0
+why_names AtGuarantee = 0
+why_names NoRoom = 0
+why_names SecondCommand = 0
+why_names (BannedHeld core) = core
+why_names (OverCap task) = task
+
+-- the place and the reason, in numbers
+abbrev pub told_refused_of : Refused → ToldRefused
+told_refused_of refused = record { place = refused.place; why = why_number refused.why; names = why_names refused.why }
+
+-- the pass was stopped, and C was told where and why
+pub record WasStoppedAt (old : Gated) (history : List PassEntry) (given : Input) (told : List Told) (out : ToldRefused) : Type 0 where
+  pub refused : Refused
+  pub stopped : WasStopped old history given told refused
+  pub said : out ≡ told_refused_of refused

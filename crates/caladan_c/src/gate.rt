@@ -1,0 +1,200 @@
+//! A gate: its table, and the guard of the passes so far. It lets a pass through whose actions somebody
+//! else chose, or says which of them is not permitted.
+
+ghost use Rattle.std.specs.Prelude.{◌≡◌, ◌⊎◌, ◌≤◌, Err, IfOk, IfErr, IfNone, OnErr, List, [], length, nat_lt, map};
+ghost use Rattle.cal_machine.specs.Outcome.{Gives};
+ghost use Rattle.cal_machine.specs.Reading.{table_in};
+ghost use Rattle.cal_policy.specs.declared.history.entry.PassEntry.{PassEntry};
+ghost use Rattle.cal_policy.specs.declared.history.action.Action.{Action};
+ghost use Rattle.cal_policy.specs.Board.{kept_holder};
+ghost use Rattle.cal_policy.specs.History.{actions_of, holder_of};
+ghost use Rattle.cal_policy.specs.Judgement.Judging.{IsInput};
+ghost use Rattle.cal_policy.specs.Tasks.{threads_of_table};
+ghost use Rattle.cal_guard.specs.Guarded.{Keeps};
+ghost use Rattle.caladan_c.specs.Found.{input_of};
+ghost use Rattle.caladan_c.specs.Told.{AreJudgements, counts_of, told_of};
+ghost use Rattle.std.specs.Option.{is_some, IfSome};
+
+use crate::answer::Refusal;
+use crate::counts::Counts;
+use crate::found::{Found, found_look};
+use crate::judgement::tell_judgements;
+use crate::recorded::read_actions;
+use crate::scheduler::nothing;
+use crate::told::Told;
+use cal_guard::{Guard, Refused};
+use cal_machine::{Config, ConfigFault};
+use cal_policy::{Action, Holder, Input, MOST_ACTIONS, Rooms, SeenList};
+use std::alloc::{AllocError, Global};
+use std::marker::Model;
+use std::mem;
+
+/// A table, the guard of the passes so far, and memory that each pass uses again.
+#[derive(Drop)]
+pub struct Gate {
+    config: Config,
+    guard: Guard,
+    /// The actions of the last pass that was handed in.
+    chosen: Vec<Action>,
+    /// Its input.
+    used: Input,
+}
+
+impl Model for Gate {
+    ghost use Rattle.cal_guard.specs.Guarded.{IsGuardOf};
+    ghost use Rattle.caladan_c.specs.Gated.{Gated};
+
+    ghost Value = { Gated };
+
+    ghost view = { λ g. record { table = g.config; guard = g.guard } };
+
+    ghost invariant = { λ g. IsGuardOf g.config g.guard };
+}
+
+/// The input of the next pass of a guard, of what was found, in the memory of one that is used up.
+fn judge_looks(
+    used: Input,
+    config: &Config,
+    guard: &Guard,
+    now: u64,
+    bandwidth: u64,
+    looks: &[Found],
+) -> Result<Input, AllocError>
+    requires { length looks.now ≡ threads_of_table config.now }
+    ensures { IfOk result (λ input. (h : List PassEntry) → Keeps guard.now h → input ≡ input_of config.now h now bandwidth looks.now) }
+{
+    let Input { seen, rooms, .. } = used;
+    let mut seen = seen.into_items();
+    let mut rooms = rooms.into_items();
+    seen.clear();
+    rooms.clear();
+    for (k, one) in looks.iter().enumerate() {
+        let found = found_look(one);
+        seen.push(guard.judge(config, k, found.look))?;
+        rooms.push(found.room)?;
+    }
+    Ok(Input {
+        now,
+        bandwidth,
+        seen: SeenList::new(seen),
+        rooms: Rooms::new(rooms),
+    })
+}
+
+ghost use Rattle.caladan_c.specs.Gated.{GuardsAfter, WentThrough, WasStopped};
+ghost use Rattle.caladan_c.specs.declared.answer.Refusal.TheVariants.{Memory, Unfit, NoAction};
+
+impl Gate {
+    /// A gate of this table that was handed no pass, or the table's fault. It takes all the memory that
+    /// passes of at most 338 actions need.
+    pub fn open(alloc: Global, table: &[u8]) -> Result<Gate, ConfigFault>
+        ensures table { Gives (λ gate. gate.table) result (table_in table.now) }
+        ensures new { IfOk result (λ gate. GuardsAfter gate []) }
+    {
+        let config = Config::read(alloc, table)?;
+        let guard = Guard::open(alloc, &config)?;
+        let chosen = Vec::with_capacity(alloc, MOST_ACTIONS)?;
+        let seen = Vec::with_capacity(alloc, config.threads())?;
+        let rooms = Vec::with_capacity(alloc, config.threads())?;
+        let used = Input {
+            now: 0,
+            bandwidth: 0,
+            seen: SeenList::new(seen),
+            rooms: Rooms::new(rooms),
+        };
+        Ok(Gate {
+            config,
+            guard,
+            chosen,
+            used,
+        })
+    }
+
+    /// How many kernel threads there are.
+    pub fn threads(&self) -> usize
+        ensures { result ≡ threads_of_table self.now.table }
+    {
+        self.config.threads()
+    }
+
+    /// Who has a core, where the table has it.
+    pub fn holder(&self, core: u8) -> Option<Holder>
+        ensures there { is_some result ≡ nat_lt core self.now.table.cores }
+        ensures holder { IfSome result (λ holder. (h : List PassEntry) → GuardsAfter self.now h →
+            holder ≡ kept_holder (holder_of (actions_of h) core)) }
+    {
+        self.config.limits();
+        if core < self.config.machine().cores() {
+            Some(self.guard.holder(core))
+        } else {
+            None
+        }
+    }
+
+    /// How many cores a task holds, how many it books, and its cap, where the table has it.
+    pub fn counts(&self, task: usize) -> Option<Counts>
+        ensures there { is_some result ≡ nat_lt task (length self.now.table.tasks) }
+        ensures counts { IfSome result (λ counted. (h : List PassEntry) → GuardsAfter self.now h →
+            counted ≡ counts_of self.now.table (actions_of h) task) }
+    {
+        if task < self.config.tasks() {
+            Some(Counts {
+                held: self.guard.held(&self.config, task),
+                booked: self.guard.booked(&self.config, task),
+                cap: self.guard.cap(&self.config, task),
+            })
+        } else {
+            None
+        }
+    }
+
+    /// Lets the next pass through with the actions that C chose, where each is permitted at its place,
+    /// and tells what was judged of each look: None; or names the first that is not. It takes memory
+    /// only for more than 338 actions.
+    pub fn pass(
+        &mut self,
+        alloc: Global,
+        now: u64,
+        bandwidth: u64,
+        looks: &[Found],
+        judged: &mut [u8],
+        told: &[Told],
+    ) -> Result<Option<Refused>, Refusal>
+        requires count { length looks.now ≡ threads_of_table self.old.table }
+        requires room { threads_of_table self.old.table ≤ length judged.old }
+        ensures through { IfOk result (λ said. IfNone said ((h : List PassEntry) → GuardsAfter self.old h →
+            WentThrough self.old h (input_of self.old.table h now bandwidth looks.now) told.now self.new)) }
+        ensures judged { IfOk result (λ said. IfNone said ((h : List PassEntry) → GuardsAfter self.old h →
+            AreJudgements (input_of self.old.table h now bandwidth looks.now).seen judged.new)) }
+        ensures stopped { IfOk result (λ said. IfSome said (λ refused. (h : List PassEntry) → GuardsAfter self.old h →
+            WasStopped self.old h (input_of self.old.table h now bandwidth looks.now) told.now refused)) }
+        ensures unfit { result ≡ Err Unfit → (h : List PassEntry) → GuardsAfter self.old h →
+            IsInput self.old.table h (input_of self.old.table h now bandwidth looks.now) → ⊥ }
+        ensures no_action { result ≡ Err NoAction → (actions : List Action) → map told_of actions ≡ told.now → ⊥ }
+        ensures why { IfErr result (λ why. (why ≡ Unfit) ⊎ (why ≡ NoAction) ⊎ (why ≡ Memory)) }
+        ensures stands { IfOk result (λ said. IfSome said (λ _. (self.new ≡ self.old) × (judged.new ≡ judged.old))) }
+        ensures refused { OnErr result ((self.new ≡ self.old) × (judged.new ≡ judged.old)) }
+    {
+        read_actions(&mut self.chosen, told)?;
+        let used = mem::replace(&mut self.used, nothing(alloc));
+        let input = judge_looks(used, &self.config, &self.guard, now, bandwidth, looks)?;
+        if !self.guard.fits(&self.config, &input) {
+            self.used = input;
+            return Err(Refusal::Unfit);
+        }
+        match self
+            .guard
+            .step(&self.config, &input, self.chosen.as_slice())
+        {
+            Ok(()) => {
+                tell_judgements(input.seen.as_slice(), judged);
+                self.used = input;
+                Ok(None)
+            }
+            Err(refused) => {
+                self.used = input;
+                Ok(Some(refused))
+            }
+        }
+    }
+}
