@@ -9,22 +9,22 @@ use Rattle.std.proofs.lemmas.List.{append-nil, take_all, take_more}
 use Rattle.std.proofs.lemmas.Option.{slice_get_cases, get_or_from_slice_get}
 use Rattle.cal_lists.proofs.Last.{some_same}
 use Rattle.cal_machine.specs.Table.{Table}
-use Rattle.cal_policy.specs.declared.holding.Holder.{Holder}
-use Rattle.cal_policy.specs.declared.holding.Holder.TheVariants as holders
-use Rattle.cal_policy.specs.declared.holding.Placement as placements
-use Rattle.cal_policy.specs.declared.pass_action.Action.{Action}
-use Rattle.cal_policy.specs.declared.pass_action.Action.TheVariants.{Free, Unban, Ban, Revoke, Cap, Grant}
-use Rattle.cal_policy.specs.declared.pass_action.Cause.{Cause}
-use Rattle.cal_policy.specs.declared.pass_entry.PassEntry.{PassEntry}
+use Rattle.cal_policy.specs.declared.board.holders.Holder.{Holder}
+use Rattle.cal_policy.specs.declared.board.holders.Holder.TheVariants as holders
+use Rattle.cal_policy.specs.declared.board.holders.Placement as placements
+use Rattle.cal_policy.specs.declared.history.action.Action.{Action}
+use Rattle.cal_policy.specs.declared.history.action.Action.TheVariants.{Free, Unban, Ban, Revoke, Cap, Grant}
+use Rattle.cal_policy.specs.declared.history.action.Cause.{Cause}
+use Rattle.cal_policy.specs.declared.history.entry.PassEntry.{PassEntry}
 use Rattle.cal_policy.specs.Board.{placement_of}
-use Rattle.cal_policy.specs.Counts.{is_held}
+use Rattle.cal_policy.specs.Board.Counts.{is_held}
 use Rattle.cal_policy.specs.History.{actions_of, holder_of, holder_made, last_placement, placement_made, left_by}
-use Rattle.cal_policy.specs.Orderly.{fits_state, names_table, FitInTurn, IsOrderly}
-use Rattle.cal_policy.proofs.History.{holder_push, last_placement_push}
-use Rattle.cal_view.specs.Spans.{Move, made_in, moves_of, revoked, stay_made, stay_of, spans_of}
+use Rattle.cal_policy.specs.Judgement.Orderly.{fits_state, names_table, FitInTurn, IsOrderly}
+use Rattle.cal_policy.proofs.HistoryLemmas.OneMore.{holder_push, last_placement_push}
+use Rattle.cal_view.specs.Spans.{Move, made_in, moves_of, span_at, spans_of}
 use Rattle.cal_view.specs.Laws.{Shows, IsStayOf}
 use Rattle.cal_view.specs.declared.span.Span.{Span}
-use Rattle.cal_view.proofs.StaysKept.{stay_push, moves-more}
+use Rattle.cal_view.proofs.StaysKept.{revoked, stay_made, stay_push, moves-more}
 use Rattle.cal_view.proofs.Showing.{stay-open, of-some, stays-shown, shown-stays}
 
 -- a core that is held is held by its last grant
@@ -40,7 +40,7 @@ record Agree (holder : Holder) (last : Option placements.Placement) (stay : Opti
 
 -- so it is of core c after these actions
 abbrev AgreeAfter : ℕ → List Action → List Move → Type 0
-AgreeAfter c x moves = Agree (holder_of x c) (last_placement x c) (stay_of moves c)
+AgreeAfter c x moves = Agree (holder_of x c) (last_placement x c) (span_at moves c)
 
 -- a core that is held, and is revoked, is being left for the cause
 left_for : (holder : Holder) (last : Option placements.Placement) (stay : Option Span) (p : ℕ) (cause : Cause) → is_held holder ≡ true → Agree holder last stay
@@ -59,7 +59,7 @@ fits_held table x core cause fits = (and_parts (ltb core table.cores && names_ta
 
 -- what one more action makes of the three
 agree_made : (table : Table) (x : List Action) (moves : List Move) (p c : ℕ) (a : Action) → fits_state table x a ≡ true → AgreeAfter c x moves
-    → Agree (unwrap_or (holder_made c x a) (holder_of x c)) (option_or (placement_made c x a) (last_placement x c)) (stay_made c p a (stay_of moves c))
+    → Agree (unwrap_or (holder_made c x a) (holder_of x c)) (option_or (placement_made c x a) (last_placement x c)) (stay_made c p a (span_at moves c))
 agree_made table x moves p c (Grant core thread class) fits h =
     elim (eqb_tells core c) [
       | inl same ↦ rw same.0 (record { by_last = refl; is_stay = record { span = _; there = refl; thread = refl; not_left = refl } })
@@ -70,7 +70,7 @@ agree_made table x moves p c (Revoke core cause) fits h =
       | inl same ↦
           let held : is_held (holder_of x c) ≡ true = subst (λ (k : ℕ). is_held (holder_of x k) ≡ true) same.1 (fits_held table x core cause fits) in
           let of_core : last_placement x core ≡ last_placement x c = ap (last_placement x) same.1 in
-          rw (same.0, of_core) (left_for (holder_of x c) (last_placement x c) (stay_of moves c) p cause held h)
+          rw (same.0, of_core) (left_for (holder_of x c) (last_placement x c) (span_at moves c) p cause held h)
       | inr other ↦ rw other.0 h
     ]
 agree_made table x moves p c (Free core) fits h =
@@ -82,8 +82,8 @@ agree_made table x moves p c (Cap task cap) fits h = h
 agree_push : (table : Table) (x : List Action) (moves : List Move) (p c : ℕ) (a : Action) → fits_state table x a ≡ true → AgreeAfter c x moves
     → AgreeAfter c (x ++ a ∷ []) (moves ++ made_in p a ∷ [])
 agree_push table x moves p c a fits h =
-    subst (λ (holder : Holder). Agree holder (last_placement (x ++ a ∷ []) c) (stay_of (moves ++ made_in p a ∷ []) c)) (sym (holder_push x a c))
-    (subst (λ (last : Option placements.Placement). Agree (unwrap_or (holder_made c x a) (holder_of x c)) last (stay_of (moves ++ made_in p a ∷ []) c)) (sym (last_placement_push x a c))
+    subst (λ (holder : Holder). Agree holder (last_placement (x ++ a ∷ []) c) (span_at (moves ++ made_in p a ∷ []) c)) (sym (holder_push x a c))
+    (subst (λ (last : Option placements.Placement). Agree (unwrap_or (holder_made c x a) (holder_of x c)) last (span_at (moves ++ made_in p a ∷ []) c)) (sym (last_placement_push x a c))
     (subst (λ (stay : Option Span). Agree (unwrap_or (holder_made c x a) (holder_of x c)) (option_or (placement_made c x a) (last_placement x c)) stay) (sym (stay_push moves p a c))
     (agree_made table x moves p c a fits h)))
 
@@ -139,7 +139,7 @@ agree_after table history (suc n) c orderly =
     (slice_get_cases history n).1
 
 pub stays-holders : (table : Table) (history : List PassEntry) (n c : ℕ) → IsOrderly table history
-    → IsStayOf (holder_of (actions_of (take n history)) c) (stay_of (moves_of (take n history)) c)
+    → IsStayOf (holder_of (actions_of (take n history)) c) (span_at (moves_of (take n history)) c)
 stays-holders table history n c orderly = (agree_after table history n c orderly).is_stay
 
 -- the stay of a core that somebody holds or leaves is that thread's
@@ -161,8 +161,8 @@ pub holders-shown : (cores : ℕ) (table : Table) (history : List PassEntry) (n 
     → (span : Span) × Contains (spans_of cores history) span × (span.core ≡ c) × (span.thread ≡ placement.thread) × Shows span n
 holders-shown cores table history n c placement orderly lt e =
     let moves = moves_of (take n history) in
-    let stay = of-placement (holder_of (actions_of (take n history)) c) (stay_of moves c) placement (stays-holders table history n c orderly) e in
-    let core = (of-some (λ s. (s.core ≡ c) × (s.to ≡ None)) (stay_of moves c) stay.0 stay.1 (stay-open moves c)).0 in
+    let stay = of-placement (holder_of (actions_of (take n history)) c) (span_at moves c) placement (stays-holders table history n c orderly) e in
+    let core = (of-some (λ s. (s.core ≡ c) × (s.to ≡ None)) (span_at moves c) stay.0 stay.1 (stay-open moves c)).0 in
     let found = stays-shown cores history n c stay.0 lt stay.1 in
     (found.0, found.1, found.2.core ∙ core, found.2.thread ∙ stay.2, found.3)
 
@@ -171,5 +171,5 @@ pub shown-holders : (cores : ℕ) (table : Table) (history : List PassEntry) (n 
     × (span.thread ≡ placement.thread)
 shown-holders cores table history n span orderly has shows =
     let stay = shown-stays cores history n span has shows in
-    let held = of-stay (holder_of (actions_of (take n history)) span.core) (stay_of (moves_of (take n history)) span.core) stay.0 (stays-holders table history n span.core orderly) stay.1 in
+    let held = of-stay (holder_of (actions_of (take n history)) span.core) (span_at (moves_of (take n history)) span.core) stay.0 (stays-holders table history n span.core orderly) stay.1 in
     (held.0, held.1, stay.2.thread ∙ held.2)

@@ -1,4 +1,5 @@
 pub mod StaysKept
+pub mod BansKept
 pub mod Showing
 pub mod HoldersKept
 pub mod RecordedRuns

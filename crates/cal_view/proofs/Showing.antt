@@ -5,16 +5,16 @@ use Rattle.std.proofs.lemmas.Bool.Decides.{eqb_tells}
 use Rattle.std.proofs.lemmas.List.{append-nil}
 use Rattle.std.proofs.lemmas.List.Elements.{Contains-append_left, Contains-append_right, Contains-append_cases, Contains-push, Contains-push_cases}
 use Rattle.cal_lists.proofs.Last.{some_same}
-use Rattle.cal_policy.proofs.Lists.{each_of_append}
-use Rattle.cal_policy.specs.Lists.{each_after}
-use Rattle.cal_policy.specs.declared.pass_action.Action.{Action}
-use Rattle.cal_policy.specs.declared.pass_action.Action.TheVariants.{Free, Unban, Ban, Revoke, Cap, Grant}
-use Rattle.cal_policy.specs.declared.pass_action.Cause.{Cause}
-use Rattle.cal_policy.specs.declared.pass_entry.PassEntry.{PassEntry}
-use Rattle.cal_view.specs.Spans.{Move, made_in, moves_from, moves_of, granted, revoked, ended, stay_made, stay_after, stay_of, ending, ended_by, ended_of, one_of, open_of, spans_of}
+use Rattle.cal_policy.proofs.ListLemmas.OneMore.{each_of_append}
+use Rattle.cal_policy.specs.History.Lists.{each_after}
+use Rattle.cal_policy.specs.declared.history.action.Action.{Action}
+use Rattle.cal_policy.specs.declared.history.action.Action.TheVariants.{Free, Unban, Ban, Revoke, Cap, Grant}
+use Rattle.cal_policy.specs.declared.history.action.Cause.{Cause}
+use Rattle.cal_policy.specs.declared.history.entry.PassEntry.{PassEntry}
+use Rattle.cal_view.specs.Spans.{Move, made_in, moves_from, moves_of, granted, ended, span_at, ending, ended_by, ended_of, one_of, open_of, spans_of}
 use Rattle.cal_view.specs.Laws.{GoesOn, Shows, IsOf}
 use Rattle.cal_view.specs.declared.span.Span.{Span}
-use Rattle.cal_view.proofs.StaysKept.{stay_push}
+use Rattle.cal_view.proofs.StaysKept.{revoked, stay_made, stay_after, stay_push, stay_more}
 
 -- what each move ends, told what came before it
 abbrev ends : List Move → Move → List Span
@@ -80,51 +80,53 @@ all-any [] = tt
 all-any (m ∷ moves) = (tt, all-any moves)
 
 -- a span that a core is in is the core's, and has not ended
-pub stay-open : (moves : List Move) (c : ℕ) → IfSome (stay_of moves c) (λ s. (s.core ≡ c) × (s.to ≡ None))
-stay-open moves c = after-keeps (λ s. (s.core ≡ c) × (s.to ≡ None)) (λ p. Unit {0}) c (λ p core thread class r e. (e, refl)) (λ p cause s h. h) moves (all-any moves) None tt
+pub stay-open : (moves : List Move) (c : ℕ) → IfSome (span_at moves c) (λ s. (s.core ≡ c) × (s.to ≡ None))
+stay-open moves c = subst (λ (o : Option Span). IfSome o (λ s. (s.core ≡ c) × (s.to ≡ None))) (stay_more c [] moves)
+    (after-keeps (λ s. (s.core ≡ c) × (s.to ≡ None)) (λ p. Unit {0}) c (λ p core thread class r e. (e, refl)) (λ p cause s h. h) moves (all-any moves) None tt)
 
-stay-began : (n : ℕ) (moves : List Move) (c : ℕ) → AllPasses (λ p. p < n) moves → IfSome (stay_of moves c) (λ s. s.from < n)
-stay-began n moves c all = after-keeps (λ s. s.from < n) (λ p. p < n) c (λ p core thread class r e. r) (λ p cause s h. h) moves all None tt
+stay-began : (n : ℕ) (moves : List Move) (c : ℕ) → AllPasses (λ p. p < n) moves → IfSome (span_at moves c) (λ s. s.from < n)
+stay-began n moves c all = subst (λ (o : Option Span). IfSome o (λ s. s.from < n)) (stay_more c [] moves)
+    (after-keeps (λ s. s.from < n) (λ p. p < n) c (λ p core thread class r e. r) (λ p cause s h. h) moves all None tt)
 
 -- what is said of a span that is there
 pub of-some : (P : Span → Type 0) (o : Option Span) (s : Span) → o ≡ Some s → IfSome o P → P s
 of-some P o s e h = subst (λ (q : Option Span). IfSome q P) e h
 
 -- the spans that cores are in
-open-has : (moves : List Move) (cores c : ℕ) (s : Span) → c < cores → stay_of moves c ≡ Some s → Contains (open_of moves cores) s
+open-has : (moves : List Move) (cores c : ℕ) (s : Span) → c < cores → span_at moves c ≡ Some s → Contains (open_of moves cores) s
 open-has moves zero c s lt e = absurd (omega arith)
 open-has moves (suc n) c s lt e =
     elim (eqb_tells c n) [
-      | inl same ↦ Contains-append_right (open_of moves n) (one_of (stay_of moves n)) s
-          (subst (λ (k : ℕ). Contains (one_of (stay_of moves k)) s) same.1 (subst (λ (o : Option Span). Contains (one_of o) s) (sym e) (Contains-push [] s)))
+      | inl same ↦ Contains-append_right (open_of moves n) (one_of (span_at moves n)) s
+          (subst (λ (k : ℕ). Contains (one_of (span_at moves k)) s) same.1 (subst (λ (o : Option Span). Contains (one_of o) s) (sym e) (Contains-push [] s)))
       | inr other ↦ let other_one = other.1 in
           let less : c < n = grind arith in
-          Contains-append_left (open_of moves n) (one_of (stay_of moves n)) s (open-has moves n c s less e)
+          Contains-append_left (open_of moves n) (one_of (span_at moves n)) s (open-has moves n c s less e)
     ]
 
 one-has : (o : Option Span) (s : Span) → Contains (one_of o) s → o ≡ Some s
 one-has None s h = let lt = h.1 in absurd (omega arith)
 one-has (Some t) s h = elim (Contains-push_cases [] t s h) [ inl none ↦ (let lt = none.1 in absurd (omega arith)) | inr e ↦ ap Some e ]
 
-open-is : (moves : List Move) (cores : ℕ) (s : Span) → Contains (open_of moves cores) s → (c : ℕ) × (stay_of moves c ≡ Some s)
+open-is : (moves : List Move) (cores : ℕ) (s : Span) → Contains (open_of moves cores) s → (c : ℕ) × (span_at moves c ≡ Some s)
 open-is moves zero s h = let lt = h.1 in absurd (omega arith)
 open-is moves (suc n) s h =
-    elim (Contains-append_cases (open_of moves n) (one_of (stay_of moves n)) s h) [
+    elim (Contains-append_cases (open_of moves n) (one_of (span_at moves n)) s h) [
       | inl below ↦ open-is moves n s below
-      | inr last ↦ (n, one-has (stay_of moves n) s last)
+      | inr last ↦ (n, one-has (span_at moves n) s last)
     ]
 
 -- what a move does with a span that a core is in: it ends it, or lets it go on
-outcome : (before : List Move) (c p : ℕ) (a : Action) (stay : Span) → stay_of before c ≡ Some stay
+outcome : (before : List Move) (c p : ℕ) (a : Action) (stay : Span) → span_at before c ≡ Some stay
     → Contains (ended_by before p a) (ended p stay) ⊎ ((next : Span) × (stay_made c p a (Some stay) ≡ Some next) × IsOf stay next × (next.to ≡ stay.to))
 outcome before c p (Grant core thread class) stay e =
     elim (eqb_tells core c) [
-      | inl same ↦ inl (subst (λ (k : ℕ). Contains (ending p (stay_of before k)) (ended p stay)) (sym same.1) (subst (λ (o : Option Span). Contains (ending p o) (ended p stay)) (sym e) (Contains-push [] (ended p stay))))
+      | inl same ↦ inl (subst (λ (k : ℕ). Contains (ending p (span_at before k)) (ended p stay)) (sym same.1) (subst (λ (o : Option Span). Contains (ending p o) (ended p stay)) (sym e) (Contains-push [] (ended p stay))))
       | inr other ↦ inr (stay, rw other.0 refl, record { core = refl; thread = refl; class = refl; from = refl }, refl)
     ]
 outcome before c p (Free core) stay e =
     elim (eqb_tells core c) [
-      | inl same ↦ inl (subst (λ (k : ℕ). Contains (ending p (stay_of before k)) (ended p stay)) (sym same.1) (subst (λ (o : Option Span). Contains (ending p o) (ended p stay)) (sym e) (Contains-push [] (ended p stay))))
+      | inl same ↦ inl (subst (λ (k : ℕ). Contains (ending p (span_at before k)) (ended p stay)) (sym same.1) (subst (λ (o : Option Span). Contains (ending p o) (ended p stay)) (sym e) (Contains-push [] (ended p stay))))
       | inr other ↦ inr (stay, rw other.0 refl, record { core = refl; thread = refl; class = refl; from = refl }, refl)
     ]
 outcome before c p (Revoke core cause) stay e =
@@ -143,10 +145,10 @@ of-of a b d h k = record { core = k.core ∙ h.core; thread = k.thread ∙ h.thr
 abbrev Found : ℕ → Span → List Span → Type 0
 Found n stay spans = (span : Span) × Contains spans span × IsOf stay span × Shows span n
 
-told : (n c cores : ℕ) → c < cores → (before rest : List Move) (stay : Span) → stay_of before c ≡ Some stay → stay.to ≡ None → stay.from < n → AllPasses (λ p. n ≤ p) rest
+told : (n c cores : ℕ) → c < cores → (before rest : List Move) (stay : Span) → span_at before c ≡ Some stay → stay.to ≡ None → stay.from < n → AllPasses (λ p. n ≤ p) rest
     → Found n stay (each_after ends before rest ++ open_of (before ++ rest) cores)
 told n c cores lt before [] stay e opened began all =
-    let whole : stay_of (before ++ []) c ≡ Some stay = ap (λ (x : List Move). stay_of x c) (append-nil before) ∙ e in (
+    let whole : span_at (before ++ []) c ≡ Some stay = ap (λ (x : List Move). span_at x c) (append-nil before) ∙ e in (
       stay,
       open-has (before ++ []) cores c stay lt whole,
       record { core = refl; thread = refl; class = refl; from = refl },
@@ -164,7 +166,7 @@ told n c cores lt before (m ∷ rest) stay e opened began all =
       )
       | inr on ↦
           let next = on.0 in
-          let now : stay_of (before ++ m ∷ []) c ≡ Some next = stay_push before m.pass m.action c ∙ ap (stay_made c m.pass m.action) e ∙ on.1 in
+          let now : span_at (before ++ m ∷ []) c ≡ Some next = stay_push before m.pass m.action c ∙ ap (stay_made c m.pass m.action) e ∙ on.1 in
           let early : next.from < n = subst (λ (k : ℕ). k < n) (sym on.2.from) began in
           let found = told n c cores lt (before ++ m ∷ []) rest next now (on.3 ∙ opened) early all.1 in
           let same : (before ++ m ∷ []) ++ rest ≡ before ++ m ∷ rest = append_assoc before (m ∷ []) rest in
@@ -181,15 +183,15 @@ ending-is : (p : ℕ) (o : Option Span) (s : Span) → Contains (ending p o) s �
 ending-is p None s h = let lt = h.1 in absurd (omega arith)
 ending-is p (Some t) s h = elim (Contains-push_cases [] (ended p t) s h) [ inl none ↦ (let lt = none.1 in absurd (omega arith)) | inr e ↦ (t, refl, sym e) ]
 
-by-is : (before : List Move) (p : ℕ) (a : Action) (s : Span) → Contains (ended_by before p a) s → (t : Span) × (stay_of before s.core ≡ Some t) × (s ≡ ended p t)
+by-is : (before : List Move) (p : ℕ) (a : Action) (s : Span) → Contains (ended_by before p a) s → (t : Span) × (span_at before s.core ≡ Some t) × (s ≡ ended p t)
 by-is before p (Grant core thread class) s h =
-    let r = ending-is p (stay_of before core) s h in
-    let at : s.core ≡ core = ap (λ (x : Span). x.core) r.2 ∙ (of-some (λ x. (x.core ≡ core) × (x.to ≡ None)) (stay_of before core) r.0 r.1 (stay-open before core)).0 in
-    (r.0, ap (stay_of before) at ∙ r.1, r.2)
+    let r = ending-is p (span_at before core) s h in
+    let at : s.core ≡ core = ap (λ (x : Span). x.core) r.2 ∙ (of-some (λ x. (x.core ≡ core) × (x.to ≡ None)) (span_at before core) r.0 r.1 (stay-open before core)).0 in
+    (r.0, ap (span_at before) at ∙ r.1, r.2)
 by-is before p (Free core) s h =
-    let r = ending-is p (stay_of before core) s h in
-    let at : s.core ≡ core = ap (λ (x : Span). x.core) r.2 ∙ (of-some (λ x. (x.core ≡ core) × (x.to ≡ None)) (stay_of before core) r.0 r.1 (stay-open before core)).0 in
-    (r.0, ap (stay_of before) at ∙ r.1, r.2)
+    let r = ending-is p (span_at before core) s h in
+    let at : s.core ≡ core = ap (λ (x : Span). x.core) r.2 ∙ (of-some (λ x. (x.core ≡ core) × (x.to ≡ None)) (span_at before core) r.0 r.1 (stay-open before core)).0 in
+    (r.0, ap (span_at before) at ∙ r.1, r.2)
 by-is before p (Revoke core cause) s h = let lt = h.1 in absurd (omega arith)
 by-is before p (Unban core) s h = let lt = h.1 in absurd (omega arith)
 by-is before p (Ban core thread started) s h = let lt = h.1 in absurd (omega arith)
@@ -210,24 +212,20 @@ early-over n before (m ∷ rest) s all h shows =
 
 -- what later passes end was there, or began after
 late-is : (P : Span → Type 0) (n c : ℕ) → ((p core thread class : ℕ) → n ≤ p → core ≡ c → P (granted p core thread class)) → ((p : ℕ) (cause : Cause) (s : Span) → P s → P (revoked p cause s))
-    → ((p : ℕ) (s : Span) → P s → P (ended p s)) → (before rest : List Move) (s : Span) → AllPasses (λ p. n ≤ p) rest → IfSome (stay_of before c) P → s.core ≡ c
+    → ((p : ℕ) (s : Span) → P s → P (ended p s)) → (before rest : List Move) (s : Span) → AllPasses (λ p. n ≤ p) rest → IfSome (span_at before c) P → s.core ≡ c
     → Contains (each_after ends before rest) s → P s
 late-is P n c new left over before [] s all h at has = let lt = has.1 in absurd (omega arith)
 late-is P n c new left over before (m ∷ rest) s all h at has =
     elim (Contains-append_cases (ends before m) (each_after ends (before ++ m ∷ []) rest) s has) [
       | inl now ↦
           let r = by-is before m.pass m.action s now in
-          let is : stay_of before c ≡ Some r.0 = ap (stay_of before) (sym at) ∙ r.1 in
-          subst P (sym r.2) (over m.pass r.0 (of-some P (stay_of before c) r.0 is h))
+          let is : span_at before c ≡ Some r.0 = ap (span_at before) (sym at) ∙ r.1 in
+          subst P (sym r.2) (over m.pass r.0 (of-some P (span_at before c) r.0 is h))
       | inr later ↦
-          let next : IfSome (stay_of (before ++ m ∷ []) c) P = subst (λ (o : Option Span). IfSome o P) (sym (stay_push before m.pass m.action c))
-          (made-keeps P c m.pass m.action (λ core thread class e. new m.pass core thread class all.0 e) (left m.pass) (stay_of before c) h) in
+          let next : IfSome (span_at (before ++ m ∷ []) c) P = subst (λ (o : Option Span). IfSome o P) (sym (stay_push before m.pass m.action c))
+          (made-keeps P c m.pass m.action (λ core thread class e. new m.pass core thread class all.0 e) (left m.pass) (span_at before c) h) in
           late-is P n c new left over (before ++ m ∷ []) rest s all.1 next at later
     ]
-
-stay-append : (c : ℕ) (stay : Option Span) (xs ys : List Move) → stay_after c stay (xs ++ ys) ≡ stay_after c (stay_after c stay xs) ys
-stay-append c stay [] ys = refl
-stay-append c stay (m ∷ xs) ys = stay-append c (stay_made c m.pass m.action stay) xs ys
 
 -- the spans of a history: those that the first n passes ended, those that the rest did, and those that go on
 parted : (cores n : ℕ) (history : List PassEntry) → spans_of cores history
@@ -241,14 +239,14 @@ parted cores n history =
     ∙ ap (λ (ys : List Span). ys ++ open_of (first ++ rest) cores) (each_of_append ends first rest)
     ∙ append_assoc (ended_of first) (each_after ends first rest) (open_of (first ++ rest) cores)
 
-pub stays-shown : (cores : ℕ) (history : List PassEntry) (n c : ℕ) (stay : Span) → c < cores → stay_of (moves_of (take n history)) c ≡ Some stay
+pub stays-shown : (cores : ℕ) (history : List PassEntry) (n c : ℕ) (stay : Span) → c < cores → span_at (moves_of (take n history)) c ≡ Some stay
     → (span : Span) × Contains (spans_of cores history) span × IsOf stay span × Shows span n
 stays-shown cores history n c stay lt e =
     let first = moves_of (take n history) in
     let rest = moves_from n (drop n history) in
-    let opened = of-some (λ s. (s.core ≡ c) × (s.to ≡ None)) (stay_of first c) stay e (stay-open first c) in
+    let opened = of-some (λ s. (s.core ≡ c) × (s.to ≡ None)) (span_at first c) stay e (stay-open first c) in
     let fits : 0 + n ≤ n = omega arith in
-    let began = of-some (λ s. s.from < n) (stay_of first c) stay e (stay-began n first c (all-below n 0 n history fits)) in
+    let began = of-some (λ s. s.from < n) (span_at first c) stay e (stay-began n first c (all-below n 0 n history fits)) in
     let self : n ≤ n = omega arith in
     let found = told n c cores lt first rest stay e opened.1 began (all-from n n (drop n history) self) in
     let later = each_after ends first rest ++ open_of (first ++ rest) cores in
@@ -269,11 +267,11 @@ late-over : (n : ℕ) (o : Option Span) (p : ℕ) (s : Span) → IsLateOr n o s 
 late-over n o p s h = elim h [ inl a ↦ inl a | inr w ↦ inr (w.0, w.1, record { core = w.2.core; thread = w.2.thread; class = w.2.class; from = w.2.from }) ]
 
 shown-is : (cores : ℕ) (history : List PassEntry) (n : ℕ) (span : Span) → Contains (spans_of cores history) span → Shows span n
-    → IsLateOr n (stay_of (moves_of (take n history)) span.core) span
+    → IsLateOr n (span_at (moves_of (take n history)) span.core) span
 shown-is cores history n span has shows =
     let first = moves_of (take n history) in
     let rest = moves_from n (drop n history) in
-    let was = stay_of first span.core in
+    let was = span_at first span.core in
     let fits : 0 + n ≤ n = omega arith in
     let self : n ≤ n = omega arith in
     let late = all-from n n (drop n history) self in
@@ -284,15 +282,15 @@ shown-is cores history n span has shows =
         | inl closed ↦ late-is (IsLateOr n was) n span.core (λ p core thread class le e. inl le) (late-left n was) (late-over n was) first rest span late (itself n was) refl closed
         | inr opened ↦
             let at = open-is (first ++ rest) cores span opened in
-            let core = (of-some (λ s. (s.core ≡ at.0) × (s.to ≡ None)) (stay_of (first ++ rest) at.0) span at.1 (stay-open (first ++ rest) at.0)).0 in
-            let whole : stay_after span.core was rest ≡ Some span = sym (stay-append span.core None first rest) ∙ ap (stay_of (first ++ rest)) core ∙ at.1 in
+            let core = (of-some (λ s. (s.core ≡ at.0) × (s.to ≡ None)) (span_at (first ++ rest) at.0) span at.1 (stay-open (first ++ rest) at.0)).0 in
+            let whole : stay_after span.core was rest ≡ Some span = stay_more span.core first rest ∙ ap (span_at (first ++ rest)) core ∙ at.1 in
             of-some (IsLateOr n was) (stay_after span.core was rest) span whole
             (after-keeps (IsLateOr n was) (λ p. n ≤ p) span.core (λ p core thread class le e. inl le) (late-left n was) rest late was (itself n was))
       ]
     ]
 
 pub shown-stays : (cores : ℕ) (history : List PassEntry) (n : ℕ) (span : Span) → Contains (spans_of cores history) span → Shows span n
-    → (stay : Span) × (stay_of (moves_of (take n history)) span.core ≡ Some stay) × IsOf stay span
+    → (stay : Span) × (span_at (moves_of (take n history)) span.core ≡ Some stay) × IsOf stay span
 shown-stays cores history n span has shows =
     elim (shown-is cores history n span has shows) [
       | inl late ↦ let began = shows.began in absurd (omega arith)
@@ -304,7 +302,7 @@ pub spans-apart : (cores : ℕ) (history : List PassEntry) (n : ℕ) (one other 
 spans-apart cores history n one other has has_other core shows shows_other =
     let a = shown-stays cores history n one has shows in
     let b = shown-stays cores history n other has_other shows_other in
-    let same : Some a.0 ≡ Some b.0 = sym a.1 ∙ ap (stay_of (moves_of (take n history))) core ∙ b.1 in
+    let same : Some a.0 ≡ Some b.0 = sym a.1 ∙ ap (span_at (moves_of (take n history))) core ∙ b.1 in
     let is : a.0 ≡ b.0 = some_same a.0 b.0 same in
     record {
       core = b.2.core ∙ ap (λ (x : Span). x.core) (sym is) ∙ sym a.2.core;

@@ -2,15 +2,15 @@
 use Rattle.std.specs.Prelude.{◌≡◌, ◌<◌, ◌≤◌, ℕ, List, take, Option, Some, None}
 use Rattle.std.specs.List.{Contains}
 use Rattle.cal_machine.specs.Table.{Table}
-use Rattle.cal_policy.specs.declared.holding.Holder.{Holder}
-use Rattle.cal_policy.specs.declared.holding.Holder.TheVariants as holders
-use Rattle.cal_policy.specs.declared.holding.Placement as placements
-use Rattle.cal_policy.specs.declared.pass_action.Cause.{Cause}
-use Rattle.cal_policy.specs.declared.pass_entry.PassEntry.{PassEntry}
+use Rattle.cal_policy.specs.declared.board.holders.Holder.{Holder}
+use Rattle.cal_policy.specs.declared.board.holders.Holder.TheVariants as holders
+use Rattle.cal_policy.specs.declared.board.holders.Placement as placements
+use Rattle.cal_policy.specs.declared.history.action.Cause.{Cause}
+use Rattle.cal_policy.specs.declared.history.entry.PassEntry.{PassEntry}
 use Rattle.cal_policy.specs.Board.{placement_of}
 use Rattle.cal_policy.specs.History.{actions_of, holder_of}
-use Rattle.cal_policy.specs.Orderly.{IsOrderly}
-use Rattle.cal_view.specs.Spans.{moves_of, stay_of, spans_of}
+use Rattle.cal_policy.specs.Judgement.Orderly.{IsOrderly}
+use Rattle.cal_view.specs.Spans.{moves_of, span_at, spans_of}
 use Rattle.cal_view.specs.declared.span.Span.{Span}
 
 -- what ends then, or never, goes on after the first n passes: it did not end in one of them
@@ -32,13 +32,13 @@ pub record IsOf (stay span : Span) : Type 0 where
 
 -- whatever span a core is in after the first n passes, a span of the history shows it there
 abbrev pub StaysAreShown : Type 0
-StaysAreShown = (cores : ℕ) (history : List PassEntry) (n c : ℕ) (stay : Span) → c < cores → stay_of (moves_of (take n history)) c ≡ Some stay
+StaysAreShown = (cores : ℕ) (history : List PassEntry) (n c : ℕ) (stay : Span) → c < cores → span_at (moves_of (take n history)) c ≡ Some stay
     → (span : Span) × Contains (spans_of cores history) span × IsOf stay span × Shows span n
 
 -- a span of the history that shows after the first n passes is the one that its core is in there
 abbrev pub ShownAreStays : Type 0
 ShownAreStays = (cores : ℕ) (history : List PassEntry) (n : ℕ) (span : Span) → Contains (spans_of cores history) span → Shows span n
-    → (stay : Span) × (stay_of (moves_of (take n history)) span.core ≡ Some stay) × IsOf stay span
+    → (stay : Span) × (span_at (moves_of (take n history)) span.core ≡ Some stay) × IsOf stay span
 
 -- no two spans of a core show after the same pass, unless they are one: the same grant's
 abbrev pub SpansAreApart : Type 0
@@ -71,7 +71,7 @@ IsStayOf (holders.Leaving placement cause) stay = IsLeftStay stay placement.thre
 -- after the first n passes of an orderly history the span that a core is in is as its holder says
 abbrev pub StaysAreHolders : Type 0
 StaysAreHolders = (table : Table) (history : List PassEntry) (n c : ℕ) → IsOrderly table history
-    → IsStayOf (holder_of (actions_of (take n history)) c) (stay_of (moves_of (take n history)) c)
+    → IsStayOf (holder_of (actions_of (take n history)) c) (span_at (moves_of (take n history)) c)
 
 -- whoever holds or leaves a core after the first n passes of an orderly history: a span of the
 -- history shows the thread there

@@ -1,4 +1,5 @@
 pub mod Spans
+pub mod BanSpans
 pub mod Tracking
 pub mod Recording
 pub mod Laws

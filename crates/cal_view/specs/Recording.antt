@@ -5,8 +5,8 @@ use Rattle.cal_engine.specs.Input.{input_parts}
 use Rattle.cal_engine.specs.Outcome.{Failed}
 use Rattle.cal_engine.specs.Runs.{Run}
 use Rattle.cal_engine.specs.declared.fault.RunFault.{RunFault}
-use Rattle.cal_policy.specs.declared.pass_entry.PassEntry.{PassEntry}
-use Rattle.cal_trace.specs.HistoryText.{history_text}
+use Rattle.cal_policy.specs.declared.history.entry.PassEntry.{PassEntry}
+use Rattle.cal_trace.specs.History.Text.{history_text}
 
 -- the task table of an input, and the line after it
 abbrev pub table_text : Option (List ℕ × List ℕ) → List ℕ

@@ -1,10 +1,14 @@
 -- The spans of a history: which thread had which core, from which pass to which. This project's own.
 use Rattle.std.specs.Prelude.{ℕ, ◌+◌, ◌==◌, zero, suc, List, [], ◌∷◌, ◌++◌, map, Option, Some, None, option_map, if◌then◌else◌}
-use Rattle.cal_policy.specs.Lists.{each_of}
-use Rattle.cal_policy.specs.declared.pass_action.Action.{Action}
-use Rattle.cal_policy.specs.declared.pass_action.Action.TheVariants.{Free, Unban, Ban, Revoke, Cap, Grant}
-use Rattle.cal_policy.specs.declared.pass_action.Cause.{Cause}
-use Rattle.cal_policy.specs.declared.pass_entry.PassEntry.{PassEntry}
+use Rattle.std.specs.Option.{unwrap_or}
+use Rattle.cal_policy.specs.History.Lists.{last_of, each_of}
+use Rattle.cal_policy.specs.History.{holder_of}
+use Rattle.cal_policy.specs.declared.board.holders.Holder.{Holder}
+use Rattle.cal_policy.specs.declared.board.holders.Holder.TheVariants as holders
+use Rattle.cal_policy.specs.declared.history.action.Action.{Action}
+use Rattle.cal_policy.specs.declared.history.action.Action.TheVariants.{Free, Unban, Ban, Revoke, Cap, Grant}
+use Rattle.cal_policy.specs.declared.history.entry.PassEntry.{PassEntry}
+use Rattle.cal_view.specs.declared.span.Left.{Left}
 use Rattle.cal_view.specs.declared.span.Span.{Span}
 
 -- an action, and the pass that made it
@@ -24,45 +28,71 @@ moves_from p (entry ∷ entries) = map (made_in p) entry.actions ++ moves_from (
 abbrev pub moves_of : List PassEntry → List Move
 moves_of history = moves_from 0 history
 
+-- the same without their passes
+abbrev pub actions_in : List Move → List Action
+actions_in moves = map (λ m. m.action) moves
+
 -- the span that a grant begins
 abbrev pub granted : ℕ → ℕ → ℕ → ℕ → Span
 granted p core thread class = record { core = core; thread = thread; class = class; from = p; left = None; to = None }
-
--- a span whose core is revoked
-abbrev pub revoked : ℕ → Cause → Span → Span
-revoked p cause span = record span { left = Some (record { pass = p; cause = cause }) }
 
 -- a span that ends
 abbrev pub ended : ℕ → Span → Span
 ended p span = record span { to = Some p }
 
--- what an action makes of the span that core c is in: a Grant of the core begins one, a Revoke has it left, a Free ends it
-abbrev pub stay_made : ℕ → ℕ → Action → Option Span → Option Span
-stay_made c p (Grant core thread class) stay = if core == c then Some (granted p core thread class) else stay
-stay_made c p (Revoke core cause) stay = if core == c then option_map (revoked p cause) stay else stay
-stay_made c p (Free core) stay = if core == c then None else stay
-stay_made c p (Unban core) stay = stay
-stay_made c p (Ban core thread started) stay = stay
-stay_made c p (Cap task cap) stay = stay
+-- an action as a Grant or a Free of core c: the span that it begins; a Free begins none
+abbrev pub begun_by : ℕ → ℕ → Action → Option (Option Span)
+begun_by c p (Grant core thread class) = if core == c then Some (Some (granted p core thread class)) else None
+begun_by c p (Free core) = if core == c then Some None else None
+begun_by c p (Revoke core cause) = None
+begun_by c p (Unban core) = None
+begun_by c p (Ban core thread started) = None
+begun_by c p (Cap task cap) = None
 
--- what actions one after the other make of it
-abbrev pub stay_after : ℕ → Option Span → List Move → Option Span
-stay_after c stay [] = stay
-stay_after c stay (m ∷ moves) = stay_after c (stay_made c m.pass m.action stay) moves
+-- the span that the last Grant of core c began, where no Free came after it. So a Revoke of a core that is free, which no orderly history has, shows nothing
+abbrev pub begun_of : List Move → ℕ → Option Span
+begun_of moves c = unwrap_or (last_of (λ before m. begun_by c m.pass m.action) moves) None
+
+-- an action as a Revoke of core c: its pass and its cause
+abbrev pub told_by : ℕ → ℕ → Action → Option Left
+told_by c p (Revoke core cause) = if core == c then Some (record { pass = p; cause = cause }) else None
+told_by c p (Grant core thread class) = None
+told_by c p (Free core) = None
+told_by c p (Unban core) = None
+told_by c p (Ban core thread started) = None
+told_by c p (Cap task cap) = None
+
+-- the last Revoke of core c
+abbrev pub told_of : List Move → ℕ → Option Left
+told_of moves c = last_of (λ before m. told_by c m.pass m.action) moves
+
+-- a span whose core is being left
+abbrev pub left_as : Option Left → Span → Span
+left_as told span = record span { left = told }
+
+-- the span of a core by its holder: a free core is in none; a core that is held is in the one that its last grant began; a core that is being left is in that one, left as the last revocation told
+abbrev pub span_by : Holder → Option Left → Option Span → Option Span
+span_by holders.Free told begun = None
+span_by (holders.Held placement) told begun = begun
+span_by (holders.Leaving placement cause) told begun = option_map (left_as told) begun
 
 -- the span that core c is in after these actions, if any
-abbrev pub stay_of : List Move → ℕ → Option Span
-stay_of moves c = stay_after c None moves
+abbrev pub span_at : List Move → ℕ → Option Span
+span_at moves c = span_by (holder_of (actions_in moves) c) (told_of moves c) (begun_of moves c)
+
+-- one thing, if there is one
+abbrev pub one_of : {X : Type 0} → Option X → List X
+one_of None = []
+one_of (Some x) = x ∷ []
 
 -- the span that ends in pass p, if any
 abbrev pub ending : ℕ → Option Span → List Span
-ending p None = []
-ending p (Some span) = ended p span ∷ []
+ending p stay = one_of (option_map (ended p) stay)
 
 -- the span that an action of pass p ends, after these actions: a Free that of its core; a Grant too, where the core is not free
 abbrev pub ended_by : List Move → ℕ → Action → List Span
-ended_by before p (Free core) = ending p (stay_of before core)
-ended_by before p (Grant core thread class) = ending p (stay_of before core)
+ended_by before p (Free core) = ending p (span_at before core)
+ended_by before p (Grant core thread class) = ending p (span_at before core)
 ended_by before p (Revoke core cause) = []
 ended_by before p (Unban core) = []
 ended_by before p (Ban core thread started) = []
@@ -72,15 +102,10 @@ ended_by before p (Cap task cap) = []
 abbrev pub ended_of : List Move → List Span
 ended_of moves = each_of (λ before m. ended_by before m.pass m.action) moves
 
--- a span, if there is one
-abbrev pub one_of : Option Span → List Span
-one_of None = []
-one_of (Some span) = span ∷ []
-
 -- the spans that the cores below n are in after these actions, by core
 abbrev pub open_of : List Move → ℕ → List Span
 open_of moves zero = []
-open_of moves (suc n) = open_of moves n ++ one_of (stay_of moves n)
+open_of moves (suc n) = open_of moves n ++ one_of (span_at moves n)
 
 -- the spans of a history: those that ended, as they did, and then those that go on at its end, by core
 abbrev pub spans_of : ℕ → List PassEntry → List Span

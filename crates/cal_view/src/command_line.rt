@@ -1,5 +1,7 @@
 //! What the words of a command line ask for.
 
+use crate::help_texts;
+use cal_engine::VERSION;
 use clap::{Arg, ArgAction, ArgMatches, Command, Error};
 use std::alloc::{AllocError, Global};
 
@@ -24,8 +26,8 @@ pub enum Job {
 /// What the words after the program's name ask for; no words are `Job::Help`.
 ///
 /// The error is clap's own. A word that is not in the table is refused; a request for help is an
-/// error of the kind `DisplayHelp`, whose text goes to the standard output; want of memory has the
-/// kind `OutOfMemory`.
+/// error of the kind `DisplayHelp`, one for the version of the kind `DisplayVersion`, whose texts go
+/// to the standard output; want of memory has the kind `OutOfMemory`.
 pub fn words<'a>(alloc: Global, words: &'a [&'a str]) -> Result<Job, Error> {
     let matches = program(alloc)?.try_get_matches_from(words)?;
     Ok(job_of(&matches))
@@ -40,16 +42,20 @@ pub fn help(alloc: Global) -> Result<String, AllocError> {
 fn program<'a>(alloc: Global) -> Result<Command<'a>, AllocError> {
     let history = Command::new(alloc, "history")
         .about("Decide the passes of a signal trace, and write them as a history")
+        .after_help(help_texts::HISTORY)
         .arg(table_word(alloc))?;
     let picture = Command::new(alloc, "picture")
         .about("Draw a history as one SVG")
+        .after_help(help_texts::PICTURE)
         .arg(from_word(alloc))?
         .arg(passes_word(alloc))?;
-    let timeline = Command::new(alloc, "timeline").about(
-        "Write a history as trace events, for Perfetto and chrome://tracing",
-    );
+    let timeline = Command::new(alloc, "timeline")
+        .about("Write a history as trace events, for Perfetto and chrome://tracing")
+        .after_help(help_texts::TIMELINE);
     Command::new(alloc, "caladan_view")
+        .version(VERSION)
         .about("Looks at runs of the core scheduler of Caladan: an input on standard input")
+        .after_help(help_texts::PROGRAM)
         .no_binary_name(true)
         .subcommand(history)?
         .subcommand(picture)?

@@ -2,8 +2,9 @@
 
 use crate::layout::{BAND, digits};
 use crate::sheet::Sheet;
-use crate::story::{Slot, is_critical};
+use crate::story::Slot;
 use crate::telling::{clock_of, draw_box, ending, kind_word};
+use crate::walk::is_critical;
 use crate::window::{LEFT, scaled};
 use std::io;
 use std::io::Write;
@@ -90,15 +91,19 @@ pub fn tell_end<W: Write>(sheet: &Sheet<'_>, w: &mut W) -> io::Result<()> {
     if sheet.window.all == 0 {
         return Ok(());
     }
-    w.write_all(b" At the end:")?;
     let row = sheet.story.last;
+    let mut between = " At the end:";
     for task in 0..sheet.config.tasks() {
         let kind = kind_word(sheet.config, task);
         let held = row.held[task];
         let leaving = row.booked[task].saturating_sub(held);
-        write!(w, " task {task} {kind} held {held} leaving {leaving};")?;
+        write!(
+            w,
+            "{between} task {task} {kind} held {held} leaving {leaving}"
+        )?;
+        between = ";";
     }
-    Ok(())
+    w.write_all(b".")
 }
 
 /// Writes the three lines of the heading.

@@ -20,8 +20,8 @@ pub fn spans_are_apart()
 {}
 
 /// After any number of passes of an orderly history, a legal one among them: a free core is in no
-/// span; a core that is held is in one of the holder's thread, and not told to leave; a core that is
-/// being left is in one of that thread, left for the holder's cause.
+/// span; a core that is held is in one of the holder's thread, and not told to leave; a core that
+/// is being left is in one of that thread, left for the holder's cause.
 pub fn stays_are_holders()
     ensures { StaysAreHolders }
 {}

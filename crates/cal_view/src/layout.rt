@@ -46,6 +46,13 @@ pub struct TaskLane {
     pub unit: u64,
 }
 
+impl TaskLane {
+    /// Where so many cores reach to.
+    pub fn at(&self, cores: u64) -> u64 {
+        self.base.saturating_sub(self.unit.saturating_mul(cores))
+    }
+}
+
 /// What stands on the paper for some cores.
 #[derive(Clone, Copy, Debug, PartialEq, Eq)]
 pub enum Ground {

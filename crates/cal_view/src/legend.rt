@@ -1,7 +1,7 @@
 //! What each sign means.
 
 use crate::sheet::Sheet;
-use crate::story::is_critical;
+use crate::walk::is_critical;
 use std::io;
 use std::io::Write;
 
@@ -47,11 +47,13 @@ fn draw_span_signs<W: Write>(sheet: &Sheet<'_>, x: u64, y: u64, w: &mut W) -> io
     draw_item(x, y, 0, held, "thread 3, of a latency-critical task", w)?;
     draw_item(x, y, 1, pale, "thread 4, of a best-effort task", w)?;
     draw_item(x, y, 2, leaving, "being left: revoked, not yet freed", w)?;
+    let mut row = 3;
     if sheet.config.tasks() > 8 {
-        draw_item(x, y, 3, lined, "lined: tasks 8 to 15", w)?;
+        draw_item(x, y, row, lined, "lined: tasks 8 to 15", w)?;
+        row = 4;
     }
     if sheet.columns.bent.len() > 0 {
-        draw_item(x, y, 4, bent, "a step of time not to scale", w)?;
+        draw_item(x, y, row, bent, "a step of time not to scale", w)?;
     }
     Ok(())
 }

@@ -14,6 +14,7 @@ mod command_line;
 mod cores;
 mod fault;
 mod heading;
+mod help_texts;
 mod laws;
 mod layout;
 mod legend;
@@ -28,6 +29,7 @@ mod tasks;
 mod telling;
 mod timeline;
 mod tracking;
+mod walk;
 mod window;
 
 pub use bans::BanSpan;

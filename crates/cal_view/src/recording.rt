@@ -25,7 +25,9 @@ pub fn record<R: Read + Drop, W: Write>(
 ) -> Result<(), RunFault>
     // The history that the input asks for was written and nothing else, or the fault is the input's
     // first.
-    ensures exact { IfSome (R.remaining reader) (λ input. Records result table input (within_limit input (decided_run_of input)) (W.contents writer.old) (W.contents writer.new)) }
+    ensures exact { IfSome (R.remaining reader) (λ input.
+        Records result table input (within_limit input (decided_run_of input))
+        (W.contents writer.old) (W.contents writer.new)) }
     // Nothing is written before the input was accepted.
     ensures untouched { IfErr result (λ fault. fault ≢ RunFault.Write → writer.new ≡ writer.old) }
 {
@@ -42,7 +44,8 @@ fn write_recorded<W: Write>(
     history: &[PassEntry],
     writer: &mut W,
 ) -> Result<(), RunFault>
-    ensures text { OnOk result (Appends (W.contents writer.old) (W.contents writer.new) (recorded_text table input.now history.now)) }
+    ensures text { OnOk result (Appends (W.contents writer.old) (W.contents writer.new)
+        (recorded_text table input.now history.now)) }
     ensures kind { IfErr result (λ fault. fault ≡ RunFault.Write) }
 {
     if write_front(table, input, writer).is_err() {
@@ -57,7 +60,8 @@ fn write_recorded<W: Write>(
 /// Writes the task table of an input as it stands there and the line after it, where they are asked
 /// for.
 fn write_front<W: Write>(table: bool, input: &[u8], writer: &mut W) -> io::Result<()>
-    ensures { OnOk result (Appends (W.contents writer.old) (W.contents writer.new) (front_of table input.now)) }
+    ensures { OnOk result (Appends (W.contents writer.old) (W.contents writer.new)
+        (front_of table input.now)) }
 {
     if !table {
         return Ok(());

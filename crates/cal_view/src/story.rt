@@ -1,25 +1,12 @@
 //! All that is drawn, from one walk over a history.
 
-use crate::bans::{BanSpan, BanTracker};
+use crate::bans::BanSpan;
 use crate::span::Span;
-use crate::tracking::Tracker;
+use crate::walk::{Over, Row, Walk, is_critical};
 use crate::window::{Window, plot_width};
-use cal_machine::{Config, Kind};
-use cal_policy::{Action, Cause, PassEntry, Record, Seen};
+use cal_machine::Config;
+use cal_policy::{Action, Cause, PassEntry};
 use std::alloc::{AllocError, Global};
-
-/// What each task has after a pass, in task order.
-#[derive(Clone, Copy, Debug, PartialEq, Eq)]
-pub struct Row {
-    /// Cores that its threads hold.
-    pub held: [u8; 16],
-    /// Cores that its threads hold or leave.
-    pub booked: [u8; 16],
-    /// Its cap: that of the last Cap, else its limit.
-    pub caps: [u8; 16],
-    /// Whether the delay of one of its threads is over its threshold.
-    pub late: [bool; 16],
-}
 
 /// How many actions of each kind there are.
 #[derive(Clone, Copy, Debug, PartialEq, Eq)]
@@ -62,126 +49,6 @@ pub struct Story {
     pub sums: Sums,
     /// What the tasks have after the last pass.
     pub last: Row,
-}
-
-/// What is known of the tasks while a history is walked.
-#[derive(Drop)]
-pub struct Tasks {
-    caps: [u8; 16],
-    kept: [Option<Record>; 128],
-}
-
-/// The task of a thread; none where the table has no such thread.
-pub fn task_of(config: &Config, thread: u8) -> Option<usize> {
-    if (thread as usize) < config.threads() {
-        Some(config.task_of(thread as usize))
-    } else {
-        None
-    }
-}
-
-/// The kind of a task; best-effort where the table has no such task.
-pub fn kind_of(config: &Config, task: usize) -> Kind {
-    if task < config.tasks() {
-        config.task(task).kind
-    } else {
-        Kind::BestEffort
-    }
-}
-
-/// Whether a task is latency-critical.
-pub fn is_critical(config: &Config, task: usize) -> bool {
-    matches!(kind_of(config, task), Kind::LatencyCritical)
-}
-
-/// The most that a request has waited by this clock, by a thread's record.
-fn delay_of(record: &Record, now: u64) -> u64 {
-    let queued = if record.queued == 0 {
-        0
-    } else {
-        now.saturating_sub(record.oldest)
-    };
-    let paused = if record.paused == 0 {
-        0
-    } else {
-        now.saturating_sub(record.since)
-    };
-    queued.max(paused)
-}
-
-impl Tasks {
-    /// The table's limits, and no record.
-    pub fn new(config: &Config) -> Tasks {
-        let mut caps = [0; 16];
-        for task in 0..config.tasks() {
-            caps[task] = config.task(task).limit;
-        }
-        Tasks {
-            caps,
-            kept: [None; 128],
-        }
-    }
-
-    /// Keeps the records of whole looks.
-    pub fn look(&mut self, looks: &[Seen]) {
-        for thread in 0..looks.len().min(128) {
-            if let Seen::Whole { rec, .. } = looks[thread] {
-                self.kept[thread] = Some(rec);
-            }
-        }
-    }
-
-    /// Notes a cap.
-    pub fn cap(&mut self, action: Action) {
-        if let Action::Cap { task, cap } = action {
-            if task < 16 {
-                self.caps[task as usize] = cap;
-            }
-        }
-    }
-
-    /// Whether each task has a thread whose delay is over the threshold.
-    fn late(&self, config: &Config, now: u64) -> [bool; 16] {
-        let mut late = [false; 16];
-        for thread in 0..config.threads() {
-            let task = config.task_of(thread);
-            if let Some(record) = self.kept[thread] {
-                if task < 16 && delay_of(&record, now) > config.task(task).delay {
-                    late[task] = true;
-                }
-            }
-        }
-        late
-    }
-}
-
-/// One more for a task.
-fn count(counts: &mut [u8; 16], task: usize) {
-    if task < 16 {
-        counts[task] = counts[task].saturating_add(1);
-    }
-}
-
-/// What the tasks have now.
-pub fn row_of(config: &Config, tracker: &Tracker, tasks: &Tasks, now: u64) -> Row {
-    let mut held = [0; 16];
-    let mut booked = [0; 16];
-    for core in 0..config.machine().cores() {
-        if let Some(span) = tracker.stay(core) {
-            if let Some(task) = task_of(config, span.thread) {
-                count(&mut booked, task);
-                if span.left.is_none() {
-                    count(&mut held, task);
-                }
-            }
-        }
-    }
-    Row {
-        held,
-        booked,
-        caps: tasks.caps,
-        late: tasks.late(config, now),
-    }
 }
 
 impl Sums {
@@ -249,12 +116,12 @@ fn passes_a_slot(window: Window) -> usize {
     passes.saturating_add(1)
 }
 
-/// What is kept while a history is walked.
+/// What is gathered while a history is walked: of spans and bans only those that show.
 #[derive(Drop)]
-struct Walk {
-    tracker: Tracker,
-    bans: BanTracker,
-    tasks: Tasks,
+struct Gathering {
+    walk: Walk,
+    spans: Vec<Span>,
+    bans: Vec<BanSpan>,
     rows: Vec<Row>,
     slots: Vec<Slot>,
     slot: Slot,
@@ -262,15 +129,14 @@ struct Walk {
     last: Row,
 }
 
-impl Walk {
-    fn new(alloc: Global, config: &Config) -> Walk {
-        let tracker = Tracker::new(alloc);
-        let tasks = Tasks::new(config);
-        let last = row_of(config, &tracker, &tasks, 0);
-        Walk {
-            tracker,
-            bans: BanTracker::new(alloc),
-            tasks,
+impl Gathering {
+    fn new(alloc: Global, config: &Config) -> Gathering {
+        let walk = Walk::new(config);
+        let last = walk.row(config, 0);
+        Gathering {
+            walk,
+            spans: Vec::new(alloc),
+            bans: Vec::new(alloc),
             rows: Vec::new(alloc),
             slots: Vec::new(alloc),
             slot: Slot::new(),
@@ -279,13 +145,26 @@ impl Walk {
         }
     }
 
-    fn note(&mut self, pass: usize, actions: &[Action]) -> Result<(), AllocError> {
+    /// Keeps a span and a ban, where they show in the window.
+    fn keep(&mut self, window: Window, over: Over) -> Result<(), AllocError> {
+        match over.span {
+            Some(span) if window.shows(span.from, span.to) => self.spans.push(span)?,
+            _ => {}
+        }
+        match over.ban {
+            Some(ban) if window.shows(ban.from, ban.to) => self.bans.push(ban)?,
+            _ => {}
+        }
+        Ok(())
+    }
+
+    fn note(&mut self, window: Window, pass: usize, actions: &[Action]) -> Result<(), AllocError> {
         for action in actions {
             self.sums.note(*action);
-            self.tasks.cap(*action);
-            self.bans.note(pass, *action)?;
+            let over = self.walk.note(pass, *action);
+            self.keep(window, over)?;
         }
-        self.tracker.note_pass(pass, actions)
+        Ok(())
     }
 
     /// Goes on by one pass.
@@ -296,9 +175,9 @@ impl Walk {
         pass: usize,
         entry: &PassEntry,
     ) -> Result<(), AllocError> {
-        self.tasks.look(entry.input.seen.as_slice());
-        self.note(pass, entry.actions.as_slice())?;
-        let row = row_of(config, &self.tracker, &self.tasks, entry.input.now);
+        self.walk.look(entry.input.seen.as_slice());
+        self.note(window, pass, entry.actions.as_slice())?;
+        let row = self.walk.row(config, entry.input.now);
         if window.has(pass) {
             self.rows.push(row)?;
         }
@@ -312,60 +191,17 @@ impl Walk {
         Ok(())
     }
 
-    fn into_story(
-        self,
-        config: &Config,
-        window: Window,
-        alloc: Global,
-    ) -> Result<Story, AllocError> {
-        let Walk {
-            tracker,
-            bans,
-            tasks,
-            rows,
-            mut slots,
-            slot,
-            sums,
-            last,
-        } = self;
-        let _ = tasks;
-        if slot.passes > 0 {
-            slots.push(slot)?;
+    /// Keeps what goes on at the end of the history.
+    fn close(&mut self, config: &Config, window: Window) -> Result<(), AllocError> {
+        for core in 0..config.machine().cores() {
+            let open = self.walk.open(core);
+            self.keep(window, open)?;
         }
-        let cores = config.machine().cores();
-        let spans = tracker.into_spans(cores)?;
-        let bans = bans.into_bans(cores)?;
-        Ok(Story {
-            spans: shown_spans(alloc, window, spans.as_slice())?,
-            bans: shown_bans(alloc, window, bans.as_slice())?,
-            rows,
-            slots,
-            sums,
-            last,
-        })
-    }
-}
-
-/// The spans that show in a window.
-fn shown_spans(alloc: Global, window: Window, spans: &[Span]) -> Result<Vec<Span>, AllocError> {
-    let mut shown = Vec::new(alloc);
-    for span in spans {
-        if window.shows(span.from, span.to) {
-            shown.push(*span)?;
+        if self.slot.passes > 0 {
+            self.slots.push(self.slot)?;
         }
+        Ok(())
     }
-    Ok(shown)
-}
-
-/// The bans that show in a window.
-fn shown_bans(alloc: Global, window: Window, bans: &[BanSpan]) -> Result<Vec<BanSpan>, AllocError> {
-    let mut shown = Vec::new(alloc);
-    for ban in bans {
-        if window.shows(ban.from, ban.to) {
-            shown.push(*ban)?;
-        }
-    }
-    Ok(shown)
 }
 
 impl Story {
@@ -376,10 +212,18 @@ impl Story {
         history: &[PassEntry],
         window: Window,
     ) -> Result<Story, AllocError> {
-        let mut walk = Walk::new(alloc, config);
+        let mut gathering = Gathering::new(alloc, config);
         for pass in 0..history.len() {
-            walk.pass(config, window, pass, &history[pass])?;
+            gathering.pass(config, window, pass, &history[pass])?;
         }
-        walk.into_story(config, window, alloc)
+        gathering.close(config, window)?;
+        Ok(Story {
+            spans: gathering.spans,
+            bans: gathering.bans,
+            rows: gathering.rows,
+            slots: gathering.slots,
+            sums: gathering.sums,
+            last: gathering.last,
+        })
     }
 }

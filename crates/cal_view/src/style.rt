@@ -2,7 +2,7 @@
 
 use crate::colours::{Scheme, paper_of, shade_of};
 use crate::sheet::Sheet;
-use crate::story::is_critical;
+use crate::walk::is_critical;
 use cal_machine::Config;
 use std::io;
 use std::io::Write;

@@ -2,8 +2,8 @@
 
 use crate::layout::TaskLane;
 use crate::sheet::Sheet;
-use crate::story::{Row, is_critical};
-use crate::telling::{draw_box, kind_word};
+use crate::telling::{draw_box, ending, kind_word};
+use crate::walk::{Row, is_critical};
 use crate::window::LEFT;
 use std::io;
 use std::io::Write;
@@ -49,6 +49,12 @@ fn same_until(sheet: &Sheet<'_>, from: usize, task: usize, figure: Figure) -> us
     count
 }
 
+/// Whether a step of a task's figure begins at a place of the window.
+fn begins(sheet: &Sheet<'_>, place: usize, task: usize, figure: Figure) -> bool {
+    let now = figure_at(sheet, place, task, figure);
+    place == 0 || figure_at(sheet, place.saturating_sub(1), task, figure) != now
+}
+
 /// The x of a place of the window.
 fn x_of(sheet: &Sheet<'_>, place: usize) -> u64 {
     sheet.columns.at(sheet.window.first.saturating_add(place))
@@ -77,6 +83,23 @@ pub fn draw_tasks<W: Write>(sheet: &Sheet<'_>, w: &mut W) -> io::Result<()> {
     Ok(())
 }
 
+/// So many numbers from the first one on.
+fn tell_range<W: Write>(first: usize, count: usize, to: &str, w: &mut W) -> io::Result<()> {
+    let last = first.saturating_add(count).saturating_sub(1);
+    write!(w, "{first}")?;
+    if count > 1 {
+        write!(w, "{to}{last}")?;
+    }
+    Ok(())
+}
+
+/// So many threads from the first one on.
+fn tell_threads<W: Write>(first: usize, count: usize, to: &str, w: &mut W) -> io::Result<()> {
+    let more = ending(count as u64, "s");
+    write!(w, "thread{more} ")?;
+    tell_range(first, count, to, w)
+}
+
 /// The name of a task, with its colour and its threads. Pointing at it fades all other tasks.
 fn draw_name<W: Write>(
     sheet: &Sheet<'_>,
@@ -90,43 +113,35 @@ fn draw_name<W: Write>(
     let middle = lane.top.saturating_add(lane.base) / 2;
     let kind = kind_word(sheet.config, task);
     let (first, count) = sheet.config.threads_of(task);
-    let last = first.saturating_add(count).saturating_sub(1);
     let row = sheet.config.task(task);
     let (guaranteed, limit) = (row.guaranteed, row.limit);
     let (delay, request) = (row.delay, row.request);
-    write!(
-        w,
-        "<g class='k t{task}'><title>task {task} ({kind}), threads {first} to {last}: "
-    )?;
+    write!(w, "<g class='k t{task}'><title>task {task} ({kind}), ")?;
+    tell_threads(first, count, " to ", w)?;
+    w.write_all(b": ")?;
     write!(
         w,
         "guaranteed {guaranteed}, limit {limit}, delay {delay}, request {request}</title>"
     )?;
+    // Where there is room the threads stand in a line of their own below the name.
+    let few = sheet.layout.few;
+    let square = middle.saturating_sub(if few { 11 } else { 6 });
+    let foot = square.saturating_add(if few { 9 } else { 10 });
     w.write_all(b"<path d='")?;
-    if sheet.layout.few {
-        draw_box(16, middle.saturating_sub(11), 11, 11, w)?;
-        let above = middle.saturating_sub(2);
+    draw_box(16, square, 11, 11, w)?;
+    write!(
+        w,
+        "'/><text class='b' x='34' y='{foot}'>task {task} {kind}</text>"
+    )?;
+    if few {
         let below = middle.saturating_add(11);
-        write!(
-            w,
-            "'/><text class='b' x='34' y='{above}'>task {task} {kind}</text>"
-        )?;
-        write!(
-            w,
-            "<text class='q' x='34' y='{below}'>threads {first}-{last}</text></g>\n"
-        )
+        write!(w, "<text class='q' x='34' y='{below}'>")?;
+        tell_threads(first, count, "-", w)?;
     } else {
-        draw_box(16, middle.saturating_sub(6), 11, 11, w)?;
-        let y = middle.saturating_add(4);
-        write!(
-            w,
-            "'/><text class='b' x='34' y='{y}'>task {task} {kind}</text>"
-        )?;
-        write!(
-            w,
-            "<text class='q e' x='171' y='{y}'>{first}-{last}</text></g>\n"
-        )
+        write!(w, "<text class='q e' x='171' y='{foot}'>")?;
+        tell_range(first, count, "-", w)?;
     }
+    w.write_all(b"</text></g>\n")
 }
 
 /// Cores held, and over them cores being left, as steps; and the line over the held ones.
@@ -137,16 +152,12 @@ fn draw_steps<W: Write>(
     w: &mut W,
 ) -> io::Result<()> {
     write!(w, "<g class='a t{task}'>")?;
-    let count = sheet.story.rows.len();
-    let mut from = 0;
-    for _ in 0..count {
-        if from >= count {
-            break;
+    for from in 0..sheet.story.rows.len() {
+        if begins(sheet, from, task, Figure::Held) || begins(sheet, from, task, Figure::Booked) {
+            let held = same_until(sheet, from, task, Figure::Held);
+            let to = same_until(sheet, from, task, Figure::Booked).min(held);
+            draw_step(sheet, task, lane, from, to, w)?;
         }
-        let held = same_until(sheet, from, task, Figure::Held);
-        let to = same_until(sheet, from, task, Figure::Booked).min(held);
-        draw_step(sheet, task, lane, from, to, w)?;
-        from = to;
     }
     w.write_all(b"<path class='e0' d='")?;
     draw_stairs(sheet, task, lane, Figure::Held, w)?;
@@ -180,7 +191,7 @@ fn draw_step<W: Write>(
     write!(w, "held {held}, leaving {leaving}</title>")?;
     let full = lane.unit.saturating_mul(held);
     let pale = lane.unit.saturating_mul(leaving);
-    let top = lane.base.saturating_sub(full);
+    let top = lane.at(held);
     if held > 0 {
         w.write_all(b"<path d='")?;
         draw_box(x, top, wide, full, w)?;
@@ -203,30 +214,38 @@ fn draw_stairs<W: Write>(
     w: &mut W,
 ) -> io::Result<()> {
     let right = sheet.columns.right;
-    let mut from = 0;
-    let mut start = "M";
     let count = sheet.story.rows.len();
-    for _ in 0..count {
-        if from >= count {
-            break;
+    for from in 0..count {
+        if begins(sheet, from, task, figure) {
+            let y = lane.at(figure_at(sheet, from, task, figure));
+            let x = x_of(sheet, from);
+            if from == 0 {
+                write!(w, "M{x} {y}")?;
+            } else {
+                write!(w, "H{x}V{y}")?;
+            }
         }
-        let high = lane
-            .unit
-            .saturating_mul(figure_at(sheet, from, task, figure));
-        let y = lane.base.saturating_sub(high);
-        let x = x_of(sheet, from);
-        if from == 0 {
-            write!(w, "{start}{x} {y}")?;
-            start = "";
-        } else {
-            write!(w, "H{x}V{y}")?;
-        }
-        from = same_until(sheet, from, task, figure);
     }
-    if start == "" {
+    if count > 0 {
         write!(w, "H{right}")?;
     }
     Ok(())
+}
+
+/// Words at the right of a lane.
+fn draw_word<W: Write>(
+    sheet: &Sheet<'_>,
+    y: u64,
+    word: &str,
+    figure: u64,
+    w: &mut W,
+) -> io::Result<()> {
+    let x = sheet.columns.right.saturating_add(6);
+    let foot = y.saturating_add(4);
+    write!(
+        w,
+        "<text class='q' x='{x}' y='{foot}'>{word} {figure}</text>"
+    )
 }
 
 /// The lines of limit, guarantee and cap with their words, and the bar of delay.
@@ -240,24 +259,19 @@ fn draw_lines<W: Write>(
         return Ok(());
     }
     let right = sheet.columns.right;
-    let x = right.saturating_add(6);
     let row = sheet.config.task(task);
     let (guaranteed, limit) = (row.guaranteed, row.limit);
     let (top, base) = (lane.top, lane.base);
-    let y = top.saturating_add(4);
     write!(w, "<path class='g2' d='M{LEFT} {base}H{right}'/>")?;
     write!(w, "<path class='lim' d='M{LEFT} {top}H{right}'/>")?;
-    if guaranteed == limit {
-        write!(
-            w,
-            "<text class='q' x='{x}' y='{y}'>limit, guar. {limit}</text>"
-        )?;
+    let word = if guaranteed == limit {
+        "limit, guar."
     } else {
-        write!(w, "<text class='q' x='{x}' y='{y}'>limit {limit}</text>")?;
-    }
+        "limit"
+    };
+    draw_word(sheet, top, word, u64::from(limit), w)?;
     if guaranteed > 0 {
-        let high = lane.unit.saturating_mul(u64::from(guaranteed));
-        draw_guarantee(sheet, base.saturating_sub(high), top, guaranteed, w)?;
+        draw_guarantee(sheet, lane, guaranteed, w)?;
     }
     if !is_critical(sheet.config, task) {
         draw_cap(sheet, task, lane, w)?;
@@ -268,20 +282,15 @@ fn draw_lines<W: Write>(
 /// The line of a guarantee; it has words of its own where they do not stand on those of the limit.
 fn draw_guarantee<W: Write>(
     sheet: &Sheet<'_>,
-    y: u64,
-    top: u64,
+    lane: &TaskLane,
     guaranteed: u8,
     w: &mut W,
 ) -> io::Result<()> {
     let right = sheet.columns.right;
+    let y = lane.at(u64::from(guaranteed));
     write!(w, "<path class='gu' d='M{LEFT} {y}H{right}'/>")?;
-    if y.saturating_sub(top) >= 10 {
-        let x = right.saturating_add(6);
-        let foot = y.saturating_add(4);
-        write!(
-            w,
-            "<text class='q' x='{x}' y='{foot}'>guar. {guaranteed}</text>"
-        )?;
+    if y.saturating_sub(lane.top) >= 10 {
+        draw_word(sheet, y, "guar.", u64::from(guaranteed), w)?;
     }
     Ok(())
 }
@@ -298,12 +307,9 @@ fn draw_cap<W: Write>(
     w.write_all(b"'/>")?;
     let last = sheet.story.rows.len().saturating_sub(1);
     let cap = figure_at(sheet, last, task, Figure::Cap);
-    let high = lane.unit.saturating_mul(cap);
-    let y = lane.base.saturating_sub(high);
+    let y = lane.at(cap);
     if y.saturating_sub(lane.top) >= 10 {
-        let x = sheet.columns.right.saturating_add(6);
-        let foot = y.saturating_add(4);
-        write!(w, "<text class='q' x='{x}' y='{foot}'>cap {cap}</text>")?;
+        draw_word(sheet, y, "cap", cap, w)?;
     }
     Ok(())
 }
@@ -322,18 +328,13 @@ fn draw_delay<W: Write>(
     };
     write!(w, "<path class='wt' d='")?;
     let y = lane.base.saturating_add(2);
-    let count = sheet.story.rows.len();
-    let mut from = 0;
-    for _ in 0..count {
-        if from >= count {
-            break;
-        }
-        let to = same_until(sheet, from, task, Figure::Late);
-        if figure_at(sheet, from, task, Figure::Late) > 0 {
+    for from in 0..sheet.story.rows.len() {
+        let late = figure_at(sheet, from, task, Figure::Late) > 0;
+        if late && begins(sheet, from, task, Figure::Late) {
+            let to = same_until(sheet, from, task, Figure::Late);
             let x = x_of(sheet, from);
             draw_box(x, y, x_of(sheet, to).saturating_sub(x), 3, w)?;
         }
-        from = to;
     }
     writeln!(w, "'><title>task {task}: delay over {delay}</title></path>")
 }

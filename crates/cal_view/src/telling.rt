@@ -3,7 +3,7 @@
 use crate::bans::BanSpan;
 use crate::sheet::Sheet;
 use crate::span::Span;
-use crate::story::{is_critical, task_of};
+use crate::walk::{is_critical, task_of};
 use cal_machine::Config;
 use cal_policy::{Action, Cause, PassEntry, Seen};
 use std::io;

@@ -45,3 +45,25 @@ grant,0,0,1
 grant,1,2,2
 end,3
 ";
+
+/// Core 0 is granted while it is held, freed in that pass, and revoked while it is free.
+const DISORDERLY: &str = "\
+caladan-history,2
+pass,100,0
+whole,0,1,0,0,0,0,0,0,0,0,0,0
+whole,1,1,0,0,0,0,0,0,0,0,0,0
+whole,2,1,0,0,0,0,0,0,0,0,0,0
+grant,0,1,3
+pass,110,0
+whole,0,1,0,0,0,0,0,0,0,0,0,0
+whole,1,1,0,0,0,0,0,0,0,0,0,0
+whole,2,1,0,0,0,0,0,0,0,0,0,0
+grant,0,2,2
+free,0
+pass,120,0
+whole,0,1,0,0,0,0,0,0,0,0,0,0
+whole,1,1,0,0,0,0,0,0,0,0,0,0
+whole,2,1,0,0,0,0,0,0,0,0,0,0
+revoke,0,bandwidth
+end,3
+";

@@ -3,11 +3,10 @@
 //! Clocks stand as microseconds, since the format knows no ticks. Cores are the tracks of one
 //! group, bans those of a second; the counters of tasks and of bandwidth are a third.
 
-use crate::bans::{BanSpan, BanTracker};
+use crate::bans::BanSpan;
 use crate::span::Span;
-use crate::story::{Row, Tasks, is_critical, row_of, task_of};
 use crate::telling::{clock_of, kind_word, tell_ban, tell_span};
-use crate::tracking::Tracker;
+use crate::walk::{Over, Row, Walk, is_critical, task_of};
 use cal_engine::RunFault;
 use cal_machine::Config;
 use cal_policy::{Cause, PassEntry};
@@ -131,13 +130,7 @@ pub fn write_timeline<W: Write>(
     };
     events.write(b"{\"displayTimeUnit\":\"ns\",\"traceEvents\":[")?;
     put_names(config, &mut events)?;
-    let (spans, bans) = put_counters(config, history, &mut events)?;
-    for span in spans.as_slice() {
-        put_span(config, history, span, &mut events)?;
-    }
-    for ban in bans.as_slice() {
-        put_ban(config, history, ban, &mut events)?;
-    }
+    put_passes(config, history, &mut events)?;
     events.write(b"\n]}\n")
 }
 
@@ -170,31 +163,73 @@ fn put_name<W: Write>(
     })
 }
 
-/// Walks over the history: writes each figure when it changes, and answers the spans and the bans.
-fn put_counters<W: Write>(
+/// Walks over the history once: writes each figure when it changes, and each span and each ban when
+/// it ends, or after the last pass.
+fn put_passes<W: Write>(
     config: &Config,
     history: &[PassEntry],
     events: &mut Events<'_, W>,
-) -> Result<(Vec<Span>, Vec<BanSpan>), RunFault> {
-    let mut tracker = Tracker::new(events.alloc);
-    let mut bans = BanTracker::new(events.alloc);
-    let mut tasks = Tasks::new(config);
+) -> Result<(), RunFault> {
+    let mut walk = Walk::new(config);
     let mut last = None;
     for pass in 0..history.len() {
         let entry = &history[pass];
-        tasks.look(entry.input.seen.as_slice());
-        for action in entry.actions.as_slice() {
-            tasks.cap(*action);
-            bans.note(pass, *action)?;
-        }
-        tracker.note_pass(pass, entry.actions.as_slice())?;
-        let row = row_of(config, &tracker, &tasks, entry.input.now);
-        put_row(config, entry.input.now, &row, last, events)?;
-        put_figure("bandwidth", entry.input.now, entry.input.bandwidth, events)?;
+        let now = entry.input.now;
+        walk.look(entry.input.seen.as_slice());
+        put_actions(config, history, pass, &mut walk, events)?;
+        let row = walk.row(config, now);
+        put_row(config, now, &row, last, events)?;
+        put_figure("bandwidth", now, entry.input.bandwidth, events)?;
         last = Some(row);
     }
-    let cores = config.machine().cores();
-    Ok((tracker.into_spans(cores)?, bans.into_bans(cores)?))
+    put_rest(config, history, &walk, events)
+}
+
+/// What the actions of a pass end.
+fn put_actions<W: Write>(
+    config: &Config,
+    history: &[PassEntry],
+    pass: usize,
+    walk: &mut Walk,
+    events: &mut Events<'_, W>,
+) -> Result<(), RunFault> {
+    let Some(entry) = history.get(pass) else {
+        return Ok(());
+    };
+    for action in entry.actions.as_slice() {
+        let over = walk.note(pass, *action);
+        put_over(config, history, over, events)?;
+    }
+    Ok(())
+}
+
+/// What goes on after the last pass.
+fn put_rest<W: Write>(
+    config: &Config,
+    history: &[PassEntry],
+    walk: &Walk,
+    events: &mut Events<'_, W>,
+) -> Result<(), RunFault> {
+    for core in 0..config.machine().cores() {
+        put_over(config, history, walk.open(core), events)?;
+    }
+    Ok(())
+}
+
+/// A span and a ban, where there are such.
+fn put_over<W: Write>(
+    config: &Config,
+    history: &[PassEntry],
+    over: Over,
+    events: &mut Events<'_, W>,
+) -> Result<(), RunFault> {
+    if let Some(span) = over.span {
+        put_span(config, history, &span, events)?;
+    }
+    if let Some(ban) = over.ban {
+        put_ban(config, history, &ban, events)?;
+    }
+    Ok(())
 }
 
 /// The figures of the tasks that are others than before.

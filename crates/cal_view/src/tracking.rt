@@ -1,19 +1,20 @@
 //! The spans of a history, by one walk over it.
 
-ghost use Rattle.std.specs.Prelude.{◌≡◌, ◌++◌, ◌∷◌, [], ℕ, List, None, Some, IfOk, OnOk, map, option_map, replicate};
-ghost use Rattle.cal_view.specs.Spans.{Move, made_in, granted, revoked, ended, ended_by, one_of, ended_of, open_of, spans_of, stay_of};
-ghost use Rattle.cal_view.specs.Tracking.{AreStays, Tracks};
+ghost use Rattle.std.specs.Prelude.{◌≡◌, ◌++◌, ◌∷◌, [], ℕ, List, None, Some};
+ghost use Rattle.std.specs.Prelude.{IfOk, OnOk, map, option_map, replicate};
+ghost use Rattle.cal_view.specs.Spans.{Move, ended, ended_by, ended_of, granted, left_as};
+ghost use Rattle.cal_view.specs.Spans.{made_in, one_of, open_of, span_at, spans_of};
+ghost use Rattle.cal_view.specs.Tracking.{AreStays, Gathers, Tracks};
 
 use crate::span::{Left, Span};
 use cal_policy::{Action, Cause, PassEntry};
 use std::alloc::{AllocError, Global};
 
-/// What the actions so far have made of the cores: the span that each is in, and those that ended.
-/// There is a place for each number that an action can name.
+/// The span that each core is in after the actions so far. There is a place for each number that an
+/// action can name.
 #[derive(Drop)]
 pub struct Tracker {
     stays: [Option<Span>; 256],
-    ended: Vec<Span>,
 }
 
 fn no_stays() -> [Option<Span>; 256]
@@ -52,7 +53,7 @@ fn ended(span: Span, pass: usize) -> Span
 
 /// The span that a core is in, if any, where this pass revokes the core.
 fn revoked(stay: Option<Span>, pass: usize, cause: Cause) -> Option<Span>
-    ensures { result ≡ option_map (revoked pass cause) stay }
+    ensures { result ≡ option_map (left_as (Some (record { pass = pass; cause = cause }))) stay }
 {
     match stay {
         None => None,
@@ -69,7 +70,8 @@ fn revoked(stay: Option<Span>, pass: usize, cause: Cause) -> Option<Span>
 
 /// The span that a core is in, if any, ended in this pass.
 fn ended_at(stays: &[Option<Span>; 256], core: u8, pass: usize) -> Option<Span>
-    ensures { (moves : List Move) → AreStays stays.now moves → one_of result ≡ ended_by moves pass (Action.Free core) }
+    ensures { (moves : List Move) → AreStays stays.now moves
+        → one_of result ≡ ended_by moves pass (Action.Free core) }
 {
     match stays[core as usize] {
         None => None,
@@ -79,7 +81,8 @@ fn ended_at(stays: &[Option<Span>; 256], core: u8, pass: usize) -> Option<Span>
 
 /// The span that an action ends, if any.
 fn ended_by(stays: &[Option<Span>; 256], pass: usize, action: Action) -> Option<Span>
-    ensures { (moves : List Move) → AreStays stays.now moves → one_of result ≡ ended_by moves pass action }
+    ensures { (moves : List Move) → AreStays stays.now moves
+        → one_of result ≡ ended_by moves pass action }
 {
     match action {
         Action::Free { core } => ended_at(stays, core, pass),
@@ -93,7 +96,8 @@ fn ended_by(stays: &[Option<Span>; 256], pass: usize, action: Action) -> Option<
 
 /// Brings the spans that the cores are in up to one more action.
 fn note_stay(stays: &mut [Option<Span>; 256], pass: usize, action: Action)
-    ensures { (moves : List Move) → AreStays stays.old moves → AreStays stays.new (moves ++ made_in pass action ∷ []) }
+    ensures { (moves : List Move) → AreStays stays.old moves
+        → AreStays stays.new (moves ++ made_in pass action ∷ []) }
 {
     match action {
         Action::Free { core } => stays[core as usize] = None,
@@ -111,6 +115,34 @@ fn note_stay(stays: &mut [Option<Span>; 256], pass: usize, action: Action)
     }
 }
 
+impl Tracker {
+    /// The state before any action.
+    pub fn new() -> Tracker
+        ensures { Tracks result [] }
+    {
+        Tracker { stays: no_stays() }
+    }
+
+    /// The span that a core is in; none where it is free.
+    pub fn span(&self, core: u8) -> Option<Span>
+        ensures { (moves : List Move) → Tracks self.now moves → result ≡ span_at moves core }
+    {
+        self.stays[core as usize]
+    }
+
+    /// Brings the state up to one more action, and answers the span that it ends, if any.
+    pub fn note(&mut self, pass: usize, action: Action) -> Option<Span>
+        ensures over { (moves : List Move) → Tracks self.old moves
+            → one_of result ≡ ended_by moves pass action }
+        ensures tracks { (moves : List Move) → Tracks self.old moves
+            → Tracks self.new (moves ++ made_in pass action ∷ []) }
+    {
+        let over = ended_by(&self.stays, pass, action);
+        note_stay(&mut self.stays, pass, action);
+        over
+    }
+}
+
 /// Puts a span, if there is one, at the end of a list. The error is want of memory.
 fn put_one(spans: &mut Vec<Span>, span: Option<Span>) -> Result<(), AllocError>
     ensures { OnOk result (spans.new.items ≡ spans.old.items ++ one_of span) }
@@ -124,27 +156,27 @@ fn put_one(spans: &mut Vec<Span>, span: Option<Span>) -> Result<(), AllocError>
     }
 }
 
-impl Tracker {
-    /// The state before any action.
-    pub fn new(alloc: Global) -> Tracker
-        ensures { Tracks result [] }
+/// A walk over a history, and the spans that ended so far.
+#[derive(Drop)]
+struct Gathering {
+    tracker: Tracker,
+    ended: Vec<Span>,
+}
+
+impl Gathering {
+    fn new(alloc: Global) -> Gathering
+        ensures { Gathers result [] }
     {
-        Tracker {
-            stays: no_stays(),
+        Gathering {
+            tracker: Tracker::new(),
             ended: Vec::new(alloc),
         }
     }
 
-    /// The span that a core is in; none where it is free.
-    pub fn stay(&self, core: u8) -> Option<Span>
-        ensures { (moves : List Move) → Tracks self.now moves → result ≡ stay_of moves core }
-    {
-        self.stays[core as usize]
-    }
-
-    /// Brings the state up to one more pass. The error is want of memory.
-    pub fn note_pass(&mut self, pass: usize, actions: &[Action]) -> Result<(), AllocError>
-        ensures { OnOk result ((moves : List Move) → Tracks self.old moves → Tracks self.new (moves ++ map (made_in pass) actions.now)) }
+    /// Goes on by one pass. The error is want of memory.
+    fn note_pass(&mut self, pass: usize, actions: &[Action]) -> Result<(), AllocError>
+        ensures { OnOk result ((moves : List Move) → Gathers self.old moves
+            → Gathers self.new (moves ++ map (made_in pass) actions.now)) }
     {
         for action in actions {
             self.note(pass, *action)?;
@@ -152,24 +184,25 @@ impl Tracker {
         Ok(())
     }
 
-    /// Brings the state up to one more action. The error is want of memory.
+    /// Goes on by one action. The error is want of memory.
     fn note(&mut self, pass: usize, action: Action) -> Result<(), AllocError>
-        ensures { OnOk result ((moves : List Move) → Tracks self.old moves → Tracks self.new (moves ++ made_in pass action ∷ [])) }
+        ensures { OnOk result ((moves : List Move) → Gathers self.old moves
+            → Gathers self.new (moves ++ made_in pass action ∷ [])) }
     {
-        let over = ended_by(&self.stays, pass, action);
+        let over = self.tracker.note(pass, action);
         put_one(&mut self.ended, over)?;
-        note_stay(&mut self.stays, pass, action);
         Ok(())
     }
 
     /// All spans: those that ended, and then those that the cores below `cores` are in. The error
     /// is want of memory.
-    pub fn into_spans(self, cores: u8) -> Result<Vec<Span>, AllocError>
-        ensures { (moves : List Move) → Tracks self moves → IfOk result (λ spans. spans.items ≡ ended_of moves ++ open_of moves cores) }
+    fn into_spans(self, cores: u8) -> Result<Vec<Span>, AllocError>
+        ensures { (moves : List Move) → Gathers self moves
+            → IfOk result (λ spans. spans.items ≡ ended_of moves ++ open_of moves cores) }
     {
-        let Tracker { stays, mut ended } = self;
+        let Gathering { tracker, mut ended } = self;
         for core in 0..cores {
-            put_one(&mut ended, stays[core as usize])?;
+            put_one(&mut ended, tracker.span(core))?;
         }
         Ok(ended)
     }
@@ -182,9 +215,9 @@ impl Tracker {
 pub fn spans_of(alloc: Global, cores: u8, history: &[PassEntry]) -> Result<Vec<Span>, AllocError>
     ensures { IfOk result (λ spans. spans.items ≡ spans_of cores history.now) }
 {
-    let mut tracker = Tracker::new(alloc);
+    let mut gathering = Gathering::new(alloc);
     for pass in 0..history.len() {
-        tracker.note_pass(pass, history[pass].actions.as_slice())?;
+        gathering.note_pass(pass, history[pass].actions.as_slice())?;
     }
-    tracker.into_spans(cores)
+    gathering.into_spans(cores)
 }

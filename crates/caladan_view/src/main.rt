@@ -5,13 +5,12 @@
 //! ends of the process.
 #![tactic(auto)]
 
-use cal_engine::RunFault;
+use cal_engine::given_words;
 use cal_view::{end_with, run_program};
 use std::process::ExitCode;
-use std::{env, io};
 
 fn main(rt: HostRuntime) -> ExitCode {
-    let status = match given_words(&rt) {
+    let status = match given_words(&rt, "caladan_view") {
         Ok(words) => run_program(
             rt.alloc(),
             words.as_slice(),
@@ -22,26 +21,4 @@ fn main(rt: HostRuntime) -> ExitCode {
         Err(fault) => end_with(&fault, &mut rt.stderr()),
     };
     ExitCode::from(status)
-}
-
-/// The program's name and words. A word that is not text stands as a replacement character, which
-/// is in no table.
-fn given_words(rt: &HostRuntime) -> Result<Vec<String>, RunFault> {
-    let mut given = Vec::new(rt.alloc());
-    match env::args(rt) {
-        Ok(args) => {
-            for word in args {
-                given.push(word)?;
-            }
-        }
-        Err(e) => {
-            if e.kind() == io::ErrorKind::OutOfMemory {
-                return Err(RunFault::Memory);
-            }
-            for word in ["caladan_view", "\u{FFFD}"] {
-                given.push(String::from_str(rt.alloc(), word)?)?;
-            }
-        }
-    }
-    Ok(given)
 }

@@ -58,6 +58,8 @@ fn a_picture_tells_each_span_once(rt: HostRuntime) -> Result<(), Fail> {
     assert_eq!(rt; count(text, b": granted in pass "), 3);
     assert_eq!(rt; count(text, b"; freed in pass 2"), 1);
     assert_eq!(rt; count(text, b"; still held"), 2);
+    let end = b" At the end: task 0 lc held 1 leaving 0; task 1 be held 1 leaving 0. The report ";
+    assert_eq!(rt; count(text, end), 1);
     Ok(())
 }
 
@@ -83,5 +85,19 @@ fn faults_have_the_program_in_front(rt: HostRuntime) -> Result<(), Fail> {
     assert_eq!(rt; ran.output.len(), 0);
     let ran = run(&rt, &["picture", "--passes", "0"], TABLE)?;
     assert_eq!(rt; ran.status, 2);
+    Ok(())
+}
+
+// Help and the version are answers, and no word at all is none.
+#[test]
+fn help_and_the_version(rt: HostRuntime) -> Result<(), Fail> {
+    for words in [["--version"].as_slice(), ["picture", "--help"].as_slice()] {
+        let ran = run(&rt, words, "")?;
+        assert_eq!(rt; ran.status, 0, "{words:?}");
+        assert!(rt; !ran.output.is_empty() && ran.errors.is_empty());
+    }
+    let ran = run(&rt, &[], "")?;
+    assert_eq!(rt; ran.status, 2);
+    assert!(rt; ran.output.is_empty() && !ran.errors.is_empty());
     Ok(())
 }

@@ -1,6 +1,6 @@
 //! The spans of a history that was worked by hand.
 
-use super::{HISTORY, TABLE};
+use super::{DISORDERLY, HISTORY, TABLE};
 use crate::{Left, Span, spans_of};
 use cal_machine::Config;
 use cal_policy::Cause;
@@ -40,6 +40,33 @@ fn spans_of_a_worked_history(rt: HostRuntime) -> Result<(), Fail> {
             from: 2,
             left: None,
             to: None,
+        },
+    ];
+    assert_eq!(rt; spans.as_slice(), wanted.as_slice());
+    Ok(())
+}
+
+#[test]
+fn what_does_not_fit_counts_for_nothing(rt: HostRuntime) -> Result<(), Fail> {
+    let config = Config::read(rt.alloc(), TABLE.as_bytes())?;
+    let history = read_history(rt.alloc(), &config, DISORDERLY.as_bytes())?;
+    let spans = spans_of(rt.alloc(), 2, history.as_slice())?;
+    let wanted = [
+        Span {
+            core: 0,
+            thread: 1,
+            class: 3,
+            from: 0,
+            left: None,
+            to: Some(1),
+        },
+        Span {
+            core: 0,
+            thread: 2,
+            class: 2,
+            from: 1,
+            left: None,
+            to: Some(1),
         },
     ];
     assert_eq!(rt; spans.as_slice(), wanted.as_slice());

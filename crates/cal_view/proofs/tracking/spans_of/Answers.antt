@@ -1,7 +1,7 @@
 use Rattle.std.proofs.Common.{◌≡◌, ◌+◌, ◌++◌, ◌∙◌, ℕ, List, map, take, get_or, ap, sym, subst, arith}
-use Rattle.cal_policy.specs.declared.pass_action.Action.{Action}
+use Rattle.cal_policy.specs.declared.history.action.Action.{Action}
 use Rattle.cal_view.specs.Spans.{Move, made_in, moves_of}
-use Rattle.cal_view.specs.Tracking.{Tracks}
+use Rattle.cal_view.specs.Tracking.{Gathers}
 use Rattle.cal_view.proofs.StaysKept.{moves-more}
 use Rattle.cal_view.proofs.tracking.spans_of.Goals as goal
 
@@ -16,4 +16,4 @@ loop-pass-preserved c =
     moves-more 0 h p entry c.loop-pass-test.true
     ∙ ap (λ (k : ℕ). moves_of (take p h) ++ map (made_in k) (get_or h p entry).actions) zero_p
     ∙ ap (λ (acts : List Action). moves_of (take p h) ++ map (made_in p) acts) (sym same) in
-    subst (λ (moves : List Move). Tracks c.note_pass.new.self moves) (sym more) (c.in_ok-note_pass.ensures (moves_of (take p h)) c.loop-pass.invariant)
+    subst (λ (moves : List Move). Gathers c.note_pass.new.self moves) (sym more) (c.in_ok-note_pass.ensures (moves_of (take p h)) c.loop-pass.invariant)

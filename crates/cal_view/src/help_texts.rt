@@ -1,0 +1,98 @@
+//! What help says of each word below its options: what goes in and comes out, the exit statuses,
+//! and a whole small run to copy, which tools/examples makes.
+
+/// Of the program as a whole.
+pub const PROGRAM: &str = "\
+Each word reads one input from the standard input: a task table (TOML), the line ---, and signals or
+a history (CSV). `caladan_view WORD --help` says which and what is written, with a whole input to
+copy; docs/FORMATS.md has all of it.
+
+Exit status: 0 done, 2 bad words or a refused input, 3 memory or output was refused. A fault is one
+line on the standard error.";
+
+/// Of the word `history`.
+pub const HISTORY: &str = "\
+Standard input: a task table (TOML), the line ---, and signals (CSV), as `caladan_sim decide` reads.
+Standard output: the history that they lead to; with --table an input of `picture`, of `timeline`
+and of `caladan_sim audit`.
+Exit status: 0 done, 2 a refused input, 3 memory or output was refused.
+
+To try it:
+
+./caladan_view history <<'END'
+cores = 2
+bandwidth_limit = 1000
+[[task]]
+kind = \"lc\"
+guaranteed = 1
+limit = 1
+delay = 10
+request = 50
+---
+caladan-signals,2
+pass,111,0
+whole,0,1,1,0,0,1,100,0,0,105,0,0
+end,1
+END
+
+It writes:
+
+caladan-history,2
+pass,111,0
+whole,0,1,1,0,0,1,100,0,0,105,0,0
+grant,0,0,3
+end,1";
+
+/// Of the word `picture`.
+pub const PICTURE: &str = "\
+Standard input: a task table (TOML), the line ---, and a history (CSV).
+Standard output: one SVG, which any browser opens.
+Exit status: 0 done, 2 a refused input, 3 memory or output was refused.
+
+To try it:
+
+./caladan_view picture > picture.svg <<'END'
+cores = 2
+bandwidth_limit = 1000
+[[task]]
+kind = \"lc\"
+guaranteed = 1
+limit = 1
+delay = 10
+request = 50
+---
+caladan-history,2
+pass,111,0
+whole,0,1,1,0,0,1,100,0,0,105,0,0
+grant,0,0,3
+pass,121,0
+whole,0,1,2,1,1,0,0,112,0,112,0,0
+end,2
+END";
+
+/// Of the word `timeline`.
+pub const TIMELINE: &str = "\
+Standard input: a task table (TOML), the line ---, and a history (CSV).
+Standard output: trace events (JSON), which https://ui.perfetto.dev and chrome://tracing open.
+Exit status: 0 done, 2 a refused input, 3 memory or output was refused.
+
+To try it:
+
+./caladan_view timeline > timeline.json <<'END'
+cores = 2
+bandwidth_limit = 1000
+[[task]]
+kind = \"lc\"
+guaranteed = 1
+limit = 1
+delay = 10
+request = 50
+---
+caladan-history,2
+pass,111,0
+whole,0,1,1,0,0,1,100,0,0,105,0,0
+grant,0,0,3
+pass,121,0
+whole,0,1,2,1,1,0,0,112,0,112,0,0
+end,2
+END";

@@ -1,0 +1,189 @@
+//! What is known after the passes so far, while a history is walked: who has which core, which
+//! cores are banned, and what the tasks have. It does not grow.
+
+use crate::bans::{BanSpan, BanTracker};
+use crate::span::Span;
+use crate::tracking::Tracker;
+use cal_machine::{Config, Kind};
+use cal_policy::{Action, Record, Seen};
+
+/// What each task has after a pass, in task order.
+#[derive(Clone, Copy, Debug, PartialEq, Eq)]
+pub struct Row {
+    /// Cores that its threads hold.
+    pub held: [u8; 16],
+    /// Cores that its threads hold or leave.
+    pub booked: [u8; 16],
+    /// Its cap: that of the last Cap, else its limit.
+    pub caps: [u8; 16],
+    /// Whether the delay of one of its threads is over its threshold.
+    pub late: [bool; 16],
+}
+
+/// What is known of the tasks while a history is walked.
+#[derive(Drop)]
+struct Tasks {
+    caps: [u8; 16],
+    kept: [Option<Record>; 128],
+}
+
+/// The task of a thread; none where the table has no such thread.
+pub fn task_of(config: &Config, thread: u8) -> Option<usize> {
+    if (thread as usize) < config.threads() {
+        Some(config.task_of(thread as usize))
+    } else {
+        None
+    }
+}
+
+/// The kind of a task; best-effort where the table has no such task.
+pub fn kind_of(config: &Config, task: usize) -> Kind {
+    if task < config.tasks() {
+        config.task(task).kind
+    } else {
+        Kind::BestEffort
+    }
+}
+
+/// Whether a task is latency-critical.
+pub fn is_critical(config: &Config, task: usize) -> bool {
+    matches!(kind_of(config, task), Kind::LatencyCritical)
+}
+
+/// The most that a request has waited by this clock, by a thread's record.
+fn delay_of(record: &Record, now: u64) -> u64 {
+    let queued = if record.queued == 0 {
+        0
+    } else {
+        now.saturating_sub(record.oldest)
+    };
+    let paused = if record.paused == 0 {
+        0
+    } else {
+        now.saturating_sub(record.since)
+    };
+    queued.max(paused)
+}
+
+impl Tasks {
+    /// The table's limits, and no record.
+    fn new(config: &Config) -> Tasks {
+        let mut caps = [0; 16];
+        for task in 0..config.tasks() {
+            caps[task] = config.task(task).limit;
+        }
+        Tasks {
+            caps,
+            kept: [None; 128],
+        }
+    }
+
+    /// Keeps the records of whole looks.
+    fn look(&mut self, looks: &[Seen]) {
+        for thread in 0..looks.len().min(128) {
+            if let Seen::Whole { rec, .. } = looks[thread] {
+                self.kept[thread] = Some(rec);
+            }
+        }
+    }
+
+    /// Notes a cap.
+    fn cap(&mut self, action: Action) {
+        if let Action::Cap { task, cap } = action {
+            if task < 16 {
+                self.caps[task as usize] = cap;
+            }
+        }
+    }
+
+    /// Whether each task has a thread whose delay is over the threshold.
+    fn late(&self, config: &Config, now: u64) -> [bool; 16] {
+        let mut late = [false; 16];
+        for thread in 0..config.threads() {
+            let task = config.task_of(thread);
+            if let Some(record) = self.kept[thread] {
+                if task < 16 && delay_of(&record, now) > config.task(task).delay {
+                    late[task] = true;
+                }
+            }
+        }
+        late
+    }
+}
+
+/// One more for a task.
+fn count(counts: &mut [u8; 16], task: usize) {
+    if task < 16 {
+        counts[task] = counts[task].saturating_add(1);
+    }
+}
+
+/// What an action ends.
+#[derive(Clone, Copy, Debug, PartialEq, Eq)]
+pub struct Over {
+    pub span: Option<Span>,
+    pub ban: Option<BanSpan>,
+}
+
+/// What is known after the passes so far.
+#[derive(Drop)]
+pub struct Walk {
+    spans: Tracker,
+    bans: BanTracker,
+    tasks: Tasks,
+}
+
+impl Walk {
+    /// Before the first pass.
+    pub fn new(config: &Config) -> Walk {
+        Walk {
+            spans: Tracker::new(),
+            bans: BanTracker::new(),
+            tasks: Tasks::new(config),
+        }
+    }
+
+    /// Goes on by the looks of a pass.
+    pub fn look(&mut self, looks: &[Seen]) {
+        self.tasks.look(looks);
+    }
+
+    /// Goes on by one action of a pass, and answers what it ends.
+    pub fn note(&mut self, pass: usize, action: Action) -> Over {
+        self.tasks.cap(action);
+        Over {
+            span: self.spans.note(pass, action),
+            ban: self.bans.note(pass, action),
+        }
+    }
+
+    /// What goes on at a core.
+    pub fn open(&self, core: u8) -> Over {
+        Over {
+            span: self.spans.span(core),
+            ban: self.bans.ban(core),
+        }
+    }
+
+    /// What the tasks have by this clock.
+    pub fn row(&self, config: &Config, now: u64) -> Row {
+        let mut held = [0; 16];
+        let mut booked = [0; 16];
+        for core in 0..config.machine().cores() {
+            if let Some(span) = self.spans.span(core) {
+                if let Some(task) = task_of(config, span.thread) {
+                    count(&mut booked, task);
+                    if span.left.is_none() {
+                        count(&mut held, task);
+                    }
+                }
+            }
+        }
+        Row {
+            held,
+            booked,
+            caps: self.tasks.caps,
+            late: self.tasks.late(config, now),
+        }
+    }
+}
