@@ -11,25 +11,25 @@ use Rattle.cal_signal.specs.declared.look.Look.TheVariants.{Whole, Busy}
 use Rattle.cal_signal.specs.declared.shown.Shown.{Shown}
 use Rattle.cal_lists.proofs.Last.{some_same}
 use Rattle.cal_machine.specs.Table.{Table}
-use Rattle.cal_policy.specs.declared.judged_look.Seen.{Seen}
-use Rattle.cal_policy.specs.declared.judged_look.Seen.TheVariants as seen
-use Rattle.cal_policy.specs.declared.pass_action.Action.{Action}
-use Rattle.cal_policy.specs.declared.pass_entry.PassEntry.{PassEntry}
+use Rattle.cal_policy.specs.declared.history.look.Seen.{Seen}
+use Rattle.cal_policy.specs.declared.history.look.Seen.TheVariants as seen
+use Rattle.cal_policy.specs.declared.history.action.Action.{Action}
+use Rattle.cal_policy.specs.declared.history.entry.PassEntry.{PassEntry}
 use Rattle.cal_policy.specs.Tasks.{threads_of_table}
 use Rattle.cal_policy.specs.History.{actions_of, looks_of, sent_to}
-use Rattle.cal_policy.specs.Looks.{last_shown, look_of, shown_at, shown_by}
-use Rattle.cal_policy.specs.Judging.{judged, is_foreign, IsFitLook, IsInput}
-use Rattle.cal_policy.specs.declared.pass_input.Input.{Input}
-use Rattle.cal_policy.proofs.History.{shown_push}
+use Rattle.cal_policy.specs.History.Looks.{last_shown, look_of, shown_at, shown_by}
+use Rattle.cal_policy.specs.Judgement.Judging.{judged, is_foreign, IsFitLook, IsInput}
+use Rattle.cal_policy.specs.declared.history.input.Input.{Input}
+use Rattle.cal_policy.proofs.HistoryLemmas.OneMore.{shown_push}
 use Rattle.cal_policy.specs.Pass.{pass_of, IsPass, IsLegal}
 use Rattle.cal_policy.specs.Setting.{setting}
-use Rattle.cal_trace.proofs.LastShown.{shown-push}
+use Rattle.cal_trace.proofs.SignalLemmas.LastShown.{shown-push}
 use Rattle.cal_trace.specs.Signals as signals
-use Rattle.cal_trace.specs.Fitting.{IsFitting, IsFittingPass}
-use Rattle.cal_policy.specs.declared.open_input.FoundLook.{FoundLook}
+use Rattle.cal_trace.specs.Signals.Fitting.{IsFitting, IsFittingPass}
+use Rattle.cal_policy.specs.declared.judgement.open_input.FoundLook.{FoundLook}
 use Rattle.cal_trace.specs.declared.signals.SignalPass.{SignalPass}
-use Rattle.cal_policy.specs.Found.{judged_looks}
-use Rattle.cal_policy.proofs.Legality.{legal_none, legal_more}
+use Rattle.cal_policy.specs.Judgement.OpenInput.{judged_looks}
+use Rattle.cal_policy.proofs.PassLemmas.Legality.{legal_none, legal_more}
 use Rattle.cal_engine.specs.Deciding.{input_of, decided_pass, decided_after}
 
 -- one decided pass more

@@ -3,3 +3,4 @@ pub mod Decided
 pub mod Reading
 pub mod InThreads
 pub mod CommandWords
+pub mod Reporting

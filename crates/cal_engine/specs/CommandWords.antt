@@ -9,9 +9,10 @@ use Rattle.clap.specs.declared.error.kind.ErrorKind.TheVariants as kind
 use Rattle.cal_engine.specs.declared.command_line.Job.{Job}
 use Rattle.cal_engine.specs.declared.command_line.Job.TheVariants as job
 
--- the program before it has its subcommands: the first of its words is no program's name
+-- the program before it has its subcommands: it has a version, and the first of its words is no
+-- program's name
 abbrev pub bare_program : App
-bare_program = on_top (λ s. record s { no_binary_name = true }) (new_app (codes "caladan_sim"))
+bare_program = on_top (λ s. record s { has_version = true; no_binary_name = true }) (new_app (codes "caladan_sim"))
 
 -- the flag that asks for the summary of a run
 abbrev pub summary_flag : Rule

@@ -4,11 +4,11 @@ use Rattle.std.specs.Io.KnownBytes.{Appends}
 use Rattle.std.specs.List.{concat}
 use Rattle.cal_machine.specs.declared.fault.ConfigFault.{ConfigFault}
 use Rattle.cal_machine.specs.declared.fault.ConfigFault.TheVariants as config
-use Rattle.cal_policy.specs.Verdicts.{IsVerdict}
+use Rattle.cal_policy.specs.Verdict.{IsVerdict}
 use Rattle.cal_policy.specs.declared.verdict.Verdict.{Verdict}
 use Rattle.cal_policy.specs.declared.verdict.Verdict.TheVariants.{Legal, Illegal}
-use Rattle.cal_trace.specs.Answers as files
-use Rattle.cal_trace.specs.ReportText.{report_text}
+use Rattle.cal_trace.specs.Rows.Answers as files
+use Rattle.cal_trace.specs.Report.{report_text}
 use Rattle.cal_engine.specs.Runs.{Run}
 use Rattle.cal_engine.specs.declared.fault.RunFault.{RunFault}
 use Rattle.cal_engine.specs.declared.fault.RunFault.TheVariants as fault
@@ -45,6 +45,11 @@ Gives view (Err f) outcome = Decided f (outcome ≡ Err f)
 -- the report of a run
 abbrev pub run_report : Run → List ℕ
 run_report run = report_text run.table run.history
+
+-- the report that an outcome asks for
+abbrev pub report_of : Result Run RunFault → Result (List ℕ) RunFault
+report_of (Err f) = Err f
+report_of (Ok run) = Ok (run_report run)
 
 -- the line that names the first pass that is not the policy's
 abbrev pub illegal_line : ℕ → List ℕ

@@ -6,9 +6,9 @@ use Rattle.cal_machine.specs.Tasks.{threads_in}
 use Rattle.cal_run.specs.Outcome.{IsRun}
 use Rattle.cal_run.specs.declared.outcome.Outcome.{Outcome}
 use Rattle.cal_trace.specs.Arrivals.{arrivals_of}
-use Rattle.cal_trace.specs.HistoryText.{history_text}
+use Rattle.cal_trace.specs.History.Text.{history_text}
 use Rattle.cal_trace.specs.Rows.{rows_of}
-use Rattle.cal_trace.specs.SummaryText.{summary_text}
+use Rattle.cal_trace.specs.Report.Summary.{summary_text}
 use Rattle.cal_trace.specs.declared.arrivals.Arrivals.{Arrivals}
 use Rattle.cal_trace.specs.declared.fault.TraceFault.{TraceFault}
 use Rattle.cal_engine.specs.Outcome.{Failed}

@@ -4,9 +4,9 @@ use Rattle.cal_machine.specs.Reading.{table_in}
 use Rattle.cal_machine.specs.Table.{Table}
 use Rattle.cal_machine.specs.Tasks.{threads_in}
 use Rattle.cal_machine.specs.declared.fault.ConfigFault.{ConfigFault}
-use Rattle.cal_policy.specs.declared.pass_entry.PassEntry.{PassEntry}
-use Rattle.cal_trace.specs.Histories.{history_of}
-use Rattle.cal_trace.specs.HistoryReading.{extent_of}
+use Rattle.cal_policy.specs.declared.history.entry.PassEntry.{PassEntry}
+use Rattle.cal_trace.specs.History.{history_of}
+use Rattle.cal_trace.specs.History.Reading.{extent_of}
 use Rattle.cal_trace.specs.Rows.{rows_of}
 use Rattle.cal_trace.specs.Signals.{signals_of}
 use Rattle.cal_trace.specs.declared.fault.TraceFault.{TraceFault}

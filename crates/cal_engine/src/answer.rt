@@ -2,7 +2,7 @@
 
 ghost use Rattle.std.specs.Prelude.{◌≡◌, IfOk, IfErr, OnOk};
 ghost use Rattle.std.specs.Io.KnownBytes.{Appends};
-ghost use Rattle.cal_trace.specs.ReportText.{report_text};
+ghost use Rattle.cal_trace.specs.Report.{report_text};
 
 use crate::fault::RunFault;
 use cal_machine::Config;

@@ -1,7 +1,7 @@
 //! Auditing a history against the policy.
 
 ghost use Rattle.std.specs.Prelude.{◌≡◌, ◌≢◌, IfOk, IfErr, IfSome};
-ghost use Rattle.cal_policy.specs.Verdicts.{IsVerdict};
+ghost use Rattle.cal_policy.specs.Verdict.{IsVerdict};
 ghost use Rattle.cal_engine.specs.Outcome.{audit_text, illegal_line, Audits, Gives};
 ghost use Rattle.cal_engine.specs.Runs.{recorded_run_of, within_limit};
 

@@ -1,20 +1,26 @@
 //! Deciding the passes of a signal trace.
 
-ghost use Rattle.std.specs.Prelude.{◌≡◌, ◌≢◌, IfOk, IfErr, IfSome};
+ghost use Rattle.std.specs.Prelude.{◌≡◌, ◌≢◌, ◌++◌, ◌∷◌, [], List, length, IfOk, OnOk, IfErr, IfSome};
 ghost use Rattle.cal_machine.specs.Tasks.{threads_in};
+ghost use Rattle.cal_policy.specs.Book.{AgreesWith, IsBookOf};
+ghost use Rattle.cal_policy.specs.Judgement.Judging.{IsInput};
 ghost use Rattle.cal_policy.specs.Pass.{IsLegal};
-ghost use Rattle.cal_trace.specs.Fitting.{AreFittingPasses};
-ghost use Rattle.cal_engine.specs.Deciding.{decided};
-ghost use Rattle.cal_engine.specs.Outcome.{Gives, Reports};
-ghost use Rattle.cal_engine.specs.Runs.{decided_run_of, within_limit};
+ghost use Rattle.cal_policy.specs.Tasks.{threads_of_table};
+ghost use Rattle.cal_policy.specs.declared.history.entry.PassEntry.{PassEntry};
+ghost use Rattle.cal_trace.specs.Signals.Fitting.{AreFittingPasses};
+ghost use Rattle.cal_trace.specs.Rows.{rows_of};
+ghost use Rattle.cal_trace.specs.Signals.{signals_of};
+ghost use Rattle.cal_engine.specs.Deciding.{decided, decided_pass, input_of};
+ghost use Rattle.cal_engine.specs.Outcome.{report_of, Gives, Reports};
+ghost use Rattle.cal_engine.specs.Runs.{decided_on, decided_run_of, within_limit};
 
-use crate::answer::{report_text, write_answer};
+use crate::answer::write_answer;
 use crate::fault::RunFault;
 use crate::input::read_input;
 use crate::parts::read_parts;
 use cal_machine::Config;
 use cal_policy::{Actions, Book, PassEntry};
-use cal_trace::{SignalPass, read_signals};
+use cal_trace::{Report, SignalPass, SignalRows, read_signals};
 use std::alloc::{AllocError, Global};
 use std::io::{Read, Write};
 
@@ -34,9 +40,39 @@ pub fn decide<R: Read + Drop, W: Write>(
     ensures untouched { IfErr result (λ fault. fault ≢ RunFault.Write → writer.new ≡ writer.old) }
 {
     let input = read_input(alloc, &mut reader)?;
-    let (config, history) = decided_run(alloc, input.as_slice())?;
-    let report = report_text(alloc, &config, history.as_slice())?;
+    let report = decided_report(alloc, input.as_slice())?;
     write_answer(report.as_slice(), writer)
+}
+
+/// The report of the history that an input's signals lead to, in memory.
+fn decided_report(alloc: Global, input: &[u8]) -> Result<Vec<u8>, RunFault>
+    ensures { Gives (λ report. report.items) result (report_of (decided_run_of input.now)) }
+{
+    let (config, trace) = read_parts(alloc, input)?;
+    report_signals(alloc, &config, trace)
+}
+
+/// The report of the history that these signals lead to, in memory. Each pass is decided and its
+/// lines are made as soon as its rows were read, and nothing else is kept of it.
+fn report_signals(alloc: Global, config: &Config, trace: &[u8]) -> Result<Vec<u8>, RunFault>
+    ensures { Gives (λ report. report.items) result (report_of (decided_on config.now (signals_of (threads_in config.now.tasks) (rows_of trace.now)))) }
+{
+    let mut signals = SignalRows::open(alloc, config, trace)?;
+    let mut book = Book::open(alloc, config)?;
+    let mut actions = Actions::reserved(alloc)?;
+    let mut report = Report::new();
+    let mut text = Vec::new(alloc);
+    while let Some(pass) = signals.next()? {
+        let entry = decide_pass(alloc, config, &mut book, &mut actions, &pass)?;
+        // A list in memory refuses nothing but memory.
+        let Ok(()) = report.write_pass(&entry, &mut text) else {
+            return Err(RunFault::Memory);
+        };
+    }
+    match report.write_end(config, &mut text) {
+        Ok(()) => Ok(text),
+        Err(_) => Err(RunFault::Memory),
+    }
 }
 
 /// The task table of an input, and the history that its signals lead to.
@@ -64,12 +100,37 @@ fn decide_passes(
     let mut actions = Actions::reserved(alloc)?;
     let mut history = Vec::with_capacity(alloc, passes.len())?;
     for pass in passes {
-        let looks = pass.looks.as_slice();
-        let input = book.input(alloc, config, pass.now, pass.bandwidth, looks)?;
-        actions.clear();
-        book.step(config, &input, &mut actions);
-        let actions = actions.to_list(alloc)?;
-        history.push(PassEntry { input, actions })?;
+        let entry = decide_pass(alloc, config, &mut book, &mut actions, &pass)?;
+        history.push(entry)?;
     }
     Ok(history)
+}
+
+/// The next pass on these signals, which is taken into the book. `actions` is room to work in.
+fn decide_pass(
+    alloc: Global,
+    config: &Config,
+    book: &mut Book,
+    actions: &mut Actions,
+    pass: &SignalPass,
+) -> Result<PassEntry, AllocError>
+    requires of { IsBookOf config.now book.old }
+    requires looks { length pass.now.looks ≡ threads_of_table config.now }
+    ensures decided { IfOk result (λ entry. (h : List PassEntry) → IsLegal config.now h → AgreesWith book.old h →
+        IsInput config.now h (input_of config.now h pass.entry.now) → entry ≡ decided_pass config.now h pass.entry.now) }
+    ensures agrees { IfOk result (λ entry. (h : List PassEntry) → IsLegal config.now h → AgreesWith book.old h →
+        IsInput config.now h (input_of config.now h pass.entry.now) → AgreesWith book.new (h ++ entry ∷ [])) }
+    ensures of { OnOk result (IsBookOf config.now book.new) }
+{
+    let input = book.input(
+        alloc,
+        config,
+        pass.now,
+        pass.bandwidth,
+        pass.looks.as_slice(),
+    )?;
+    actions.clear();
+    book.step(config, &input, actions);
+    let actions = actions.to_list(alloc)?;
+    Ok(PassEntry { input, actions })
 }

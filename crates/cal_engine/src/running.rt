@@ -1,7 +1,7 @@
 //! Whole runs on the arrivals of an input.
 
 ghost use Rattle.std.specs.Prelude.{◌≡◌, ◌≢◌, IfOk, IfErr, IfSome};
-ghost use Rattle.cal_trace.specs.FitsTable.{FitsTable};
+ghost use Rattle.cal_trace.specs.Arrivals.FitsTable.{FitsTable};
 ghost use Rattle.cal_engine.specs.Outcome.{Gives};
 ghost use Rattle.cal_engine.specs.Runs.{within_limit};
 ghost use Rattle.cal_engine.specs.Running.{run_input_of, run_text, Runs};

@@ -3,7 +3,7 @@
 ghost use Rattle.std.specs.Prelude.{◌≡◌, ◌≢◌, IfOk, IfErr, IfSome};
 ghost use Rattle.cal_run.specs.Outcome.{IsRun};
 ghost use Rattle.cal_run.specs.declared.fault.SimFault.TheVariants.{Gate as GateFault};
-ghost use Rattle.cal_trace.specs.FitsTable.{FitsTable};
+ghost use Rattle.cal_trace.specs.Arrivals.FitsTable.{FitsTable};
 ghost use Rattle.cal_engine.specs.Runs.{within_limit};
 ghost use Rattle.cal_engine.specs.Running.{run_input_of, RunsInThreads};
 

@@ -4,6 +4,7 @@ mod audits;
 mod broken;
 mod command_words;
 mod ends;
+mod long_inputs;
 mod many_cores;
 mod programs;
 mod refused_memory;

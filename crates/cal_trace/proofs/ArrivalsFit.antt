@@ -1,28 +1,28 @@
 -- Arrivals that were read fit: the checks of their rows say so.
 use Rattle.std.proofs.Common.{◌≡◌, ◌<◌, ◌≤◌, ◌==◌, ◌&&◌, ◌⊎◌, inl, inr, not, nat_le, nat_lt, ℕ, Bool, true, false, List, [], ◌∷◌, ◌++◌, length, Option, Some, None, Result, Ok, Err, codes, refl, sym, subst, arith, length-append, unwrap_or, if◌then◌else◌, IfOk}
 use Rattle.std.proofs.lemmas.Bool.{and_parts, or_cases, or_parts, not-true, ltb-true, leb-true, eqb-true, eqb-false}
-use Rattle.cal_trace.specs.Answers.{Gives}
+use Rattle.cal_trace.specs.Rows.Answers.{Gives}
 use Rattle.cal_trace.specs.Arrivals.{SoFar, at_start, form_of, take_row, take_form, whole, most_turns, last_in, turn_row, comes_after, is_given, is_size, arrival_row, add_pass, add_turn, add_arrival, add_end, is_none_yet, rows_in, arrivals_of}
-use Rattle.cal_trace.specs.Fields.{has_numbers, number_at}
-use Rattle.cal_trace.specs.FitsTable.{IsArrival, ComesBefore, HaveTwoIds, Fits}
-use Rattle.cal_trace.specs.Header.{header_of, in_version_one}
-use Rattle.cal_trace.specs.LookRows.{most_passes, pass_row, end_row}
-use Rattle.cal_trace.specs.Ranges.{Each}
+use Rattle.cal_trace.specs.Rows.RowFields.{has_numbers, number_at}
+use Rattle.cal_trace.specs.Arrivals.FitsTable.{IsArrival, ComesBefore, HaveTwoIds, Fits}
+use Rattle.cal_trace.specs.Rows.Header.{header_of, in_version_one}
+use Rattle.cal_trace.specs.Rows.LookRows.{most_passes, pass_row, end_row}
+use Rattle.cal_trace.specs.History.Ranges.{Each}
 use Rattle.cal_trace.specs.Rows.{Fields}
-use Rattle.cal_trace.specs.declared.arrival_reading.Form.{Form}
-use Rattle.cal_trace.specs.declared.arrival_reading.Form.TheVariants as form
+use Rattle.cal_trace.specs.declared.arrivals.reading.Form.{Form}
+use Rattle.cal_trace.specs.declared.arrivals.reading.Form.TheVariants as form
 use Rattle.cal_trace.specs.declared.arrivals.Arrival.{Arrival}
 use Rattle.cal_trace.specs.declared.arrivals.Arrivals.{Arrivals}
 use Rattle.cal_trace.specs.declared.arrivals.GivenPass.{GivenPass}
 use Rattle.cal_trace.specs.declared.fault.FaultKind.{FaultKind}
 use Rattle.cal_trace.specs.declared.fault.FaultKind.TheVariants as kind
 use Rattle.cal_trace.specs.declared.fault.TraceFault.{TraceFault}
-use Rattle.cal_trace.specs.declared.look_rows.PassRow.{PassRow}
-use Rattle.cal_trace.proofs.Checks.{same_ok, check_one, check_two, check_three}
-use Rattle.cal_trace.proofs.Conjunctions.{and_three}
-use Rattle.cal_trace.proofs.EachLater.{later_none, later_push, each_to_last}
-use Rattle.cal_trace.proofs.EachOne.{each_none, each_cons, each_push}
-use Rattle.cal_trace.proofs.Readings.{kept_under}
+use Rattle.cal_trace.specs.declared.rows.look_rows.PassRow.{PassRow}
+use Rattle.cal_trace.proofs.RowLemmas.Checks.{same_ok, check_one, check_two, check_three}
+use Rattle.cal_trace.proofs.RowLemmas.Conjunctions.{and_three}
+use Rattle.cal_trace.proofs.ListLemmas.EachLater.{later_none, later_push, each_to_last}
+use Rattle.cal_trace.proofs.ListLemmas.EachOne.{each_none, each_cons, each_push}
+use Rattle.cal_trace.proofs.RowLemmas.Readings.{kept_under}
 
 -- what the rows so far have given, as arrivals
 abbrev given : SoFar → Arrivals

@@ -1,21 +1,23 @@
 -- What the rows of a file of arrivals say.
+pub mod FitsTable
+pub mod Reading
 use Rattle.std.specs.Prelude.{◌==◌, ◌&&◌, ◌||◌, ◌+◌, ◌-◌, not, nat_le, nat_lt, ℕ, List, [], ◌∷◌, ◌++◌, length, codes, slice_get, Bool, true, false, Option, Some, None, Result, Ok, Err, if◌then◌else◌}
 use Rattle.std.specs.List.{list_any}
 use Rattle.std.specs.Option.{unwrap_or}
-use Rattle.cal_trace.specs.Fields.{is_row, number_at, has_numbers}
-use Rattle.cal_trace.specs.Header.{header_of, in_version_one}
-use Rattle.cal_trace.specs.LookRows.{check, pass_row, end_row}
-use Rattle.cal_trace.specs.Reading.{read_under}
+use Rattle.cal_trace.specs.Rows.RowFields.{is_row, number_at, has_numbers}
+use Rattle.cal_trace.specs.Rows.Header.{header_of, in_version_one}
+use Rattle.cal_trace.specs.Rows.LookRows.{check, pass_row, end_row}
+use Rattle.cal_trace.specs.Rows.Reading.{read_under}
 use Rattle.cal_trace.specs.Rows.{Fields}
-use Rattle.cal_trace.specs.declared.arrival_reading.Form.{Form}
-use Rattle.cal_trace.specs.declared.arrival_reading.Form.TheVariants as form
+use Rattle.cal_trace.specs.declared.arrivals.reading.Form.{Form}
+use Rattle.cal_trace.specs.declared.arrivals.reading.Form.TheVariants as form
 use Rattle.cal_trace.specs.declared.arrivals.Arrival.{Arrival}
 use Rattle.cal_trace.specs.declared.arrivals.Arrivals.{Arrivals}
 use Rattle.cal_trace.specs.declared.arrivals.GivenPass.{GivenPass}
 use Rattle.cal_trace.specs.declared.fault.FaultKind.{FaultKind}
 use Rattle.cal_trace.specs.declared.fault.FaultKind.TheVariants as kind
 use Rattle.cal_trace.specs.declared.fault.TraceFault.{TraceFault}
-use Rattle.cal_trace.specs.declared.look_rows.PassRow.{PassRow}
+use Rattle.cal_trace.specs.declared.rows.look_rows.PassRow.{PassRow}
 
 -- what a row is, by its first field and its number of fields
 abbrev pub form_of : Fields → Option Form

@@ -2,11 +2,11 @@
 use Rattle.std.specs.Prelude.{◌≡◌, ℕ, List, Ok}
 use Rattle.cal_machine.specs.Table.{Table, IsTable}
 use Rattle.cal_policy.specs.Pass.{IsLegal}
-use Rattle.cal_policy.specs.declared.pass_entry.PassEntry.{PassEntry}
-use Rattle.cal_trace.specs.Histories.{history_of}
-use Rattle.cal_trace.specs.HistoryReading.{extent_of}
-use Rattle.cal_trace.specs.HistoryText.{history_rows, history_text}
-use Rattle.cal_trace.specs.Ranges.{IsInRange, IsSized}
+use Rattle.cal_policy.specs.declared.history.entry.PassEntry.{PassEntry}
+use Rattle.cal_trace.specs.History.{history_of}
+use Rattle.cal_trace.specs.History.Reading.{extent_of}
+use Rattle.cal_trace.specs.History.Text.{history_rows, history_text}
+use Rattle.cal_trace.specs.History.Ranges.{IsInRange, IsSized}
 use Rattle.cal_trace.specs.Rows.{rows_of}
 
 -- the rows of the text of a history that is in range are the rows that it was written as

@@ -1,4 +1,12 @@
 -- The rows of a text, and those that a reader has still to give.
+pub mod Answers
+pub mod Header
+pub mod LookRows
+pub mod Number
+pub mod Reading
+pub mod RowFields
+pub mod Shown
+pub mod Text
 use Rattle.std.specs.Prelude.{◌≡◌, ◌+◌, ◌<◌, ◌^◌, ℕ, List, [], ◌∷◌, Bool, true, false, length, Option, Some, None}
 use Rattle.csv.specs.Machine.{ends_at_end}
 use Rattle.csv.specs.Reading.{Ready, default_config, records, records_from, source_of, strip_bom, has_failed, is_flexible}

@@ -1,28 +1,30 @@
 -- What the rows of a file of signals say.
+pub mod Fitting
+pub mod Reading
 use Rattle.std.specs.Prelude.{◌==◌, ◌&&◌, not, nat_lt, ℕ, List, [], ◌∷◌, ◌++◌, length, codes, slice_get, Bool, true, false, Option, Some, None, Result, Ok, Err, if◌then◌else◌}
 use Rattle.std.specs.Option.{option_and_then, option_map, option_to_list, unwrap_or}
 use Rattle.cal_signal.specs.declared.look.Look.{Look}
 use Rattle.cal_signal.specs.declared.look.Look.TheVariants as look
-use Rattle.cal_trace.specs.Fields.{is_row, record_fields}
-use Rattle.cal_trace.specs.Header.{header_of}
-use Rattle.cal_trace.specs.LookRows.{check, pass_row, whole_row, busy_row, end_row}
-use Rattle.cal_trace.specs.Reading.{read_under}
+use Rattle.cal_trace.specs.Rows.RowFields.{is_row, record_fields}
+use Rattle.cal_trace.specs.Rows.Header.{header_of}
+use Rattle.cal_trace.specs.Rows.LookRows.{check, pass_row, whole_row, busy_row, end_row}
+use Rattle.cal_trace.specs.Rows.Reading.{read_under}
 use Rattle.cal_trace.specs.Rows.{Fields}
 use Rattle.cal_signal.specs.Shown.{nothing_shown}
 use Rattle.cal_signal.specs.Tests.{is_shown_after}
-use Rattle.cal_policy.specs.Lists.{last_of}
+use Rattle.cal_policy.specs.History.Lists.{last_of}
 use Rattle.cal_trace.specs.declared.fault.FaultKind.{FaultKind}
 use Rattle.cal_trace.specs.declared.fault.FaultKind.TheVariants as kind
 use Rattle.cal_trace.specs.declared.fault.TraceFault.{TraceFault}
-use Rattle.cal_trace.specs.declared.look_rows.WholeRow.{WholeRow}
-use Rattle.cal_trace.specs.declared.look_rows.BusyRow.{BusyRow}
-use Rattle.cal_trace.specs.declared.look_rows.PassRow.{PassRow}
+use Rattle.cal_trace.specs.declared.rows.look_rows.WholeRow.{WholeRow}
+use Rattle.cal_trace.specs.declared.rows.look_rows.BusyRow.{BusyRow}
+use Rattle.cal_trace.specs.declared.rows.look_rows.PassRow.{PassRow}
 use Rattle.cal_signal.specs.declared.shown.Shown.{Shown}
-use Rattle.cal_policy.specs.declared.open_input.FoundLook.{FoundLook}
+use Rattle.cal_policy.specs.declared.judgement.open_input.FoundLook.{FoundLook}
 use Rattle.cal_trace.specs.declared.signals.SignalPass.{SignalPass}
-use Rattle.cal_trace.specs.declared.signal_reading.Form.{Form}
-use Rattle.cal_trace.specs.declared.signal_reading.Form.TheVariants as form
-use Rattle.cal_trace.specs.declared.version.Version.{Version}
+use Rattle.cal_trace.specs.declared.signals.reading.Form.{Form}
+use Rattle.cal_trace.specs.declared.signals.reading.Form.TheVariants as form
+use Rattle.cal_trace.specs.declared.rows.version.Version.{Version}
 
 -- what a row is, by its first field and its number of fields
 abbrev pub form_of : Version → Fields → Option Form

@@ -1,5 +1,8 @@
 //! Files of arrivals: the passes and turns of a run, and the requests that come to its threads.
 
+pub mod file;
+pub mod reading;
+
 use cal_lists::Listed;
 use cal_machine::Request;
 

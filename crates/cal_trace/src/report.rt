@@ -1,23 +1,80 @@
 //! The report of a history: its passes, what they did, and the tasks at its end.
 
-ghost use Rattle.std.specs.Prelude.{◌<◌, ◌++◌, List, length, OnOk};
+pub mod standing;
+pub mod summary;
+
+ghost use Rattle.std.specs.Prelude.{◌<◌, ◌+◌, ◌^◌, ◌++◌, ◌∷◌, [], ℕ, List, Option, length, OnOk};
 ghost use Rattle.std.specs.List.{flat_map};
 ghost use Rattle.std.specs.Io.KnownBytes.{Appends};
-ghost use Rattle.cal_policy.specs.History.{actions_of};
-ghost use Rattle.cal_policy.specs.declared.pass_action.Action.{Action};
-ghost use Rattle.cal_trace.specs.ReportText.{action_line, end_line, kept_line, kept_lines, pass_text, passes_text, report_text, revocation_line, task_line, task_lines};
-ghost use Rattle.cal_trace.specs.Standing.{Agrees};
+ghost use Rattle.cal_policy.specs.declared.history.action.Action.{Action};
+ghost use Rattle.cal_policy.specs.declared.history.entry.PassEntry.{PassEntry};
+ghost use Rattle.cal_trace.specs.Report.{action_line, kept_line, kept_lines, pass_text, passes_text, report_text, revocation_line, task_line, task_lines};
+ghost use Rattle.cal_trace.specs.Report.Standing.{Agrees, IsReportOf};
 
-use crate::standing::Standing;
+use crate::report::standing::Standing;
 use crate::write_fault::WriteFault;
 use cal_machine::{Config, Kind};
 use cal_policy::{Action, Cause, PassEntry, Seen};
 use std::io;
 use std::io::Write;
 
-/// Writes the report of a history (this project's own format): a line for each pass, for each look
-/// that was not kept and for each action, then how many passes there are and a line for each task
-/// with the cores that it holds and leaves after the last pass.
+/// The report of a history as it grows, one pass after the other (this project's own format): a
+/// line for each pass, for each look that was not kept and for each action, and at its end how many
+/// passes there are and a line for each task with the cores that it holds and leaves after the last
+/// pass.
+///
+/// It keeps nothing of a pass that was written but its count, who has each core and the caps, and
+/// takes no memory of its own. The error is what the writer answered; then nothing is said of how
+/// much was written.
+#[derive(Drop)]
+pub struct Report {
+    passes: u64,
+    standing: Standing,
+}
+
+impl Report {
+    /// The report of the empty history.
+    pub fn new() -> Report
+        ensures { IsReportOf [] result }
+    {
+        Report {
+            passes: 0,
+            standing: Standing::new(),
+        }
+    }
+
+    /// Writes the lines of the next pass.
+    pub fn write_pass<W: Write>(
+        &mut self,
+        entry: &PassEntry,
+        writer: &mut W,
+    ) -> Result<(), WriteFault>
+        // After the lines of the passes so far stand those of one more.
+        ensures text { (start : Option (List ℕ)) (h : List PassEntry) → IsReportOf h self.old → Appends start (W.contents writer.old) (passes_text h) →
+            OnOk result (Appends start (W.contents writer.new) (passes_text (h ++ entry.now ∷ []))) }
+        ensures of { (h : List PassEntry) → length h + 1 < 2 ^ 64 → IsReportOf h self.old →
+            OnOk result (IsReportOf (h ++ entry.now ∷ []) self.new) }
+    {
+        write_pass(self.passes, entry, writer)?;
+        self.passes = self.passes.saturating_add(1);
+        self.standing.apply_all(entry.actions.as_slice());
+        Ok(())
+    }
+
+    /// Writes what stands after the lines of the passes, by the table of the history.
+    pub fn write_end<W: Write>(&self, config: &Config, writer: &mut W) -> Result<(), WriteFault>
+        // After the lines of all passes it makes the whole report.
+        ensures { (start : Option (List ℕ)) (h : List PassEntry) → IsReportOf h self.now → Appends start (W.contents writer.old) (passes_text h) →
+            OnOk result (Appends start (W.contents writer.new) (report_text config.now h)) }
+    {
+        let passes = self.passes;
+        writeln!(writer, "end {passes} passes")?;
+        write_tasks(config, &self.standing, writer)?;
+        Ok(())
+    }
+}
+
+/// Writes the report of a whole history, as `Report` has it.
 ///
 /// The error is what the writer answered; then nothing is said of how much was written. It takes no
 /// memory of its own.
@@ -28,21 +85,14 @@ pub fn write_report<W: Write>(
 ) -> Result<(), WriteFault>
     ensures { OnOk result (Appends (W.contents writer.old) (W.contents writer.new) (report_text config.now history.now)) }
 {
-    write_passes(history, writer)?;
-    write_end(config, history, writer)?;
-    Ok(())
-}
-
-fn write_passes<W: Write>(history: &[PassEntry], writer: &mut W) -> io::Result<()>
-    ensures { OnOk result (Appends (W.contents writer.old) (W.contents writer.new) (passes_text history.now)) }
-{
+    let mut report = Report::new();
     for pass in 0..history.len() {
-        write_pass(pass, &history[pass], writer)?;
+        report.write_pass(&history[pass], writer)?;
     }
-    Ok(())
+    report.write_end(config, writer)
 }
 
-fn write_pass<W: Write>(pass: usize, entry: &PassEntry, writer: &mut W) -> io::Result<()>
+fn write_pass<W: Write>(pass: u64, entry: &PassEntry, writer: &mut W) -> io::Result<()>
     ensures { OnOk result (Appends (W.contents writer.old) (W.contents writer.new) (pass_text pass entry.now)) }
 {
     let now = entry.input.now;
@@ -121,14 +171,6 @@ fn write_revocation<W: Write>(core: u8, cause: Cause, writer: &mut W) -> io::Res
         Cause::Bandwidth => writeln!(writer, "  revoke core {core} for bandwidth"),
         Cause::Preempt { task } => writeln!(writer, "  revoke core {core} for task {task}"),
     }
-}
-
-fn write_end<W: Write>(config: &Config, history: &[PassEntry], writer: &mut W) -> io::Result<()>
-    ensures { OnOk result (Appends (W.contents writer.old) (W.contents writer.new) (end_line (length history.now) ++ task_lines config.now (actions_of history.now) (length config.now.tasks))) }
-{
-    let passes = history.len();
-    writeln!(writer, "end {passes} passes")?;
-    write_tasks(config, &Standing::after(history), writer)
 }
 
 fn write_tasks<W: Write>(config: &Config, standing: &Standing, writer: &mut W) -> io::Result<()>

@@ -1,15 +1,23 @@
 //! The rows of a text, one at a time.
 
+pub mod fields;
+pub mod header;
+pub mod look_rows;
+pub mod number;
+pub mod reading;
+pub mod shown;
+pub mod version;
+
 ghost use Rattle.std.specs.Prelude.{◌≡◌, ◌+◌, IfOk, IfErr, OnErr};
 ghost use Rattle.csv.specs.Reading.{error_kind};
-ghost use Rattle.cal_trace.specs.Answers.{IsRefused, kind_of};
+ghost use Rattle.cal_trace.specs.Rows.Answers.{IsRefused, kind_of};
 ghost use Rattle.cal_trace.specs.Rows.{rows_of, rest_of, row_at, IsReading, HasStopped, StepsOn};
 
 use crate::fault::{FaultKind, TraceFault};
 use csv::{ByteRecord, ErrorKind, Reader, ReaderBuilder};
 use std::alloc::Global;
 
-// What an error of `csv` is: want of memory by its name, else the reader's.
+/// What an error of `csv` is: want of memory by its name, else the reader's.
 fn kind_of(error: &csv::Error) -> FaultKind
     ensures { result ≡ kind_of (error_kind error.now) }
 {

@@ -1,5 +1,8 @@
 //! Files of signals: what the looks of each pass found.
 
+pub mod file;
+pub mod reading;
+
 use cal_lists::Listed;
 use cal_policy::FoundLook;
 

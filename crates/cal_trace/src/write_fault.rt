@@ -18,7 +18,7 @@ pub enum WriteFault {
 impl From<io::Error> for WriteFault {
     ghost use Rattle.std.specs.Prelude.{◌≡◌};
     ghost use Rattle.std.specs.IoError.{error_kind};
-    ghost use Rattle.cal_trace.specs.WriteFaults.{fault_of};
+    ghost use Rattle.cal_trace.specs.WriteFault.{fault_of};
 
     ghost from_gives = { λ e fault. fault ≡ fault_of (error_kind e) };
 

@@ -3,12 +3,11 @@
 //! What it does with them is cal_engine's `run_program`, the exit statuses too; here stand only the ends of the process.
 #![tactic(auto)]
 
-use cal_engine::{RunFault, end_with, run_program};
+use cal_engine::{end_with, given_words, run_program};
 use std::process::ExitCode;
-use std::{env, io};
 
 fn main(rt: HostRuntime) -> ExitCode {
-    let status = match given_words(&rt) {
+    let status = match given_words(&rt, "caladan_sim") {
         Ok(words) => run_program(
             &rt,
             rt.alloc(),
@@ -20,25 +19,4 @@ fn main(rt: HostRuntime) -> ExitCode {
         Err(fault) => end_with(&fault, &mut rt.stderr()),
     };
     ExitCode::from(status)
-}
-
-/// The program's name and words. A word that is not text stands as a replacement character, which is in no table.
-fn given_words(rt: &HostRuntime) -> Result<Vec<String>, RunFault> {
-    let mut given = Vec::new(rt.alloc());
-    match env::args(rt) {
-        Ok(args) => {
-            for word in args {
-                given.push(word)?;
-            }
-        }
-        Err(e) => {
-            if e.kind() == io::ErrorKind::OutOfMemory {
-                return Err(RunFault::Memory);
-            }
-            for word in ["caladan_sim", "\u{FFFD}"] {
-                given.push(String::from_str(rt.alloc(), word)?)?;
-            }
-        }
-    }
-    Ok(given)
 }

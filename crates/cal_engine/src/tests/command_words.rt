@@ -40,6 +40,13 @@ fn other_words_are_refused(rt: HostRuntime) -> Result<(), Fail> {
         ),
         (["--help"].as_slice(), ErrorKind::DisplayHelp),
         (["help"].as_slice(), ErrorKind::DisplayHelp),
+        (["sim", "--help"].as_slice(), ErrorKind::DisplayHelp),
+        (["help", "audit"].as_slice(), ErrorKind::DisplayHelp),
+        (["--version"].as_slice(), ErrorKind::DisplayVersion),
+        (
+            ["decide", "--version"].as_slice(),
+            ErrorKind::UnknownArgument,
+        ),
     ] {
         let Err(error) = words(rt.alloc(), given) else {
             return Err(Fail::new("the words were accepted"));

@@ -112,6 +112,8 @@ fn words_are_read_first(rt: HostRuntime) -> Result<(), Fail> {
         (["audit", "decide"].as_slice(), 2),
         (["help"].as_slice(), 0),
         (["--help"].as_slice(), 0),
+        (["lockstep", "--help"].as_slice(), 0),
+        (["--version"].as_slice(), 0),
     ] {
         let mut output = Vec::new(rt.alloc());
         let mut errors = Vec::new(rt.alloc());

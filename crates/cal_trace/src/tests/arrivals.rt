@@ -4,8 +4,8 @@ use cal_machine::{Config, Request};
 use std::alloc::Global;
 use std::test::Fail;
 
-// The first fault of these rows below the header, for two threads: its row in the file, and its
-// kind.
+/// The first fault of these rows below the header, for two threads: its row in the file, and its
+/// kind.
 fn fault_below_header(alloc: Global, rows: &[u8]) -> Result<Option<(u64, FaultKind)>, Fail> {
     let mut text = Vec::new(alloc);
     text.extend_from_slice(b"caladan-arrivals,1\n".as_slice())?;
@@ -156,7 +156,7 @@ fn arrivals_at_the_edges_of_their_ranges(rt: HostRuntime) -> Result<(), Fail> {
     Ok(())
 }
 
-// The order of requests comes before their ranges, and both before what is repeated.
+/// The order of requests comes before their ranges, and both before what is repeated.
 #[test]
 fn requests_in_strictly_rising_order(rt: HostRuntime) -> Result<(), Fail> {
     let alloc = rt.alloc();
@@ -200,7 +200,7 @@ fn requests_in_strictly_rising_order(rt: HostRuntime) -> Result<(), Fail> {
     Ok(())
 }
 
-// So many turns, each of them a row, and the end row.
+/// So many turns, each of them a row, and the end row.
 fn file_of_turns(alloc: Global, turns: usize, end: &[u8]) -> Result<Vec<u8>, Fail> {
     let mut rows = Vec::new(alloc);
     for _ in 0..turns {

@@ -5,7 +5,7 @@ use cal_policy::{Action, Cause};
 use std::alloc::Global;
 use std::test::Fail;
 
-// The first fault of a history for two threads: its row, and its number.
+/// The first fault of a history for two threads: its row, and its number.
 fn history_fault(alloc: Global, text: &[u8]) -> Result<(u64, u8), Fail> {
     let config = Config::read(alloc, TWO_THREADS)?;
     match read_history(alloc, &config, text) {
@@ -153,7 +153,7 @@ fn faults_of_histories(rt: HostRuntime) -> Result<(), Fail> {
     Ok(())
 }
 
-// Up to so many actions a pass may have, each of them a row.
+/// Up to so many actions a pass may have, each of them a row.
 fn history_of_frees(alloc: Global, frees: usize) -> Result<Vec<u8>, Fail> {
     let mut text = Vec::new(alloc);
     text.extend_from_slice(

@@ -8,7 +8,7 @@ use cal_machine::Request;
 use cal_policy::{FoundLook, Look};
 use std::test::Fail;
 
-// Signals of two threads in two passes.
+/// Signals of two threads in two passes.
 const TWO_PASSES: &[u8] = b"caladan-signals,2
 pass,100,7
 whole,0,1,1,0,0,1,90,0,0,95,0,0

@@ -4,7 +4,7 @@ use cal_policy::{Action, ActionList, Cause, Input, PassEntry, Rooms, Seen, SeenL
 use std::alloc::Global;
 use std::test::Fail;
 
-// The text of a report, with the table of one thread.
+/// The text of a report, with the table of one thread.
 fn report_of(alloc: Global, history: &[PassEntry]) -> Result<Vec<u8>, Fail> {
     let config = one_thread(alloc)?;
     let mut text = Vec::new(alloc);

@@ -4,7 +4,7 @@ use cal_policy::{FoundLook, Look, Record};
 use std::alloc::Global;
 use std::test::Fail;
 
-// The first fault of a file of signals for one thread: its row, and its number.
+/// The first fault of a file of signals for one thread: its row, and its number.
 fn fault_in(alloc: Global, text: &[u8]) -> Result<(u64, u8), Fail> {
     let config = one_thread(alloc)?;
     match read_signals(alloc, &config, text) {
@@ -119,7 +119,7 @@ fn faults_of_signals(rt: HostRuntime) -> Result<(), Fail> {
     Ok(())
 }
 
-// What `csv` itself makes of a text: each has the rows of an empty file of signals, or a fault.
+/// What `csv` itself makes of a text: each has the rows of an empty file of signals, or a fault.
 #[test]
 fn texts_as_csv_reads_them(rt: HostRuntime) -> Result<(), Fail> {
     let alloc = rt.alloc();

@@ -5,8 +5,8 @@ use cal_machine::{Command, Request};
 use cal_policy::Record;
 use std::test::Fail;
 
-// Of two threads the first took two commands, published once and served one request; the second did
-// nothing and was left two requests.
+/// Of two threads the first took two commands, published once and served one request; the second did
+/// nothing and was left two requests.
 #[test]
 fn summary_of_two_threads(rt: HostRuntime) -> Result<(), Fail> {
     let alloc = rt.alloc();

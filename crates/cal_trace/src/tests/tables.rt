@@ -38,7 +38,7 @@ delay = 0
 request = 0
 ";
 
-// A table of two threads, where memory was there for it.
+/// A table of two threads, where memory was there for it.
 pub(crate) fn two_threads(alloc: Global) -> Result<Option<Config>, Fail> {
     match Config::read(alloc, TWO_THREADS) {
         Ok(config) => Ok(Some(config)),
@@ -47,7 +47,7 @@ pub(crate) fn two_threads(alloc: Global) -> Result<Option<Config>, Fail> {
     }
 }
 
-// A history with a row of every kind, for two threads.
+/// A history with a row of every kind, for two threads.
 pub(crate) const EVERY_ROW: &[u8] = b"caladan-history,2
 pass,100,7
 whole,0,1,1,0,0,1,90,0,0,95,0,0
@@ -68,7 +68,7 @@ grant,3,1,5
 end,2
 ";
 
-// Its report.
+/// Its report.
 pub(crate) const EVERY_ROW_REPORT: &[u8] = b"pass 0 now 100 bandwidth 7
   kept 1 ahead
   grant core 0 to thread 0 class 3
@@ -89,7 +89,7 @@ task 0 lc held 0 leaving 0
 task 1 be held 1 leaving 0 cap 0
 ";
 
-// The history with a row of every kind, and its table, where memory was there for them.
+/// The history with a row of every kind, and its table, where memory was there for them.
 pub(crate) fn every_row(alloc: Global) -> Result<Option<(Config, Vec<PassEntry>)>, Fail> {
     let Some(config) = two_threads(alloc)? else {
         return Ok(None);

@@ -1,9 +1,9 @@
 use Rattle.std.proofs.Common.{◌≤◌, ◌<◌, ◌^◌, List, length, take, subst, arith}
 use Rattle.std.proofs.lemmas.List.{length-take-le, take_all}
-use Rattle.cal_policy.specs.Auditing.{IsAuditOf}
-use Rattle.cal_policy.specs.Verdicts.{IsVerdict}
-use Rattle.cal_policy.specs.declared.pass_entry.PassEntry.{PassEntry}
-use Rattle.cal_policy.proofs.Each.{take_item}
+use Rattle.cal_policy.specs.Auditor.{IsAuditOf}
+use Rattle.cal_policy.specs.Verdict.{IsVerdict}
+use Rattle.cal_policy.specs.declared.history.entry.PassEntry.{PassEntry}
+use Rattle.cal_policy.proofs.ListLemmas.Each.{take_item}
 use Rattle.cal_engine.proofs.auditing.audit_in_turn.Goals as goal
 
 pub loop-entry-preserved : goal.loop-entry-preserved

@@ -1,5 +1,5 @@
 use Rattle.std.proofs.Common.{take}
-use Rattle.cal_policy.specs.Auditing.{IsAuditOf, IsAuditorOf}
+use Rattle.cal_policy.specs.Auditor.{IsAuditOf, IsAuditorOf}
 use Rattle.cal_engine.proofs.auditing.audit_in_turn.Given as goal
 
 abbrev pub invariant-loop-entry : goal.invariant-loop-entry

@@ -20,10 +20,10 @@ returns c =
     ∙ ap (λ (r : Rule). record r { long = Some (codes "summary"); action = Some SetTrue }) c.new.ensures.rule in
     let local : c.help-summary.result.global ≡ false =
     ap (λ (a : Arg). a.global) c.help-summary.ensures ∙ ap (λ (a : Arg). a.global) c.action.ensures ∙ ap (λ (a : Arg). a.global) c.long.ensures ∙ c.new.ensures.optional.1 in
-    let bare_is : app_of c.about.result ≡ new_app c.args.word.now = ap app_of_fields c.about.ensures ∙ c.new-2.ensures.app in
-    let none : (out-Command c.about.result).has_globals ≡ false = ap (λ (f : Command-F Command). f.has_globals) c.about.ensures ∙ c.new-2.ensures.local in
+    let bare_is : app_of c.after_help.result ≡ new_app c.args.word.now = ap app_of_fields c.after_help.ensures ∙ ap app_of_fields c.about.ensures ∙ c.new-2.ensures.app in
+    let none : (out-Command c.after_help.result).has_globals ≡ false = ap (λ (f : Command-F Command). f.has_globals) c.after_help.ensures ∙ ap (λ (f : Command-F Command). f.has_globals) c.about.ensures ∙ c.new-2.ensures.local in
     record {
-      shape = IfOk-weaker c.arg.result _ _ (λ whole (adds : AddsArg c.about.result c.help-summary.result whole).
+      shape = IfOk-weaker c.arg.result _ _ (λ whole (adds : AddsArg c.after_help.result c.help-summary.result whole).
           adds.shape local ∙ ap₂ with_rule bare_is flag_is) c.arg.ensures;
-      local = IfOk-weaker c.arg.result _ _ (λ whole (adds : AddsArg c.about.result c.help-summary.result whole). rw (adds.globals, none, local)) c.arg.ensures;
+      local = IfOk-weaker c.arg.result _ _ (λ whole (adds : AddsArg c.after_help.result c.help-summary.result whole). rw (adds.globals, none, local)) c.arg.ensures;
     }

@@ -1,18 +1,14 @@
-use Rattle.std.proofs.Common.{◌≡◌, ◌++◌, ◌∷◌, [], List, length, refl, sym, ap, subst, ◌∙◌, rules, map-id}
+use Rattle.std.proofs.Common.{◌≡◌, ◌++◌, ◌∷◌, [], List, length, refl, sym, ap, ◌∙◌, rules, map-id}
 use Rattle.std.proofs.lemmas.Iterator.Adapters.{YieldsList-from_vec}
 use Rattle.std.proofs.lemmas.Iterator.Consumers.{YieldsList-turn, YieldsList-so_far, YieldsList-end}
 use Rattle.std.proofs.lemmas.Option.{slice_get_read}
 use Rattle.cal_policy.specs.Book.{AgreesWith}
-use Rattle.cal_policy.specs.Found.{judged_input}
 use Rattle.cal_policy.specs.Tasks.{threads_of_table}
-use Rattle.cal_policy.specs.Judging.{IsInput}
-use Rattle.cal_policy.specs.Pass.{pass_of}
-use Rattle.cal_policy.specs.Setting.{setting}
-use Rattle.cal_policy.specs.declared.pass_action.Action.{Action}
-use Rattle.cal_policy.specs.declared.pass_entry.PassEntry.{PassEntry}
-use Rattle.cal_trace.specs.Fitting.{IsFittingPass}
+use Rattle.cal_policy.specs.Judgement.Judging.{IsInput}
+use Rattle.cal_policy.specs.declared.history.entry.PassEntry.{PassEntry}
+use Rattle.cal_trace.specs.Signals.Fitting.{IsFittingPass}
 use Rattle.cal_engine.specs.Deciding.{decided_after, decided_pass, input_of}
-use Rattle.cal_engine.proofs.Decided.{IsDecided, IsDecided-none, IsDecided-append, judged_is_input, made_pass}
+use Rattle.cal_engine.proofs.Decided.{IsDecided, IsDecided-none, IsDecided-append, judged_is_input}
 use Rattle.cal_engine.proofs.deciding.decide_passes.Goals as goal
 
 pub loop-pass-init : goal.loop-pass-init
@@ -24,13 +20,13 @@ loop-pass-init c =
       so_far = rw none (IsDecided-none c.args.config.now);
     }
 
-pub input-requires : goal.input-requires
-input-requires c =
+pub decide_pass-requires-clause-looks : goal.decide_pass-requires-clause-looks
+decide_pass-requires-clause-looks c =
     let passes = c.args.passes.items in
     let i = length c.loop-pass.yielded in
     let turn = YieldsList-turn (YieldsList-from_vec {s = c.into_iter-pass-iterator.result} passes (search rules) (search rules)) c.loop-pass.yielded c.loop-pass.pass-iterator c.loop-pass.yielded_by c.next.result c.next.new.self c.in-Some.pass c.in-Some.is c.next.ensures.steps in
     let at = slice_get_read passes (length passes) i c.in-Some.pass refl turn.0 turn.1 in
-    ap length c.as_slice-looks.ensures ∙ (c.requires.each i c.in-Some.pass at).looks
+    (c.requires.each i c.in-Some.pass at).looks
 
 pub loop-pass-preserved : goal.loop-pass-preserved
 loop-pass-preserved c =
@@ -45,19 +41,12 @@ loop-pass-preserved c =
     let fits : IsFittingPass (threads_of_table c.args.config.now) done pass = rw taken (c.requires.each (length done) pass at) in
     let agrees : AgreesWith c.loop-pass.book h = c.loop-pass.invariant.agrees in
     let so_far : IsDecided c.args.config.now done h = c.loop-pass.invariant.so_far in
-    let same : c.in_ok-input.input ≡ input_of c.args.config.now h pass =
-    c.in_ok-input.ensures.judged h agrees ∙ ap (λ looks. judged_input c.args.config.now h pass.now pass.bandwidth looks) c.as_slice-looks.ensures in
-    let given : IsInput c.args.config.now h c.in_ok-input.input =
-    subst (IsInput c.args.config.now h) (sym same) (judged_is_input c.args.config.now h done pass so_far.shown fits) in
-    let acts : c.step.new.out ≡ pass_of (setting c.args.config.now h c.in_ok-input.input) = c.step.ensures.acts h so_far.legal agrees given in
-    let made : ◌≡◌ {A = PassEntry} (record { input = c.in_ok-input.input; actions = c.step.new.out }) (decided_pass c.args.config.now h pass) =
-    made_pass c.args.config.now h pass c.in_ok-input.input c.step.new.out same acts in
-    let pushed : c.push.new.self.items ≡ h ++ record { input = c.in_ok-input.input; actions = c.in_ok-actions-2.actions } ∷ [] = search rules in
-    let whole : c.push.new.self.items ≡ h ++ record { input = c.in_ok-input.input; actions = c.step.new.out } ∷ [] =
-    pushed ∙ ap (λ (listed : List Action). let e : PassEntry = record { input = c.in_ok-input.input; actions = listed } in h ++ e ∷ []) c.in_ok-actions-2.ensures in
+    let given : IsInput c.args.config.now h (input_of c.args.config.now h pass) = judged_is_input c.args.config.now h done pass so_far.shown fits in
+    let made : c.in_ok-entry.entry ≡ decided_pass c.args.config.now h pass = c.in_ok-entry.ensures.decided h so_far.legal agrees given in
+    let whole : c.push.new.self.items ≡ h ++ c.in_ok-entry.entry ∷ [] = search rules in
     record {
-      of = c.step.ensures.of;
-      agrees = rw whole (c.step.ensures.agrees h so_far.legal agrees given);
+      of = c.in_ok-entry.ensures.of;
+      agrees = rw whole (c.in_ok-entry.ensures.agrees h so_far.legal agrees given);
       so_far = rw (whole, made) (IsDecided-append c.args.config.now done h pass fits so_far);
     }
 

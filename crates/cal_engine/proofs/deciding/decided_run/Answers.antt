@@ -1,6 +1,6 @@
 use Rattle.cal_machine.specs.Tasks.{threads_in}
 use Rattle.cal_trace.specs.Rows.{rows_of}
-use Rattle.cal_trace.proofs.Accepted.{accepted_fit}
+use Rattle.cal_trace.proofs.SignalLemmas.Accepted.{accepted_fit}
 use Rattle.cal_engine.proofs.deciding.decided_run.Goals as goal
 
 pub decide_passes-requires : goal.decide_passes-requires

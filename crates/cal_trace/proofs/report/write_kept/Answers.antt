@@ -1,5 +1,5 @@
-use Rattle.cal_trace.specs.ReportText.{kept_line}
-use Rattle.cal_trace.proofs.Numbered.{one_numbered}
+use Rattle.cal_trace.specs.Report.{kept_line}
+use Rattle.cal_trace.proofs.ListLemmas.Numbered.{one_numbered}
 use Rattle.cal_trace.proofs.report.write_kept.Goals as goal
 
 pub loop-thread-preserved : goal.loop-thread-preserved

@@ -1,6 +1,6 @@
 use Rattle.std.proofs.Common.{take}
 use Rattle.std.specs.Io.KnownBytes.{Appends}
-use Rattle.cal_trace.specs.ReportText.{kept_lines}
+use Rattle.cal_trace.specs.Report.{kept_lines}
 use Rattle.cal_trace.proofs.report.write_kept.Given as goal
 
 abbrev pub invariant-loop-thread : goal.invariant-loop-thread

@@ -1,8 +1,8 @@
 use Rattle.std.proofs.Common.{List}
 use Rattle.std.specs.Io.KnownBytes.{Appends}
-use Rattle.cal_policy.specs.declared.pass_action.Action.{Action}
-use Rattle.cal_trace.specs.ReportText.{task_lines}
-use Rattle.cal_trace.specs.Standing.{Agrees}
+use Rattle.cal_policy.specs.declared.history.action.Action.{Action}
+use Rattle.cal_trace.specs.Report.{task_lines}
+use Rattle.cal_trace.specs.Report.Standing.{Agrees}
 use Rattle.cal_trace.proofs.report.write_tasks.Given as goal
 
 abbrev pub invariant-loop-task : goal.invariant-loop-task

@@ -1,5 +1,5 @@
 use Rattle.std.proofs.Common.{◌∙◌, refl, inr, arith}
-use Rattle.cal_trace.proofs.RowsLeft.{few_rows}
+use Rattle.cal_trace.proofs.RowLemmas.RowsLeft.{few_rows}
 use Rattle.cal_trace.proofs.rows.Rows.open.Goals as goal
 
 pub returns-clause-reading : goal.returns-clause-reading

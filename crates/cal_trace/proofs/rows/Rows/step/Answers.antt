@@ -1,5 +1,5 @@
 use Rattle.std.proofs.Common.{◌∙◌, refl, inl, arith, ap, length}
-use Rattle.cal_trace.proofs.RowsLeft.{takes_first, takes_none}
+use Rattle.cal_trace.proofs.RowLemmas.RowsLeft.{takes_first, takes_none}
 use Rattle.cal_trace.proofs.rows.Rows.step.Goals as goal
 
 pub returns-then-found : goal.returns-then-found

@@ -1,0 +1,95 @@
+-- The report of signals that are decided as they are read.
+use Rattle.std.proofs.Common.{◌≡◌, ℕ, List, length, Option, Result, Ok, Err, IsOk, IfErr, OnOk, refl, sym, ap, subst, ◌∙◌}
+use Rattle.std.specs.Io.KnownBytes.{Appends}
+use Rattle.cal_machine.specs.Table.{Table}
+use Rattle.cal_machine.specs.Tasks.{threads_in}
+use Rattle.cal_machine.specs.declared.fault.ConfigFault.{ConfigFault}
+use Rattle.cal_machine.specs.declared.fault.ConfigFault.TheVariants as config
+use Rattle.cal_policy.specs.Book.{AgreesWith}
+use Rattle.cal_policy.specs.declared.book.Book.{Book}
+use Rattle.cal_policy.specs.declared.history.entry.PassEntry.{PassEntry}
+use Rattle.cal_trace.specs.Rows.Answers as files
+use Rattle.cal_trace.specs.Report.{passes_text, report_text}
+use Rattle.cal_trace.specs.Signals.Reading.{HasGiven}
+use Rattle.cal_trace.specs.Report.Standing.{IsReportOf}
+use Rattle.cal_trace.specs.declared.fault.TraceFault.{TraceFault}
+use Rattle.cal_trace.specs.declared.report.Report.{Report}
+use Rattle.cal_trace.specs.declared.signals.file.SignalRows.{SignalRows}
+use Rattle.cal_trace.specs.declared.signals.SignalPass.{SignalPass}
+use Rattle.cal_trace.proofs.RowLemmas.Refusals.{decided}
+use Rattle.cal_engine.specs.Outcome.{run_report, report_of, ConfigDecided, Decided, Failed, Reported, Reports}
+use Rattle.cal_engine.specs.Runs.{Run, decided_on}
+use Rattle.cal_engine.specs.declared.fault.RunFault.{RunFault}
+use Rattle.cal_engine.specs.declared.fault.RunFault.TheVariants as fault
+use Rattle.cal_engine.proofs.Decided.{IsDecided}
+
+-- The first signals of a text were decided, and the text so far is that of their passes.
+pub record IsReporting (table : Table) (trace : List ℕ) (signals : SignalRows) (book : Book) (report : Report) (text : List ℕ) : Type 0 where
+  pub given : List SignalPass
+  pub history : List PassEntry
+  pub has : HasGiven (threads_in table.tasks) trace given signals
+  pub so_far : IsDecided table given history
+  pub agrees : AgreesWith book history
+  pub of : IsReportOf history report
+  pub written : text ≡ passes_text history
+  pub count : length history ≡ length given
+
+-- a fault says of an outcome what it says of its report
+config_decided : (f : ConfigFault) (P Q : Type 0) → (P → Q) → ConfigDecided f P → ConfigDecided f Q
+config_decided config.Memory P Q by h = tt
+config_decided config.NotToml P Q by h = by h
+config_decided config.UnknownKey P Q by h = by h
+config_decided config.MissingKey P Q by h = by h
+config_decided config.WrongType P Q by h = by h
+config_decided config.OutOfRange P Q by h = by h
+config_decided config.BestEffortGuarantee P Q by h = by h
+config_decided config.GuaranteesExceedCores P Q by h = by h
+config_decided config.TooManyThreads P Q by h = by h
+
+pub run_decided : (f : RunFault) (P Q : Type 0) → (P → Q) → Decided f P → Decided f Q
+run_decided fault.Length P Q by h = by h
+run_decided fault.Separator P Q by h = by h
+run_decided (fault.Config f) P Q by h = config_decided f P Q by h
+run_decided (fault.Trace f) P Q by h = decided f.kind P Q by h
+run_decided fault.Memory P Q by h = tt
+run_decided fault.Read P Q by h = absurd h
+run_decided fault.Write P Q by h = absurd h
+run_decided fault.Spawn P Q by h = absurd h
+run_decided fault.Gate P Q by h = absurd h
+
+no_report : (outcome : Result Run RunFault) (f : RunFault) → report_of outcome ≡ Err f → outcome ≡ Err f
+no_report (Err g) f e = cc
+no_report (Ok run) f e = absurd (cc)
+
+pub not_reported : (outcome : Result Run RunFault) (f : RunFault) → Decided f (report_of outcome ≡ Err f) → Decided f (outcome ≡ Err f)
+not_reported outcome f h = run_decided f (report_of outcome ≡ Err f) (outcome ≡ Err f) (no_report outcome f) h
+
+-- a report that was written is the outcome's
+same_text : (a b : List ℕ) → ◌≡◌ {A = Result (List ℕ) RunFault} (Ok a) (Ok b) → b ≡ a
+same_text a b e = cc
+
+pub reported : (outcome : Result Run RunFault) (old new : Option (List ℕ)) (text : List ℕ) → report_of outcome ≡ Ok text → Appends old new text → Reported outcome old new
+reported (Err f) old new text e h = absurd (cc)
+reported (Ok run) old new text e h = subst (λ (t : List ℕ). Appends old new t) (same_text (run_report run) text e) h
+
+has_run : (outcome : Result Run RunFault) (text : List ℕ) → report_of outcome ≡ Ok text → IsOk outcome
+has_run (Err f) text e = absurd (cc)
+has_run (Ok run) text e = refl
+
+-- the report was written, or the writer failed
+pub reports : {T : Type 0} (result : Result T RunFault) (outcome : Result Run RunFault) (old new : Option (List ℕ)) (text : List ℕ) → report_of outcome ≡ Ok text
+    → OnOk result (Appends old new text) → IfErr result (λ f. f ≡ fault.Write) → Reports result outcome old new
+reports (Ok done) outcome old new text e written kind = reported outcome old new text e written
+reports (Err f) outcome old new text e written kind = subst (λ (g : RunFault). Failed g outcome) (sym kind) (has_run outcome text e)
+
+-- signals that are refused
+pub refused_signals : (table : Table) (signals : Result (List SignalPass) TraceFault) (f : TraceFault) → files.Decided f.kind (signals ≡ Err f)
+    → files.Decided f.kind (report_of (decided_on table signals) ≡ Err (fault.Trace f))
+refused_signals table signals f h =
+    decided f.kind (signals ≡ Err f) (report_of (decided_on table signals) ≡ Err (fault.Trace f)) (λ e. ap (λ s. report_of (decided_on table s)) e) h
+
+-- signals that were all decided
+pub whole_report : (table : Table) (signals : Result (List SignalPass) TraceFault) (given : List SignalPass) (history : List PassEntry) (text : List ℕ) → signals ≡ Ok given
+    → IsDecided table given history → text ≡ report_text table history → report_of (decided_on table signals) ≡ Ok text
+whole_report table signals given history text gives so_far written =
+    ap (λ s. report_of (decided_on table s)) gives ∙ ap Ok (ap (report_text table) (sym so_far.done) ∙ sym written)

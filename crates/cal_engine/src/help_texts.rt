@@ -1,0 +1,156 @@
+//! What help says of each word below its options: what goes in and comes out, the exit statuses,
+//! and a whole small run to copy, which tools/examples makes.
+
+/// Of the program as a whole.
+pub const PROGRAM: &str = "\
+Without a word it does what `decide` does. Each word reads one input from the standard input: a task
+table (TOML), the line ---, and a trace (CSV). `caladan_sim WORD --help` says which trace and what is
+written, with a whole input to copy; docs/FORMATS.md has all of it.
+
+Exit status: 0 done, 1 an illegal history, 2 bad words or a refused input, 3 memory, output or a
+thread was refused. A fault is one line on the standard error.";
+
+/// Of the word `decide`.
+pub const DECIDE: &str = "\
+Standard input: a task table (TOML), the line ---, and signals (CSV): for each pass a row with its
+clock and bandwidth figure, and what was found on the page of each kernel thread.
+Standard output: the report: what each pass did, and what each task has at the end.
+Exit status: 0 done, 2 a refused input, 3 memory or output was refused.
+
+To try it:
+
+./caladan_sim decide <<'END'
+cores = 2
+bandwidth_limit = 1000
+[[task]]
+kind = \"lc\"
+guaranteed = 1
+limit = 1
+delay = 10
+request = 50
+---
+caladan-signals,2
+pass,111,0
+whole,0,1,1,0,0,1,100,0,0,105,0,0
+end,1
+END
+
+It writes:
+
+pass 0 now 111 bandwidth 0
+  grant core 0 to thread 0 class 3
+end 1 passes
+task 0 lc held 1 leaving 0";
+
+/// Of the word `lockstep`.
+pub const LOCKSTEP: &str = "\
+Standard input: a task table (TOML), the line ---, and arrivals (CSV): the clocks of the passes and
+of the kernel threads' turns, and the requests that come to the threads.
+Standard output: the history of the run, which `audit` reads behind the table; with --summary, what
+each kernel thread did.
+Exit status: 0 done, 2 a refused input, 3 memory or output was refused.
+
+To try it:
+
+./caladan_sim lockstep <<'END'
+cores = 2
+bandwidth_limit = 1000
+[[task]]
+kind = \"lc\"
+guaranteed = 1
+limit = 1
+delay = 10
+request = 50
+---
+caladan-arrivals,1
+pass,100,0
+pass,116,0
+turn,105
+turn,125
+request,0,0,7,1,3
+end,5
+END
+
+It writes:
+
+caladan-history,2
+pass,100,0
+whole,0,1,0,0,0,0,0,0,0,0,0,0
+pass,116,0
+whole,0,1,1,0,0,1,105,0,0,105,0,0
+grant,0,0,3
+end,2";
+
+/// Of the word `sim`.
+pub const SIM: &str = "\
+Standard input: a task table (TOML), the line ---, and arrivals (CSV): the clocks of the passes and
+of the kernel threads' turns, and the requests that come to the threads.
+Standard output: the history of the run, which `audit` reads behind the table; with --summary, what
+each kernel thread did. The threads meet otherwise in each run, so what is written varies.
+Exit status: 0 done, 2 a refused input, 3 memory, output or a thread was refused.
+
+To try it:
+
+./caladan_sim sim <<'END'
+cores = 2
+bandwidth_limit = 1000
+[[task]]
+kind = \"lc\"
+guaranteed = 1
+limit = 1
+delay = 10
+request = 50
+---
+caladan-arrivals,1
+pass,100,0
+pass,116,0
+turn,105
+turn,125
+request,0,0,7,1,3
+end,5
+END
+
+It may write:
+
+caladan-history,2
+pass,100,0
+whole,0,1,0,0,0,0,0,0,0,0,0,0
+pass,116,0
+whole,0,1,1,0,0,1,105,0,0,105,0,0
+grant,0,0,3
+end,2";
+
+/// Of the word `audit`.
+pub const AUDIT: &str = "\
+Standard input: a task table (TOML), the line ---, and a history (CSV), as `lockstep`, `sim` and
+`caladan_view history` write it.
+Standard output: of a history that is the policy's the report and the line `legal`, else the one
+line `illegal pass P`, with the first pass, from 0, that is not.
+Exit status: 0 legal, 1 illegal, 2 a refused input, 3 memory or output was refused.
+
+To try it:
+
+./caladan_sim audit <<'END'
+cores = 2
+bandwidth_limit = 1000
+[[task]]
+kind = \"lc\"
+guaranteed = 1
+limit = 1
+delay = 10
+request = 50
+---
+caladan-history,2
+pass,111,0
+whole,0,1,1,0,0,1,100,0,0,105,0,0
+grant,0,0,3
+end,1
+END
+
+It writes:
+
+pass 0 now 111 bandwidth 0
+  grant core 0 to thread 0 class 3
+end 1 passes
+task 0 lc held 1 leaving 0
+legal";

@@ -1,0 +1,8 @@
+-- Files of histories: read, written, and read back.
+pub mod Extents
+pub mod LegalInRange
+pub mod Lines
+pub mod PlainRows
+pub mod ReadBack
+pub mod ReadInRange
+pub mod RowsTaken

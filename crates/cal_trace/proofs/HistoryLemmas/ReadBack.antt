@@ -1,0 +1,130 @@
+-- The text of a history in range is read as that history.
+use Rattle.std.proofs.Common.{◌≡◌, ◌<◌, ◌≤◌, ◌+◌, ◌∙◌, ℕ, List, [], ◌∷◌, ◌++◌, length, map, codes, Bool, true, false, Some, Ok, slice_index_or, flat_map, refl, sym, ap, ap₂, subst, arith, append_assoc, append-nil, length-append}
+use Rattle.std.proofs.lemmas.Bool.{lt-ltb, eq-eqb}
+use Rattle.csv.specs.Records.{field_at}
+use Rattle.cal_policy.specs.declared.history.look.Seen.{Seen}
+use Rattle.cal_policy.specs.declared.history.action.Action.{Action}
+use Rattle.cal_policy.specs.declared.history.entry.PassEntry.{PassEntry}
+use Rattle.cal_trace.specs.Rows.Header.{header_of}
+use Rattle.cal_trace.specs.History.{SoFar, at_start, take_row, entries_of, is_between, next_thread, with_action, most_actions, whole, history_of}
+use Rattle.cal_trace.specs.History.Text.{look_fields, action_fields, look_rows, pass_fields, entry_rows, header_row, end_fields, history_text}
+use Rattle.cal_trace.specs.Rows.LookRows.{most_passes}
+use Rattle.cal_trace.specs.History.Ranges.{Each, HasLookWords, HasActionWord, IsLookInRange, IsActionInRange, IsEntryInRange, IsInRange}
+use Rattle.cal_trace.specs.Rows.Reading.{read_from, read_under}
+use Rattle.cal_trace.specs.Rows.{Fields, rows_of}
+use Rattle.cal_trace.specs.Rows.Text.{numbered}
+use Rattle.cal_trace.specs.declared.history.action_rows.Extent.{Extent}
+use Rattle.cal_trace.specs.declared.rows.version.Version.TheVariants as version
+use Rattle.cal_trace.proofs.ListLemmas.EachOne.{each_first, each_other}
+use Rattle.cal_trace.proofs.RowLemmas.Readings.{one_row, ends}
+use Rattle.cal_trace.proofs.HistoryLemmas.Extents.{IsExtent, byte_word}
+use Rattle.cal_trace.proofs.HistoryLemmas.PlainRows.{rows_back}
+use Rattle.cal_trace.proofs.HistoryLemmas.RowsTaken.{within, ended, pass_taken, end_taken, look_taken, action_taken}
+
+-- these rows, after what the rows before have given, are read as this history
+record IsReadAs (extent : Extent) (so_far : SoFar) (rows : List Fields) (history : List PassEntry) : Type 0 where
+  pub from : (row : ℕ) → read_from (take_row extent version.Two) whole so_far row rows ≡ Ok history
+
+row_more : (extent : Extent) (so_far next : SoFar) (fields : Fields) (rows : List Fields) (history : List PassEntry) → take_row extent version.Two so_far fields ≡ Ok next
+    → IsReadAs extent next rows history → IsReadAs extent so_far (fields ∷ rows) history
+row_more extent so_far next fields rows history takes more = record {
+  from = λ row. one_row (take_row extent version.Two) whole so_far row next fields rows takes ∙ more.from (row + 1);
+}
+
+-- a pass with these looks and no actions yet
+abbrev looked : ℕ → ℕ → List Seen → List Bool → PassEntry
+looked now bandwidth seen rooms = record { input = record { now = now; bandwidth = bandwidth; seen = seen; rooms = rooms }; actions = [] }
+
+-- a pass with these actions in place of its own
+abbrev acted : PassEntry → List Action → PassEntry
+acted entry actions = record { input = entry.input; actions = actions }
+
+next_is : (extent : Extent) (entry : PassEntry) (k : ℕ) → k ≡ length entry.input.seen → k < extent.threads → next_thread extent (Some entry) ≡ Ok k
+next_is extent entry k same lt = let t = lt-ltb (length entry.input.seen) extent.threads (omega arith) in rw t (cc)
+
+answer_at : (before : List Bool) (room : Bool) (after : List Bool) → slice_index_or (before ++ room ∷ after) (length before) false ≡ room
+answer_at [] room after = refl
+answer_at (b ∷ before) room after = answer_at before room after
+
+-- the rows of looks
+looks_more : (extent : Extent) (before : List PassEntry) (now bandwidth : ℕ) (rooms : List Bool) (seen : List Seen) (done left : List Bool) (looks : List Seen) (k : ℕ)
+    (rest : List Fields) (history : List PassEntry) → extent.threads < 256 → k ≡ length seen → k ≡ length done → rooms ≡ done ++ left → length left ≡ length looks
+    → k + length looks ≡ extent.threads → Each HasLookWords looks → Each IsLookInRange looks
+    → IsReadAs extent (within before (looked now bandwidth (seen ++ looks) rooms)) rest history
+    → IsReadAs extent (within before (looked now bandwidth seen done)) (numbered (λ k look. look_fields k (slice_index_or rooms k false) look) k looks ++ rest) history
+looks_more extent before now bandwidth rooms seen done [] [] k rest history few is_k is_done is same all words ranges more =
+    subst (λ (entry : PassEntry). IsReadAs extent (within before entry) rest history) (ap₂ (looked now bandwidth) (append-nil seen) (is ∙ append-nil done)) more
+looks_more extent before now bandwidth rooms seen done (room ∷ left) [] k rest history few is_k is_done is same all words ranges more = absurd (omega arith)
+looks_more extent before now bandwidth rooms seen done [] (look ∷ looks) k rest history few is_k is_done is same all words ranges more = absurd (omega arith)
+looks_more extent before now bandwidth rooms seen done (room ∷ left) (look ∷ looks) k rest history few is_k is_done is same all words ranges more =
+    let entry = looked now bandwidth seen done in
+    let answer = slice_index_or rooms k false in
+    let lt : k < extent.threads = omega arith in
+    let is_answer : answer ≡ room = ap₂ (λ (x : List Bool) (n : ℕ). slice_index_or x n false) is is_done ∙ answer_at done room left in
+    let parts : rooms ≡ (done ++ answer ∷ []) ++ left = is ∙ ap (λ (r : Bool). done ++ r ∷ left) (sym is_answer) ∙ sym (append_assoc done (answer ∷ []) left) in
+    let takes = look_taken extent before entry k answer look (next_is extent entry k is_k lt) (byte_word k (omega arith)) (each_first HasLookWords look looks words) (each_first IsLookInRange look looks ranges) in
+    let later = subst (λ (s : List Seen). IsReadAs extent (within before (looked now bandwidth s rooms)) rest history) (sym (append_assoc seen (look ∷ []) looks)) more in
+    let is_next : k + 1 ≡ length (seen ++ look ∷ []) = omega (arith, length-append seen (look ∷ [])) in
+    let is_next_done : k + 1 ≡ length (done ++ answer ∷ []) = omega (arith, length-append done (answer ∷ [])) in
+    row_more extent (within before entry) _ _ _ history takes
+    (looks_more extent before now bandwidth rooms (seen ++ look ∷ []) (done ++ answer ∷ []) left looks (k + 1) rest history few is_next is_next_done parts (omega arith) (omega arith)
+    (each_other HasLookWords look looks words) (each_other IsLookInRange look looks ranges) later)
+
+-- the rows of actions
+actions_more : (extent : Extent) (before : List PassEntry) (entry : PassEntry) (actions : List Action) (rest : List Fields) (history : List PassEntry) → IsExtent extent
+    → length entry.input.seen ≡ extent.threads → length entry.actions + length actions ≤ most_actions → Each HasActionWord actions → Each (IsActionInRange extent) actions
+    → IsReadAs extent (within before (acted entry (entry.actions ++ actions))) rest history
+    → IsReadAs extent (within before entry) (map action_fields actions ++ rest) history
+actions_more extent before entry [] rest history few full most words ranges more =
+    subst (λ (acts : List Action). IsReadAs extent (within before (acted entry acts)) rest history) (append-nil entry.actions) more
+actions_more extent before entry (action ∷ actions) rest history few full most words ranges more =
+    let takes = action_taken extent before entry action few full (omega arith) (each_first HasActionWord action actions words) (each_first (IsActionInRange extent) action actions ranges) in
+    let later = subst (λ (acts : List Action). IsReadAs extent (within before (acted entry acts)) rest history) (sym (append_assoc entry.actions (action ∷ []) actions)) more in
+    let room : length (entry.actions ++ action ∷ []) + length actions ≤ most_actions = omega (arith, length-append entry.actions (action ∷ [])) in
+    row_more extent (within before entry) _ _ _ history takes
+    (actions_more extent before (with_action action entry) actions rest history few full room (each_other HasActionWord action actions words) (each_other (IsActionInRange extent) action actions ranges) later)
+
+-- the rows of a pass
+entry_more : (extent : Extent) (so_far : SoFar) (entry : PassEntry) (rest : List Fields) (history : List PassEntry) → IsExtent extent → is_between extent so_far ≡ true
+    → length (entries_of so_far) < most_passes → IsEntryInRange extent entry → IsReadAs extent (within (entries_of so_far) entry) rest history
+    → IsReadAs extent so_far (entry_rows entry ++ rest) history
+entry_more extent so_far entry rest history few between room r more =
+    let input = entry.input in
+    let before = entries_of so_far in
+    let after = looked input.now input.bandwidth input.seen input.rooms in
+    let most : length after.actions + length entry.actions ≤ most_actions = omega (arith, r.most) in
+    let acts = actions_more extent before after entry.actions rest history few r.looks most r.words.starts r.actions more in
+    let looks = looks_more extent before input.now input.bandwidth input.rooms [] [] input.rooms input.seen 0 (map action_fields entry.actions ++ rest) history few.few_threads refl refl refl
+    (r.rooms ∙ sym r.looks) (omega (arith, r.looks)) r.words.looks r.seen acts in
+    let rows = subst (λ (rows : List Fields). IsReadAs extent (within before (looked input.now input.bandwidth [] [])) rows history)
+    (sym (append_assoc (look_rows input.rooms input.seen) (map action_fields entry.actions) rest)) looks in
+    row_more extent so_far _ (pass_fields entry) _ history (pass_taken extent so_far entry between room r.words.now r.words.bandwidth) rows
+
+-- the passes and the end row
+entries_more : (extent : Extent) (so_far : SoFar) (history : List PassEntry) (count : ℕ) → IsExtent extent → is_between extent so_far ≡ true
+    → count ≡ length (entries_of so_far) + length history → count ≤ most_passes → Each (IsEntryInRange extent) history
+    → IsReadAs extent so_far (flat_map entry_rows history ++ end_fields count ∷ []) (entries_of so_far ++ history)
+entries_more extent so_far [] count few between is most ranges =
+    let done : IsReadAs extent (ended (entries_of so_far)) [] (entries_of so_far) = record { from = λ row. ends (take_row extent version.Two) whole (ended (entries_of so_far)) row } in
+    subst (λ (history : List PassEntry). IsReadAs extent so_far (end_fields count ∷ []) history) (sym (append-nil (entries_of so_far)))
+    (row_more extent so_far _ (end_fields count) [] (entries_of so_far) (end_taken extent so_far count between (omega arith) (omega arith)) done)
+entries_more extent so_far (entry ∷ history) count few between is most ranges =
+    let r = each_first (IsEntryInRange extent) entry history ranges in
+    let next = within (entries_of so_far) entry in
+    let count_next : count ≡ length (entries_of so_far ++ entry ∷ []) + length history = omega (arith, length-append (entries_of so_far) (entry ∷ [])) in
+    let full : is_between extent next ≡ true = eq-eqb (length entry.input.seen) extent.threads r.looks in
+    let later = entries_more extent next history count few full count_next most (each_other (IsEntryInRange extent) entry history ranges) in
+    let all = subst (λ (all : List PassEntry). IsReadAs extent next (flat_map entry_rows history ++ end_fields count ∷ []) all) (append_assoc (entries_of so_far) (entry ∷ []) history) later in
+    subst (λ (rows : List Fields). IsReadAs extent so_far rows (entries_of so_far ++ entry ∷ history)) (sym (append_assoc (entry_rows entry) (flat_map entry_rows history) (end_fields count ∷ [])))
+    (entry_more extent so_far entry (flat_map entry_rows history ++ end_fields count ∷ []) (entries_of so_far ++ entry ∷ history) few between (omega arith) r all)
+
+header_taken : (rest : List Fields) → header_of (codes "caladan-history") (header_row ∷ rest) ≡ Ok (version.Two, rest)
+unfolding field_at
+header_taken rest = refl
+
+-- the text of a history in range is read as that history
+pub history_back : (extent : Extent) (history : List PassEntry) → IsExtent extent → IsInRange extent history → history_of extent (rows_of (history_text history)) ≡ Ok history
+history_back extent history few r =
+    let rest = flat_map entry_rows history ++ end_fields (length history) ∷ [] in
+    let start = entries_more extent at_start history (length history) few refl (omega arith) r.passes r.each in
+    ap (history_of extent) (rows_back extent history few r) ∙ ap (read_under (take_row extent) whole at_start) (header_taken rest) ∙ start.from 1

@@ -1,0 +1,294 @@
+-- The rows of a history's text, each taken for what it was written of.
+use Rattle.std.proofs.Common.{◌≡◌, ◌<◌, ◌==◌, ◌∙◌, ℕ, List, [], ◌∷◌, length, codes, Bool, true, false, Some, None, Result, Ok, decimal, nat_lt, nat_le, refl, ap, arith}
+use Rattle.std.proofs.lemmas.Bool.{lt-ltb, le-leb, eq-eqb}
+use Rattle.csv.specs.Records.{field_at}
+use Rattle.cal_signal.specs.declared.record.Record.{Record}
+use Rattle.cal_policy.specs.declared.history.look.Seen.{Seen}
+use Rattle.cal_policy.specs.declared.history.look.Seen.TheVariants as seen
+use Rattle.cal_policy.specs.declared.history.action.Action.{Action}
+use Rattle.cal_policy.specs.declared.history.action.Action.TheVariants.{Free, Unban, Ban, Revoke, Cap, Grant}
+use Rattle.cal_policy.specs.declared.history.action.Cause.{Cause}
+use Rattle.cal_policy.specs.declared.history.action.Cause.TheVariants as causes
+use Rattle.cal_policy.specs.declared.history.entry.PassEntry.{PassEntry}
+use Rattle.cal_trace.specs.History.ActionRows.{action_row, made, core_row, ban_row, revoke_row, revoke_for_bandwidth_row, cap_row, grant_row}
+use Rattle.cal_trace.specs.History.{SoFar, form_of, take_row, take_form, take_look, seen_row, judged_row, busy_look, add_look, add_action, one_more_action, entries_of, is_between, next_thread, begun, with_look, with_action, most_actions}
+use Rattle.cal_trace.specs.History.Text.{room_number, record_fields, look_fields, revocation_fields, action_fields, pass_fields, end_fields}
+use Rattle.cal_trace.specs.Rows.LookRows.{check, most_passes, whole_row, busy_row}
+use Rattle.cal_trace.specs.History.Ranges.{IsWord, AreWords, HasLookWords, HasActionWord, IsLookInRange, IsCauseInRange, IsActionInRange}
+use Rattle.cal_trace.specs.Rows.{Fields}
+use Rattle.cal_signal.specs.Tests.{is_shaped, is_busy_pair}
+use Rattle.cal_signal.proofs.Testing.{shaped_test, pair_test}
+use Rattle.cal_trace.specs.declared.history.action_rows.ActionForm.{ActionForm}
+use Rattle.cal_trace.specs.declared.history.action_rows.ActionForm.TheVariants as act
+use Rattle.cal_trace.specs.declared.history.action_rows.Extent.{Extent}
+use Rattle.cal_trace.specs.declared.fault.FaultKind.{FaultKind}
+use Rattle.cal_trace.specs.declared.fault.FaultKind.TheVariants as kind
+use Rattle.cal_trace.specs.declared.history.reading.Form.TheVariants as form
+use Rattle.cal_trace.specs.declared.history.reading.LookForm.{LookForm}
+use Rattle.cal_trace.specs.declared.history.reading.LookForm.TheVariants as looks
+use Rattle.cal_trace.specs.declared.history.reading.SeenRow.{SeenRow}
+use Rattle.cal_trace.specs.declared.rows.look_rows.WholeRow.{WholeRow}
+use Rattle.cal_trace.specs.declared.rows.look_rows.BusyRow.{BusyRow}
+use Rattle.cal_trace.specs.declared.rows.version.Version.TheVariants as version
+use Rattle.cal_trace.proofs.HistoryLemmas.Extents.{IsExtent, byte_word}
+use Rattle.cal_trace.proofs.HistoryLemmas.PlainRows.{room_word}
+use Rattle.cal_trace.proofs.RowLemmas.Spelled.{IsSpelled, spelled}
+
+-- these passes, and this one at hand
+abbrev pub within : List PassEntry → PassEntry → SoFar
+within before entry = record { before = before; at_hand = Some entry; ended = false }
+
+-- these passes, and the end
+abbrev pub ended : List PassEntry → SoFar
+ended before = record { before = before; at_hand = None; ended = true }
+
+-- a pass row
+pass_read : (extent : Extent) (so_far : SoFar) (a b : List ℕ) (now bandwidth : ℕ) → is_between extent so_far ≡ true → nat_lt (length (entries_of so_far)) most_passes ≡ true
+    → IsSpelled now a → IsSpelled bandwidth b
+    → take_row extent version.Two so_far (codes "pass" ∷ a ∷ b ∷ []) ≡ Ok (within (entries_of so_far) (begun (record { now = now; bandwidth = bandwidth })))
+unfolding field_at
+pass_read extent so_far a b now bandwidth between few is_now is_bandwidth = rw (between, few, is_now.number, is_bandwidth.number) refl
+
+pub pass_taken : (extent : Extent) (so_far : SoFar) (entry : PassEntry) → is_between extent so_far ≡ true → length (entries_of so_far) < most_passes
+    → IsWord entry.input.now → IsWord entry.input.bandwidth
+    → take_row extent version.Two so_far (pass_fields entry) ≡ Ok (within (entries_of so_far) (begun (record { now = entry.input.now; bandwidth = entry.input.bandwidth })))
+pass_taken extent so_far entry between few now bandwidth =
+    pass_read extent so_far _ _ entry.input.now entry.input.bandwidth between (lt-ltb (length (entries_of so_far)) most_passes few) (spelled entry.input.now now) (spelled entry.input.bandwidth bandwidth)
+
+-- the end row
+end_read : (extent : Extent) (so_far : SoFar) (a : List ℕ) (count : ℕ) → is_between extent so_far ≡ true → IsSpelled count a → (count == length (entries_of so_far)) ≡ true
+    → take_row extent version.Two so_far (codes "end" ∷ a ∷ []) ≡ Ok (ended (entries_of so_far))
+unfolding field_at
+end_read extent so_far a count between is_count same = rw (between, is_count.number, same) refl
+
+pub end_taken : (extent : Extent) (so_far : SoFar) (count : ℕ) → is_between extent so_far ≡ true → IsWord count → count ≡ length (entries_of so_far)
+    → take_row extent version.Two so_far (end_fields count) ≡ Ok (ended (entries_of so_far))
+end_taken extent so_far count between is_count same = end_read extent so_far _ count between (spelled count is_count) (eq-eqb count (length (entries_of so_far)) same)
+
+-- whether a ring has room, by its number
+room_small : (room : Bool) → nat_lt (room_number room) 2 ≡ true
+room_small true = refl
+room_small false = refl
+
+room_same : (room : Bool) → (room_number room == 1) ≡ room
+room_same true = refl
+room_same false = refl
+
+-- a row of a whole record
+abbrev whole_value : Bool → ℕ → Record → Result WholeRow FaultKind
+whole_value room place rec = Ok (record { room = room; shown = record { number = place; rec = rec } })
+
+whole_read : (thread room place : ℕ) (rec : Record) (name t r p a b c d e f g h i : List ℕ)
+    → IsSpelled thread t → IsSpelled room r → IsSpelled place p
+    → IsSpelled rec.taken a → IsSpelled rec.running b → IsSpelled rec.queued c → IsSpelled rec.oldest d → IsSpelled rec.started e
+    → IsSpelled rec.misses f → IsSpelled rec.stamp g → IsSpelled rec.paused h → IsSpelled rec.since i
+    → (thread == thread) ≡ true → nat_lt room 2 ≡ true → is_shaped rec ≡ true
+    → whole_row thread (name ∷ t ∷ r ∷ p ∷ a ∷ b ∷ c ∷ d ∷ e ∷ f ∷ g ∷ h ∷ i ∷ []) ≡ whole_value (room == 1) place rec
+unfolding field_at
+whole_read thread room place rec name t r p a b c d e f g h i is_t is_r is_p is_a is_b is_c is_d is_e is_f is_g is_h is_i own small shaped =
+    rw (is_t.number, is_r.number, is_p.number, is_a.number, is_b.number, is_c.number, is_d.number, is_e.number, is_f.number, is_g.number, is_h.number, is_i.number, own, small, shaped) refl
+
+record_read : (name : List ℕ) (thread : ℕ) (room : Bool) (place : ℕ) (rec : Record) → IsWord thread → IsWord place → AreWords rec → is_shaped rec ≡ true
+    → whole_row thread (record_fields name thread room place rec) ≡ whole_value room place rec
+record_read name thread room place rec is_thread is_place w shaped =
+    whole_read thread (room_number room) place rec name _ _ _ _ _ _ _ _ _ _ _ _ (spelled thread is_thread) (spelled (room_number room) (room_word room)) (spelled place is_place)
+    (spelled rec.taken w.taken) (spelled rec.running w.running) (spelled rec.queued w.queued) (spelled rec.oldest w.oldest) (spelled rec.started w.started)
+    (spelled rec.misses w.misses) (spelled rec.stamp w.stamp) (spelled rec.paused w.paused) (spelled rec.since w.since)
+    (eq-eqb thread thread refl) (room_small room) shaped
+    ∙ ap (λ (b : Bool). whole_value b place rec) (room_same room)
+
+-- a row of a busy look
+abbrev busy_value : Bool → ℕ → ℕ → Result BusyRow FaultKind
+busy_value room first second = Ok (record { room = room; first = first; second = second })
+
+busy_read : (thread room first second : ℕ) (name t r a b : List ℕ) → IsSpelled thread t → IsSpelled room r → IsSpelled first a → IsSpelled second b
+    → (thread == thread) ≡ true → nat_lt room 2 ≡ true → is_busy_pair first second ≡ true
+    → busy_row thread (name ∷ t ∷ r ∷ a ∷ b ∷ []) ≡ busy_value (room == 1) first second
+unfolding field_at
+busy_read thread room first second name t r a b is_t is_r is_a is_b own small pair = rw (is_t.number, is_r.number, is_a.number, is_b.number, own, small, pair) refl
+
+-- what a look row is, by its first field
+record_form : (thread : ℕ) (room : Bool) (place : ℕ) (rec : Record) → form_of version.Two (record_fields (codes "whole") thread room place rec) ≡ Some (form.Look looks.Whole)
+unfolding field_at
+record_form thread room place rec = refl
+
+ahead_form : (thread : ℕ) (room : Bool) (place : ℕ) (rec : Record) → form_of version.Two (record_fields (codes "ahead") thread room place rec) ≡ Some (form.Look looks.Ahead)
+unfolding field_at
+ahead_form thread room place rec = refl
+
+foreign_form : (thread : ℕ) (room : Bool) (place : ℕ) (rec : Record) → form_of version.Two (record_fields (codes "foreign") thread room place rec) ≡ Some (form.Look looks.Foreign)
+unfolding field_at
+foreign_form thread room place rec = refl
+
+busy_form : (t r a b : List ℕ) → form_of version.Two (codes "busy" ∷ t ∷ r ∷ a ∷ b ∷ []) ≡ Some (form.Look looks.Busy)
+unfolding field_at
+busy_form t r a b = refl
+
+-- a look row, by its form and its value
+look_by : (extent : Extent) (before : List PassEntry) (entry : PassEntry) (look : LookForm) (thread : ℕ) (fields : Fields) (row : SeenRow)
+    → form_of version.Two fields ≡ Some (form.Look look) → next_thread extent (Some entry) ≡ Ok thread → seen_row look thread fields ≡ Ok row
+    → take_row extent version.Two (within before entry) fields ≡ Ok (within before (with_look row entry))
+look_by extent before entry look thread fields row is next value =
+    ap (λ f. take_form extent (within before entry) f fields) is ∙ ap (take_look (within before entry) look fields) next ∙ ap (add_look (within before entry)) value
+
+-- the row of a look
+pub look_taken : (extent : Extent) (before : List PassEntry) (entry : PassEntry) (thread : ℕ) (room : Bool) (look : Seen) → next_thread extent (Some entry) ≡ Ok thread
+    → IsWord thread → HasLookWords look → IsLookInRange look
+    → take_row extent version.Two (within before entry) (look_fields thread room look) ≡ Ok (within before (with_look (record { seen = look; room = room }) entry))
+look_taken extent before entry thread room (seen.Whole place rec) next is_thread w shaped =
+    look_by extent before entry looks.Whole thread (look_fields thread room (seen.Whole place rec)) _ (record_form thread room place rec) next
+    (ap (judged_row (λ (row : WholeRow). seen.Whole row.shown.number row.shown.rec)) (record_read (codes "whole") thread room place rec is_thread w.0 w.1 (shaped_test rec shaped)))
+look_taken extent before entry thread room (seen.Ahead place rec) next is_thread w shaped =
+    look_by extent before entry looks.Ahead thread (look_fields thread room (seen.Ahead place rec)) _ (ahead_form thread room place rec) next
+    (ap (judged_row (λ (row : WholeRow). seen.Ahead row.shown.number row.shown.rec)) (record_read (codes "ahead") thread room place rec is_thread w.0 w.1 (shaped_test rec shaped)))
+look_taken extent before entry thread room (seen.Foreign place rec) next is_thread w shaped =
+    look_by extent before entry looks.Foreign thread (look_fields thread room (seen.Foreign place rec)) _ (foreign_form thread room place rec) next
+    (ap (judged_row (λ (row : WholeRow). seen.Foreign row.shown.number row.shown.rec)) (record_read (codes "foreign") thread room place rec is_thread w.0 w.1 (shaped_test rec shaped)))
+look_taken extent before entry thread room (seen.Busy first second) next is_thread w pair =
+    look_by extent before entry looks.Busy thread (look_fields thread room (seen.Busy first second)) _
+    (busy_form (decimal thread) (decimal (room_number room)) (decimal first) (decimal second)) next
+    (ap busy_look (busy_read thread (room_number room) first second (codes "busy") _ _ _ _ (spelled thread is_thread) (spelled (room_number room) (room_word room)) (spelled first w.0) (spelled second w.1)
+    (eq-eqb thread thread refl) (room_small room) (pair_test first second pair)
+    ∙ ap (λ (b : Bool). busy_value b first second) (room_same room)))
+
+-- action rows
+core_read : (extent : Extent) (core : ℕ) (name a : List ℕ) → IsSpelled core a → nat_lt core extent.cores ≡ true → core_row extent (name ∷ a ∷ []) ≡ Ok core
+unfolding field_at
+core_read extent core name a is_core below = rw (is_core.number, below) refl
+
+ban_read : (extent : Extent) (core thread started : ℕ) (name a b c : List ℕ) → IsSpelled core a → IsSpelled thread b → IsSpelled started c
+    → nat_lt core extent.cores ≡ true → nat_lt thread extent.threads ≡ true → ban_row extent (name ∷ a ∷ b ∷ c ∷ []) ≡ Ok (Ban core thread started)
+unfolding field_at
+ban_read extent core thread started name a b c is_core is_thread is_started below thread_below = rw (is_core.number, is_thread.number, is_started.number, below, thread_below) refl
+
+revoke_read : (extent : Extent) (most core named : ℕ) (name a word b : List ℕ) → IsSpelled core a → IsSpelled named b
+    → nat_lt core extent.cores ≡ true → nat_lt named most ≡ true → revoke_row extent most (name ∷ a ∷ word ∷ b ∷ []) ≡ Ok (core, named)
+unfolding field_at
+revoke_read extent most core named name a word b is_core is_named below named_below = rw (is_core.number, is_named.number, below, named_below) refl
+
+bandwidth_read : (extent : Extent) (core : ℕ) (name a word : List ℕ) → IsSpelled core a → nat_lt core extent.cores ≡ true
+    → revoke_for_bandwidth_row extent (name ∷ a ∷ word ∷ []) ≡ Ok (Revoke core causes.Bandwidth)
+unfolding field_at
+bandwidth_read extent core name a word is_core below = rw (is_core.number, below) refl
+
+cap_read : (extent : Extent) (task cap : ℕ) (name a b : List ℕ) → IsSpelled task a → IsSpelled cap b
+    → nat_lt task extent.tasks ≡ true → nat_le cap 16 ≡ true → cap_row extent (name ∷ a ∷ b ∷ []) ≡ Ok (Cap task cap)
+unfolding field_at
+cap_read extent task cap name a b is_task is_cap below few = rw (is_task.number, is_cap.number, below, few) refl
+
+grant_read : (extent : Extent) (core thread class : ℕ) (name a b c : List ℕ) → IsSpelled core a → IsSpelled thread b → IsSpelled class c
+    → nat_lt core extent.cores ≡ true → nat_lt thread extent.threads ≡ true → nat_le 1 class ≡ true → nat_le class 5 ≡ true
+    → grant_row extent (name ∷ a ∷ b ∷ c ∷ []) ≡ Ok (Grant core thread class)
+unfolding field_at
+grant_read extent core thread class name a b c is_core is_thread is_class below thread_below least most = rw (is_core.number, is_thread.number, is_class.number, below, thread_below, least, most) refl
+
+-- what an action row is, by its first field and its cause
+free_form : (a : List ℕ) → form_of version.Two (codes "free" ∷ a ∷ []) ≡ Some (form.Act act.Free)
+unfolding field_at
+free_form a = refl
+
+unban_form : (a : List ℕ) → form_of version.Two (codes "unban" ∷ a ∷ []) ≡ Some (form.Act act.Unban)
+unfolding field_at
+unban_form a = refl
+
+ban_form : (a b c : List ℕ) → form_of version.Two (codes "ban" ∷ a ∷ b ∷ c ∷ []) ≡ Some (form.Act act.Ban)
+unfolding field_at
+ban_form a b c = refl
+
+revoke_ban_form : (a b : List ℕ) → form_of version.Two (codes "revoke" ∷ a ∷ codes "ban" ∷ b ∷ []) ≡ Some (form.Act act.RevokeForBan)
+unfolding field_at
+revoke_ban_form a b = refl
+
+revoke_bandwidth_form : (a : List ℕ) → form_of version.Two (codes "revoke" ∷ a ∷ codes "bandwidth" ∷ []) ≡ Some (form.Act act.RevokeForBandwidth)
+unfolding field_at
+revoke_bandwidth_form a = refl
+
+revoke_task_form : (a b : List ℕ) → form_of version.Two (codes "revoke" ∷ a ∷ codes "preempt" ∷ b ∷ []) ≡ Some (form.Act act.RevokeForTask)
+unfolding field_at
+revoke_task_form a b = refl
+
+cap_form : (a b : List ℕ) → form_of version.Two (codes "cap" ∷ a ∷ b ∷ []) ≡ Some (form.Act act.Cap)
+unfolding field_at
+cap_form a b = refl
+
+grant_form : (a b c : List ℕ) → form_of version.Two (codes "grant" ∷ a ∷ b ∷ c ∷ []) ≡ Some (form.Act act.Grant)
+unfolding field_at
+grant_form a b c = refl
+
+-- the value of an action's row
+record IsActionRow (extent : Extent) (action : Action) (fields : Fields) : Type 0 where
+  pub shape : ActionForm
+  pub is : form_of version.Two fields ≡ Some (form.Act shape)
+  pub value : action_row shape extent fields ≡ Ok action
+
+byte : (n most : ℕ) → n < most → most < 256 → IsSpelled n (decimal n)
+byte n most lt few = spelled n (byte_word n (omega arith))
+
+revocation_row : (extent : Extent) (core : ℕ) (cause : Cause) → IsExtent extent → core < extent.cores → IsCauseInRange extent cause → IsActionRow extent (Revoke core cause) (revocation_fields core cause)
+revocation_row extent core (causes.Ban by) few is_core is_by = record {
+  shape = act.RevokeForBan;
+  is = revoke_ban_form _ _;
+  value = ap (made (λ (p : ℕ × ℕ). Revoke p.0 (causes.Ban p.1))) (revoke_read extent extent.cores core by _ _ _ _ (byte core extent.cores is_core few.few_cores) (byte by extent.cores is_by few.few_cores)
+      (lt-ltb core extent.cores is_core) (lt-ltb by extent.cores is_by));
+}
+revocation_row extent core causes.Bandwidth few is_core is_cause = record {
+  shape = act.RevokeForBandwidth;
+  is = revoke_bandwidth_form _;
+  value = bandwidth_read extent core _ _ _ (byte core extent.cores is_core few.few_cores) (lt-ltb core extent.cores is_core);
+}
+revocation_row extent core (causes.Preempt task) few is_core is_task = record {
+  shape = act.RevokeForTask;
+  is = revoke_task_form _ _;
+  value = ap (made (λ (p : ℕ × ℕ). Revoke p.0 (causes.Preempt p.1))) (revoke_read extent extent.tasks core task _ _ _ _ (byte core extent.cores is_core few.few_cores) (byte task extent.tasks is_task few.few_tasks)
+      (lt-ltb core extent.cores is_core) (lt-ltb task extent.tasks is_task));
+}
+
+row_of_action : (extent : Extent) (action : Action) → IsExtent extent → HasActionWord action → IsActionInRange extent action → IsActionRow extent action (action_fields action)
+row_of_action extent (Free core) few w r = record {
+  shape = act.Free;
+  is = free_form _;
+  value = ap (made (λ (core : ℕ). Free core)) (core_read extent core _ _ (byte core extent.cores r few.few_cores) (lt-ltb core extent.cores r));
+}
+row_of_action extent (Unban core) few w r = record {
+  shape = act.Unban;
+  is = unban_form _;
+  value = ap (made (λ (core : ℕ). Unban core)) (core_read extent core _ _ (byte core extent.cores r few.few_cores) (lt-ltb core extent.cores r));
+}
+row_of_action extent (Ban core thread started) few w r = record {
+  shape = act.Ban;
+  is = ban_form _ _ _;
+  value = ban_read extent core thread started _ _ _ _ (byte core extent.cores r.0 few.few_cores) (byte thread extent.threads r.1 few.few_threads) (spelled started w)
+      (lt-ltb core extent.cores r.0) (lt-ltb thread extent.threads r.1);
+}
+row_of_action extent (Revoke core cause) few w r = revocation_row extent core cause few r.0 r.1
+row_of_action extent (Cap task cap) few w r = record {
+  shape = act.Cap;
+  is = cap_form _ _;
+  value = cap_read extent task cap _ _ _ (byte task extent.tasks r.0 few.few_tasks) (let most = r.1 in spelled cap (byte_word cap (omega arith)))
+      (lt-ltb task extent.tasks r.0) (le-leb cap 16 r.1);
+}
+row_of_action extent (Grant core thread class) few w r = record {
+  shape = act.Grant;
+  is = grant_form _ _ _;
+  value = grant_read extent core thread class _ _ _ _ (byte core extent.cores r.0 few.few_cores) (byte thread extent.threads r.1 few.few_threads) (let most = r.3 in spelled class (byte_word class (omega arith)))
+      (lt-ltb core extent.cores r.0) (lt-ltb thread extent.threads r.1) (le-leb 1 class r.2) (le-leb class 5 r.3);
+}
+
+-- an action row, by its form and its value
+action_by : (extent : Extent) (before : List PassEntry) (entry : PassEntry) (shape : ActionForm) (fields : Fields) (action : Action)
+    → form_of version.Two fields ≡ Some (form.Act shape) → (length entry.input.seen == extent.threads) ≡ true → action_row shape extent fields ≡ Ok action
+    → nat_lt (length entry.actions) most_actions ≡ true
+    → take_row extent version.Two (within before entry) fields ≡ Ok (within before (with_action action entry))
+action_by extent before entry shape fields action is full value room =
+    ap (λ f. take_form extent (within before entry) f fields) is
+    ∙ ap (λ (b : Bool). check b kind.Order (add_action (within before entry) entry (action_row shape extent fields))) full
+    ∙ ap (add_action (within before entry) entry) value
+    ∙ ap (λ (b : Bool). check b kind.Range (Ok (one_more_action (within before entry) entry action))) room
+
+-- the row of an action
+pub action_taken : (extent : Extent) (before : List PassEntry) (entry : PassEntry) (action : Action) → IsExtent extent → length entry.input.seen ≡ extent.threads
+    → length entry.actions < most_actions → HasActionWord action → IsActionInRange extent action
+    → take_row extent version.Two (within before entry) (action_fields action) ≡ Ok (within before (with_action action entry))
+action_taken extent before entry action few full room w r =
+    let row = row_of_action extent action few w r in
+    action_by extent before entry row.shape (action_fields action) action row.is (eq-eqb (length entry.input.seen) extent.threads full) row.value (lt-ltb (length entry.actions) most_actions room)

@@ -1,0 +1,282 @@
+-- The signals of an accepted file fit: the checks of its rows say so.
+use Rattle.std.proofs.Common.{◌≡◌, ◌<◌, ◌≤◌, ◌==◌, ◌&&◌, nat_lt, ℕ, Bool, true, false, not, List, [], ◌∷◌, ◌++◌, length, Option, Some, None, option_map, option_to_list, Result, Ok, Err, slice_get, if◌then◌else◌, inl, inr, subst, refl, sym, ap, ◌∙◌, arith, length-append, codes}
+use Rattle.std.proofs.lemmas.List.{append-nil, take-append-le, take_all}
+use Rattle.std.proofs.lemmas.Bool.{ltb-true}
+use Rattle.std.proofs.lemmas.Option.{slice_get_past}
+use Rattle.std.specs.Option.{unwrap_or}
+use Rattle.std.specs.Result.{result_unwrap_or}
+use Rattle.cal_trace.specs.Rows.Header.{header_of}
+use Rattle.cal_trace.specs.Rows.LookRows.{check, most_passes, pass_row, whole_row, busy_row}
+use Rattle.cal_trace.specs.Rows.RowFields.{has_numbers, number_at}
+use Rattle.cal_trace.specs.Rows.{Fields}
+use Rattle.cal_trace.specs.Rows.Shown.{record_of}
+use Rattle.cal_signal.specs.Looks.{IsBusyPair}
+use Rattle.cal_signal.specs.Records.{IsShaped}
+use Rattle.cal_signal.specs.Tests.{is_shaped, is_busy_pair}
+use Rattle.cal_signal.proofs.Testing.{shaped_holds, follows_holds, pair_holds}
+use Rattle.cal_lists.proofs.Last.{last_or_before, slice_get-last}
+use Rattle.cal_trace.proofs.SignalLemmas.LastShown.{shown-push}
+use Rattle.cal_trace.specs.Signals.{SoFar, at_start, passes_of, is_full, next_thread, shown_in, last_shown, with_look, add_look, add_pass, add_end, look_row, one_more, following, as_look, look_of_whole, look_of_busy, take_look, take_form, take_row, whole, form_of, signals_of}
+use Rattle.cal_trace.specs.declared.fault.FaultKind.{FaultKind}
+use Rattle.cal_trace.specs.declared.fault.FaultKind.TheVariants as kinds
+use Rattle.cal_trace.specs.declared.rows.look_rows.WholeRow.{WholeRow}
+use Rattle.cal_trace.specs.declared.rows.look_rows.BusyRow.{BusyRow}
+use Rattle.cal_trace.specs.declared.rows.look_rows.PassRow.{PassRow}
+use Rattle.cal_signal.specs.declared.shown.Shown.{Shown}
+use Rattle.cal_policy.specs.declared.judgement.open_input.FoundLook.{FoundLook}
+use Rattle.cal_trace.specs.declared.signals.SignalPass.{SignalPass}
+use Rattle.cal_trace.specs.declared.signals.reading.Form.{Form}
+use Rattle.cal_trace.specs.declared.signals.reading.Form.TheVariants as form
+use Rattle.cal_trace.specs.declared.rows.version.Version.{Version}
+use Rattle.cal_trace.proofs.RowLemmas.Readings.{kept_under}
+use Rattle.cal_trace.specs.Signals.Fitting.{IsFitting, AreFitting, IsFittingPass, AreFittingPasses, IsHand, IsFittingSoFar}
+
+-- a check that was passed
+check_passed : {X : Type 0} (b : Bool) (k : FaultKind) (more : Result X FaultKind) (x : X) → check b k more ≡ Ok x → (b ≡ true) × (more ≡ Ok x)
+check_passed true k more x e = (refl, e)
+check_passed false k more x e = absurd (cc)
+
+both_true : (a b : Bool) → (a && b) ≡ true → (a ≡ true) × (b ≡ true)
+both_true true true e = (refl, refl)
+both_true true false e = (refl, e)
+both_true false b e = absurd (cc)
+
+ok_same : {X E : Type 0} (a b : X) → ◌≡◌ {A = Result X E} (Ok a) (Ok b) → a ≡ b
+ok_same a b e = ap (λ r. result_unwrap_or r a) e
+
+-- one look more
+AreFitting-append : (before : List SignalPass) (looks : List FoundLook) (seen : FoundLook) → AreFitting before looks
+    → IsFitting (last_shown (length looks) before) seen.look → AreFitting before (looks ++ seen ∷ [])
+AreFitting-append before looks seen fit next k other e = elim (last_or_before looks seen other k e) [
+  | inl h ↦ fit k other h.1
+  | inr h ↦ rw (h.0, ← h.1) next
+]
+
+-- one pass more
+AreFittingPasses-append : (threads : ℕ) (passes : List SignalPass) (pass : SignalPass) → AreFittingPasses threads passes
+    → IsFittingPass threads passes pass → AreFittingPasses threads (passes ++ pass ∷ [])
+AreFittingPasses-append threads passes pass fit next = record {
+  each = λ p other e. elim (last_or_before passes pass other p e) [
+    | inl h ↦ let lt : p ≤ length passes = omega (arith, h.0) in rw (take-append-le p passes (pass ∷ [])) (fit.each p other h.1)
+    | inr h ↦ let le : length passes ≤ length passes = omega arith in rw (h.0, ← h.1, take-append-le (length passes) passes (pass ∷ []), take_all (length passes) passes le) next
+  ];
+}
+
+AreFittingPasses-none : (threads : ℕ) → AreFittingPasses threads []
+AreFittingPasses-none threads = record { each = λ p pass e. absurd (cc) }
+
+-- a pass without a look at thread k changes nothing of what it showed last
+last_shown-silent : (k : ℕ) (passes : List SignalPass) (pass : SignalPass) → length pass.looks ≤ k → last_shown k (passes ++ pass ∷ []) ≡ last_shown k passes
+last_shown-silent k passes pass le =
+    let none : slice_get pass.looks k ≡ None = slice_get_past pass.looks k le in
+    let silent : shown_in k pass ≡ None = rw none refl in
+    shown-push k passes pass ∙ ap (λ o. unwrap_or o (last_shown k passes)) silent
+
+-- with all its looks the pass at hand is one more
+all_fit : (threads : ℕ) (before : List SignalPass) (at_hand : Option SignalPass) → AreFittingPasses threads before → IsHand threads before at_hand
+    → is_full threads at_hand ≡ true → AreFittingPasses threads (before ++ option_to_list at_hand)
+all_fit threads before None fit hand full = rw (append-nil before) fit
+all_fit threads before (Some pass) fit hand full =
+    let whole : length pass.looks ≡ threads = grind arith in
+    AreFittingPasses-append threads before pass fit (record { looks = whole; fit = hand.1 })
+
+-- a new pass
+fits_with_pass : (threads : ℕ) (so_far next : SoFar) (row : Result PassRow FaultKind) → AreFittingPasses threads (passes_of so_far)
+    → add_pass so_far row ≡ Ok next → IsFittingSoFar threads next
+fits_with_pass threads so_far next (Err k) fit e = absurd (cc)
+fits_with_pass threads so_far next (Ok row) fit e =
+    let opened : SoFar = record { before = passes_of so_far; at_hand = Some (record { now = row.now; bandwidth = row.bandwidth; looks = [] }); ended = false } in
+    subst (IsFittingSoFar threads) (ok_same opened next e) (record { before = fit; at_hand = (omega arith, λ k seen none. absurd (cc)) })
+
+-- the end
+fits_with_end : (threads : ℕ) (so_far next : SoFar) (count : Result ℕ FaultKind) → AreFittingPasses threads (passes_of so_far)
+    → add_end so_far count ≡ Ok next → IsFittingSoFar threads next
+fits_with_end threads so_far next (Err k) fit e = absurd (cc)
+fits_with_end threads so_far next (Ok n) fit e =
+    let closed : SoFar = record { before = passes_of so_far; at_hand = None; ended = true } in
+    subst (IsFittingSoFar threads) (ok_same closed next e) (record { before = fit; at_hand = tt })
+
+-- the look of an accepted row is shaped, or has a busy pair
+shaped_row : (thread : ℕ) (fields : Fields) (row : WholeRow) → whole_row thread fields ≡ Ok row → IsShaped row.shown.rec
+shaped_row thread fields row e =
+    let found : WholeRow = record { room = number_at fields 2 == 1; shown = record { number = number_at fields 3; rec = record_of fields } } in
+    let in_range : Bool = nat_lt (number_at fields 2) 2 && is_shaped (record_of fields) in
+    let after_order : Result WholeRow FaultKind = check in_range kinds.Range (Ok found) in
+    let after_numbers : Result WholeRow FaultKind = check (number_at fields 1 == thread) kinds.Order after_order in
+    let numbers = check_passed (has_numbers fields) kinds.Number after_numbers row e in
+    let order = check_passed (number_at fields 1 == thread) kinds.Order after_order row numbers.1 in
+    let range = check_passed in_range kinds.Range (Ok found) row order.1 in
+    let same : found ≡ row = ok_same found row range.1 in
+    subst (λ (r : WholeRow). IsShaped r.shown.rec) same (shaped_holds (record_of fields) (both_true (nat_lt (number_at fields 2) 2) (is_shaped (record_of fields)) range.0).1)
+
+busy_pair_row : (thread : ℕ) (fields : Fields) (row : BusyRow) → busy_row thread fields ≡ Ok row → IsBusyPair row.first row.second
+busy_pair_row thread fields row e =
+    let found : BusyRow = record { room = number_at fields 2 == 1; first = number_at fields 3; second = number_at fields 4 } in
+    let in_range : Bool = nat_lt (number_at fields 2) 2 && is_busy_pair (number_at fields 3) (number_at fields 4) in
+    let after_order : Result BusyRow FaultKind = check in_range kinds.Range (Ok found) in
+    let after_numbers : Result BusyRow FaultKind = check (number_at fields 1 == thread) kinds.Order after_order in
+    let numbers = check_passed (has_numbers fields) kinds.Number after_numbers row e in
+    let order = check_passed (number_at fields 1 == thread) kinds.Order after_order row numbers.1 in
+    let range = check_passed in_range kinds.Range (Ok found) row order.1 in
+    let same : found ≡ row = ok_same found row range.1 in
+    subst (λ (r : BusyRow). IsBusyPair r.first r.second) same
+    (pair_holds (number_at fields 3) (number_at fields 4) (both_true (nat_lt (number_at fields 2) 2) (is_busy_pair (number_at fields 3) (number_at fields 4)) range.0).1)
+
+fitting_whole : (last : Shown) (row : Result WholeRow FaultKind) (seen : FoundLook) → ((r : WholeRow) → row ≡ Ok r → IsShaped r.shown.rec)
+    → following last row ≡ Ok seen → IsFitting last seen.look
+fitting_whole last (Err k) seen shaped e = absurd (cc)
+fitting_whole last (Ok row) seen shaped e =
+    let passed = check_passed _ _ _ seen e in
+    let same : look_of_whole row ≡ seen = ok_same (look_of_whole row) seen passed.1 in
+    subst (λ (s : FoundLook). IsFitting last s.look) same (shaped row refl, follows_holds last row.shown passed.0)
+
+fitting_busy : (last : Shown) (row : Result BusyRow FaultKind) (seen : FoundLook) → ((r : BusyRow) → row ≡ Ok r → IsBusyPair r.first r.second)
+    → as_look row ≡ Ok seen → IsFitting last seen.look
+fitting_busy last (Err k) seen pair e = absurd (cc)
+fitting_busy last (Ok row) seen pair e =
+    let same : look_of_busy row ≡ seen = ok_same (look_of_busy row) seen e in
+    subst (λ (s : FoundLook). IsFitting last s.look) same (pair row refl)
+
+fitting_row : (form : Form) (k : ℕ) (last : Shown) (fields : Fields) (seen : FoundLook) → look_row form k last fields ≡ Ok seen → IsFitting last seen.look
+fitting_row form.Busy k last fields seen e = fitting_busy last (busy_row k fields) seen (busy_pair_row k fields) e
+fitting_row form.Whole k last fields seen e = fitting_whole last (whole_row k fields) seen (shaped_row k fields) e
+fitting_row form.Header k last fields seen e = absurd (cc)
+fitting_row form.Pass k last fields seen e = absurd (cc)
+fitting_row form.End k last fields seen e = absurd (cc)
+
+-- one look more at hand
+fits_with_look : (threads : ℕ) (before : List SignalPass) (pass : SignalPass) (ended : Bool) (next : SoFar) (seen : Result FoundLook FaultKind)
+    → AreFittingPasses threads before → IsHand threads before (Some pass) → length pass.looks < threads
+    → ((s : FoundLook) → seen ≡ Ok s → IsFitting (last_shown (length pass.looks) before) s.look)
+    → add_look (record { before = before; at_hand = Some pass; ended = ended }) seen ≡ Ok next → IsFittingSoFar threads next
+fits_with_look threads before pass ended next (Err k) fit hand lt fits e = absurd (cc)
+fits_with_look threads before pass ended next (Ok seen) fit hand lt fits e =
+    let longer : SoFar = record { before = before; at_hand = Some (with_look seen pass); ended = ended } in
+    subst (IsFittingSoFar threads) (ok_same longer next e) (record {
+      before = fit;
+      at_hand = (omega (arith, length-append pass.looks (seen ∷ [])), AreFitting-append before pass.looks seen hand.1 (fits seen refl));
+    })
+
+-- a look row
+fits_with_row : (threads : ℕ) (before : List SignalPass) (at_hand : Option SignalPass) (ended : Bool) (next : SoFar) (form : Form) (fields : Fields)
+    → AreFittingPasses threads before → IsHand threads before at_hand
+    → take_look (record { before = before; at_hand = at_hand; ended = ended }) form fields (next_thread threads at_hand) ≡ Ok next → IsFittingSoFar threads next
+fits_with_row threads before None ended next form fields fit hand e = absurd (cc)
+fits_with_row threads before (Some pass) ended next form fields fit hand e = go (nat_lt (length pass.looks) threads) refl e
+  where
+    so_far : SoFar
+    so_far = record { before = before; at_hand = Some pass; ended = ended }
+
+    go : (b : Bool) → nat_lt (length pass.looks) threads ≡ b
+        → take_look (record { before = before; at_hand = Some pass; ended = ended }) form fields (if b then Ok (length pass.looks) else Err kinds.Order) ≡ Ok next
+        → IsFittingSoFar threads next
+    go false h e = absurd (cc)
+    go true h e =
+        let lt : length pass.looks < threads = grind arith in
+        let same : last_shown (length pass.looks) (before ++ pass ∷ []) ≡ last_shown (length pass.looks) before =
+        last_shown-silent (length pass.looks) before pass (omega arith) in
+        fits_with_look threads before pass ended next _ fit hand lt
+        (λ s row. rw (← same) (fitting_row form (length pass.looks) (last_shown (length pass.looks) (before ++ pass ∷ [])) fields s row)) e
+
+-- a row that was taken
+fits_with_form : (threads : ℕ) (before : List SignalPass) (at_hand : Option SignalPass) (ended : Bool) (next : SoFar) (form : Option Form) (fields : Fields)
+    → AreFittingPasses threads before → IsHand threads before at_hand
+    → take_form threads (record { before = before; at_hand = at_hand; ended = ended }) form fields ≡ Ok next → IsFittingSoFar threads next
+fits_with_form threads before at_hand ended next None fields fit hand e = absurd (cc)
+fits_with_form threads before at_hand ended next (Some form.Header) fields fit hand e = absurd (cc)
+fits_with_form threads before at_hand ended next (Some form.Whole) fields fit hand e = fits_with_row threads before at_hand ended next form.Whole fields fit hand e
+fits_with_form threads before at_hand ended next (Some form.Busy) fields fit hand e = fits_with_row threads before at_hand ended next form.Busy fields fit hand e
+fits_with_form threads before at_hand ended next (Some form.Pass) fields fit hand e =
+    let passed = check_passed _ _ _ next e in
+    let full = both_true (not ended) (is_full threads at_hand) passed.0 in
+    fits_with_pass threads (record { before = before; at_hand = at_hand; ended = ended }) next _ (all_fit threads before at_hand fit hand full.1) passed.1
+fits_with_form threads before at_hand ended next (Some form.End) fields fit hand e =
+    let passed = check_passed _ _ _ next e in
+    let full = both_true (not ended) (is_full threads at_hand) passed.0 in
+    fits_with_end threads (record { before = before; at_hand = at_hand; ended = ended }) next _ (all_fit threads before at_hand fit hand full.1) passed.1
+
+-- a pass row that was taken is not one too many
+pub pass_below : (passes : ℕ) (fields : Fields) (row : PassRow) → pass_row passes fields ≡ Ok row → passes < most_passes
+pass_below passes fields row e =
+    let found : PassRow = record { now = number_at fields 1; bandwidth = number_at fields 2 } in
+    let in_range : Result PassRow FaultKind = check (nat_lt passes most_passes) kinds.Range (Ok found) in
+    let numbers = check_passed (has_numbers fields) kinds.Number in_range row e in
+    let range = check_passed (nat_lt passes most_passes) kinds.Range (Ok found) row numbers.1 in
+    ltb-true passes most_passes range.0
+
+-- one more look is no more passes
+pub count-with_look : (before : List SignalPass) (at_hand : Option SignalPass) (seen : FoundLook)
+    → length (before ++ option_to_list (option_map (with_look seen) at_hand)) ≡ length (before ++ option_to_list at_hand)
+count-with_look before None seen = refl
+count-with_look before (Some pass) seen = length-append before (with_look seen pass ∷ []) ∙ sym (length-append before (pass ∷ []))
+
+-- there are no more passes than a file may have
+abbrev IsFew : SoFar → Type 0
+IsFew so_far = length (passes_of so_far) ≤ most_passes
+
+few_with_pass : (so_far next : SoFar) (row : Result PassRow FaultKind) → ((r : PassRow) → row ≡ Ok r → length (passes_of so_far) < most_passes)
+    → add_pass so_far row ≡ Ok next → IsFew next
+few_with_pass so_far next (Err k) below e = absurd (cc)
+few_with_pass so_far next (Ok row) below e =
+    let begun : SignalPass = record { now = row.now; bandwidth = row.bandwidth; looks = [] } in
+    let opened : SoFar = record { before = passes_of so_far; at_hand = Some begun; ended = false } in
+    let lt = below row refl in
+    subst IsFew (ok_same opened next e) (omega (arith, lt, length-append (passes_of so_far) (begun ∷ [])))
+
+few_with_end : (so_far next : SoFar) (count : Result ℕ FaultKind) → IsFew so_far → add_end so_far count ≡ Ok next → IsFew next
+few_with_end so_far next (Err k) few e = absurd (cc)
+few_with_end so_far next (Ok n) few e =
+    let closed : SoFar = record { before = passes_of so_far; at_hand = None; ended = true } in
+    subst IsFew (ok_same closed next e) (rw (append-nil (passes_of so_far)) few)
+
+few_with_look : (so_far next : SoFar) (seen : Result FoundLook FaultKind) → IsFew so_far → add_look so_far seen ≡ Ok next → IsFew next
+few_with_look so_far next (Err k) few e = absurd (cc)
+few_with_look so_far next (Ok seen) few e =
+    subst IsFew (ok_same (one_more so_far seen) next e) (rw (count-with_look so_far.before so_far.at_hand seen) few)
+
+few_with_row : (so_far next : SoFar) (form : Form) (fields : Fields) (thread : Result ℕ FaultKind) → IsFew so_far
+    → take_look so_far form fields thread ≡ Ok next → IsFew next
+few_with_row so_far next form fields (Err k) few e = absurd (cc)
+few_with_row so_far next form fields (Ok thread) few e = few_with_look so_far next _ few e
+
+few_with_form : (threads : ℕ) (so_far next : SoFar) (form : Option Form) (fields : Fields) → IsFew so_far → take_form threads so_far form fields ≡ Ok next → IsFew next
+few_with_form threads so_far next None fields few e = absurd (cc)
+few_with_form threads so_far next (Some form.Header) fields few e = absurd (cc)
+few_with_form threads so_far next (Some form.Whole) fields few e = few_with_row so_far next form.Whole fields _ few e
+few_with_form threads so_far next (Some form.Busy) fields few e = few_with_row so_far next form.Busy fields _ few e
+few_with_form threads so_far next (Some form.Pass) fields few e =
+    few_with_pass so_far next _ (λ row. pass_below (length (passes_of so_far)) fields row) (check_passed _ _ _ next e).1
+few_with_form threads so_far next (Some form.End) fields few e = few_with_end so_far next _ few (check_passed _ _ _ next e).1
+
+-- the passes that the rows give in the end
+fits_at_end : (threads : ℕ) (ended : Bool) (before passes : List SignalPass) → AreFittingPasses threads before → (if ended then Some before else None) ≡ Some passes
+    → AreFittingPasses threads passes
+fits_at_end threads true before passes fit e = let same : before ≡ passes = cc in subst (AreFittingPasses threads) same fit
+fits_at_end threads false before passes fit e = absurd (cc)
+
+-- the signals of an accepted file fit
+pub accepted_fit : (threads : ℕ) (rows : List Fields) (passes : List SignalPass) → signals_of threads rows ≡ Ok passes → AreFittingPasses threads passes
+accepted_fit threads rows passes e =
+    kept_under (take_row threads) whole (IsFittingSoFar threads) (AreFittingPasses threads)
+    (λ version so_far next fields fit was. fits_with_form threads so_far.before so_far.at_hand so_far.ended next (form_of version fields) fields fit.before fit.at_hand was)
+    (λ so_far passes fit is. fits_at_end threads so_far.ended so_far.before passes fit.before is)
+    at_start (header_of (codes "caladan-signals") rows) passes (record { before = AreFittingPasses-none threads; at_hand = tt }) e
+
+-- after a row that was taken what was read so far fits, and there are no more passes than a file may have
+pub row_fits : (threads : ℕ) (version : Version) (so_far next : SoFar) (fields : Fields) → IsFittingSoFar threads so_far → take_row threads version so_far fields ≡ Ok next
+    → IsFittingSoFar threads next
+row_fits threads version so_far next fields fit e = fits_with_form threads so_far.before so_far.at_hand so_far.ended next (form_of version fields) fields fit.before fit.at_hand e
+
+pub row_few : (threads : ℕ) (version : Version) (so_far next : SoFar) (fields : Fields) → length (passes_of so_far) ≤ most_passes → take_row threads version so_far fields ≡ Ok next
+    → length (passes_of next) ≤ most_passes
+row_few threads version so_far next fields few e = few_with_form threads so_far next (form_of version fields) fields few e
+
+pub start_fits : (threads : ℕ) → IsFittingSoFar threads at_start
+start_fits threads = record { before = AreFittingPasses-none threads; at_hand = tt }
+
+-- the last of passes that fit fits those before it
+pub last_fits : (threads : ℕ) (passes : List SignalPass) (pass : SignalPass) → AreFittingPasses threads (passes ++ pass ∷ []) → IsFittingPass threads passes pass
+last_fits threads passes pass fit =
+    let le : length passes ≤ length passes = omega arith in
+    subst (λ (before : List SignalPass). IsFittingPass threads before pass) (take-append-le (length passes) passes (pass ∷ []) le ∙ take_all (length passes) passes le)
+    (fit.each (length passes) pass (slice_get-last passes pass))

@@ -1,7 +1,0 @@
-use Rattle.std.proofs.Common.{◌≡◌, drop}
-use Rattle.cal_trace.specs.Fields.{all_numbers}
-use Rattle.csv.specs.Records.{fields_of}
-use Rattle.cal_trace.proofs.fields.has_numbers.Given as goal
-
-abbrev pub invariant-loop-place : goal.invariant-loop-place
-invariant-loop-place l = all_numbers (drop 1 (fields_of l.row)) ≡ all_numbers (drop l.place (fields_of l.row))

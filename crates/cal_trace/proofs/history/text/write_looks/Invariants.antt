@@ -1,0 +1,7 @@
+use Rattle.std.proofs.Common.{take}
+use Rattle.std.specs.Io.KnownBytes.{Appends}
+use Rattle.cal_trace.specs.History.Text.{look_rows, lines_of}
+use Rattle.cal_trace.proofs.history.text.write_looks.Given as goal
+
+abbrev pub invariant-loop-thread : goal.invariant-loop-thread
+invariant-loop-thread g l = Appends (g.W.Write.contents l.initial.writer) (g.W.Write.contents l.writer) (lines_of (look_rows l.rooms (take l.thread l.seen)))

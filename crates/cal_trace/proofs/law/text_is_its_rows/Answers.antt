@@ -1,7 +1,0 @@
-use Rattle.cal_trace.specs.HistoryReading.{extent_of}
-use Rattle.cal_trace.proofs.Extents.{table_extent}
-use Rattle.cal_trace.proofs.PlainRows.{rows_back}
-use Rattle.cal_trace.proofs.law.text_is_its_rows.Goals as goal
-
-pub returns : goal.returns
-returns c = λ table history ok r. rows_back (extent_of table) history (table_extent table ok) r

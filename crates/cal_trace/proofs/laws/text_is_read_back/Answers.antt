@@ -1,0 +1,7 @@
+use Rattle.cal_trace.specs.History.Reading.{extent_of}
+use Rattle.cal_trace.proofs.HistoryLemmas.Extents.{table_extent}
+use Rattle.cal_trace.proofs.HistoryLemmas.ReadBack.{history_back}
+use Rattle.cal_trace.proofs.laws.text_is_read_back.Goals as goal
+
+pub returns : goal.returns
+returns c = λ table history ok r. history_back (extent_of table) history (table_extent table ok) r

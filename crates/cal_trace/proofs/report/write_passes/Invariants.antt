@@ -1,7 +1,0 @@
-use Rattle.std.proofs.Common.{take}
-use Rattle.std.specs.Io.KnownBytes.{Appends}
-use Rattle.cal_trace.specs.ReportText.{passes_text}
-use Rattle.cal_trace.proofs.report.write_passes.Given as goal
-
-abbrev pub invariant-loop-pass : goal.invariant-loop-pass
-invariant-loop-pass g l = Appends (g.W.Write.contents l.initial.writer) (g.W.Write.contents l.writer) (passes_text (take l.pass l.history))

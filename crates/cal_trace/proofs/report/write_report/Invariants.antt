@@ -1,0 +1,11 @@
+use Rattle.std.proofs.Common.{take}
+use Rattle.std.specs.Io.KnownBytes.{Appends}
+use Rattle.cal_trace.specs.Report.{passes_text}
+use Rattle.cal_trace.specs.Report.Standing.{IsReportOf}
+use Rattle.cal_trace.proofs.report.write_report.Given as goal
+
+abbrev pub invariant-loop-pass : goal.invariant-loop-pass
+invariant-loop-pass g l = record {
+  of : IsReportOf (take l.pass l.history) l.report;
+  text : Appends (g.W.Write.contents l.initial.writer) (g.W.Write.contents l.writer) (passes_text (take l.pass l.history));
+}

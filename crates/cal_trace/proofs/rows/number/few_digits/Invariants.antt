@@ -1,0 +1,9 @@
+use Rattle.std.proofs.Common.{◌≡◌, ◌<◌, ◌^◌, drop}
+use Rattle.cal_trace.specs.Rows.Number.{digits_of}
+use Rattle.cal_trace.proofs.rows.number.few_digits.Given as goal
+
+abbrev pub invariant-loop-digit : goal.invariant-loop-digit
+invariant-loop-digit l = record {
+  so_far : digits_of 0 l.field ≡ digits_of l.number (drop l.digit-index l.field);
+  small : l.number < 10 ^ l.digit-index;
+}

@@ -1,0 +1,18 @@
+-- What the reader of arrivals keeps, and what it means.
+use Rattle.std.specs.Prelude.{◌≡◌, ◌≤◌, ℕ}
+use Rattle.std.specs.BTreeSet as sets
+use Rattle.std.specs.Ordering.{nat_cmp}
+use Rattle.std.specs.Vec.{vec_len}
+use Rattle.cal_trace.specs.Arrivals.{SoFar, is_given, most_turns}
+use Rattle.cal_trace.specs.Rows.LookRows.{most_passes}
+use Rattle.cal_trace.specs.declared.arrivals.reading.ArrivalReading.{ArrivalReading}
+
+-- what the rows so far have given
+abbrev pub so_far : ArrivalReading → SoFar
+so_far reading = record { passes = reading.passes.items; turns = reading.turns.items; requests = reading.requests.items; ended = reading.ended }
+
+-- the ids at hand are those of the requests so far, and there are no more passes and turns than a file may have
+pub record IsKept (reading : ArrivalReading) : Type 0 where
+  pub ids : (id : ℕ) → sets.contains nat_cmp reading.ids id ≡ is_given id reading.requests.items
+  pub few_passes : vec_len reading.passes ≤ most_passes
+  pub few_turns : vec_len reading.turns ≤ most_turns

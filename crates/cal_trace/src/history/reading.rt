@@ -1,0 +1,334 @@
+//! Reading a history, row by row.
+
+ghost use Rattle.std.specs.Prelude.{◌≡◌};
+ghost use Rattle.cal_trace.specs.History.{form_of, look_form, seen_row};
+ghost use Rattle.csv.specs.Records.{fields_of};
+
+use crate::fault::FaultKind;
+use crate::history::action_rows::{ActionForm, Extent, action_form, action_row};
+use crate::rows::fields::is_row;
+use crate::rows::look_rows::{busy_row, end_row, pass_row, whole_row};
+use crate::rows::reading::Reading;
+use crate::rows::version::Version;
+use cal_lists::Listed;
+use cal_policy::{Action, ActionList, Input, MOST_ACTIONS, PassEntry, Rooms, Seen, SeenList};
+use csv::ByteRecord;
+use std::alloc::Global;
+
+/// What a look row is, by its first field and its number of fields.
+#[derive(Clone, Copy, Debug, PartialEq, Eq)]
+pub(crate) enum LookForm {
+    /// A record that was kept.
+    Whole,
+    /// No record: a busy pair.
+    Busy,
+    /// A record that acknowledges more than was sent.
+    Ahead,
+    /// A record that shows a core which its thread has not.
+    Foreign,
+}
+
+/// What a row of a history is, by its first field and its number of fields.
+#[derive(Clone, Copy, Debug, PartialEq, Eq)]
+pub(crate) enum Form {
+    /// The header once more, which cannot stand here.
+    Header,
+    /// A pass begins.
+    Pass,
+    /// A look of the pass at hand.
+    Look(LookForm),
+    /// An action of the pass at hand.
+    Act(ActionForm),
+    /// The file ends.
+    End,
+}
+
+/// A look row: the look as it was judged, and whether the thread's ring had room.
+#[derive(Clone, Copy, Debug, PartialEq, Eq)]
+pub(crate) struct SeenRow {
+    /// The look.
+    pub seen: Seen,
+    /// Whether the ring had room.
+    pub room: bool,
+}
+
+fn look_form(row: &ByteRecord, version: Version) -> Option<LookForm>
+    ensures { result ≡ look_form version (fields_of row.now) }
+{
+    if is_row(row, b"whole".as_slice(), version.record_fields()) {
+        Some(LookForm::Whole)
+    } else if is_row(row, b"busy".as_slice(), 5) {
+        Some(LookForm::Busy)
+    } else if is_row(row, b"ahead".as_slice(), version.record_fields()) {
+        Some(LookForm::Ahead)
+    } else if is_row(row, b"foreign".as_slice(), version.record_fields()) {
+        Some(LookForm::Foreign)
+    } else {
+        None
+    }
+}
+
+fn form_of(row: &ByteRecord, version: Version) -> Option<Form>
+    ensures { result ≡ form_of version (fields_of row.now) }
+{
+    if is_row(row, b"pass".as_slice(), 3) {
+        return Some(Form::Pass);
+    }
+    if is_row(row, b"end".as_slice(), 2) {
+        return Some(Form::End);
+    }
+    if is_row(row, b"caladan-history".as_slice(), 2) {
+        return Some(Form::Header);
+    }
+    match look_form(row, version) {
+        Some(form) => Some(Form::Look(form)),
+        None => match action_form(row) {
+            Some(form) => Some(Form::Act(form)),
+            None => None,
+        },
+    }
+}
+
+/// Reads a look row of this form, where the next look is this thread's.
+fn seen_row(row: &ByteRecord, form: LookForm, thread: usize) -> Result<SeenRow, FaultKind>
+    ensures { result ≡ seen_row form thread (fields_of row.now) }
+{
+    if let LookForm::Busy = form {
+        let busy = busy_row(row, thread)?;
+        return Ok(SeenRow {
+            seen: Seen::Busy {
+                first: busy.first,
+                second: busy.second,
+            },
+            room: busy.room,
+        });
+    }
+    let whole = whole_row(row, thread)?;
+    let number = whole.shown.number;
+    let rec = whole.shown.rec;
+    let seen = match form {
+        LookForm::Ahead => Seen::Ahead { number, rec },
+        LookForm::Foreign => Seen::Foreign { number, rec },
+        _ => Seen::Whole { number, rec },
+    };
+    Ok(SeenRow {
+        seen,
+        room: whole.room,
+    })
+}
+
+/// A pass whose looks and actions are still being read.
+#[derive(Drop)]
+struct OpenEntry {
+    now: u64,
+    bandwidth: u64,
+    seen: Vec<Seen>,
+    rooms: Vec<bool>,
+    actions: Vec<Action>,
+}
+
+impl OpenEntry {
+    ghost use Rattle.std.specs.Prelude.{◌≡◌};
+    ghost use Rattle.cal_trace.specs.History.Reading.{entry_at_hand};
+
+    fn close(self) -> PassEntry
+        ensures { result ≡ entry_at_hand self }
+    {
+        let OpenEntry {
+            now,
+            bandwidth,
+            seen,
+            rooms,
+            actions,
+        } = self;
+        PassEntry {
+            input: Input {
+                now,
+                bandwidth,
+                seen: SeenList::new(seen),
+                rooms: Rooms::new(rooms),
+            },
+            actions: ActionList::new(actions),
+        }
+    }
+}
+
+/// What the rows so far have given.
+#[derive(Drop)]
+pub(crate) struct HistoryReading {
+    alloc: Global,
+    version: Version,
+    extent: Extent,
+    before: Vec<PassEntry>,
+    at_hand: Option<OpenEntry>,
+    ended: bool,
+}
+
+impl HistoryReading {
+    ghost use Rattle.std.specs.Prelude.{◌≡◌, ◌++◌, ◌∷◌, [], length, Ok, Some, None, OnOk, IfErr, option_map, if◌then◌else◌};
+    ghost use Rattle.csv.specs.Records.{fields_of};
+    ghost use Rattle.cal_trace.specs.Rows.Answers.{Takes};
+    ghost use Rattle.cal_trace.specs.History.{at_start, entries_of, is_between, next_thread, take_row, take_form, one_more_look, one_more_action};
+    ghost use Rattle.cal_trace.specs.History.Reading.{so_far, IsSameFile};
+    ghost use Rattle.cal_trace.specs.declared.fault.FaultKind.TheVariants as kind;
+    ghost use Rattle.cal_trace.specs.declared.history.reading.Form.TheVariants as form;
+
+    /// Before the first row after the header of a file for a table of this extent.
+    pub(crate) fn new(alloc: Global, version: Version, extent: Extent) -> HistoryReading
+        ensures start { so_far result ≡ at_start }
+        ensures version { result.version ≡ version }
+        ensures extent { result.extent ≡ extent }
+    {
+        HistoryReading {
+            alloc,
+            version,
+            extent,
+            before: Vec::new(alloc),
+            at_hand: None,
+            ended: false,
+        }
+    }
+
+    // How many passes there are, the one at hand with them.
+    fn passes(&self) -> usize
+        ensures { result ≡ length (entries_of (so_far self.now)) }
+    {
+        match &self.at_hand {
+            Some(_) => self.before.len() + 1,
+            None => self.before.len(),
+        }
+    }
+
+    // Whether a pass row or the end row can stand here.
+    fn is_between(&self) -> bool
+        ensures { result ≡ is_between self.now.extent (so_far self.now) }
+    {
+        match &self.at_hand {
+            Some(entry) => !self.ended && entry.seen.len() == self.extent.threads as usize,
+            None => !self.ended,
+        }
+    }
+
+    // The thread whose look comes next, where a look can stand here.
+    fn next_thread(&self) -> Result<usize, FaultKind>
+        ensures { result ≡ next_thread self.now.extent (so_far self.now).at_hand }
+    {
+        match &self.at_hand {
+            Some(entry) if entry.seen.len() < self.extent.threads as usize => Ok(entry.seen.len()),
+            _ => Err(FaultKind::Order),
+        }
+    }
+
+    // Puts the pass at hand with those before it.
+    fn close(&mut self) -> Result<(), FaultKind>
+        ensures closed { OnOk result (so_far self.new ≡ record { before = entries_of (so_far self.old); at_hand = None; ended = self.old.ended }) }
+        ensures file { IsSameFile self.old self.new }
+        ensures memory { IfErr result (λ k. k ≡ kind.Memory) }
+    {
+        if let Some(entry) = self.at_hand.take() {
+            self.before.push(entry.close())?;
+        }
+        Ok(())
+    }
+
+    fn take_pass(&mut self, row: &ByteRecord) -> Result<(), FaultKind>
+        ensures takes { Takes (λ _. so_far self.new) result (take_form self.old.extent (so_far self.old) (Some form.Pass) (fields_of row.now)) }
+        ensures file { IsSameFile self.old self.new }
+    {
+        if !self.is_between() {
+            return Err(FaultKind::Order);
+        }
+        let pass = pass_row(row, self.passes())?;
+        self.close()?;
+        let threads = self.extent.threads as usize;
+        self.at_hand = Some(OpenEntry {
+            now: pass.now,
+            bandwidth: pass.bandwidth,
+            seen: Vec::with_capacity(self.alloc, threads)?,
+            rooms: Vec::with_capacity(self.alloc, threads)?,
+            actions: Vec::new(self.alloc),
+        });
+        Ok(())
+    }
+
+    fn take_end(&mut self, row: &ByteRecord) -> Result<(), FaultKind>
+        ensures takes { Takes (λ _. so_far self.new) result (take_form self.old.extent (so_far self.old) (Some form.End) (fields_of row.now)) }
+        ensures file { IsSameFile self.old self.new }
+    {
+        if !self.is_between() {
+            return Err(FaultKind::Order);
+        }
+        end_row(row, self.passes())?;
+        self.close()?;
+        self.ended = true;
+        Ok(())
+    }
+
+    fn take_look(&mut self, row: &ByteRecord, look: LookForm) -> Result<(), FaultKind>
+        ensures takes { Takes (λ _. so_far self.new) result (take_form self.old.extent (so_far self.old) (Some (form.Look look)) (fields_of row.now)) }
+        ensures file { IsSameFile self.old self.new }
+    {
+        let thread = self.next_thread()?;
+        let looked = seen_row(row, look, thread)?;
+        if let Some(entry) = &mut self.at_hand {
+            entry.seen.push(looked.seen)?;
+            entry.rooms.push(looked.room)?;
+        }
+        Ok(())
+    }
+
+    fn take_action(&mut self, row: &ByteRecord, action: ActionForm) -> Result<(), FaultKind>
+        ensures takes { Takes (λ _. so_far self.new) result (take_form self.old.extent (so_far self.old) (Some (form.Act action)) (fields_of row.now)) }
+        ensures file { IsSameFile self.old self.new }
+    {
+        match &mut self.at_hand {
+            Some(entry) if entry.seen.len() == self.extent.threads as usize => {
+                let action = action_row(row, action, self.extent)?;
+                if entry.actions.len() >= MOST_ACTIONS {
+                    return Err(FaultKind::Range);
+                }
+                entry.actions.push(action)?;
+                Ok(())
+            }
+            _ => Err(FaultKind::Order),
+        }
+    }
+}
+
+impl Reading for HistoryReading {
+    ghost use Rattle.std.specs.Prelude.{⊤};
+    ghost use Rattle.cal_trace.specs.History.{SoFar, take_row, whole};
+    ghost use Rattle.cal_trace.specs.History.Reading.{so_far};
+
+    type Value = Listed<PassEntry>;
+
+    ghost SoFar = { SoFar };
+
+    ghost so_far = { so_far };
+
+    ghost take = { λ reading. take_row reading.extent reading.version };
+
+    ghost whole = { whole };
+
+    // Nothing is kept beside.
+    ghost IsKept = { λ reading. ⊤ };
+
+    fn take_row(&mut self, row: &ByteRecord) -> Result<(), FaultKind> {
+        match form_of(row, self.version) {
+            None => Err(FaultKind::Fields),
+            Some(Form::Header) => Err(FaultKind::Order),
+            Some(Form::Pass) => self.take_pass(row),
+            Some(Form::End) => self.take_end(row),
+            Some(Form::Look(look)) => self.take_look(row, look),
+            Some(Form::Act(action)) => self.take_action(row, action),
+        }
+    }
+
+    fn end(self) -> Option<Listed<PassEntry>> {
+        if self.ended {
+            Some(Listed::new(self.before))
+        } else {
+            None
+        }
+    }
+}

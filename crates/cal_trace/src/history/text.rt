@@ -1,0 +1,148 @@
+//! The text of a history.
+
+ghost use Rattle.std.specs.Prelude.{◌≡◌, OnOk, false, map, slice_index_or};
+ghost use Rattle.std.specs.List.{flat_map};
+ghost use Rattle.std.specs.Io.KnownBytes.{Appends};
+ghost use Rattle.cal_trace.specs.History.Text.{record_fields, look_fields, revocation_fields, action_fields, look_rows, entry_rows, lines_of, history_text};
+ghost use Rattle.cal_trace.specs.Rows.Text.{line_of};
+
+use crate::write_fault::WriteFault;
+use cal_policy::{Action, Cause, PassEntry, Record, Seen};
+use std::io;
+use std::io::Write;
+
+/// Writes a history, in version 2 of its format (this project's own).
+///
+/// A look for which the entry says nothing of its thread's ring is written with room 0. The error
+/// is what the writer answered; then nothing is said of how much was written. It takes no memory of
+/// its own.
+pub fn write_history<W: Write>(history: &[PassEntry], writer: &mut W) -> Result<(), WriteFault>
+    ensures { OnOk result (Appends (W.contents writer.old) (W.contents writer.new) (history_text history.now)) }
+{
+    write_rows(history, writer)?;
+    Ok(())
+}
+
+fn write_rows<W: Write>(history: &[PassEntry], writer: &mut W) -> io::Result<()>
+    ensures { OnOk result (Appends (W.contents writer.old) (W.contents writer.new) (history_text history.now)) }
+{
+    writeln!(writer, "caladan-history,2")?;
+    write_entries(history, writer)?;
+    let passes = history.len();
+    writeln!(writer, "end,{passes}")
+}
+
+fn write_entries<W: Write>(history: &[PassEntry], writer: &mut W) -> io::Result<()>
+    ensures { OnOk result (Appends (W.contents writer.old) (W.contents writer.new) (lines_of (flat_map entry_rows history.now))) }
+{
+    for entry in history {
+        write_entry(entry, writer)?;
+    }
+    Ok(())
+}
+
+fn write_entry<W: Write>(entry: &PassEntry, writer: &mut W) -> io::Result<()>
+    ensures { OnOk result (Appends (W.contents writer.old) (W.contents writer.new) (lines_of (entry_rows entry.now))) }
+{
+    let now = entry.input.now;
+    let bandwidth = entry.input.bandwidth;
+    writeln!(writer, "pass,{now},{bandwidth}")?;
+    write_looks(
+        entry.input.seen.as_slice(),
+        entry.input.rooms.as_slice(),
+        writer,
+    )?;
+    write_actions(entry.actions.as_slice(), writer)
+}
+
+fn write_looks<W: Write>(seen: &[Seen], rooms: &[bool], writer: &mut W) -> io::Result<()>
+    ensures { OnOk result (Appends (W.contents writer.old) (W.contents writer.new) (lines_of (look_rows rooms.now seen.now))) }
+{
+    for thread in 0..seen.len() {
+        write_look(thread, room_at(rooms, thread), seen[thread], writer)?;
+    }
+    Ok(())
+}
+
+fn room_at(rooms: &[bool], thread: usize) -> bool
+    ensures { result ≡ slice_index_or rooms.now thread false }
+{
+    thread < rooms.len() && rooms[thread]
+}
+
+fn write_look<W: Write>(thread: usize, room: bool, look: Seen, writer: &mut W) -> io::Result<()>
+    ensures { OnOk result (Appends (W.contents writer.old) (W.contents writer.new) (line_of (look_fields thread room look))) }
+{
+    match look {
+        Seen::Whole { number, rec } => write_record("whole", thread, room, number, rec, writer),
+        Seen::Ahead { number, rec } => write_record("ahead", thread, room, number, rec, writer),
+        Seen::Foreign { number, rec } => write_record("foreign", thread, room, number, rec, writer),
+        Seen::Busy { first, second } => {
+            let room = u8::from(room);
+            writeln!(writer, "busy,{thread},{room},{first},{second}")
+        }
+    }
+}
+
+fn write_record<W: Write>(
+    word: &str,
+    thread: usize,
+    room: bool,
+    number: u64,
+    rec: Record,
+    writer: &mut W,
+) -> io::Result<()>
+    ensures { OnOk result (Appends (W.contents writer.old) (W.contents writer.new) (line_of (record_fields word.now thread room number rec))) }
+{
+    let room = u8::from(room);
+    write!(
+        writer,
+        "{word},{thread},{room},{number},{},{},{},{}",
+        rec.taken, rec.running, rec.queued, rec.oldest
+    )?;
+    writeln!(
+        writer,
+        ",{},{},{},{},{}",
+        rec.started, rec.misses, rec.stamp, rec.paused, rec.since
+    )
+}
+
+fn write_actions<W: Write>(actions: &[Action], writer: &mut W) -> io::Result<()>
+    ensures { OnOk result (Appends (W.contents writer.old) (W.contents writer.new) (lines_of (map action_fields actions.now))) }
+{
+    for action in actions {
+        write_action(*action, writer)?;
+    }
+    Ok(())
+}
+
+fn write_action<W: Write>(action: Action, writer: &mut W) -> io::Result<()>
+    ensures { OnOk result (Appends (W.contents writer.old) (W.contents writer.new) (line_of (action_fields action))) }
+{
+    match action {
+        Action::Free { core } => writeln!(writer, "free,{core}"),
+        Action::Unban { core } => writeln!(writer, "unban,{core}"),
+        Action::Ban {
+            core,
+            thread,
+            started,
+        } => writeln!(writer, "ban,{core},{thread},{started}"),
+        Action::Revoke { core, cause } => write_revocation(core, cause, writer),
+        Action::Cap { task, cap } => writeln!(writer, "cap,{task},{cap}"),
+        Action::Grant {
+            core,
+            thread,
+            class,
+        } => writeln!(writer, "grant,{core},{thread},{class}"),
+    }
+}
+
+fn write_revocation<W: Write>(core: u8, cause: Cause, writer: &mut W) -> io::Result<()>
+    ensures { OnOk result (Appends (W.contents writer.old) (W.contents writer.new) (line_of (revocation_fields core cause))) }
+{
+    match cause {
+        Cause::Ban { by } => writeln!(writer, "revoke,{core},ban,{by}"),
+        Cause::Bandwidth => writeln!(writer, "revoke,{core},bandwidth"),
+        Cause::Preempt { task } => writeln!(writer, "revoke,{core},preempt,{task}"),
+    }
+}
