@@ -8,13 +8,13 @@ use Rattle.cal_command.specs.Rings.{SenderView}
 use Rattle.cal_machine.specs.declared.request.Request.{Request}
 use Rattle.cal_signal.specs.Ends.{ObserverView}
 use Rattle.cal_signal.specs.Pages.{FitsPage, page_of}
-use Rattle.cal_kthread.specs.Account.{IsAccounted}
-use Rattle.cal_kthread.specs.HandingOut.{RunView, run_of}
+use Rattle.cal_kthread.specs.End.Account.{IsAccounted}
+use Rattle.cal_kthread.specs.End.HandingOut.{RunView, run_of}
 use Rattle.cal_kthread.specs.Journal.{IsJournal, commands_of, records_of}
 use Rattle.cal_kthread.specs.Places.{Each}
-use Rattle.cal_kthread.specs.Teams.{place_of_rest}
-use Rattle.cal_kthread.specs.declared.entry.Entry.{Entry}
-use Rattle.cal_kthread.specs.declared.kernel_end.KernelEnd.{KernelEnd}
+use Rattle.cal_kthread.specs.Team.{place_of_rest}
+use Rattle.cal_kthread.specs.declared.journal.entry.Entry.{Entry}
+use Rattle.cal_kthread.specs.declared.end.kernel_end.KernelEnd.{KernelEnd}
 use Rattle.cal_linear.specs.Runs.{AreFirst, page_at}
 use Rattle.cal_linear.specs.Steps.{journal_at}
 use Rattle.cal_run.specs.Closing.{AreClosed, AreEndsOf, AreOfSeats, AreOtherEnds, HaveClosed, IsClosed, IsEndOf, IsWholeRun}

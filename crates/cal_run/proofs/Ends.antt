@@ -2,8 +2,8 @@
 use Rattle.std.proofs.Common.{◌≡◌, zero, suc, List, [], ◌∷◌, ◌++◌, map, length, refl, sym, ap, subst, append_assoc, append-nil, arith}
 use Rattle.cal_command.specs.Rings.{SenderView}
 use Rattle.cal_signal.specs.Ends.{ObserverView}
-use Rattle.cal_kthread.specs.HandingOut.{RunView, run_of}
-use Rattle.cal_kthread.specs.declared.kernel_end.KernelEnd.{KernelEnd}
+use Rattle.cal_kthread.specs.End.HandingOut.{RunView, run_of}
+use Rattle.cal_kthread.specs.declared.end.kernel_end.KernelEnd.{KernelEnd}
 use Rattle.cal_run.specs.Closing.{AreClosed, AreEndsOf, AreOtherEnds, IsClosed, IsEndOf}
 use Rattle.cal_run.specs.declared.worker.Worker.{Worker}
 

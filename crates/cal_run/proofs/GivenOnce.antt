@@ -5,15 +5,15 @@ use Rattle.std.specs.List.{slice_get, filter_map, cons_option}
 use Rattle.std.proofs.lemmas.Bool.{eq-eqb, eqb-true}
 use Rattle.std.proofs.lemmas.Option.{slice_get_within, slice_get-get_or, get_or_from_slice_get}
 use Rattle.cal_machine.specs.declared.request.Request.{Request}
-use Rattle.cal_kthread.specs.declared.entry.Entry.{Entry}
-use Rattle.cal_kthread.specs.Account.{names_of, times}
+use Rattle.cal_kthread.specs.declared.journal.entry.Entry.{Entry}
+use Rattle.cal_kthread.specs.End.Account.{names_of, times}
 use Rattle.cal_kthread.specs.Journal.{arrivals_of}
-use Rattle.cal_kthread.specs.OnePlace.{arrived_times}
+use Rattle.cal_kthread.specs.End.OnePlace.{arrived_times}
 use Rattle.cal_kthread.specs.Places.{one_if}
-use Rattle.cal_kthread.specs.QueueRule.{weigh}
-use Rattle.cal_kthread.specs.Turns.{AreTurns, Given, TurnsAddUp}
+use Rattle.cal_kthread.specs.Queue.Rule.{weigh}
+use Rattle.cal_kthread.specs.Turn.Turns.{AreTurns, Given, TurnsAddUp}
 use Rattle.cal_linear.specs.Steps.{journal_at}
-use Rattle.cal_trace.specs.FitsTable.{ComesBefore, Fits}
+use Rattle.cal_trace.specs.Arrivals.FitsTable.{ComesBefore, Fits}
 use Rattle.cal_trace.specs.declared.arrivals.Arrival.{Arrival}
 use Rattle.cal_trace.specs.declared.arrivals.Arrivals.{Arrivals}
 use Rattle.cal_run.specs.Given.{IsGiven, coming_to, request_at, turns_from, turns_given}

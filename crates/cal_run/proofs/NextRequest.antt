@@ -6,7 +6,7 @@ use Rattle.std.proofs.lemmas.Bool.Decides.{nat_tests}
 use Rattle.std.proofs.lemmas.Bool.{cases_lt, eqb-true, ltb-true}
 use Rattle.std.proofs.lemmas.Option.{slice_get_within, slice_get-get_or, get_or_from_slice_get}
 use Rattle.std.specs.List.Sorted.{IsNonDecreasingBy, IsPartitionPoint}
-use Rattle.cal_trace.specs.FitsTable.{EachLater, ComesBefore}
+use Rattle.cal_trace.specs.Arrivals.FitsTable.{EachLater, ComesBefore}
 use Rattle.cal_trace.specs.declared.arrivals.Arrival.{Arrival}
 use Rattle.cal_run.specs.Given.{coming_to, request_at}
 use Rattle.cal_run.specs.Turning.{IsBefore, IsFrom, IsNext}

@@ -3,9 +3,9 @@ use Rattle.std.proofs.Common.{◌≡◌, ◌<◌, List, [], ◌∷◌, ◌++◌,
 use Rattle.std.specs.List.{slice_get}
 use Rattle.std.proofs.lemmas.List.{length-map, map-append}
 use Rattle.cal_command.specs.Rings.{SenderView}
-use Rattle.cal_kthread.specs.Opening.{AreOpened}
-use Rattle.cal_kthread.specs.Teams.{IsTeam, Place, place_of}
-use Rattle.cal_kthread.specs.Threads.{KernelView}
+use Rattle.cal_kthread.specs.Team.Opening.{AreOpened}
+use Rattle.cal_kthread.specs.Team.{IsTeam, Place, place_of}
+use Rattle.cal_kthread.specs.Turn.Thread.{KernelView}
 use Rattle.cal_machine.specs.Table.{Table}
 use Rattle.cal_policy.specs.Tasks.{threads_of_table}
 use Rattle.cal_sched.specs.Scheduler.{HaveSeenNothing, HaveSentNothing, SchedulerView}

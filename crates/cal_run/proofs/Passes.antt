@@ -4,7 +4,7 @@ use Rattle.std.specs.List.{slice_get}
 use Rattle.std.proofs.lemmas.List.{map-append}
 use Rattle.std.proofs.lemmas.Option.{slice_get_within}
 use Rattle.cal_command.specs.Rings.{SenderView}
-use Rattle.cal_policy.specs.declared.pass_entry.PassEntry.{PassEntry}
+use Rattle.cal_policy.specs.declared.history.entry.PassEntry.{PassEntry}
 use Rattle.cal_sched.specs.Passing.{IsPassed}
 use Rattle.cal_sched.specs.Scheduler.{IsKept, SchedulerView}
 use Rattle.cal_signal.specs.Ends.{ObserverView}

@@ -12,21 +12,22 @@ use Rattle.cal_signal.specs.declared.look.Look.{Look}
 use Rattle.cal_signal.specs.declared.record.Record.{Record}
 use Rattle.cal_signal.specs.Ends.{ObserverView}
 use Rattle.cal_signal.specs.Pages.{FitsPage}
-use Rattle.cal_policy.specs.declared.judged_look.Seen.{Seen}
-use Rattle.cal_policy.specs.declared.pass_entry.PassEntry.{PassEntry}
+use Rattle.cal_policy.specs.declared.history.look.Seen.{Seen}
+use Rattle.cal_policy.specs.declared.history.entry.PassEntry.{PassEntry}
 use Rattle.cal_policy.specs.History.{actions_of, commands_to}
-use Rattle.cal_policy.specs.Looks.{look_of}
+use Rattle.cal_policy.specs.History.Looks.{look_of}
 use Rattle.cal_policy.specs.Pass.{IsLegal}
 use Rattle.cal_policy.specs.Tasks.{threads_of_table}
 use Rattle.cal_sched.specs.Scheduler.{IsKept, SchedulerView, carried_by, looks_at}
 use Rattle.cal_sched.specs.Watching as watching
 use Rattle.cal_kthread.specs.Journal.{IsJournal, commands_of}
-use Rattle.cal_kthread.specs.Turns.{AreTurns, Given}
-use Rattle.cal_kthread.specs.declared.entry.Entry.{Entry}
+use Rattle.cal_kthread.specs.Turn.Turns.{AreTurns, Given}
+use Rattle.cal_kthread.specs.declared.journal.entry.Entry.{Entry}
 use Rattle.cal_linear.specs.Law.{FittingLooksArePublications, IsLinearised}
+use Rattle.cal_linear.specs.Linear.{linear}
 use Rattle.cal_linear.specs.Runs.{AreFirst, AreOfOneRun, AreWatched, found_by, found_of, page_at, shown_of}
 use Rattle.cal_linear.specs.Steps.{journal_at}
-use Rattle.cal_trace.specs.FitsTable.{FitsTable}
+use Rattle.cal_trace.specs.Arrivals.FitsTable.{FitsTable}
 use Rattle.cal_trace.specs.declared.arrivals.Arrival.{Arrival}
 use Rattle.cal_trace.specs.declared.arrivals.Arrivals.{Arrivals}
 use Rattle.cal_world.specs.declared.event.Event.{Event}
@@ -192,9 +193,9 @@ module _ (table : Table) (s : SchedulerView) (w : watching.WatchView) (workers :
       subst (λ (journal : List Entry). AreTurns turns [] journal) (sym own) (subst (λ (given : List Given). AreTurns given [] worker.0.thread.journal) all its)
 
   pub is_run : (arrivals : Arrivals) (events : List Event) → FitsTable table arrivals → HasPassed arrivals (length arrivals.passes) s → HaveMade arrivals (length arrivals.turns) workers →
-      length w.rounds ≡ rounds_of arrivals → IsLinearised table s.history journals w.rounds events → GivenStandOnce →
+      length w.rounds ≡ rounds_of arrivals → IsLinearised table s.history journals w.rounds events → events ≡ linear s.history journals w.rounds → GivenStandOnce →
       IsRun table arrivals (record { history = s.history; journals = journals; left = lefts; events = events; watched = w.rounds })
-  is_run arrivals events fits passed made rounds linearised law =
+  is_run arrivals events fits passed made rounds linearised ordered law =
       let outcome : Outcome = record { history = s.history; journals = journals; left = lefts; events = events; watched = w.rounds } in
       record {
         passes = passed ∙ take-length arrivals.passes;
@@ -205,6 +206,7 @@ module _ (table : Table) (s : SchedulerView) (w : watching.WatchView) (workers :
         watched = are_watched;
         taken = taken_first;
         events = linearised;
+        order = ordered;
         lefts = closed.count ∙ many_workers;
         account = closed.account;
         once = law table arrivals outcome fits many_journals (made_turns arrivals made) closed.account;

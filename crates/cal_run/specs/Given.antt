@@ -2,7 +2,7 @@
 use Rattle.std.specs.Prelude.{ℕ, ◌≡◌, ◌+◌, ◌==◌, ◌&&◌, List, [], ◌∷◌, Option, Some, None, slice_get, if◌then◌else◌}
 use Rattle.std.specs.List.{filter_map}
 use Rattle.cal_machine.specs.declared.request.Request.{Request}
-use Rattle.cal_kthread.specs.Turns as turns
+use Rattle.cal_kthread.specs.Turn.Turns as turns
 use Rattle.cal_trace.specs.declared.arrivals.Arrival.{Arrival}
 
 -- the request, where it comes to thread k before its turn j

@@ -2,10 +2,10 @@
 use Rattle.std.specs.Prelude.{◌≡◌, ◌<◌, ℕ, [], length}
 use Rattle.cal_machine.specs.Table.{Table}
 use Rattle.cal_policy.specs.Tasks.{threads_of_table}
-use Rattle.cal_kthread.specs.Account.{IsAccounted}
-use Rattle.cal_kthread.specs.Turns.{AreTurns}
+use Rattle.cal_kthread.specs.End.Account.{IsAccounted}
+use Rattle.cal_kthread.specs.Turn.Turns.{AreTurns}
 use Rattle.cal_linear.specs.Steps.{journal_at}
-use Rattle.cal_trace.specs.FitsTable.{FitsTable}
+use Rattle.cal_trace.specs.Arrivals.FitsTable.{FitsTable}
 use Rattle.cal_trace.specs.declared.arrivals.Arrivals.{Arrivals}
 use Rattle.cal_run.specs.Given.{turns_given}
 use Rattle.cal_run.specs.Outcome.{EachStandsOnce}

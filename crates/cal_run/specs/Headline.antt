@@ -8,7 +8,7 @@
 use Rattle.std.specs.Prelude.{◌≡◌, ◌≤◌, ℕ, List, length, map, take, Some, slice_get}
 use Rattle.cal_machine.specs.Table.{Table, IsTable}
 use Rattle.cal_signal.specs.declared.record.Record.{Record}
-use Rattle.cal_policy.specs.declared.pass_entry.PassEntry.{PassEntry}
+use Rattle.cal_policy.specs.declared.history.entry.PassEntry.{PassEntry}
 use Rattle.cal_policy.specs.History.{actions_of, commands_to}
 use Rattle.cal_policy.specs.Pass.{IsLegal, IsPass}
 use Rattle.cal_kthread.specs.Journal.{commands_of}
@@ -19,7 +19,7 @@ use Rattle.cal_world.specs.Watches.{watches_in}
 use Rattle.cal_world.specs.World.{IsLegalList}
 use Rattle.cal_linear.specs.Linear.{whole_looks_of}
 use Rattle.cal_linear.specs.Runs.{AreFirst, IsPublication, shown_of}
-use Rattle.cal_kthread.specs.Journals.{steps_of}
+use Rattle.cal_kthread.specs.Journal.Entries.{steps_of}
 use Rattle.cal_linear.specs.Steps.{journal_at}
 use Rattle.cal_trace.specs.declared.arrivals.Arrivals.{Arrivals}
 use Rattle.cal_run.specs.declared.outcome.Outcome.{Outcome}

@@ -3,14 +3,15 @@
 use Rattle.std.specs.Prelude.{◌≡◌, ◌<◌, ℕ, [], length, map, min}
 use Rattle.cal_machine.specs.Table.{Table}
 use Rattle.cal_signal.specs.Pages.{FitsPage}
-use Rattle.cal_policy.specs.declared.pass_entry.PassEntry.{PassEntry}
+use Rattle.cal_policy.specs.declared.history.entry.PassEntry.{PassEntry}
 use Rattle.cal_policy.specs.Tasks.{threads_of_table}
 use Rattle.cal_policy.specs.History.{actions_of, commands_to}
-use Rattle.cal_kthread.specs.Account.{IsAccounted}
+use Rattle.cal_kthread.specs.End.Account.{IsAccounted}
 use Rattle.cal_kthread.specs.Journal.{commands_of}
-use Rattle.cal_kthread.specs.OnePlace.{LeftAt, Nowhere, ServedAt, StandsInOnePlace}
-use Rattle.cal_kthread.specs.Turns.{AreTurns}
+use Rattle.cal_kthread.specs.End.OnePlace.{LeftAt, Nowhere, ServedAt, StandsInOnePlace}
+use Rattle.cal_kthread.specs.Turn.Turns.{AreTurns}
 use Rattle.cal_linear.specs.Law.{IsLinearised}
+use Rattle.cal_linear.specs.Linear.{linear}
 use Rattle.cal_linear.specs.Runs.{AreFirst, AreWatched, page_at, shown_of}
 use Rattle.cal_linear.specs.Steps.{journal_at}
 use Rattle.cal_trace.specs.declared.arrivals.Arrivals.{Arrivals}
@@ -55,6 +56,8 @@ pub record IsRun (table : Table) (arrivals : Arrivals) (outcome : Outcome) : Typ
   -- the steps of all stand in one legal list, whose projections are the history, the steps of each
   -- journal and the watched looks
   pub events : IsLinearised table outcome.history outcome.journals outcome.watched outcome.events
+  -- and that list is the one in which `linearise` puts them
+  pub order : outcome.events ≡ linear outcome.history outcome.journals outcome.watched
   -- one list of what is left for each thread; for each id as many requests arrived as were served
   -- and are left; and each request that is left is one that arrived, its work as at first
   pub lefts : length outcome.left ≡ threads_of_table table

@@ -8,7 +8,7 @@ use Rattle.cal_signal.specs.Ends.{ObserverView}
 use Rattle.cal_policy.specs.Tasks.{threads_of_table}
 use Rattle.cal_sched.specs.Scheduler.{HaveSeenNothing, SchedulerView}
 use Rattle.cal_sched.specs.Watching.{WatchView}
-use Rattle.cal_kthread.specs.Teams.{IsTeam}
+use Rattle.cal_kthread.specs.Team.{IsTeam}
 use Rattle.cal_trace.specs.declared.arrivals.Arrivals.{Arrivals}
 use Rattle.cal_run.specs.Outcome.{figures_of, most_rounds}
 use Rattle.cal_run.specs.Turning.{HaveMade, Seat, seats_of}

@@ -3,10 +3,10 @@ use Rattle.std.specs.Prelude.{◌≡◌, ◌<◌, ◌≤◌, ◌⊎◌, ℕ, Lis
 use Rattle.atomic_table.specs.Seated.{TableId}
 use Rattle.cal_command.specs.Rings.{RingId}
 use Rattle.cal_signal.specs.Pages.{last_of}
-use Rattle.cal_kthread.specs.Teams.{Place, place_of}
-use Rattle.cal_kthread.specs.Threads.{KernelView}
-use Rattle.cal_kthread.specs.Turns.{AreTurns}
-use Rattle.cal_trace.specs.FitsTable.{Fits}
+use Rattle.cal_kthread.specs.Team.{Place, place_of}
+use Rattle.cal_kthread.specs.Turn.Thread.{KernelView}
+use Rattle.cal_kthread.specs.Turn.Turns.{AreTurns}
+use Rattle.cal_trace.specs.Arrivals.FitsTable.{Fits}
 use Rattle.cal_trace.specs.declared.arrivals.Arrival.{Arrival}
 use Rattle.cal_trace.specs.declared.arrivals.Arrivals.{Arrivals}
 use Rattle.cal_run.specs.Given.{turns_given}

@@ -1,8 +1,8 @@
 //! The pages and rings of a run are closed.
 
 ghost use Rattle.std.specs.Prelude.{◌≡◌, IfOk, length, map};
-ghost use Rattle.cal_kthread.specs.HandingOut.{run_of};
-ghost use Rattle.cal_kthread.specs.Teams.{IsTeam};
+ghost use Rattle.cal_kthread.specs.End.HandingOut.{run_of};
+ghost use Rattle.cal_kthread.specs.Team.{IsTeam};
 ghost use Rattle.cal_machine.specs.Tasks.{threads_in};
 ghost use Rattle.cal_run.specs.Closing.{AreClosed, AreOfSeats, AreOtherEnds, HaveClosed, IsClosed};
 ghost use Rattle.cal_run.specs.Turning.{Seat, seats_of};

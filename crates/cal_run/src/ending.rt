@@ -1,10 +1,10 @@
 //! The threads of a run end, once their turns are over.
 
 ghost use Rattle.std.specs.Prelude.{◌≡◌, IfOk, length, map};
-ghost use Rattle.cal_kthread.specs.Account.{IsAccounted, KeepsItsWork};
-ghost use Rattle.cal_kthread.specs.HandingOut.{HandedOutNothing, run_of};
+ghost use Rattle.cal_kthread.specs.End.Account.{IsAccounted, KeepsItsWork};
+ghost use Rattle.cal_kthread.specs.End.HandingOut.{HandedOutNothing, run_of};
 ghost use Rattle.cal_kthread.specs.Places.{Each};
-ghost use Rattle.cal_kthread.specs.Teams.{IsTeam, place_of_rest};
+ghost use Rattle.cal_kthread.specs.Team.{IsTeam, place_of_rest};
 ghost use Rattle.cal_machine.specs.Tasks.{threads_in};
 ghost use Rattle.cal_run.specs.Closing.{AreEndsOf, IsEndOf};
 

@@ -1,10 +1,11 @@
 //! A whole run on one thread.
 
 ghost use Rattle.std.specs.Prelude.{◌≡◌, ◌<◌, [], ℕ, length, map, min, IfOk, IfErr};
-ghost use Rattle.cal_kthread.specs.Account.{IsAccounted};
+ghost use Rattle.cal_kthread.specs.End.Account.{IsAccounted};
 ghost use Rattle.cal_kthread.specs.Journal.{commands_of};
-ghost use Rattle.cal_kthread.specs.Turns.{AreTurns};
+ghost use Rattle.cal_kthread.specs.Turn.Turns.{AreTurns};
 ghost use Rattle.cal_linear.specs.Law.{IsLinearised};
+ghost use Rattle.cal_linear.specs.Linear.{linear};
 ghost use Rattle.cal_linear.specs.Runs.{AreFirst, AreWatched, page_at, shown_of};
 ghost use Rattle.cal_linear.specs.Steps.{journal_at};
 ghost use Rattle.cal_policy.specs.History.{actions_of, commands_to};
@@ -14,7 +15,7 @@ ghost use Rattle.cal_run.specs.Headline.{Headline};
 ghost use Rattle.cal_run.specs.Outcome.{EachStandsOnce, IsRun, figures_of, most_rounds};
 ghost use Rattle.cal_run.specs.declared.fault.SimFault.TheVariants.{Memory};
 ghost use Rattle.cal_signal.specs.Pages.{FitsPage};
-ghost use Rattle.cal_trace.specs.FitsTable.{FitsTable};
+ghost use Rattle.cal_trace.specs.Arrivals.FitsTable.{FitsTable};
 
 use crate::closing::close_parts;
 use crate::fault::SimFault;
@@ -55,6 +56,8 @@ pub fn lockstep(alloc: Global, config: &Config, arrivals: &Arrivals) -> Result<O
         (commands_to (actions_of outcome.history) k)) }
     ensures events { IfOk result (λ outcome. IsLinearised config.now outcome.history
         outcome.journals outcome.watched outcome.events) }
+    ensures order { IfOk result (λ outcome.
+        outcome.events ≡ linear outcome.history outcome.journals outcome.watched) }
     ensures lefts { IfOk result (λ outcome. length outcome.left ≡ threads_of_table config.now) }
     ensures account { IfOk result (λ outcome. IsAccounted outcome.journals outcome.left) }
     ensures once { IfOk result (λ outcome. EachStandsOnce arrivals.now outcome) }

@@ -1,8 +1,8 @@
 //! The parts of a run are opened.
 
 ghost use Rattle.std.specs.Prelude.{◌≡◌, ◌≤◌, length, map, IfOk, IfErr};
-ghost use Rattle.cal_kthread.specs.Threads.{KernelView};
-ghost use Rattle.cal_trace.specs.FitsTable.{FitsTable};
+ghost use Rattle.cal_kthread.specs.Turn.Thread.{KernelView};
+ghost use Rattle.cal_trace.specs.Arrivals.FitsTable.{FitsTable};
 ghost use Rattle.cal_run.specs.declared.fault.SimFault.TheVariants.{Memory};
 ghost use Rattle.cal_run.specs.declared.worker.Worker.{Worker};
 ghost use Rattle.cal_run.specs.Parts.{AreParts};

@@ -1,8 +1,8 @@
 //! A kernel thread with the turns that it is given.
 
 ghost use Rattle.std.specs.Prelude.{◌≡◌, ◌+◌, ◌<◌, ◌≤◌, length, ℕ, Some, IfOk, IfErr, IfSome, slice_get, nat_lt};
-ghost use Rattle.cal_trace.specs.FitsTable.{ComesBefore, EachLater};
-ghost use Rattle.cal_trace.specs.Ranges.{Each};
+ghost use Rattle.cal_trace.specs.Arrivals.FitsTable.{ComesBefore, EachLater};
+ghost use Rattle.cal_trace.specs.History.Ranges.{Each};
 ghost use Rattle.cal_run.specs.declared.fault.SimFault.TheVariants.{Memory};
 ghost use Rattle.cal_run.specs.Given.{request_at};
 ghost use Rattle.cal_trace.specs.declared.arrivals.Arrival.{Arrival};

@@ -49,8 +49,8 @@ impl Promise<Watch> for Watched {
 }
 
 /// Runs the scheduler, each kernel thread and the watch at the same time, each in a thread of its
-/// own, and gives them back once each has come to its end. They share their pages, rings and queues
-/// and nothing else. Only the joins wait.
+/// own, and gives them back once each has come to its end. They share their pages, rings and queues,
+/// the arrivals, which are only read, and the gate. Only the joins wait.
 ///
 /// `Memory` where memory was refused to a worker or for the threads, `Spawn` where a thread could
 /// not be started, and `Gate` where the gate ended a worker, which comes only where it may answer

@@ -1,10 +1,11 @@
 //! A run in threads, from a table and arrivals to what it comes to.
 
 ghost use Rattle.std.specs.Prelude.{◌≡◌, ◌<◌, ◌⊎◌, ℕ, [], IfOk, IfErr, length, map, min};
-ghost use Rattle.cal_kthread.specs.Account.{IsAccounted};
+ghost use Rattle.cal_kthread.specs.End.Account.{IsAccounted};
 ghost use Rattle.cal_kthread.specs.Journal.{commands_of};
-ghost use Rattle.cal_kthread.specs.Turns.{AreTurns};
+ghost use Rattle.cal_kthread.specs.Turn.Turns.{AreTurns};
 ghost use Rattle.cal_linear.specs.Law.{IsLinearised};
+ghost use Rattle.cal_linear.specs.Linear.{linear};
 ghost use Rattle.cal_linear.specs.Runs.{AreFirst, AreWatched, page_at, shown_of};
 ghost use Rattle.cal_linear.specs.Steps.{journal_at};
 ghost use Rattle.cal_policy.specs.History.{actions_of, commands_to};
@@ -15,7 +16,7 @@ ghost use Rattle.cal_run.specs.Outcome.{EachStandsOnce, IsRun, figures_of, most_
 ghost use Rattle.cal_run.specs.declared.fault.SimFault.TheVariants.{Gate as GateFault};
 ghost use Rattle.cal_signal.specs.Pages.{FitsPage};
 ghost use Rattle.cal_threads.specs.Gates.{MayRefuse, MayRefuseOne};
-ghost use Rattle.cal_trace.specs.FitsTable.{FitsTable};
+ghost use Rattle.cal_trace.specs.Arrivals.FitsTable.{FitsTable};
 
 use crate::gate::Gate;
 use crate::running::run_threads;
@@ -63,6 +64,8 @@ pub fn simulate<R: Threads + Wait + Sync, G: Gate + Sync>(
         (commands_to (actions_of outcome.history) k)) }
     ensures events { IfOk result (λ outcome.
         IsLinearised config.now outcome.history outcome.journals outcome.watched outcome.events) }
+    ensures order { IfOk result (λ outcome.
+        outcome.events ≡ linear outcome.history outcome.journals outcome.watched) }
     ensures lefts { IfOk result (λ outcome. length outcome.left ≡ threads_of_table config.now) }
     ensures account { IfOk result (λ outcome. IsAccounted outcome.journals outcome.left) }
     ensures once { IfOk result (λ outcome. EachStandsOnce arrivals.now outcome) }

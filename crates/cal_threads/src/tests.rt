@@ -4,7 +4,7 @@
 //! The gates show it: with the bodies `workers_on_one_thread` and `threads_share_nothing` their
 //! questions come in another order, or not at all.
 ghost use Rattle.std.specs.Prelude.{IfOk};
-ghost use Rattle.cal_trace.specs.FitsTable.{FitsTable};
+ghost use Rattle.cal_trace.specs.Arrivals.FitsTable.{FitsTable};
 
 mod gates;
 mod requests;

@@ -6,8 +6,3 @@ pub mod World
 pub mod Safe
 pub mod Schedules
 pub mod Reads
-pub mod Outbox
-pub mod Standings
-pub mod Sending
-pub mod Present
-pub mod Worlds

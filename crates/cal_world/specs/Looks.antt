@@ -4,9 +4,9 @@ use Rattle.std.specs.List.{filter_map}
 use Rattle.std.specs.Option.{unwrap_or}
 use Rattle.cal_signal.specs.declared.record.Record.{Record}
 use Rattle.cal_signal.specs.Records.{zero_record}
-use Rattle.cal_policy.specs.declared.judged_look.Seen.{Seen}
-use Rattle.cal_policy.specs.declared.judged_look.Seen.TheVariants.{Whole}
-use Rattle.cal_policy.specs.Lists.{last_of}
+use Rattle.cal_policy.specs.declared.history.look.Seen.{Seen}
+use Rattle.cal_policy.specs.declared.history.look.Seen.TheVariants.{Whole}
+use Rattle.cal_policy.specs.History.Lists.{last_of}
 use Rattle.cal_world.specs.declared.event.Event.{Event}
 use Rattle.cal_world.specs.declared.event.Event.TheVariants.{Read, Skip, Decide}
 use Rattle.cal_world.specs.Threads.{page_in}

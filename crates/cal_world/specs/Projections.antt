@@ -1,14 +1,15 @@
 -- What a list of events says of the scheduler and of each kernel thread. The events are a list from
 -- the first on; nothing is carried along.
-use Rattle.std.specs.Prelude.{ℕ, ◌+◌, ◌==◌, Bool, false, List, [], ◌∷◌, Option, Some, None, slice_get, if◌then◌else◌}
+use Rattle.std.specs.Prelude.{ℕ, ◌+◌, ◌==◌, Bool, false, List, [], ◌∷◌}
+use Rattle.std.specs.Prelude.{Option, Some, None, slice_get, if◌then◌else◌}
 use Rattle.std.specs.List.{filter_map, count_by}
 use Rattle.cal_machine.specs.declared.command.Command.{Command}
-use Rattle.cal_policy.specs.declared.pass_action.Action.{Action}
-use Rattle.cal_policy.specs.declared.pass_entry.PassEntry.{PassEntry}
-use Rattle.cal_policy.specs.Lists.{each_of}
+use Rattle.cal_policy.specs.declared.history.action.Action.{Action}
+use Rattle.cal_policy.specs.declared.history.entry.PassEntry.{PassEntry}
+use Rattle.cal_policy.specs.History.Lists.{each_of}
 use Rattle.cal_policy.specs.History.{actions_of, commands_to}
-use Rattle.cal_kthread.specs.declared.entry.Entry.{Entry}
-use Rattle.cal_kthread.specs.declared.entry.Entry.TheVariants.{Took, Yielded, Published}
+use Rattle.cal_kthread.specs.declared.journal.entry.Entry.{Entry}
+use Rattle.cal_kthread.specs.declared.journal.entry.Entry.TheVariants.{Took, Yielded, Published}
 use Rattle.cal_world.specs.declared.event.Event.{Event}
 use Rattle.cal_world.specs.declared.event.Event.TheVariants.{Take, Yield, Publish, Decide}
 

@@ -3,10 +3,10 @@ use Rattle.std.specs.Prelude.{◌≡◌, ℕ, List, length, Some, slice_get}
 use Rattle.cal_machine.specs.Table.{Table, IsTable}
 use Rattle.cal_signal.specs.declared.record.Record.{Record}
 use Rattle.cal_signal.specs.declared.look.Look.TheVariants as found
-use Rattle.cal_policy.specs.declared.judged_look.Seen.{Seen}
-use Rattle.cal_policy.specs.declared.judged_look.Seen.TheVariants.{Whole, Busy}
-use Rattle.cal_policy.specs.declared.pass_entry.PassEntry.{PassEntry}
-use Rattle.cal_policy.specs.Judging.{judged}
+use Rattle.cal_policy.specs.declared.history.look.Seen.{Seen}
+use Rattle.cal_policy.specs.declared.history.look.Seen.TheVariants.{Whole, Busy}
+use Rattle.cal_policy.specs.declared.history.entry.PassEntry.{PassEntry}
+use Rattle.cal_policy.specs.Judgement.Judging.{judged}
 use Rattle.cal_policy.specs.Pass.{pass_of}
 use Rattle.cal_policy.specs.Setting.{setting_of}
 use Rattle.cal_policy.specs.Tasks.{threads_of_table}

@@ -2,12 +2,12 @@
 -- far.
 use Rattle.std.specs.Prelude.{◌≡◌, ℕ, ◌<◌, ◌≤◌, List, length, take, false, Some, slice_get}
 use Rattle.cal_machine.specs.Table.{Table}
-use Rattle.cal_policy.specs.declared.pass_action.Action.TheVariants.{Revoke, Grant}
-use Rattle.cal_policy.specs.declared.pass_action.Cause.{Cause}
-use Rattle.cal_policy.specs.declared.holding.Placement as placements
+use Rattle.cal_policy.specs.declared.history.action.Action.TheVariants.{Revoke, Grant}
+use Rattle.cal_policy.specs.declared.history.action.Cause.{Cause}
+use Rattle.cal_policy.specs.declared.board.holders.Placement as placements
 use Rattle.cal_policy.specs.History.{holder_of, commands_to, is_banned}
 use Rattle.cal_policy.specs.Board.{placement_of}
-use Rattle.cal_policy.specs.Counts.{booked_by}
+use Rattle.cal_policy.specs.Board.Counts.{booked_by}
 use Rattle.cal_policy.specs.Pass.{IsLegal}
 use Rattle.cal_policy.specs.Tasks.{limit_of}
 use Rattle.cal_kthread.specs.Journal.{commands_of, IsJournal}
@@ -63,8 +63,8 @@ TakenWereSent table events = (k : ℕ) → commands_of (journal_in events k)
 abbrev pub AreJournals : Table → List Event → Type 0
 AreJournals table events = (k : ℕ) → IsJournal (journal_in events k)
 
--- the point lies in a pass of the history so far: before its first action, between two, or after its
--- last
+-- the point lies in a pass of the history so far: before its first action, between two, or after
+-- its last
 pub record IsIn (table : Table) (events : List Event) (here : Point) : Type 0 where
   pub its_table : here.table ≡ table
   pub its_history : here.history ≡ history_in events

@@ -1,22 +1,31 @@
 -- Which event may come after which: seven rules, and legal lists of events. This project's own.
-use Rattle.std.specs.Prelude.{◌≡◌, ℕ, ◌<◌, ◌≤◌, IsSome, List, [], ◌∷◌, ◌++◌, length, take, Option, Some, None, slice_get}
+pub mod Kept
+pub mod Outbox
+pub mod Present
+pub mod Sending
+pub mod Standing
+use Rattle.std.specs.Prelude.{◌≡◌, ℕ, ◌<◌, ◌≤◌, IsSome, List, [], ◌∷◌, ◌++◌}
+use Rattle.std.specs.Prelude.{length, take, Option, Some, None, slice_get}
 use Rattle.cal_machine.specs.Table.{Table}
-use Rattle.cal_policy.specs.declared.pass_entry.PassEntry.{PassEntry}
 use Rattle.cal_signal.specs.declared.record.Record.{Record}
 use Rattle.cal_signal.specs.Records.{MayFollow}
 use Rattle.cal_signal.specs.Pages as pages
-use Rattle.cal_policy.specs.declared.judged_look.Seen.{Seen}
-use Rattle.cal_policy.specs.declared.judged_look.Seen.TheVariants.{Whole}
+use Rattle.cal_policy.specs.declared.history.look.Seen.{Seen}
+use Rattle.cal_policy.specs.declared.history.look.Seen.TheVariants.{Whole}
 use Rattle.cal_policy.specs.History.{sent_to}
 use Rattle.cal_policy.specs.Pass.{IsPass}
 use Rattle.cal_policy.specs.Tasks.{threads_of_table}
 use Rattle.cal_kthread.specs.Journal.{running_word}
 use Rattle.cal_world.specs.declared.event.Event.{Event}
-use Rattle.cal_world.specs.declared.event.Event.TheVariants.{Take, Yield, Publish, Read, Skip, Decide, Watch}
+use Rattle.cal_world.specs.declared.event.Event.TheVariants.{Take, Yield, Publish}
+use Rattle.cal_world.specs.declared.event.Event.TheVariants.{Read, Skip, Decide, Watch}
 use Rattle.cal_world.specs.declared.illegal.Illegal.{Illegal}
-use Rattle.cal_world.specs.declared.illegal.Illegal.TheVariants.{NoThread, NothingSent, NotOn, NotItsState, NoSuchPlace, OutOfTurn, NotThePass, Memory}
+use Rattle.cal_world.specs.declared.illegal.Illegal.TheVariants.{NoThread, NothingSent, NotOn}
+use Rattle.cal_world.specs.declared.illegal.Illegal.TheVariants.{NotItsState, NoSuchPlace}
+use Rattle.cal_world.specs.declared.illegal.Illegal.TheVariants.{OutOfTurn, NotThePass, Memory}
 use Rattle.cal_world.specs.Projections.{history_in, actions_in}
-use Rattle.cal_world.specs.Threads.{state_in, running_on, published_by, page_in, read_floor, watch_floor}
+use Rattle.cal_world.specs.Threads.{state_in, running_on, published_by}
+use Rattle.cal_world.specs.Threads.{page_in, read_floor, watch_floor}
 use Rattle.cal_world.specs.Looks.{looks_since}
 
 -- 1: the thread is one of the table's

@@ -5,7 +5,7 @@ ghost use Rattle.std.specs.Prelude.{◌≡◌, IfOk};
 use cal_policy::{PassEntry, Record, Seen};
 use std::alloc::{AllocError, Global};
 
-/// One thing that happened: a kernel thread or the scheduler made one step. (This project's own.)
+/// One thing that happened: a kernel thread or the scheduler made one step.
 #[derive(Drop)]
 pub enum Event {
     /// The thread took the next of the commands that were sent to it.

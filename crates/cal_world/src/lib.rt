@@ -1,21 +1,14 @@
-//! The model of all schedules: which lists of events there may be, and what holds of every one.
+//! The model of all schedules: which lists of events there may be, and what holds of every one. The
+//! events and their rules are this project's own.
 #![tactic(auto)]
 
 mod event;
 mod illegal;
-mod outbox;
-mod page;
-mod present;
-mod refusing;
-mod replay;
 mod schedules;
-mod sending;
-mod standing;
 mod world;
 
 pub use event::Event;
 pub use illegal::Illegal;
-pub use replay::{Stopped, run_events};
 pub use schedules::{
     bans_in_events_are_kept, histories_are_legal, histories_are_permitted, legal_lists_are_safe,
     no_core_runs_two, passes_on_reads_are_allowed, passes_on_reads_are_safe, points_are_legal,
@@ -24,6 +17,7 @@ pub use schedules::{
     threads_keep_journals, threads_run_by_their_last_run,
 };
 pub use world::World;
+pub use world::replay::{Stopped, run_events};
 
 #[cfg(test)]
 mod tests;

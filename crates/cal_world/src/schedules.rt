@@ -5,8 +5,13 @@
 //! To cite a law, call its function.
 
 ghost use Rattle.cal_world.specs.Safe.{LegalListsAreSafe, OfSafeLists, OfLegalLists};
-ghost use Rattle.cal_world.specs.Schedules.{HistoryIsPermitted, HistoryIsLegal, PointsArePermitted, PointsAreLegal, AreByTheirLastRun, NoCoreRunsTwo, AreWithinLimits, TakenWereSent, AreJournals, RevocationsLeaveGuarantees, RevocationsHaveCause, KeepsBans};
-ghost use Rattle.cal_world.specs.Reads.{ReadsAreWhole, PassesOnReadsAreSafe, PassesOnReadsAreAllowed};
+ghost use Rattle.cal_world.specs.Schedules.{HistoryIsPermitted, HistoryIsLegal};
+ghost use Rattle.cal_world.specs.Schedules.{PointsArePermitted, PointsAreLegal, AreByTheirLastRun};
+ghost use Rattle.cal_world.specs.Schedules.{NoCoreRunsTwo, AreWithinLimits, TakenWereSent};
+ghost use Rattle.cal_world.specs.Schedules.{AreJournals, RevocationsLeaveGuarantees};
+ghost use Rattle.cal_world.specs.Schedules.{RevocationsHaveCause, KeepsBans};
+ghost use Rattle.cal_world.specs.Reads.{ReadsAreWhole, PassesOnReadsAreSafe};
+ghost use Rattle.cal_world.specs.Reads.{PassesOnReadsAreAllowed};
 
 use cal_guard::{
     banned_are_empty_after_passes, legal_is_permitted, no_banned_is_granted, permitted_is_safe,

@@ -1,6 +1,7 @@
 //! What no clause says: the worked rows of worlds, each refusal once, that a legal list is gone
 //! through where there is memory, and refused memory.
 
+mod long_lists;
 mod refusals;
 mod refused_memory;
 
@@ -10,7 +11,8 @@ use std::alloc::{AllocError, Global};
 
 /// Two cores and one latency-critical task of one thread, congested at a delay above 10.
 const TABLE: &[u8] =
-    b"cores = 2\nbandwidth_limit = 1000\n[[task]]\nkind = \"lc\"\nguaranteed = 1\nlimit = 1\ndelay = 10\nrequest = 50\n";
+    b"cores = 2\nbandwidth_limit = 1000\n[[task]]\nkind = \"lc\"\nguaranteed = 1\nlimit = 1\n\
+    delay = 10\nrequest = 50\n";
 
 /// A record without requests, of a thread off every core.
 const IDLE: Record = Record::ZERO;

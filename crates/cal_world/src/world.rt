@@ -1,5 +1,13 @@
 //! The world: the events that were allowed so far.
 
+pub mod outbox;
+pub mod page;
+pub mod present;
+pub mod refusing;
+pub mod replay;
+pub mod sending;
+pub mod standing;
+
 ghost use Rattle.std.specs.Prelude.{◌≡◌, ℕ, ◌<◌, ◌⊎◌, [], IfOk, IfErr, OnOk, OnErr};
 ghost use Rattle.cal_world.specs.declared.illegal.Illegal.TheVariants.{Memory};
 ghost use Rattle.cal_world.specs.Projections.{history_in};
@@ -8,8 +16,8 @@ ghost use Rattle.cal_world.specs.World.{IsAllowed, IsRefusal, IsRefusedFor, and_
 
 use crate::event::Event;
 use crate::illegal::Illegal;
-use crate::present::Present;
 use crate::schedules::histories_are_legal;
+use crate::world::present::Present;
 use cal_machine::Config;
 use cal_policy::PassEntry;
 use std::alloc::{AllocError, Global};
@@ -30,7 +38,7 @@ pub struct World {
 
 impl Model for World {
     ghost use Rattle.cal_world.specs.World.{Past};
-    ghost use Rattle.cal_world.specs.Worlds.{IsWorld};
+    ghost use Rattle.cal_world.specs.World.Kept.{IsWorld};
 
     ghost Value = { Past };
 

@@ -31,7 +31,7 @@ fn watch_floor(rt: HostRuntime) -> Result<(), Fail> {
     Ok(())
 }
 
-// The causes that those two leave out.
+/// The causes that those two leave out.
 #[test]
 fn other_refusals(rt: HostRuntime) -> Result<(), Fail> {
     let config = Config::read(rt.alloc(), TABLE)?;

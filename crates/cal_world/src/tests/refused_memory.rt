@@ -20,8 +20,8 @@ fn step<R: Abort>(rt: &R, world: &mut World, event: &Event) {
     }
 }
 
-// The thread publishes, the scheduler reads and grants it a core, it takes the Run, shows that,
-// and gives the core up.
+/// The thread publishes, the scheduler reads and grants it a core, it takes the Run, shows that,
+/// and gives the core up.
 #[test]
 fn refused_memory_of_a_world(rt: HostRuntime) -> Result<(), Fail> {
     let Ok(config) = Config::read(rt.alloc(), TABLE) else {

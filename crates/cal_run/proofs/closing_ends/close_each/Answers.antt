@@ -1,6 +1,6 @@
 use Rattle.std.proofs.Common.{◌≡◌, [], map, ap, sym, ◌∙◌}
 use Rattle.std.specs.Vec.Iter.{into_iter_items}
-use Rattle.cal_kthread.specs.HandingOut.{run_of}
+use Rattle.cal_kthread.specs.End.HandingOut.{run_of}
 use Rattle.cal_run.proofs.Ends.{all_closed, nothing_left}
 use Rattle.cal_run.proofs.closing_ends.close_each.Goals as goal
 

@@ -1,7 +1,7 @@
 use Rattle.std.proofs.Common.{◌≡◌, ◌++◌, length, map}
 use Rattle.std.specs.Vec.Iter.{into_iter_items, into_iter_len}
-use Rattle.cal_kthread.specs.HandingOut.{run_of}
-use Rattle.cal_kthread.specs.declared.kernel_end.KernelEnd.{KernelEnd}
+use Rattle.cal_kthread.specs.End.HandingOut.{run_of}
+use Rattle.cal_kthread.specs.declared.end.kernel_end.KernelEnd.{KernelEnd}
 use Rattle.cal_run.proofs.Ends.{ClosesOn}
 use Rattle.cal_run.proofs.closing_ends.close_each.Given as goal
 

@@ -1,11 +1,11 @@
 use Rattle.std.proofs.Common.{◌≡◌, ◌++◌, drop, length, map, sym, subst, take, ◌∙◌}
 use Rattle.std.proofs.lemmas.Slice.Zip.{AllZip-long}
 use Rattle.cal_sched.proofs.Lists.{written_whole}
-use Rattle.cal_kthread.specs.Account.{KeepsItsWork}
-use Rattle.cal_kthread.specs.HandingOut.{HandedOutNothing, run_of}
-use Rattle.cal_kthread.specs.Teams.{IsTeam}
-use Rattle.cal_kthread.specs.declared.kernel_end.KernelEnd.{KernelEnd}
-use Rattle.cal_kthread.specs.Account.{IsAccounted}
+use Rattle.cal_kthread.specs.End.Account.{KeepsItsWork}
+use Rattle.cal_kthread.specs.End.HandingOut.{HandedOutNothing, run_of}
+use Rattle.cal_kthread.specs.Team.{IsTeam}
+use Rattle.cal_kthread.specs.declared.end.kernel_end.KernelEnd.{KernelEnd}
+use Rattle.cal_kthread.specs.End.Account.{IsAccounted}
 use Rattle.cal_run.specs.Closing.{AreClosed, IsEndOf}
 use Rattle.cal_run.proofs.Closed.{each_end, have_closed, length_alike, others_at_ends, places_at_ends}
 use Rattle.cal_run.proofs.closing_ends.close_threads.Goals as goal

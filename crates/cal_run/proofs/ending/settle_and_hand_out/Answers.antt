@@ -1,7 +1,7 @@
 use Rattle.std.proofs.Common.{◌∙◌, List, subst}
 use Rattle.std.specs.Prelude.{IfOk}
-use Rattle.cal_kthread.specs.Account.{IsAccounted}
-use Rattle.cal_kthread.specs.declared.entry.Entry.{Entry}
+use Rattle.cal_kthread.specs.End.Account.{IsAccounted}
+use Rattle.cal_kthread.specs.declared.journal.entry.Entry.{Entry}
 use Rattle.cal_run.proofs.Ends.{same_journals}
 use Rattle.cal_run.proofs.ending.settle_and_hand_out.Goals as goal
 

@@ -1,6 +1,6 @@
 use Rattle.std.proofs.Common.{◌≡◌, ◌∷◌, ℕ, List, length, subst, arith}
 use Rattle.std.specs.Vec.Iter.{into_iter_items}
-use Rattle.cal_kthread.specs.Threads.{KernelView}
+use Rattle.cal_kthread.specs.Turn.Thread.{KernelView}
 use Rattle.cal_run.specs.Turning.{HasMade}
 use Rattle.cal_run.proofs.Opened.{HaveWorkers, next_is_fresh, worker_more}
 use Rattle.cal_run.proofs.opening.open_workers.Goals as goal

@@ -1,4 +1,4 @@
-use Rattle.cal_world.proofs.Safety.{legal_history}
+use Rattle.cal_world.proofs.ScheduleLemmas.Safety.{legal_history}
 use Rattle.cal_world.proofs.schedules.histories_are_legal.Goals as goal
 
 pub returns : goal.returns

@@ -1,4 +1,4 @@
-use Rattle.cal_world.proofs.Invariant.{holds}
+use Rattle.cal_world.proofs.ScheduleLemmas.Invariant.{holds}
 use Rattle.cal_world.proofs.schedules.histories_are_permitted.Goals as goal
 
 pub returns : goal.returns

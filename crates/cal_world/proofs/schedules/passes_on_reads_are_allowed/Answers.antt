@@ -1,4 +1,4 @@
-use Rattle.cal_world.proofs.Reading.{holds_busy, allowed_on_reads}
+use Rattle.cal_world.proofs.ScheduleLemmas.Reading.{holds_busy, allowed_on_reads}
 use Rattle.cal_world.proofs.schedules.passes_on_reads_are_allowed.Goals as goal
 
 pub returns : goal.returns

@@ -1,8 +1,8 @@
 use Rattle.std.proofs.Common.{take}
-use Rattle.cal_world.proofs.Invariant.{holds}
-use Rattle.cal_world.proofs.Reading.{whole_read}
+use Rattle.cal_world.proofs.ScheduleLemmas.Invariant.{holds}
+use Rattle.cal_world.proofs.ScheduleLemmas.Reading.{whole_read}
 use Rattle.cal_world.specs.Reads.{ReadsAreWhole}
-use Rattle.cal_world.proofs.Safety.{of_legal}
+use Rattle.cal_world.proofs.ScheduleLemmas.Safety.{of_legal}
 use Rattle.cal_world.proofs.schedules.reads_are_whole.Goals as goal
 
 pub returns-clause-safe : goal.returns-clause-safe

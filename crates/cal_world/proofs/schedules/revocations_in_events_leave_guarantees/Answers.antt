@@ -1,5 +1,5 @@
 use Rattle.cal_world.specs.Schedules.{RevocationsLeaveGuarantees}
-use Rattle.cal_world.proofs.Safety.{of_legal}
+use Rattle.cal_world.proofs.ScheduleLemmas.Safety.{of_legal}
 use Rattle.cal_world.proofs.schedules.revocations_in_events_leave_guarantees.Goals as goal
 
 pub returns-clause-safe : goal.returns-clause-safe

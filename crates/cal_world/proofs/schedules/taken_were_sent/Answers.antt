@@ -1,8 +1,8 @@
 use Rattle.std.proofs.Common.{take}
-use Rattle.cal_world.proofs.Invariant.{holds}
-use Rattle.cal_world.proofs.Running.{taken_first}
+use Rattle.cal_world.proofs.ScheduleLemmas.Invariant.{holds}
+use Rattle.cal_world.proofs.ScheduleLemmas.Running.{taken_first}
 use Rattle.cal_world.specs.Schedules.{TakenWereSent}
-use Rattle.cal_world.proofs.Safety.{of_legal}
+use Rattle.cal_world.proofs.ScheduleLemmas.Safety.{of_legal}
 use Rattle.cal_world.proofs.schedules.taken_were_sent.Goals as goal
 
 pub returns-clause-safe : goal.returns-clause-safe

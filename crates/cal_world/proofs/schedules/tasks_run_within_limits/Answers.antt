@@ -1,7 +1,7 @@
 use Rattle.std.proofs.Common.{take}
-use Rattle.cal_world.proofs.Running.{within_limit}
+use Rattle.cal_world.proofs.ScheduleLemmas.Running.{within_limit}
 use Rattle.cal_world.specs.Schedules.{AreWithinLimits}
-use Rattle.cal_world.proofs.Safety.{of_legal}
+use Rattle.cal_world.proofs.ScheduleLemmas.Safety.{of_legal}
 use Rattle.cal_world.proofs.schedules.tasks_run_within_limits.Goals as goal
 
 pub returns-clause-safe : goal.returns-clause-safe

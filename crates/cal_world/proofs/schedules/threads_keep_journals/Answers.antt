@@ -1,6 +1,6 @@
-use Rattle.cal_world.proofs.Journalled.{journals}
+use Rattle.cal_world.proofs.ScheduleLemmas.Journalled.{journals}
 use Rattle.cal_world.specs.Schedules.{AreJournals}
-use Rattle.cal_world.proofs.Safety.{of_legal}
+use Rattle.cal_world.proofs.ScheduleLemmas.Safety.{of_legal}
 use Rattle.cal_world.proofs.schedules.threads_keep_journals.Goals as goal
 
 pub returns-clause-safe : goal.returns-clause-safe

@@ -1,8 +1,8 @@
 use Rattle.std.proofs.Common.{take}
-use Rattle.cal_world.proofs.Invariant.{holds}
-use Rattle.cal_world.proofs.Running.{by_last_run}
+use Rattle.cal_world.proofs.ScheduleLemmas.Invariant.{holds}
+use Rattle.cal_world.proofs.ScheduleLemmas.Running.{by_last_run}
 use Rattle.cal_world.specs.Schedules.{AreByTheirLastRun}
-use Rattle.cal_world.proofs.Safety.{of_legal}
+use Rattle.cal_world.proofs.ScheduleLemmas.Safety.{of_legal}
 use Rattle.cal_world.proofs.schedules.threads_run_by_their_last_run.Goals as goal
 
 pub returns-clause-safe : goal.returns-clause-safe

@@ -1,7 +1,7 @@
 use Rattle.std.proofs.Common.{◌≡◌, ◌≤◌, ℕ, ◌+◌, [], List, take, sym, ap, subst, ◌∙◌, refl, slice_index_or, Some, arith}
 use Rattle.std.specs.List.{slice_get}
 use Rattle.std.proofs.lemmas.Option.{slice_get-get_or}
-use Rattle.cal_kthread.specs.Turns.{AreTurns, Given}
+use Rattle.cal_kthread.specs.Turn.Turns.{AreTurns, Given}
 use Rattle.cal_run.specs.Given.{request_at, turns_given}
 use Rattle.cal_run.specs.Turning.{IsNext}
 use Rattle.cal_run.proofs.TurnsGiven.{given_at, take_next}

@@ -1,6 +1,6 @@
-use Rattle.std.proofs.Common.{◌≡◌, List, length, take, sym, subst, arith}
+use Rattle.std.proofs.Common.{List, length, sym, subst, arith}
 use Rattle.std.proofs.Math.Seq.{take-length}
-use Rattle.cal_policy.specs.declared.pass_entry.PassEntry.{PassEntry}
+use Rattle.cal_policy.specs.declared.history.entry.PassEntry.{PassEntry}
 use Rattle.cal_policy.specs.Pass.{IsLegal}
 use Rattle.cal_world.specs.declared.event.Event.{Event}
 use Rattle.cal_world.specs.Projections.{history_in}

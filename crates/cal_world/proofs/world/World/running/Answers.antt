@@ -1,8 +1,8 @@
-use Rattle.std.proofs.Common.{◌≡◌, ◌≤◌, List, None, sym, ap, ◌∙◌, arith}
+use Rattle.std.proofs.Common.{◌≤◌, sym, ap, ◌∙◌, arith}
 use Rattle.cal_policy.specs.Tasks.{threads_of_table}
 use Rattle.cal_world.specs.Threads.{running_on}
 use Rattle.cal_world.specs.World.{Past}
-use Rattle.cal_world.proofs.Nobody.{nobody_runs}
+use Rattle.cal_world.proofs.ScheduleLemmas.Nobody.{nobody_runs}
 use Rattle.cal_world.proofs.world.World.running.Goals as goal
 
 pub returns-else-k-len : goal.returns-else-k-len

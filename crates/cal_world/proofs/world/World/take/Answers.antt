@@ -1,9 +1,9 @@
 use Rattle.std.proofs.Common.{◌≡◌, List, [], ◌∷◌, ◌++◌, sym, ap, ◌∙◌, subst}
 use Rattle.cal_world.specs.declared.event.Event.{Event}
 use Rattle.cal_world.specs.World.{IsAllowed, IsLegalList, Past}
-use Rattle.cal_world.specs.Present.{IsPresent}
-use Rattle.cal_world.proofs.Pasts.{list_more}
-use Rattle.cal_world.proofs.Presents.{has_thread}
+use Rattle.cal_world.specs.World.Present.{IsPresent}
+use Rattle.cal_world.proofs.ScheduleLemmas.Pasts.{list_more}
+use Rattle.cal_world.proofs.WorldLemmas.Present.{has_thread}
 use Rattle.cal_world.proofs.world.World.take.Goals as goal
 
 pub note-requires : goal.note-requires

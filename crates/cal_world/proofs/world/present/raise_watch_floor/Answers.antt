@@ -1,0 +1,12 @@
+use Rattle.std.proofs.Common.{[], ◌∷◌, ◌++◌, length, refl}
+use Rattle.std.proofs.lemmas.Option.{slice_get_read}
+use Rattle.cal_world.specs.declared.event.Event.TheVariants.{Watch}
+use Rattle.cal_world.proofs.WorldLemmas.Noted.{standings_set, of_other_watch}
+use Rattle.cal_world.proofs.world.present.raise_watch_floor.Goals as goal
+
+pub returns-clause-of : goal.returns-clause-of
+returns-clause-of c = λ before was.
+    let ss = c.args.standings.now.items in
+    standings_set ss c.args.k c.index.result.now c.after_watch.result before (before ++ Watch c.args.k c.args.number ∷ [])
+    (slice_get_read ss (length ss) c.args.k c.index.result.now refl c.requires c.index.ensures) was
+    (λ of. c.after_watch.ensures before c.args.k of) (λ j t off of. of_other_watch t before c.args.k j c.args.number off of)

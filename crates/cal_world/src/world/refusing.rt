@@ -1,0 +1,254 @@
+//! Whether an event may come next, and if not, the least cause.
+
+ghost use Rattle.std.specs.Prelude.{◌≡◌, ℕ, ◌<◌, ◌↔◌, List, IsTrue, IfOk, length, slice_get};
+ghost use Rattle.cal_machine.specs.Table.{Table};
+ghost use Rattle.cal_policy.specs.Tasks.{threads_of_table};
+ghost use Rattle.cal_policy.specs.Pass.{IsPass, IsLegal};
+ghost use Rattle.cal_policy.specs.History.{commands_to};
+ghost use Rattle.cal_world.specs.Projections.{history_in, actions_in};
+ghost use Rattle.cal_signal.specs.Pages as pages;
+ghost use Rattle.cal_world.specs.Threads.{state_in, published_by, page_in};
+ghost use Rattle.cal_kthread.specs.Journal.{running_word};
+ghost use Rattle.cal_world.specs.declared.event.Event.{Event};
+ghost use Rattle.cal_world.specs.declared.event.Event.TheVariants.{Take, Yield, Publish};
+ghost use Rattle.cal_world.specs.declared.event.Event.TheVariants.{Read, Skip, Decide, Watch};
+ghost use Rattle.cal_world.specs.World.Standing.{IsOf};
+ghost use Rattle.cal_world.specs.Looks.{looks_since};
+ghost use Rattle.cal_world.specs.World.Present.{IsPresent, HasAll};
+ghost use Rattle.cal_world.specs.World.{IsRefusal, NamesThread};
+
+use crate::event::Event;
+use crate::illegal::Illegal;
+use crate::world::present::Present;
+use crate::world::standing::Standing;
+use cal_command::Command;
+use cal_machine::Config;
+use cal_policy::{Actions, PassEntry, Record, Seen, is_pass, later, legal_is_orderly, shaped};
+use std::alloc::{AllocError, Global};
+
+/// Whether the event's thread is one of the table's.
+fn names_thread(config: &Config, event: &Event) -> bool
+    ensures { IsTrue result ↔ NamesThread config.now event.now }
+{
+    match event {
+        Event::Take(k) => (*k as usize) < config.threads(),
+        Event::Yield(k) => (*k as usize) < config.threads(),
+        Event::Publish(k, _) => (*k as usize) < config.threads(),
+        Event::Read(k, _) => (*k as usize) < config.threads(),
+        Event::Skip(k, _) => (*k as usize) < config.threads(),
+        Event::Decide(_) => true,
+        Event::Watch(k, _) => (*k as usize) < config.threads(),
+    }
+}
+
+/// Of a Take by a thread of the table, where this is the command that was sent to it after those
+/// that it took.
+fn refusal_of_take(next: Option<Command>) -> Option<Illegal>
+    ensures { (table : Table) (before : List Event) (k : ℕ) → k < threads_of_table table →
+        next ≡ slice_get (commands_to (actions_in before) k) (state_in before k).taken →
+        IsRefusal table before (Take k) result }
+{
+    if next.is_some() {
+        None
+    } else {
+        Some(Illegal::NothingSent)
+    }
+}
+
+/// Of a Yield by a thread of the table.
+fn refusal_of_yield(standing: &Standing) -> Option<Illegal>
+    ensures { (table : Table) (before : List Event) (k : ℕ) → k < threads_of_table table →
+        IsOf standing.now before k → IsRefusal table before (Yield k) result }
+{
+    if standing.core.is_some() {
+        None
+    } else {
+        Some(Illegal::NotOn)
+    }
+}
+
+/// The word of a record that shows this core.
+fn word_of(core: Option<u8>) -> u64
+    ensures { result ≡ running_word core }
+{
+    match core {
+        Some(core) => u64::from(core) + 1,
+        None => 0,
+    }
+}
+
+/// Of a Publish by a thread of the table, after this last record on its page.
+fn refusal_of_publish(standing: &Standing, last: &Record, rec: &Record) -> Option<Illegal>
+    ensures { (table : Table) (before : List Event) (k : ℕ) → k < threads_of_table table →
+        IsOf standing.now before k → last.now ≡ pages.last_of (published_by before k) →
+        IsRefusal table before (Publish k rec.now) result }
+{
+    if rec.taken == standing.taken as u64
+        && rec.running == word_of(standing.core)
+        && later(last, rec)
+        && shaped(rec)
+    {
+        None
+    } else {
+        Some(Illegal::NotItsState)
+    }
+}
+
+/// Of a Read of a page of the table's with so many places, after so many looks since the last
+/// Decide.
+fn refusal_of_read(
+    standing: &Standing,
+    places: usize,
+    looks: usize,
+    thread: u8,
+    number: u64,
+) -> Option<Illegal>
+    ensures { (table : Table) (before : List Event) → thread < threads_of_table table →
+        IsOf standing.now before thread → places ≡ length (page_in before thread) →
+        looks ≡ length (looks_since before) → IsRefusal table before (Read thread number) result }
+{
+    if number < standing.read_floor || number >= places as u64 {
+        Some(Illegal::NoSuchPlace)
+    } else if thread as usize != looks {
+        Some(Illegal::OutOfTurn)
+    } else {
+        None
+    }
+}
+
+/// Of a Watch of a page of the table's with so many places.
+fn refusal_of_watch(standing: &Standing, places: usize, number: u64) -> Option<Illegal>
+    ensures { (table : Table) (before : List Event) (k : ℕ) → k < threads_of_table table →
+        IsOf standing.now before k → places ≡ length (page_in before k) →
+        IsRefusal table before (Watch k number) result }
+{
+    if number < standing.watch_floor || number >= places as u64 {
+        Some(Illegal::NoSuchPlace)
+    } else {
+        None
+    }
+}
+
+/// Of a Skip of a thread of the table, after so many looks since the last Decide.
+fn refusal_of_skip(looks: usize, thread: u8, seen: Seen) -> Option<Illegal>
+    ensures { (table : Table) (before : List Event) → thread < threads_of_table table →
+        looks ≡ length (looks_since before) → IsRefusal table before (Skip thread seen) result }
+{
+    if thread as usize != looks {
+        return Some(Illegal::OutOfTurn);
+    }
+    match seen {
+        Seen::Whole { .. } => Some(Illegal::OutOfTurn),
+        Seen::Busy { .. } => None,
+        Seen::Ahead { .. } => None,
+        Seen::Foreign { .. } => None,
+    }
+}
+
+/// Whether two looks are equal.
+fn same_look(a: Seen, b: Seen) -> bool
+    ensures { IsTrue result ↔ a ≡ b }
+{
+    a == b
+}
+
+/// Whether two lists of looks are equal.
+fn same_looks(a: &[Seen], b: &[Seen]) -> bool
+    ensures { IsTrue result ↔ a.now ≡ b.now }
+{
+    if a.len() != b.len() {
+        return false;
+    }
+    for i in 0..a.len() {
+        if !same_look(a[i], b[i]) {
+            return false;
+        }
+    }
+    true
+}
+
+/// Whether the entry is the pass after a legal history. Its error is want of memory alone.
+fn is_next_pass(
+    alloc: Global,
+    config: &Config,
+    history: &[PassEntry],
+    entry: &PassEntry,
+) -> Result<bool, AllocError>
+    requires { IsLegal config.now history.now }
+    ensures { IfOk result (λ answer. IsTrue answer ↔ IsPass config.now history.now entry.now) }
+{
+    config.limits();
+    legal_is_orderly();
+    let mut actions = Actions::reserved(alloc)?;
+    Ok(is_pass(config, history, entry, &mut actions))
+}
+
+/// Of a Decide after a legal history and these looks. Its error is want of memory alone.
+fn refusal_of_decide(
+    alloc: Global,
+    config: &Config,
+    history: &[PassEntry],
+    looks: &[Seen],
+    entry: &PassEntry,
+) -> Result<Option<Illegal>, AllocError>
+    requires { IsLegal config.now history.now }
+    ensures { IfOk result (λ refusal. (before : List Event) →
+        history.now ≡ history_in before → looks.now ≡ looks_since before →
+        IsRefusal config.now before (Decide entry.now) refusal) }
+{
+    if looks.len() != config.threads() {
+        return Ok(Some(Illegal::OutOfTurn));
+    }
+    if !same_looks(entry.input.seen.as_slice(), looks) {
+        return Ok(Some(Illegal::NotThePass));
+    }
+    if is_next_pass(alloc, config, history, entry)? {
+        Ok(None)
+    } else {
+        Ok(Some(Illegal::NotThePass))
+    }
+}
+
+impl Present {
+    /// Why an event may not come next, the least cause; None where it may. Its error is want of
+    /// memory alone, at a Decide.
+    pub fn refusal(
+        &self,
+        alloc: Global,
+        config: &Config,
+        event: &Event,
+    ) -> Result<Option<Illegal>, AllocError>
+        requires all { HasAll config.now self.now }
+        requires legal { IsLegal config.now self.now.history.items }
+        ensures { IfOk result (λ refusal. (before : List Event) →
+            IsPresent config.now before self.now → IsRefusal config.now before event.now refusal) }
+    {
+        if !names_thread(config, event) {
+            return Ok(Some(Illegal::NoThread));
+        }
+        match event {
+            Event::Take(k) => {
+                let taken = self.standings[*k as usize].taken;
+                Ok(refusal_of_take(self.sent[*k as usize].command(taken)))
+            }
+            Event::Yield(k) => Ok(refusal_of_yield(&self.standings[*k as usize])),
+            Event::Publish(k, rec) => {
+                let last = self.pages[*k as usize].last();
+                Ok(refusal_of_publish(&self.standings[*k as usize], &last, rec))
+            }
+            Event::Read(k, number) => {
+                let places = self.pages[*k as usize].places();
+                let standing = &self.standings[*k as usize];
+                Ok(refusal_of_read(standing, places, self.looks.len(), *k, *number))
+            }
+            Event::Skip(k, seen) => Ok(refusal_of_skip(self.looks.len(), *k, *seen)),
+            Event::Decide(entry) => {
+                refusal_of_decide(alloc, config, &self.history, &self.looks, entry)
+            }
+            Event::Watch(k, number) => {
+                let places = self.pages[*k as usize].places();
+                Ok(refusal_of_watch(&self.standings[*k as usize], places, *number))
+            }
+        }
+    }
+}
