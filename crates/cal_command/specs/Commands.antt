@@ -1,4 +1,4 @@
--- What may be sent on a ring (this project's own).
+-- What may be sent on a ring.
 use Rattle.std.specs.Prelude.{◌<◌}
 use Rattle.cal_machine.specs.declared.command.Command.{Command}
 use Rattle.cal_machine.specs.declared.command.Command.TheVariants.{Run, Park}

@@ -20,14 +20,15 @@ module _ {A P : Type 0} where
   abbrev pub ring_of_consumer : Consumer Command A P → RingId
   ring_of_consumer c = record { words = c.end.words; slots = c.end.slots; names = c.end.names }
 
--- the sending end: every command sent so far, oldest first, and how many places are known to be free
+-- the sending end: every command sent so far, oldest first, and how many places are known to be
+-- free
 pub record SenderView : Type 0 where
   pub ring : RingId
   pub sent : List Command
   pub free : ℕ
 
--- room for one more command is known: a place is known to be free, and fewer than 2^62 commands were sent (this
--- project's own)
+-- room for one more command is known: a place is known to be free, and fewer than 2^62 commands
+-- were sent
 abbrev pub HasRoom : SenderView → Type 0
 HasRoom s = (0 < s.free) × (length s.sent < 2 ^ 62)
 

@@ -13,8 +13,8 @@ use std::marker::Model;
 /// count wraps.
 pub(crate) const MOST: u64 = 1 << 62;
 
-/// The scheduler's end of a ring. A contract sees which ring it is, all commands sent so far, and how
-/// many places are known to be free.
+/// The scheduler's end of a ring. A contract sees which ring it is, all commands sent so far, and
+/// how many places are known to be free.
 #[derive(Drop)]
 pub struct Sender {
     pub(crate) producer: Producer<Command, Global, Sendable>,
@@ -28,15 +28,19 @@ impl Model for Sender {
 
     ghost Value = { SenderView };
 
-    ghost view = { λ s. record { ring = ring_of_producer s.producer; sent = sent s.producer; free = known_free s.producer } };
+    ghost view = { λ s. record {
+      ring = ring_of_producer s.producer;
+      sent = sent s.producer;
+      free = known_free s.producer;
+    } };
 
     ghost invariant = { λ s. (s.count ≡ length (sent s.producer)) × (s.count ≤ 2 ^ 62) };
 }
 
 impl Sender {
-    /// Whether a place is free, and fewer than 2^62 commands were sent. If so, it stays so up to the next
-    /// `send`. That a ring with a free place answers true is no promise beside a taker, but where the
-    /// place is known to be free.
+    /// Whether a place is free, and fewer than 2^62 commands were sent. If so, it stays so up to
+    /// the next `send`. That a ring with a free place answers true is no promise beside a taker,
+    /// but where the place is known to be free.
     pub fn room(&mut self) -> bool
         ensures same { (self.new.ring ≡ self.old.ring) × (self.new.sent ≡ self.old.sent) }
         ensures known { IsTrue result ↔ HasRoom self.new }
@@ -49,7 +53,8 @@ impl Sender {
         !self.producer.is_full()
     }
 
-    /// Sends a command, for which room is to be known; a Run's core is to be below 128. It cannot fail.
+    /// Sends a command, for which room is to be known; a Run's core is to be below 128. It cannot
+    /// fail.
     pub fn send(&mut self, command: Command)
         requires room { HasRoom self.old }
         requires core { IsSendable command }

@@ -8,7 +8,8 @@ use rtrb::Consumer;
 use std::alloc::Global;
 use std::marker::Model;
 
-/// The kernel thread's end of a ring. A contract sees which ring it is and all commands taken so far.
+/// The kernel thread's end of a ring. A contract sees which ring it is and all commands taken so
+/// far.
 #[derive(Drop)]
 pub struct Taker {
     pub(crate) consumer: Consumer<Command, Global, Sendable>,
@@ -22,7 +23,10 @@ impl Model for Taker {
 
     ghost Value = { TakerView };
 
-    ghost view = { λ t. record { ring = ring_of_consumer t.consumer; taken = received t.consumer } };
+    ghost view = { λ t. record {
+      ring = ring_of_consumer t.consumer;
+      taken = received t.consumer;
+    } };
 
     ghost invariant = { λ t. t.count ≡ length (received t.consumer) };
 }

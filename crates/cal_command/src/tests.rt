@@ -27,8 +27,8 @@ fn ring_of_four(rt: HostRuntime) -> Result<(), Fail> {
     Ok(())
 }
 
-// With one allocation refused, wherever that is, opening answers want of memory, or the ring serves as ever.
-// (tools/refusals runs it so.)
+/// With one allocation refused, wherever that is, opening answers want of memory, or the ring
+/// serves as ever. (tools/refusals runs it so.)
 #[test]
 fn refused_memory_of_a_ring(rt: HostRuntime) -> Result<(), Fail> {
     let (mut sender, mut taker) = match open_ring(rt.alloc()) {
@@ -44,7 +44,7 @@ fn refused_memory_of_a_ring(rt: HostRuntime) -> Result<(), Fail> {
     Ok(())
 }
 
-// The n-th command of a long run, from 1.
+/// The n-th command of a long run, from 1.
 fn command_at(n: u64) -> Command
     ensures { IsSendable result }
 {
@@ -55,7 +55,7 @@ fn command_at(n: u64) -> Command
     }
 }
 
-// Sends the first `count` commands, each as soon as there is room.
+/// Sends the first `count` commands, each as soon as there is room.
 fn send_all(rt: &impl Wait, sender: Sender, count: u64) -> Sender
     ensures { result.ring ≡ sender.ring }
 {
@@ -75,7 +75,7 @@ fn send_all(rt: &impl Wait, sender: Sender, count: u64) -> Sender
     sender
 }
 
-// Takes that many commands into the list, with their numbers.
+/// Takes that many commands into the list, with their numbers.
 fn take_all(
     rt: &impl Wait,
     taker: Taker,
@@ -102,7 +102,8 @@ fn take_all(
     (taker, Ok(into))
 }
 
-// The sender sends 10,002 commands and the taker takes 10,000 while it does: the last two stay on the ring.
+/// The sender sends 10,002 commands and the taker takes 10,000 while it does: the last two stay on
+/// the ring.
 #[test]
 fn two_threads(rt: HostRuntime) -> Result<(), Fail> {
     let (sender, taker) = open_ring(rt.alloc())?;

@@ -7,27 +7,27 @@ use Rattle.std.proofs.lemmas.Option.{slice_get_within}
 use Rattle.cal_machine.specs.declared.command.Command.{Command}
 use Rattle.cal_machine.specs.declared.command.Command.TheVariants.{Run, Park}
 use Rattle.cal_machine.specs.Table.{Table, IsTable}
-use Rattle.cal_policy.specs.declared.pass_action.Action.{Action}
-use Rattle.cal_policy.specs.declared.pass_action.Action.TheVariants.{Free, Unban, Ban, Revoke, Cap, Grant}
-use Rattle.cal_policy.specs.declared.pass_action.Cause.TheVariants as causes
-use Rattle.cal_policy.specs.declared.pass_entry.PassEntry.{PassEntry}
+use Rattle.cal_policy.specs.declared.history.action.Action.{Action}
+use Rattle.cal_policy.specs.declared.history.action.Action.TheVariants.{Free, Unban, Ban, Revoke, Cap, Grant}
+use Rattle.cal_policy.specs.declared.history.action.Cause.TheVariants as causes
+use Rattle.cal_policy.specs.declared.history.entry.PassEntry.{PassEntry}
 use Rattle.cal_policy.specs.History.{actions_of, command_to, sends, sent_to}
 use Rattle.cal_policy.specs.Tasks.{is_latency_critical}
-use Rattle.cal_policy.specs.Counts.{held_by, cap_of}
+use Rattle.cal_policy.specs.Board.Counts.{held_by, cap_of}
 use Rattle.cal_policy.specs.Board.{placement_of}
 use Rattle.cal_policy.specs.Setting.{so_far}
 use Rattle.cal_policy.specs.Pass.{IsLegal}
 use Rattle.cal_policy.specs.Laws.{LegalIsSound, ActionIsOneMore, LastThreadIsPlaced}
-use Rattle.cal_policy.proofs.Legality.{legal_upto}
+use Rattle.cal_policy.proofs.PassLemmas.Legality.{legal_upto}
 use Rattle.cal_laws.specs.Point.{Point, IsPoint, setting_at, made_at, actions_at, next_at}
 use Rattle.cal_laws.specs.Bans.{NoneHeld, NoBannedIsGranted, BannedAreEmptyAfterPasses, BannedAreEmptiedAtOnce, BansAreDue, BansEndUnshown}
 use Rattle.cal_laws.specs.Caps.{CapsAreDue}
 use Rattle.cal_laws.specs.Cause.{RevocationsHaveCause}
 use Rattle.cal_laws.specs.Limits.{GrantsKeepToCaps, RevocationsLeaveGuarantees, TasksKeepToCaps}
 use Rattle.cal_laws.specs.OneEach.{CommandsGoWhereIsRoom, ThreadsAreSentOneCommand, PassesAreShort}
-use Rattle.cal_laws.proofs.Excluded.{last_loser}
-use Rattle.cal_laws.proofs.Points.{take_next, actions_more, sound_at}
-use Rattle.cal_laws.proofs.Truth.{sent_grows}
+use Rattle.cal_laws.proofs.ExclusionLemmas.Excluded.{last_loser}
+use Rattle.cal_laws.proofs.PointLemmas.EachAction.{take_next, actions_more, sound_at}
+use Rattle.cal_laws.proofs.KeptLemmas.Truth.{sent_grows}
 use Rattle.cal_guard.specs.Permitted.{MayBeSent, MayBeMade, IsPermitted, core_revoked}
 use Rattle.cal_guard.specs.Histories.{LegalIsPermitted}
 use Rattle.cal_guard.specs.Causes.{IsForItsCause, LegalIsRight}

@@ -1,34 +1,30 @@
 -- What a ban or a cap leaves undone in a permitted history, the next action does.
-use Rattle.std.proofs.Common.{◌≡◌, ℕ, ◌+◌, ◌<◌, ◌≤◌, zero, suc, true, false, List, [], ◌∷◌, ◌++◌, length, take, sym, ap, ◌∙◌, arith, subst, ⊎_elim, ◌⊎◌, inl, inr, refl}
+use Rattle.std.proofs.Common.{◌≡◌, ℕ, ◌+◌, ◌<◌, ◌≤◌, zero, suc, true, false, List, [], ◌∷◌, ◌++◌, length, take, sym, ap, ◌∙◌, arith, subst, ⊎_elim, ◌⊎◌, inl, inr}
 use Rattle.std.proofs.Math.Seq.{take-length}
 use Rattle.std.proofs.lemmas.Bool.{both_ways, cases_lt}
 use Rattle.std.proofs.lemmas.Option.{slice_get_cases}
 use Rattle.cal_machine.specs.Table.{Table}
-use Rattle.cal_policy.specs.declared.pass_action.Action.{Action}
-use Rattle.cal_policy.specs.declared.pass_entry.PassEntry.{PassEntry}
-use Rattle.cal_policy.specs.Choice.{count_below}
+use Rattle.cal_policy.specs.declared.history.action.Action.{Action}
+use Rattle.cal_policy.specs.declared.history.entry.PassEntry.{PassEntry}
 use Rattle.cal_policy.specs.History.{actions_of, holder_of, is_banned}
-use Rattle.cal_policy.specs.Counts.{is_held, held_by, cap_of}
+use Rattle.cal_policy.specs.Board.Counts.{is_held, held_by, cap_of}
 use Rattle.cal_policy.specs.Tasks.{is_latency_critical}
-use Rattle.cal_policy.specs.Bans.{NoPairBanned}
+use Rattle.cal_policy.specs.Pass.Bans.{NoPairBanned}
 use Rattle.cal_policy.specs.Setting.{setting_of, so_far}
-use Rattle.cal_policy.proofs.Apart.{apart_push}
+use Rattle.cal_policy.proofs.PassLemmas.Apart.{apart_push}
 use Rattle.cal_laws.specs.Bans.{NoneHeld}
 use Rattle.cal_laws.specs.Point.{Point, setting_at, made_at, actions_at}
-use Rattle.cal_laws.proofs.Points.{actions_more, after_passes}
+use Rattle.cal_laws.proofs.PointLemmas.EachAction.{actions_more, after_passes}
 use Rattle.cal_guard.specs.Permitted.{IsPermitted, IsPermittedHistory, NoneOverCap, IsSettled}
 use Rattle.cal_guard.specs.Histories.{IsPermittedPoint}
 use Rattle.cal_guard.specs.Laws.{IsRevokedNext, IsLoweredNext}
 use Rattle.cal_guard.proofs.Steady.{each_permitted, permitted_at, at_point}
+use Rattle.cal_policy.proofs.PassLemmas.Steady.{none_counted}
 
 -- no ban and no cap is left undone after the actions x
 pub record IsMended (table : Table) (x : List Action) : Type 0 where
   pub emptied : NoneHeld x
   pub lowered : NoneOverCap table x
-
-none_counted : (n : ℕ) → count_below (λ c. false) n ≡ 0
-none_counted zero = refl
-none_counted (suc n) = rw (none_counted n) refl
 
 mended_first : (table : Table) → IsMended table []
 mended_first table = record {
@@ -69,7 +65,8 @@ revoked_next here is core banned held = ⊎_elim
     (λ past. absurd (both_ways _ ((settled_at here is (let no = past.0 in omega (arith, no))).emptied.empty core banned) held))
     (slice_get_cases here.entry.actions here.made).1
 
--- where a best-effort task holds more than its cap an action comes next, which revokes a core that it holds
+-- where a best-effort task holds more than its cap an action comes next, which revokes a core that
+-- it holds
 pub lowered_next : (here : Point) → IsPermittedPoint here → (t : ℕ) → is_latency_critical here.table t ≡ false →
     (held_by here.table (actions_at here) t ≤ cap_of here.table (actions_at here) t) ⊎ (IsLoweredNext here t)
 lowered_next here is t best = ⊎_elim

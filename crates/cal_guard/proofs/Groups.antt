@@ -1,14 +1,14 @@
 -- A pass that is taken group by group.
-use Rattle.std.proofs.Common.{◌≡◌, ◌↔◌, ℕ, ◌+◌, ◌≤◌, zero, suc, List, [], ◌∷◌, ◌++◌, length, take, Some, sym, ap, ◌∙◌, arith, subst, ⊎_elim, length-append}
+use Rattle.std.proofs.Common.{◌≡◌, ℕ, ◌+◌, zero, suc, List, [], ◌∷◌, ◌++◌, length, take, Some, sym, ap, ◌∙◌, arith, subst, ⊎_elim, length-append}
 use Rattle.std.specs.List.{slice_get}
 use Rattle.std.proofs.lemmas.List.{take-append-le}
 use Rattle.std.proofs.lemmas.Option.{slice_get_within}
-use Rattle.cal_policy.specs.declared.pass_action.Action.{Action}
+use Rattle.cal_policy.specs.declared.history.action.Action.{Action}
 use Rattle.cal_policy.specs.Setting.{Setting}
-use Rattle.cal_laws.proofs.Parts.{slice_get_parts}
 use Rattle.cal_guard.specs.Permitted.{IsPermitted, ArePermitted}
 use Rattle.cal_guard.specs.Refusals.{MayFollow}
 use Rattle.cal_guard.specs.Guarded.{GroupsMakeAPass}
+use Rattle.cal_lists.proofs.Places.{slice_get_parts}
 
 -- what stands behind a list stands there when the list comes before it
 get_behind : {X : Type 0} (xs ys : List X) (n i : ℕ) → n ≡ length xs + i → slice_get (xs ++ ys) n ≡ slice_get ys i

@@ -1,16 +1,16 @@
 -- A permitted history can always go on.
-use Rattle.std.proofs.Common.{◌≡◌, ℕ, ◌+◌, ◌⊎◌, zero, suc, List, [], ◌∷◌, ◌++◌, length, take, Some, None, sym, subst, arith, inl, inr, ⊎_elim}
+use Rattle.std.proofs.Common.{◌≡◌, ℕ, ◌+◌, zero, suc, [], ◌∷◌, ◌++◌, length, take, Some, None, sym, subst, arith, ⊎_elim}
 use Rattle.std.specs.List.{slice_get}
 use Rattle.std.proofs.Math.Seq.{take-append_seam}
 use Rattle.std.proofs.lemmas.List.{append-nil, take-append-le}
 use Rattle.std.proofs.lemmas.Option.{slice_get_within}
-use Rattle.cal_policy.specs.declared.pass_entry.PassEntry.{PassEntry}
+use Rattle.cal_policy.specs.declared.history.entry.PassEntry.{PassEntry}
 use Rattle.cal_policy.specs.History.{actions_of}
 use Rattle.cal_laws.specs.Bans.{NoneHeld}
-use Rattle.cal_laws.proofs.Parts.{slice_get_parts}
 use Rattle.cal_guard.specs.Permitted.{NoneOverCap, IsPermittedPass}
 use Rattle.cal_guard.specs.Histories.{DoingNothingIsPermitted, PermittedGoesOn}
 use Rattle.cal_guard.proofs.Emptying.{mended}
+use Rattle.cal_lists.proofs.Places.{slice_get_parts}
 
 pub nothing : DoingNothingIsPermitted
 nothing table history input permitted =

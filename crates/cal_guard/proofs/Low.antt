@@ -5,19 +5,19 @@ use Rattle.std.proofs.Math.Seq.{take-length}
 use Rattle.std.proofs.lemmas.Bool.{eqb-true}
 use Rattle.std.proofs.lemmas.List.{append-nil}
 use Rattle.cal_machine.specs.Table.{Table}
-use Rattle.cal_policy.specs.declared.pass_action.Action.{Action}
-use Rattle.cal_policy.specs.declared.pass_action.Action.TheVariants.{Free, Unban, Ban, Revoke, Cap, Grant}
-use Rattle.cal_policy.specs.declared.pass_action.Cause.{Cause}
-use Rattle.cal_policy.specs.declared.pass_entry.PassEntry.{PassEntry}
-use Rattle.cal_policy.specs.declared.holding.Placement as placements
-use Rattle.cal_policy.specs.declared.holding.Holder.{Holder}
-use Rattle.cal_policy.specs.declared.holding.Holder.TheVariants as holders
+use Rattle.cal_policy.specs.declared.history.action.Action.{Action}
+use Rattle.cal_policy.specs.declared.history.action.Action.TheVariants.{Free, Unban, Ban, Revoke, Cap, Grant}
+use Rattle.cal_policy.specs.declared.history.action.Cause.{Cause}
+use Rattle.cal_policy.specs.declared.history.entry.PassEntry.{PassEntry}
+use Rattle.cal_policy.specs.declared.board.holders.Placement as placements
+use Rattle.cal_policy.specs.declared.board.holders.Holder.{Holder}
+use Rattle.cal_policy.specs.declared.board.holders.Holder.TheVariants as holders
 use Rattle.cal_policy.specs.History.{actions_of, holder_of, holder_made, last_placement, left_by, placed}
-use Rattle.cal_policy.specs.Counts.{is_held}
-use Rattle.cal_policy.specs.Orderly.{fits_state}
-use Rattle.cal_policy.proofs.History.{holder_push}
-use Rattle.cal_laws.proofs.Granted.{gives_free}
-use Rattle.cal_laws.proofs.Points.{after_passes}
+use Rattle.cal_policy.specs.Board.Counts.{is_held}
+use Rattle.cal_policy.specs.Judgement.Orderly.{fits_state}
+use Rattle.cal_policy.proofs.HistoryLemmas.OneMore.{holder_push}
+use Rattle.cal_laws.proofs.ChoiceLemmas.Granted.{gives_free}
+use Rattle.cal_laws.proofs.PointLemmas.EachAction.{after_passes}
 use Rattle.cal_guard.specs.Permitted.{IsPermitted, IsPermittedHistory}
 use Rattle.cal_guard.specs.Passing.{HeldAreLow}
 use Rattle.cal_guard.proofs.Steady.{each_permitted}

@@ -3,16 +3,16 @@ use Rattle.std.proofs.Common.{◌≡◌, ℕ, ◌+◌, ◌<◌, ◌≤◌, Bool,
 use Rattle.std.proofs.lemmas.Bool.{eqb-true, cases_lt}
 use Rattle.cal_machine.specs.declared.command.Command.{Command}
 use Rattle.cal_machine.specs.declared.command.Command.TheVariants.{Run, Park}
-use Rattle.cal_policy.specs.declared.pass_action.Action.{Action}
-use Rattle.cal_policy.specs.declared.pass_action.Action.TheVariants.{Free, Unban, Ban, Revoke, Cap, Grant}
+use Rattle.cal_policy.specs.declared.history.action.Action.{Action}
+use Rattle.cal_policy.specs.declared.history.action.Action.TheVariants.{Free, Unban, Ban, Revoke, Cap, Grant}
 use Rattle.cal_policy.specs.History.{actions_of, commands_to, command_to, sends, sent_to}
 use Rattle.cal_policy.specs.Board.{placement_of}
 use Rattle.cal_policy.specs.Setting.{Setting, so_far}
-use Rattle.cal_policy.specs.Steady.{IsSteady}
+use Rattle.cal_policy.specs.Pass.Steady.{IsSteady}
 use Rattle.cal_policy.specs.Laws.{ActionIsOneMore, LastThreadIsPlaced}
 use Rattle.cal_laws.specs.Point.{Point, actions_at, setting_at}
-use Rattle.cal_laws.proofs.Excluded.{last_loser}
-use Rattle.cal_laws.proofs.Points.{within_pass}
+use Rattle.cal_laws.proofs.ExclusionLemmas.Excluded.{last_loser}
+use Rattle.cal_laws.proofs.PointLemmas.EachAction.{within_pass}
 use Rattle.cal_guard.specs.Permitted.{MayBeSent, MayBeMade, IsPermitted}
 use Rattle.cal_guard.specs.Histories.{IsPermittedPoint, PermittedIsSafe}
 use Rattle.cal_guard.proofs.Steady.{each_permitted}

@@ -1,5 +1,5 @@
 -- Which threads were sent a command in a pass, one action more.
-use Rattle.std.proofs.Common.{◌≡◌, ℕ, ◌+◌, ◌<◌, ◌≤◌, Bool, true, false, cond, ◌||◌, ◌&&◌, not, eqb, ltb, List, [], ◌∷◌, ◌++◌, length, Option, Some, None, refl, sym, ap, ◌∙◌, arith, append_assoc}
+use Rattle.std.proofs.Common.{◌≡◌, ℕ, ◌+◌, ◌<◌, ◌≤◌, Bool, true, false, cond, ◌||◌, eqb, ltb, List, [], ◌∷◌, ◌++◌, length, Option, Some, None, refl, sym, ap, ◌∙◌, arith, append_assoc}
 use Rattle.std.specs.Option.{option_map}
 use Rattle.std.proofs.lemmas.Bool.Decides.{nat_tests}
 use Rattle.std.proofs.lemmas.List.{append-nil}
@@ -7,16 +7,17 @@ use Rattle.cal_machine.specs.declared.command.Command.{Command}
 use Rattle.cal_machine.specs.declared.command.Command.TheVariants.{Run, Park}
 use Rattle.cal_machine.specs.declared.core_set.CoreSet.{CoreSet}
 use Rattle.cal_machine.specs.CoreSet.{has}
-use Rattle.cal_policy.specs.declared.pass_action.Action.{Action}
-use Rattle.cal_policy.specs.declared.pass_action.Action.TheVariants.{Grant, Revoke}
-use Rattle.cal_policy.specs.declared.pass_action.Cause.{Cause}
-use Rattle.cal_policy.specs.declared.holding.Placement as placements
+use Rattle.cal_policy.specs.declared.history.action.Action.{Action}
+use Rattle.cal_policy.specs.declared.history.action.Action.TheVariants.{Grant, Revoke}
+use Rattle.cal_policy.specs.declared.history.action.Cause.{Cause}
+use Rattle.cal_policy.specs.declared.board.holders.Placement as placements
 use Rattle.cal_policy.specs.History.{actions_of, sends, sent_to, command_to, last_thread, last_placement}
 use Rattle.cal_policy.specs.Board.{kept_placement}
 use Rattle.cal_policy.specs.Setting.{Setting, so_far}
-use Rattle.cal_policy.proofs.History.{sent_push, last_thread_placement}
+use Rattle.cal_policy.proofs.HistoryLemmas.OneMore.{sent_push, last_thread_placement}
 use Rattle.cal_guard.specs.Refusals.{was_sent, is_core}
 use Rattle.cal_guard.specs.Passing.{IsSetOfSent}
+use Rattle.cal_policy.proofs.BoardLemmas.AsKept.{thread_as_kept}
 
 pub sent_grows : (x acts : List Action) (k : ℕ) → sent_to x k ≤ sent_to (x ++ acts) k
 sent_grows x [] k = let same = ap (λ l. sent_to l k) (append-nil x) in omega (arith, same)
@@ -58,16 +59,12 @@ to_last : (o : Option ℕ) (k : ℕ) → ltb 0 (length (command_to k o Park)) �
 to_last None k = refl
 to_last (Some thread) k = some_sent (eqb thread k) Park
 
-kept_thread : (o : Option placements.Placement) → option_map (λ (p : placements.Placement). p.thread) (option_map kept_placement o) ≡ option_map (λ (p : placements.Placement). p.thread) o
-kept_thread None = refl
-kept_thread (Some p) = refl
-
 -- a revocation sends to the thread of the last grant, as it is kept
 pub to_revoked : (x : List Action) (core : ℕ) (cause : Cause) (o : Option placements.Placement) → o ≡ option_map kept_placement (last_placement x core) →
     (k : ℕ) → ltb 0 (length (sends k x (Revoke core cause))) ≡ is_core k (option_map (λ (p : placements.Placement). p.thread) o)
 to_revoked x core cause o e k =
     let last : last_thread x core ≡ option_map (λ (p : placements.Placement). p.thread) o =
-    last_thread_placement x core ∙ sym (kept_thread (last_placement x core)) ∙ ap (λ o. option_map (λ (p : placements.Placement). p.thread) o) (sym e) in
+    last_thread_placement x core ∙ sym (thread_as_kept (last_placement x core)) ∙ ap (λ o. option_map (λ (p : placements.Placement). p.thread) o) (sym e) in
     ap (λ o. ltb 0 (length (command_to k o Park))) last ∙ to_last (option_map (λ (p : placements.Placement). p.thread) o) k
 
 eqb_swap : (a b : ℕ) → eqb a b ≡ eqb b a

@@ -1,12 +1,12 @@
 -- The board stands in a pass, one action more.
 use Rattle.std.proofs.Common.{◌≡◌, List, [], ◌∷◌, ◌++◌, subst, append_assoc}
-use Rattle.cal_policy.specs.declared.pass_action.Action.{Action}
+use Rattle.cal_policy.specs.declared.history.action.Action.{Action}
 use Rattle.cal_policy.specs.declared.board.Board.{Board}
 use Rattle.cal_policy.specs.History.{actions_of, looks_of}
 use Rattle.cal_policy.specs.Setting.{Setting, so_far}
 use Rattle.cal_policy.specs.Board.{Agrees, IsFresh, Stands, KeepingAgrees, KeepsBefore}
-use Rattle.cal_policy.specs.declared.judged_look.Seen.{Seen}
-use Rattle.cal_policy.proofs.Passing.{Stands_begin}
+use Rattle.cal_policy.specs.declared.history.look.Seen.{Seen}
+use Rattle.cal_policy.proofs.PassLemmas.FromParts.{Stands_begin}
 
 pub stands_more : (b new : Board) (s : Setting) (acts : List Action) (a : Action) → Stands b s acts → new.keeping ≡ b.keeping → Agrees new (so_far s acts ++ a ∷ []) →
     IsFresh new.fresh (acts ++ a ∷ []) → Stands new s (acts ++ a ∷ [])

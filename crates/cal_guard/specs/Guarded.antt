@@ -1,9 +1,9 @@
 -- When a guard is one of a history, or of the pass that it is in.
 use Rattle.std.specs.Prelude.{◌↔◌, List, [], ◌∷◌, ◌++◌}
 use Rattle.cal_machine.specs.Table.{Table}
-use Rattle.cal_policy.specs.declared.pass_action.Action.{Action}
-use Rattle.cal_policy.specs.declared.pass_entry.PassEntry.{PassEntry}
-use Rattle.cal_policy.specs.declared.pass_input.Input.{Input}
+use Rattle.cal_policy.specs.declared.history.action.Action.{Action}
+use Rattle.cal_policy.specs.declared.history.entry.PassEntry.{PassEntry}
+use Rattle.cal_policy.specs.declared.history.input.Input.{Input}
 use Rattle.cal_policy.specs.History.{actions_of, looks_of}
 use Rattle.cal_policy.specs.Setting.{Setting, setting}
 use Rattle.cal_policy.specs.Board.{Agrees, KeepingAgrees, IsReady}
@@ -31,9 +31,11 @@ and_then history input actions = history ++ record { input = input; actions = ac
 
 -- what a guard took of a pass it keeps as that pass's entry
 abbrev pub PassesAreKept : Type 0
-PassesAreKept = (guard : Guard) (table : Table) (history : List PassEntry) (input : Input) (acts : List Action) →
+PassesAreKept = (guard : Guard) (table : Table) (history : List PassEntry) (input : Input)
+    (acts : List Action) →
     IsWithin guard (setting table history input) acts → Keeps guard (and_then history input acts)
 
 -- after a permitted pass a group of actions may follow just where with them it is a permitted pass
 abbrev pub GroupsMakeAPass : Type 0
-GroupsMakeAPass = (s : Setting) (acts group : List Action) → ArePermitted s acts → MayFollow s acts group ↔ ArePermitted s (acts ++ group)
+GroupsMakeAPass = (s : Setting) (acts group : List Action) → ArePermitted s acts →
+    MayFollow s acts group ↔ ArePermitted s (acts ++ group)

@@ -3,9 +3,9 @@ use Rattle.std.specs.Prelude.{◌≡◌, ℕ, ◌<◌, ◌≤◌, true, List, le
 use Rattle.cal_machine.specs.Table.{Table}
 use Rattle.cal_machine.specs.declared.core_set.CoreSet.{CoreSet}
 use Rattle.cal_machine.specs.CoreSet.{has}
-use Rattle.cal_policy.specs.declared.pass_action.Action.{Action}
+use Rattle.cal_policy.specs.declared.history.action.Action.{Action}
 use Rattle.cal_policy.specs.History.{holder_of}
-use Rattle.cal_policy.specs.Counts.{is_held}
+use Rattle.cal_policy.specs.Board.Counts.{is_held}
 use Rattle.cal_policy.specs.Setting.{Setting, so_far}
 use Rattle.cal_policy.specs.Board.{Stands}
 use Rattle.cal_guard.specs.declared.passing.Passing.{Passing}

@@ -1,8 +1,9 @@
-//! Whether a history is permitted, whoever chose its actions: the reference, which walks the history.
+//! Whether a history is permitted, whoever chose its actions: the reference, which walks the
+//! history.
 
 ghost use Rattle.std.specs.Prelude.{◌≡◌, ◌↔◌, IsTrue};
 ghost use Rattle.cal_policy.specs.Setting.{setting};
-ghost use Rattle.cal_policy.specs.Judging.{IsInput};
+ghost use Rattle.cal_policy.specs.Judgement.Judging.{IsInput};
 ghost use Rattle.cal_guard.specs.Permitted.{ArePermitted, IsPermittedPass, IsPermittedHistory};
 
 use crate::histories::permitted_is_orderly;
@@ -11,11 +12,13 @@ use cal_machine::{Config, CoreSet};
 use cal_policy::state::board_of;
 use cal_policy::{Action, Input, PassEntry, is_input};
 
-/// Whether these actions are permitted, each at its place, in a pass on this input after these passes.
+/// Whether these actions are permitted, each at its place, in a pass on this input after these
+/// passes.
 pub fn permits(config: &Config, before: &[PassEntry], input: &Input, actions: &[Action]) -> bool
     requires permitted { IsPermittedHistory config.now before.now }
     requires input { IsInput config.now before.now input.now }
-    ensures { IsTrue result ↔ ArePermitted (setting config.now before.now input.entry.now) actions.now }
+    ensures { IsTrue result ↔ ArePermitted (setting config.now before.now input.entry.now)
+        actions.now }
 {
     config.limits();
     permitted_is_orderly();
@@ -43,8 +46,8 @@ pub fn is_permitted_pass(config: &Config, before: &[PassEntry], entry: &PassEntr
     permits(config, before, &entry.input, entry.actions.as_slice())
 }
 
-/// Whether a history is permitted: in each pass the input is one that it may be given, and each action
-/// is permitted at its place. Any history may be asked about.
+/// Whether a history is permitted: in each pass the input is one that it may be given, and each
+/// action is permitted at its place. Any history may be asked about.
 pub fn is_permitted(config: &Config, history: &[PassEntry]) -> bool
     ensures { IsTrue result ↔ IsPermittedHistory config.now history.now }
 {

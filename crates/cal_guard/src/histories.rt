@@ -1,9 +1,10 @@
 //! What is so of every permitted history, taken as a whole.
 
-ghost use Rattle.cal_guard.specs.Histories.{PermittedIsSafe, PermittedIsSteady, PermittedIsOrderly, DoingNothingIsPermitted, PermittedGoesOn};
+ghost use Rattle.cal_guard.specs.Histories.{PermittedIsSafe, PermittedIsSteady, PermittedIsOrderly};
+ghost use Rattle.cal_guard.specs.Histories.{DoingNothingIsPermitted, PermittedGoesOn};
 
-/// A permitted history is safe: at its place each action fits the state, which is steady, and frees no
-/// core that was not left.
+/// A permitted history is safe: at its place each action fits the state, which is steady, and frees
+/// no core that was not left.
 pub fn permitted_is_safe()
     ensures { PermittedIsSafe }
 {}
@@ -18,8 +19,8 @@ pub fn permitted_is_orderly()
     ensures { PermittedIsOrderly }
 {}
 
-/// A pass that does nothing is permitted, whatever its input: so a guard always has something to let
-/// through.
+/// A pass that does nothing is permitted, whatever its input: so a guard always has something to
+/// let through.
 pub fn doing_nothing_is_permitted()
     ensures { DoingNothingIsPermitted }
 {}

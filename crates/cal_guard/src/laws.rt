@@ -1,6 +1,14 @@
 //! What every permitted history is safe from, at every point of it.
 
-ghost use Rattle.cal_guard.specs.Laws.{ThreadsHaveOneCore, HoldersAreOfTheirLastRun, RunsGoToIdleThreads, KeptRecordsAreTrue, KeptThreadsAreOnCore, FreedCoresWereLeft, TasksKeepToLimits, GrantsKeepToCaps, RevocationsLeaveGuarantees, NoBannedIsGranted, NoPairIsBanned, BannedAreEmptyAfterPasses, BannedAreEmptiedAtOnce, CommandsGoWhereIsRoom, ThreadsAreSentOneCommand, PassesAreShort, TasksKeepToCaps, RunsStandUntilLeft, PermittedIsSafeBetween};
+ghost use Rattle.cal_guard.specs.Laws.{ThreadsHaveOneCore, HoldersAreOfTheirLastRun};
+ghost use Rattle.cal_guard.specs.Laws.{RunsGoToIdleThreads, KeptRecordsAreTrue};
+ghost use Rattle.cal_guard.specs.Laws.{KeptThreadsAreOnCore, FreedCoresWereLeft};
+ghost use Rattle.cal_guard.specs.Laws.{TasksKeepToLimits, GrantsKeepToCaps};
+ghost use Rattle.cal_guard.specs.Laws.{RevocationsLeaveGuarantees, NoBannedIsGranted};
+ghost use Rattle.cal_guard.specs.Laws.{NoPairIsBanned, BannedAreEmptyAfterPasses};
+ghost use Rattle.cal_guard.specs.Laws.{BannedAreEmptiedAtOnce, CommandsGoWhereIsRoom};
+ghost use Rattle.cal_guard.specs.Laws.{ThreadsAreSentOneCommand, PassesAreShort, TasksKeepToCaps};
+ghost use Rattle.cal_guard.specs.Laws.{RunsStandUntilLeft, PermittedIsSafeBetween};
 
 use crate::histories::{permitted_is_safe, permitted_is_steady};
 use cal_policy::{action_is_one_more, last_thread_is_placed, look_is_one_more};
@@ -14,8 +22,8 @@ pub fn threads_have_one_core()
     last_thread_is_placed();
 }
 
-/// At every point the number of a core's holder is that of the last Run that was sent to its thread, a
-/// Run of this core.
+/// At every point the number of a core's holder is that of the last Run that was sent to its
+/// thread, a Run of this core.
 pub fn holders_are_of_their_last_run()
     ensures { HoldersAreOfTheirLastRun }
 {
@@ -114,15 +122,15 @@ pub fn passes_are_short()
     ensures { PassesAreShort }
 {}
 
-/// At every point a best-effort task holds no more cores than its cap, or the next action revokes one
-/// of them.
+/// At every point a best-effort task holds no more cores than its cap, or the next action revokes
+/// one of them.
 pub fn tasks_keep_to_caps()
     ensures { TasksKeepToCaps }
 {}
 
-/// At every point each Run that was sent is of a core of the machine; and its thread holds or leaves
-/// that core by this Run, or the core was freed at an earlier point, where the thread was on it by this
-/// Run and the thread's kept record had taken the Run and showed no core.
+/// At every point each Run that was sent is of a core of the machine; and its thread holds or
+/// leaves that core by this Run, or the core was freed at an earlier point, where the thread was on
+/// it by this Run and the thread's kept record had taken the Run and showed no core.
 pub fn runs_stand_until_left()
     ensures { RunsStandUntilLeft }
 {
@@ -130,9 +138,9 @@ pub fn runs_stand_until_left()
     action_is_one_more();
 }
 
-/// After the whole passes of a permitted history, the empty one included: each thread has at most one
-/// core, by its last Run; Runs stand until they are left; limits and caps are kept; no core and its
-/// sibling are both banned, and no banned core is held.
+/// After the whole passes of a permitted history, the empty one included: each thread has at most
+/// one core, by its last Run; Runs stand until they are left; limits and caps are kept; no core and
+/// its sibling are both banned, and no banned core is held.
 pub fn permitted_is_safe_between()
     ensures { PermittedIsSafeBetween }
 {

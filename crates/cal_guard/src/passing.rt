@@ -1,16 +1,18 @@
 //! Inside a pass: what is wrong with the next action, and the state after it.
 
-ghost use Rattle.std.specs.Prelude.{◌≡◌, ℕ, ◌+◌, ◌<◌, ◌≤◌, ◌++◌, ◌∷◌, [], ◌↔◌, List, Option, length, None, IsOk, IfNone, IfErr, OnOk, option_map};
+ghost use Rattle.std.specs.Prelude.{◌≡◌, ℕ, ◌+◌, ◌<◌, ◌≤◌, ◌++◌, ◌∷◌, [], ◌↔◌, List, Option};
+ghost use Rattle.std.specs.Prelude.{length, None, IsOk, IfNone, IfErr, OnOk, option_map};
 ghost use Rattle.std.specs.Option.{IfSome};
 ghost use Rattle.cal_machine.specs.Table.{Table, IsTable};
-ghost use Rattle.cal_policy.specs.declared.pass_action.Action.{Action};
-ghost use Rattle.cal_policy.specs.declared.pass_entry.PassEntry.{PassEntry};
-ghost use Rattle.cal_policy.specs.declared.pass_input.Input.{Input};
+ghost use Rattle.cal_policy.specs.declared.history.action.Action.{Action};
+ghost use Rattle.cal_policy.specs.declared.history.entry.PassEntry.{PassEntry};
+ghost use Rattle.cal_policy.specs.declared.history.input.Input.{Input};
 ghost use Rattle.cal_policy.specs.Tasks.{threads_of_table};
-ghost use Rattle.cal_policy.specs.Choice.{lowest_below};
+ghost use Rattle.cal_policy.specs.Pass.Choice.{lowest_below};
 ghost use Rattle.cal_policy.specs.History.{actions_of, looks_of, holder_of};
 ghost use Rattle.cal_policy.specs.Setting.{Setting, setting, so_far};
-ghost use Rattle.cal_policy.specs.Board.{Agrees, KeepingAgrees, Stands, IsReady, HasSizes, NamesCores, NamesTable};
+ghost use Rattle.cal_policy.specs.Board.{Agrees, KeepingAgrees, Stands, IsReady};
+ghost use Rattle.cal_policy.specs.Board.{HasSizes, NamesCores, NamesTable};
 ghost use Rattle.cal_guard.specs.Permitted.{IsPermitted, IsPermittedHistory, core_revoked};
 ghost use Rattle.cal_guard.specs.Refusals as refusals;
 ghost use Rattle.cal_guard.specs.Refusals.{MayFollow, IsFirstWrong};
@@ -46,7 +48,8 @@ fn unless(holds: bool, why: Why) -> Option<Why>
 fn wrong_to_send(input: &Input, sent: &CoreSet, thread: u8) -> Option<Why>
     requires thread { thread < 128 }
     requires rooms { thread < length input.now.rooms }
-    ensures { (s : Setting) (acts : List Action) → s.input ≡ input.entry.now → IsSetOfSent sent.now s acts → result ≡ refusals.wrong_to_send s acts thread }
+    ensures { (s : Setting) (acts : List Action) → s.input ≡ input.entry.now →
+        IsSetOfSent sent.now s acts → result ≡ refusals.wrong_to_send s acts thread }
 {
     let unsent = unless(!sent.has(thread), Why::SecondCommand);
     unless(input.rooms.as_slice()[thread as usize], Why::NoRoom).or(unsent)
@@ -64,8 +67,10 @@ fn wrong_to_revoke(
     requires ready { IsReady config.now board.now }
     requires rooms { length input.now.rooms ≡ threads_of_table config.now }
     requires core { core < config.now.cores }
-    ensures { (h : List PassEntry) (acts : List Action) → let s = setting config.now h input.entry.now in
-        Agrees board.now (so_far s acts) → IsSetOfSent sent.now s acts → result ≡ refusals.wrong_to_revoke s acts (holder_of (so_far s acts) core) }
+    ensures { (h : List PassEntry) (acts : List Action) →
+        let s = setting config.now h input.entry.now in
+        Agrees board.now (so_far s acts) → IsSetOfSent sent.now s acts →
+        result ≡ refusals.wrong_to_revoke s acts (holder_of (so_far s acts) core) }
 {
     match board.holding.holders[core as usize] {
         Holder::Held(placement) => {
@@ -85,7 +90,8 @@ fn wrong_to_book(config: &Config, board: &Board, task: usize) -> Option<Why>
     requires table { IsTable config.now }
     requires ready { IsReady config.now board.now }
     requires task { task < length config.now.tasks }
-    ensures { (x : List Action) → Agrees board.now x → result ≡ refusals.wrong_to_book config.now x task }
+    ensures { (x : List Action) → Agrees board.now x →
+        result ≡ refusals.wrong_to_book config.now x task }
 {
     config.limits();
     let booked = survey_of(config, board).booked[task];
@@ -107,8 +113,10 @@ fn wrong_to_grant(
     requires rooms { length input.now.rooms ≡ threads_of_table config.now }
     requires core { core < config.now.cores }
     requires thread { thread < threads_of_table config.now }
-    ensures { (h : List PassEntry) (acts : List Action) → let s = setting config.now h input.entry.now in
-        Agrees board.now (so_far s acts) → IsSetOfSent sent.now s acts → result ≡ refusals.wrong_to_grant s acts core thread }
+    ensures { (h : List PassEntry) (acts : List Action) →
+        let s = setting config.now h input.entry.now in
+        Agrees board.now (so_far s acts) → IsSetOfSent sent.now s acts →
+        result ≡ refusals.wrong_to_grant s acts core thread }
 {
     let task = config.task_of(thread as usize);
     let books = wrong_to_book(config, board, task).or(wrong_to_send(input, sent, thread));
@@ -127,8 +135,10 @@ fn wrong_to_make(
     requires ready { IsReady config.now board.now }
     requires rooms { length input.now.rooms ≡ threads_of_table config.now }
     requires names { NamesTable config.now action }
-    ensures { (h : List PassEntry) (acts : List Action) → let s = setting config.now h input.entry.now in
-        Stands board.now s acts → IsSetOfSent sent.now s acts → result ≡ refusals.wrong_to_make s acts action }
+    ensures { (h : List PassEntry) (acts : List Action) →
+        let s = setting config.now h input.entry.now in
+        Stands board.now s acts → IsSetOfSent sent.now s acts →
+        result ≡ refusals.wrong_to_make s acts action }
 {
     match action {
         Action::Free { core } => unless(is_left(config, input, board, core), Why::NotLeft),
@@ -143,7 +153,8 @@ fn wrong_to_make(
 /// The core that an action revokes.
 fn core_revoked_by(action: Action) -> Option<u8>
     ensures revoked { result ≡ core_revoked action }
-    ensures below { (cores threads : ℕ) → NamesCores cores threads action → IfSome result (λ core. core < cores) }
+    ensures below { (cores threads : ℕ) → NamesCores cores threads action →
+        IfSome result (λ core. core < cores) }
 {
     match action {
         Action::Revoke { core, .. } => Some(core),
@@ -168,14 +179,16 @@ fn is_core(revoked: Option<u8>, core: u8) -> bool
 /// Whether the core is banned and held, and is not the one that is revoked.
 fn is_left_held(board: &Board, revoked: Option<u8>, core: u8) -> bool
     requires { core < 128 }
-    ensures { (x : List Action) → Agrees board.now x → result ≡ refusals.is_left_held x revoked core }
+    ensures { (x : List Action) → Agrees board.now x →
+        result ≡ refusals.is_left_held x revoked core }
 {
     is_banned(board, core) && is_held(board, core) && !is_core(revoked, core)
 }
 
 /// The lowest core that is banned and held, and is not the one that is revoked.
 fn lowest_left_held(config: &Config, board: &Board, revoked: Option<u8>) -> Option<u8>
-    ensures { (x : List Action) → Agrees board.now x → result ≡ lowest_below (refusals.is_left_held x revoked) config.now.cores }
+    ensures { (x : List Action) → Agrees board.now x →
+        result ≡ lowest_below (refusals.is_left_held x revoked) config.now.cores }
 {
     config.limits();
     for core in 0..config.machine().cores() {
@@ -191,7 +204,8 @@ fn is_from(config: &Config, board: &Board, task: usize, revoked: Option<u8>) -> 
     requires table { IsTable config.now }
     requires ready { IsReady config.now board.now }
     requires core { IfSome revoked (λ core. core < 128) }
-    ensures { (x : List Action) → Agrees board.now x → result ≡ refusals.is_from config.now x task revoked }
+    ensures { (x : List Action) → Agrees board.now x →
+        result ≡ refusals.is_from config.now x task revoked }
 {
     match revoked {
         None => false,
@@ -205,7 +219,8 @@ fn is_left_over(config: &Config, board: &Board, task: usize, revoked: Option<u8>
     requires ready { IsReady config.now board.now }
     requires core { IfSome revoked (λ core. core < 128) }
     requires task { task < length config.now.tasks }
-    ensures { (x : List Action) → Agrees board.now x → result ≡ refusals.is_left_over config.now x revoked task }
+    ensures { (x : List Action) → Agrees board.now x →
+        result ≡ refusals.is_left_over config.now x revoked task }
 {
     !is_latency_critical(config, task)
         && cap_of(config, board, task) < held_by(config, board, task)
@@ -217,7 +232,9 @@ fn lowest_left_over(config: &Config, board: &Board, revoked: Option<u8>) -> Opti
     requires table { IsTable config.now }
     requires ready { IsReady config.now board.now }
     requires core { IfSome revoked (λ core. core < 128) }
-    ensures lowest { (x : List Action) → Agrees board.now x → result ≡ lowest_below (refusals.is_left_over config.now x revoked) (length config.now.tasks) }
+    ensures lowest { (x : List Action) → Agrees board.now x →
+        result ≡ lowest_below (refusals.is_left_over config.now x revoked)
+        (length config.now.tasks) }
     ensures own { IfSome result (λ task. task < length config.now.tasks) }
 {
     for task in 0..config.tasks() {
@@ -233,7 +250,8 @@ fn left_undone(config: &Config, board: &Board, revoked: Option<u8>) -> Option<Wh
     requires table { IsTable config.now }
     requires ready { IsReady config.now board.now }
     requires core { IfSome revoked (λ core. core < 128) }
-    ensures { (x : List Action) → Agrees board.now x → result ≡ refusals.left_undone config.now x revoked }
+    ensures { (x : List Action) → Agrees board.now x →
+        result ≡ refusals.left_undone config.now x revoked }
 {
     config.limits();
     if let Some(core) = lowest_left_held(config, board, revoked) {
@@ -248,7 +266,8 @@ fn note_sent(config: &Config, board: &Board, sent: &mut CoreSet, action: Action)
     requires table { IsTable config.now }
     requires ready { IsReady config.now board.now }
     requires names { NamesTable config.now action }
-    ensures { (s : Setting) (acts : List Action) → Agrees board.now (so_far s acts) → IsSetOfSent sent.old s acts → IsSetOfSent sent.new s (acts ++ action ∷ []) }
+    ensures { (s : Setting) (acts : List Action) → Agrees board.now (so_far s acts) →
+        IsSetOfSent sent.old s acts → IsSetOfSent sent.new s (acts ++ action ∷ []) }
 {
     let _ = config;
     match action {
@@ -294,9 +313,13 @@ impl Passing {
     /// Begins the pass on these looks.
     pub fn begin(&mut self, seen: &[Seen])
         requires { length seen.now ≤ 128 }
-        ensures inside { (table : Table) (h : List PassEntry) (input : Input) → seen.now ≡ input.seen → IsPermittedHistory table h →
-            Agrees self.old.board (actions_of h) → KeepingAgrees self.old.board.keeping (looks_of h) → IsInside self.new (setting table h input) [] }
-        ensures ready { (table : Table) → IsReady table self.old.board → IsReady table self.new.board }
+        ensures inside { (table : Table) (h : List PassEntry) (input : Input) →
+            seen.now ≡ input.seen → IsPermittedHistory table h →
+            Agrees self.old.board (actions_of h) →
+            KeepingAgrees self.old.board.keeping (looks_of h) →
+            IsInside self.new (setting table h input) [] }
+        ensures ready { (table : Table) → IsReady table self.old.board →
+            IsReady table self.new.board }
     {
         self.board.begin(seen);
         self.sent = CoreSet::empty();
@@ -310,7 +333,8 @@ impl Passing {
         requires rooms { length input.now.rooms ≡ threads_of_table config.now }
         ensures names { IfNone result (NamesTable config.now action) }
         ensures few { IfNone result (self.now.made < 338) }
-        ensures wrong { (h : List PassEntry) (acts : List Action) → let s = setting config.now h input.entry.now in
+        ensures wrong { (h : List PassEntry) (acts : List Action) →
+            let s = setting config.now h input.entry.now in
             IsInside self.now s acts → result ≡ refusals.wrong_with s acts action }
     {
         if self.made >= MOST_ACTIONS {
@@ -330,8 +354,10 @@ impl Passing {
         requires ready { IsReady config.now self.old.board }
         requires names { NamesTable config.now action }
         requires few { self.old.made < 338 }
-        ensures inside { (h : List PassEntry) (input : Input) (acts : List Action) → let s = setting config.now h input in
-            IsInside self.old s acts → IsPermitted s acts action → IsInside self.new s (acts ++ action ∷ []) }
+        ensures inside { (h : List PassEntry) (input : Input) (acts : List Action) →
+            let s = setting config.now h input in
+            IsInside self.old s acts → IsPermitted s acts action →
+            IsInside self.new s (acts ++ action ∷ []) }
         ensures ready { IsReady config.now self.new.board }
     {
         note_sent(config, &self.board, &mut self.sent, action);
@@ -339,8 +365,8 @@ impl Passing {
         self.made += 1;
     }
 
-    /// Takes these actions, each at its place, where each is permitted and the pass may end after them;
-    /// else names the first that is not.
+    /// Takes these actions, each at its place, where each is permitted and the pass may end after
+    /// them; else names the first that is not.
     pub fn take_each(
         &mut self,
         config: &Config,
@@ -350,11 +376,14 @@ impl Passing {
         requires table { IsTable config.now }
         requires ready { IsReady config.now self.old.board }
         requires rooms { length input.now.rooms ≡ threads_of_table config.now }
-        ensures exact { (h : List PassEntry) (acts : List Action) → let s = setting config.now h input.entry.now in
+        ensures exact { (h : List PassEntry) (acts : List Action) →
+            let s = setting config.now h input.entry.now in
             IsInside self.old s acts → IsOk result ↔ MayFollow s acts actions.now }
-        ensures inside { IsOk result → (h : List PassEntry) (acts : List Action) → let s = setting config.now h input.entry.now in
+        ensures inside { IsOk result → (h : List PassEntry) (acts : List Action) →
+            let s = setting config.now h input.entry.now in
             IsInside self.old s acts → IsInside self.new s (acts ++ actions.now) }
-        ensures first { IfErr result (λ refused. (h : List PassEntry) (acts : List Action) → let s = setting config.now h input.entry.now in
+        ensures first { IfErr result (λ refused. (h : List PassEntry) (acts : List Action) →
+            let s = setting config.now h input.entry.now in
             IsInside self.old s acts → IsFirstWrong s acts actions.now refused) }
         ensures ready { IsReady config.now self.new.board }
     {

@@ -8,10 +8,10 @@ pub enum Why {
     /// The pass has 338 actions already.
     #[error("a pass has at most 338 actions")]
     TooMany,
-    /// The action names no core, thread or task of the table, or does not fit the state: a Free of a
-    /// free core, an Unban of one that is not banned, a Ban of one that is, or whose sibling is, a
-    /// Revoke of one that is not held, a Cap above the limit, a Grant of one that is not free or to a
-    /// thread that has one.
+    /// The action names no core, thread or task of the table, or does not fit the state: a Free of
+    /// a free core, an Unban of one that is not banned, a Ban of one that is, or whose sibling is,
+    /// a Revoke of one that is not held, a Cap above the limit, a Grant of one that is not free or
+    /// to a thread that has one.
     #[error("it does not fit the state of cores, threads and tasks")]
     DoesNotFit,
     /// Free: the kept record of the core's thread does not show that it left.
@@ -38,7 +38,8 @@ pub enum Why {
     /// This core, the lowest such one, is banned and held, and is not the one that is revoked.
     #[error("core {core} is banned and held")]
     BannedHeld { core: u8 },
-    /// This best-effort task, the first such one, holds more cores than its cap, and does not lose one.
+    /// This best-effort task, the first such one, holds more cores than its cap, and does not lose
+    /// one.
     #[error("task {task} holds more cores than its cap")]
     OverCap { task: u8 },
 }
@@ -47,8 +48,8 @@ pub enum Why {
 #[derive(Clone, Copy, Debug, PartialEq, Eq, Error)]
 #[error("action {place}: {why}")]
 pub struct Refused {
-    /// The action's number among those that were given, from 0 on. Their count, where each is permitted
-    /// and the pass may not end after them.
+    /// The action's number among those that were given, from 0 on. Their count, where each is
+    /// permitted and the pass may not end after them.
     pub place: usize,
     pub why: Why,
 }

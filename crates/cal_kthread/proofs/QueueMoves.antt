@@ -4,10 +4,10 @@ use mathlib.Core.Option.{some, some-injective, some-ne-none}
 use lib.ListN.{get_elem?}
 use Rattle.crossbeam_deque.specs.Tasks.{Pushes, Takes, Finds, Forks, Merges}
 use Rattle.crossbeam_deque.proofs.Lists.{at_set, at_snoc}
-use Rattle.cal_kthread.proofs.Weights.{weigh-append, weigh-set, weigh-one-more, member}
-use Rattle.cal_kthread.specs.declared.knowledge.Knowledge.{Knowledge}
-use Rattle.cal_kthread.specs.declared.waiting.Waiting.{Waiting}
-use Rattle.cal_kthread.specs.QueueRule.{weigh, knows, pushed_weight, taken_weight, IdleIsEmpty, Balanced, AllTaken, TookWhatCame}
+use Rattle.cal_kthread.proofs.ListSums.{weigh-append, weigh-set, weigh-one-more, member}
+use Rattle.cal_kthread.specs.declared.queue.knowledge.Knowledge.{Knowledge}
+use Rattle.cal_kthread.specs.declared.queue.waiting.Waiting.{Waiting}
+use Rattle.cal_kthread.specs.Queue.Rule.{weigh, knows, pushed_weight, taken_weight, IdleIsEmpty, Balanced, AllTaken, TookWhatCame}
 
 module _ {V : Type 0} where
   abbrev Empty : (V → ℕ) → (V → ℕ) → List V → Type 0

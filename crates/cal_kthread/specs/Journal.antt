@@ -1,4 +1,5 @@
 -- Journals: what a kernel thread did, and what follows from it for its core, its ring and its page.
+pub mod Entries
 use Rattle.std.specs.Prelude.{◌≡◌, ℕ, ◌+◌, Option, Some, None, IsSome, List, [], ◌∷◌, ◌++◌, length}
 use Rattle.std.specs.List.{filter_map}
 use Rattle.cal_machine.specs.declared.command.Command.{Command}
@@ -6,8 +7,9 @@ use Rattle.cal_machine.specs.declared.command.Command.TheVariants.{Run, Park}
 use Rattle.cal_machine.specs.declared.request.Request.{Request}
 use Rattle.cal_signal.specs.declared.record.Record.{Record}
 use Rattle.cal_signal.specs.Pages.{IsPage, page_of}
-use Rattle.cal_kthread.specs.declared.entry.Entry.{Entry}
-use Rattle.cal_kthread.specs.declared.entry.Entry.TheVariants.{Arrived, Took, Served, Yielded, Published}
+use Rattle.cal_kthread.specs.declared.journal.entry.Entry.{Entry}
+use Rattle.cal_kthread.specs.declared.journal.entry.Entry.TheVariants.{Arrived, Took, Served}
+use Rattle.cal_kthread.specs.declared.journal.entry.Entry.TheVariants.{Yielded, Published}
 
 -- how many commands a thread has taken, and its core, if it has one
 pub record State : Type 0 where
@@ -22,8 +24,8 @@ abbrev pub core_after : Command → Option ℕ
 core_after (Run core) = Some core
 core_after Park = None
 
--- what one entry makes of the state: a Took is one more command taken, and a Yielded takes the thread off its
--- core. Other entries change nothing
+-- what one entry makes of the state: a Took is one more command taken, and a Yielded takes the
+-- thread off its core. Other entries change nothing
 abbrev pub changed_by : Entry → State → State
 changed_by (Took number command) s = record { taken = s.taken + 1; core = core_after command }
 changed_by Yielded s = record s { core = None }
@@ -74,8 +76,8 @@ abbrev pub running_word : Option ℕ → ℕ
 running_word None = 0
 running_word (Some core) = core + 1
 
--- An entry may stand after these ones: a Took has the number one above those taken; a Yielded stands only on a
--- core; a Published has the number one above those published, and shows the state.
+-- An entry may stand after these ones: a Took has the number one above those taken; a Yielded
+-- stands only on a core; a Published has the number one above those published, and shows the state.
 abbrev pub MayStand : List Entry → Entry → Type 0
 MayStand before (Took number command) = number ≡ (state_after before).taken + 1
 MayStand before Yielded = IsSome (state_after before).core
@@ -87,7 +89,8 @@ MayStand before _ = Unit {0}
 -- each of the entries may stand after those before it
 abbrev pub StandAfter : List Entry → List Entry → Type 0
 StandAfter before [] = Unit {0}
-StandAfter before (entry ∷ entries) = MayStand before entry × StandAfter (before ++ entry ∷ []) entries
+StandAfter before (entry ∷ entries) =
+    MayStand before entry × StandAfter (before ++ entry ∷ []) entries
 
 -- Each entry may stand after those before it, and the zero record and those published are a page.
 pub record IsJournal (entries : List Entry) : Type 0 where

@@ -1,18 +1,25 @@
--- A turn: its five steps, each a function of the thread before it and of what its calls answered. It gives the
--- thread after it, and what goes into the journal. The steps are this project's own; that a thread which finds no
--- work gives up its core, and first tries to steal from the others of its task, is Caladan's.
-use Rattle.std.specs.Prelude.{ℕ, zero, suc, ◌+◌, ◌-◌, ◌^◌, ◌<◌, min, ◌&&◌, not, is_some, nat_le, if◌then◌else◌, Option, Some, None, IfSome, List, [], ◌∷◌, ◌++◌, length, map, slice_index}
+-- A turn: its five steps, each a function of the thread before it and of what its calls answered.
+-- It gives the thread after it, and what goes into the journal. The steps are this project's own;
+-- that a thread which finds no work gives up its core, and first tries to steal from the others of
+-- its task, is Caladan's.
+pub mod Agreement
+pub mod Thread
+pub mod Turns
+use Rattle.std.specs.Prelude.{ℕ, zero, suc, ◌+◌, ◌-◌, ◌^◌, ◌<◌, min, ◌&&◌, not}
+use Rattle.std.specs.Prelude.{is_some, nat_le, if◌then◌else◌, Option, Some, None}
+use Rattle.std.specs.Prelude.{IfSome, List, [], ◌∷◌, ◌++◌, length, map, slice_index}
 use Rattle.cal_machine.specs.declared.command.Command.{Command}
 use Rattle.cal_machine.specs.declared.request.Request.{Request}
 use Rattle.cal_signal.specs.declared.record.Record.{Record}
-use Rattle.cal_kthread.specs.declared.current.Current.{Current}
-use Rattle.cal_kthread.specs.declared.entry.Entry.{Entry}
-use Rattle.cal_kthread.specs.declared.entry.Entry.TheVariants.{Arrived, Took, Stole, Served, Yielded, Published}
-use Rattle.cal_kthread.specs.declared.waiting.Waiting.{Waiting}
-use Rattle.cal_kthread.specs.declared.victims.Victim.{Victim}
+use Rattle.cal_kthread.specs.declared.turn.current.Current.{Current}
+use Rattle.cal_kthread.specs.declared.journal.entry.Entry.{Entry}
+use Rattle.cal_kthread.specs.declared.journal.entry.Entry.TheVariants.{Arrived, Took, Stole}
+use Rattle.cal_kthread.specs.declared.journal.entry.Entry.TheVariants.{Served, Yielded, Published}
+use Rattle.cal_kthread.specs.declared.queue.waiting.Waiting.{Waiting}
+use Rattle.cal_kthread.specs.declared.turn.victims.Victim.{Victim}
 use Rattle.cal_kthread.specs.Journal.{core_after, running_word}
-use Rattle.cal_kthread.specs.Queues.{QueueView}
-use Rattle.cal_kthread.specs.Threads.{ThreadView, KernelView}
+use Rattle.cal_kthread.specs.Queue.{QueueView}
+use Rattle.cal_kthread.specs.Turn.Thread.{ThreadView, KernelView}
 
 -- 1. Arrive. The request, if there is one, goes to the back of the thread's own queue.
 abbrev pub pushed : QueueView → Waiting → QueueView
@@ -20,10 +27,13 @@ pushed q waiting = record q { pushed = q.pushed ++ waiting ∷ [] }
 
 abbrev pub arrived : ℕ → Option Request → ThreadView → ThreadView × Option Entry
 arrived now None t = (t, None)
-arrived now (Some request) t = (record t { queue = pushed t.queue (record { request = request; arrived = now }) }, Some (Arrived request))
+arrived now (Some request) t = (
+  record t { queue = pushed t.queue (record { request = request; arrived = now }) },
+  Some (Arrived request),
+)
 
--- 2. Take. At most one command is taken. A Run puts the thread on its core, and a suspended request goes on; a Park
--- takes it off. The request stays with its thread.
+-- 2. Take. At most one command is taken. A Run puts the thread on its core, and a suspended request
+--    goes on; a Park takes it off. The request stays with its thread.
 abbrev pub resumed : ℕ → Option ℕ → Option Current → Option Current
 resumed now core None = None
 resumed now None (Some current) = Some (record current { started = now })
@@ -44,8 +54,8 @@ taken now (Some command) t = (
   Some (Took (length t.taker.taken + 1) command),
 )
 
--- 3. Work, only on a core. A thread without a current request takes its front, else the first of its own queue, else
--- what the first of the others gave from whom it could steal.
+-- 3. Work, only on a core. A thread without a current request takes its front, else the first of
+--    its own queue, else what the first of the others gave from whom it could steal.
 abbrev pub popped : QueueView → Option Waiting → QueueView
 popped q None = q
 popped q (Some waiting) = record q { had = q.had ++ waiting ∷ [] }
@@ -65,7 +75,8 @@ begun now waiting = record { waiting = waiting; remaining = waiting.request.work
 -- the others, of whom the one at this place was robbed of this request
 abbrev pub robbed : List Victim → ℕ → Waiting → List Victim
 robbed [] place waiting = []
-robbed (v ∷ vs) zero waiting = record v { thief = record v.thief { had = v.thief.had ++ waiting ∷ [] } } ∷ vs
+robbed (v ∷ vs) zero waiting =
+    record v { thief = record v.thief { had = v.thief.had ++ waiting ∷ [] } } ∷ vs
 robbed (v ∷ vs) (suc place) waiting = v ∷ robbed vs place waiting
 
 -- the number of the thread at this place
@@ -80,33 +91,41 @@ stolen now (Some theft) t = (
 )
 
 -- the next of its own becomes current, else what was stolen
-abbrev pub begins : ℕ → Option Waiting → Option (ℕ × Waiting) → ThreadView → ThreadView × Option Entry
+abbrev pub begins : ℕ → Option Waiting → Option (ℕ × Waiting) → ThreadView →
+    ThreadView × Option Entry
 begins now (Some waiting) theft t = (record t { current = Some (begun now waiting) }, None)
 begins now None theft t = stolen now theft t
 
 abbrev pub without_next : Option Waiting → ThreadView → ThreadView
 without_next answer t = record t { front = None; queue = queue_after t.front answer t.queue }
 
-abbrev pub provided : ℕ → Option Waiting → Option (ℕ × Waiting) → ThreadView → ThreadView × Option Entry
+abbrev pub provided : ℕ → Option Waiting → Option (ℕ × Waiting) → ThreadView →
+    ThreadView × Option Entry
 provided now answer theft t =
-    if is_some t.core && not (is_some t.current) then begins now (next_of t.front answer) theft (without_next answer t) else (t, None)
+    if is_some t.core && not (is_some t.current)
+    then begins now (next_of t.front answer) theft (without_next answer t) else (t, None)
 
--- The current request loses one of its work, and its misses are added to the thread's count, which stops at 2^56. A
--- request with no work left is served. A thread that found none gives up its core.
+-- The current request loses one of its work, and its misses are added to the thread's count, which
+-- stops at 2^56. A request with no work left is served. A thread that found none gives up its core.
 abbrev pub most_misses : ℕ
 most_misses = 2 ^ 56
 
 abbrev pub current_worked : Current → Option Current
-current_worked current = if nat_le current.remaining 1 then None else Some (record current { remaining = current.remaining - 1 })
+current_worked current = if nat_le current.remaining 1 then None
+    else Some (record current { remaining = current.remaining - 1 })
 
 abbrev pub served : Current → Option Entry
-served current = if nat_le current.remaining 1 then Some (Served current.waiting.request.id) else None
+served current = if nat_le current.remaining 1 then Some (Served current.waiting.request.id)
+    else None
 
 abbrev pub worked_on : Option ℕ → Option Current → ThreadView → ThreadView × Option Entry
 worked_on None current t = (t, None)
 worked_on (Some core) None t = (record t { core = None }, Some Yielded)
 worked_on (Some core) (Some current) t = (
-  record t { current = current_worked current; misses = min (t.misses + current.waiting.request.misses) most_misses },
+  record t {
+    current = current_worked current;
+    misses = min (t.misses + current.waiting.request.misses) most_misses;
+  },
   served current,
 )
 
@@ -115,10 +134,13 @@ worked t = worked_on t.core t.current t
 
 -- 4. Front. Without a front request the thread takes the first of its own queue as its front.
 abbrev pub fronted : Option Waiting → ThreadView → ThreadView
-fronted answer t = record t { front = next_of t.front answer; queue = queue_after t.front answer t.queue }
+fronted answer t = record t {
+  front = next_of t.front answer;
+  queue = queue_after t.front answer t.queue;
+}
 
--- 5. Publish. The record shows the commands taken, the core, the front, the current request on a core or the
--- suspended one off it, and the misses.
+-- 5. Publish. The record shows the commands taken, the core, the front, the current request on a
+--    core or the suspended one off it, and the misses.
 abbrev pub count_of : Option Waiting → ℕ
 count_of None = 0
 count_of (Some waiting) = 1
@@ -152,12 +174,17 @@ shown now t = record {
 
 abbrev pub published : ℕ → ThreadView → ThreadView × Entry
 published now t = (
-  record t { publisher = record t.publisher { published = t.publisher.published ++ shown now t ∷ [] } },
+  record t {
+    publisher = record t.publisher {
+      published = t.publisher.published
+          ++ shown now t ∷ [];
+    };
+  },
   Published (length t.publisher.published + 1) (shown now t),
 )
 
--- what the calls of a turn answered: the taking of a command, the pop for a current request, the steals (the place
--- of the first that gave one), and the pop for a front
+-- what the calls of a turn answered: the taking of a command, the pop for a current request, the
+-- steals (the place of the first that gave one), and the pop for a front
 pub record Answers : Type 0 where
   pub command : Option Command
   pub own : Option Waiting
@@ -182,7 +209,8 @@ turned now request answers k =
     let publication = published now (fronted answers.front work.0) in
     record {
       number = k.number;
-      journal = noted (noted (noted (noted (noted k.journal arrival.1) taking.1) provision.1) work.1) (Some publication.1);
+      journal = noted (noted (noted (noted (noted k.journal arrival.1) taking.1) provision.1)
+          work.1) (Some publication.1);
       thread = publication.0;
     }
 

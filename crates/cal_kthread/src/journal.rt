@@ -1,6 +1,8 @@
 //! What a kernel thread did.
 
-use crate::entry::Entry;
+pub mod entry;
+
+use crate::journal::entry::Entry;
 use cal_lists::Listed;
 
 /// What a kernel thread did, in order.

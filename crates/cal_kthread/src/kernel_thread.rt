@@ -3,27 +3,27 @@ ghost use Rattle.std.specs.Prelude.{◌≡◌, ◌+◌, ◌<◌, ◌≤◌, ◌�
 ghost use Rattle.std.specs.Vec.{vec_len, vec_capacity};
 ghost use Rattle.cal_kthread.specs.declared.fault.TurnFault.TheVariants.{JournalFull};
 ghost use Rattle.cal_kthread.specs.Journal.{IsJournal, records_of, commands_of};
-ghost use Rattle.cal_kthread.specs.Teams.{place_of};
+ghost use Rattle.cal_kthread.specs.Team.{place_of};
 ghost use Rattle.cal_kthread.specs.Turn.{Answers, AreAnswers, IsFull, noted, turned};
-ghost use Rattle.cal_kthread.specs.Turns.{IsOneTurn};
+ghost use Rattle.cal_kthread.specs.Turn.Turns.{IsOneTurn};
 ghost use Rattle.cal_signal.specs.Pages.{last_of};
 
-use crate::entry::Entry;
 use crate::fault::TurnFault;
-use crate::thread::Thread;
+use crate::journal::entry::Entry;
+use crate::turn::thread::Thread;
 use cal_machine::Request;
 use std::marker::Model;
 
-/// How many entries a journal holds at most (this project's own limit).
+/// How many entries a journal holds at most.
 const MOST_ENTRIES: usize = 1_048_576;
 
-/// How many entries a turn asks room for; it adds at most five.
+/// How many entries must fit before a turn begins. A turn adds at most five; one place is spare.
 const TURN_ENTRIES: usize = 6;
 
 /// A kernel thread. It may be moved to a thread of its own; no call of it waits.
 ///
-/// A contract sees its number, its journal, the ends of its page, its ring and the queues of its task, and what it
-/// is at.
+/// A contract sees its number, its journal, the ends of its page, its ring and the queues of its
+/// task, and what it is at.
 #[derive(Drop)]
 pub struct KernelThread {
     /// Its number, in thread order from 0.
@@ -36,31 +36,39 @@ pub struct KernelThread {
 
 impl Model for KernelThread {
     ghost use Rattle.std.specs.Prelude.{◌≤◌, length};
-    ghost use Rattle.cal_kthread.specs.Threads.{KernelView};
-    ghost use Rattle.cal_kthread.specs.Agreement.{Agrees};
+    ghost use Rattle.cal_kthread.specs.Turn.Thread.{KernelView};
+    ghost use Rattle.cal_kthread.specs.Turn.Agreement.{Agrees};
     ghost use Rattle.cal_kthread.specs.Turn.{most_entries};
 
     ghost Value = { KernelView };
 
-    ghost view = { λ k. record { number = k.number; journal = k.journal.items; thread = k.thread } };
+    ghost view = { λ k. record {
+      number = k.number;
+      journal = k.journal.items;
+      thread = k.thread;
+    } };
 
-    ghost invariant = { λ k. Agrees k.journal.items k.thread × (length k.journal.items ≤ most_entries) };
+    ghost invariant = { λ k. Agrees k.journal.items k.thread
+        × (length k.journal.items ≤ most_entries) };
 }
 
 impl KernelThread {
-    /// One turn: a request arrives, a command is taken, the current request is worked on, the front is filled, and
-    /// a record is published; what was done goes into the journal. `now` is in clock ticks. Waits for nobody.
+    /// One turn: a request arrives, a command is taken, the current request is worked on, the front
+    /// is filled, and a record is published; what was done goes into the journal. `now` is in clock
+    /// ticks. Waits for nobody.
     ///
-    /// `JournalFull` where fewer than 6 of the journal's 1,048,576 places are left, which is checked first;
-    /// `Memory` where room for 6 entries or for the request was refused. Then nothing has changed. Beyond that room
-    /// a turn takes no memory. (That a thread which finds no work first tries to steal and then gives up its core is
-    /// Caladan's; the steps are this project's own.)
+    /// `JournalFull` where fewer than 6 of the journal's 1,048,576 places are left, which is
+    /// checked first; `Memory` where room for 6 entries or for the request was refused. Then
+    /// nothing has changed. Beyond that room a turn takes no memory. (That a thread which finds no
+    /// work first tries to steal and then gives up its core is Caladan's; the steps are this
+    /// project's own.)
     pub fn turn(&mut self, now: u64, request: Option<Request>) -> Result<(), TurnFault>
         requires started { 1 ≤ now }
         requires later { (last_of self.old.thread.publisher.published).stamp ≤ now }
         requires work { IfSome request (λ arriving. 1 ≤ arriving.work) }
         ensures turned { MatchResult result
-            (λ _. (answers : Answers) × AreAnswers answers self.old × (self.new ≡ turned now request answers self.old))
+            (λ _. (answers : Answers) × AreAnswers answers self.old
+            × (self.new ≡ turned now request answers self.old))
             (λ _. self.new ≡ self.old) }
         ensures full { (result ≡ Err JournalFull) ↔ IsFull self.old.journal }
         ensures added { IfOk result (λ _. IsOneTurn now request self.old.journal self.new.journal) }
@@ -68,7 +76,8 @@ impl KernelThread {
         ensures ends { (self.new.thread.publisher.page ≡ self.old.thread.publisher.page)
             × (self.new.thread.taker.ring ≡ self.old.thread.taker.ring) }
         ensures place { place_of self.new.thread ≡ place_of self.old.thread }
-        ensures stamped { IfOk result (λ _. (last_of self.new.thread.publisher.published).stamp ≡ now) }
+        ensures stamped { IfOk result (λ _.
+            (last_of self.new.thread.publisher.published).stamp ≡ now) }
         ensures journal { IsJournal self.new.journal }
         ensures page { records_of self.new.journal ≡ self.new.thread.publisher.published }
         ensures ring { commands_of self.new.journal ≡ self.new.thread.taker.taken }

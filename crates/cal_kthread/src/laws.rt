@@ -1,13 +1,16 @@
-//! Laws of journals, of a team's turns and of its account, each the contract of a function that does nothing.
+//! Laws of journals, of a team's turns and of its account, each the contract of a function that
+//! does nothing.
 
-ghost use Rattle.cal_kthread.specs.Account.{StaysSettled, DrainedIsAccounted};
-ghost use Rattle.cal_kthread.specs.Journals.{EachMayCome, FrontIsJournal, JournalByEntries, OthersChangeNothing, RecordShowsTaken};
-ghost use Rattle.cal_kthread.specs.OnePlace.{NeverIsNowhere, OnceIsInOnePlace};
-ghost use Rattle.cal_kthread.specs.TeamTurns.{TurnKeepsPlace, SamePlaceKeepsTeam, NoEndsYet, OneEndMore, EndsAreATeam};
-ghost use Rattle.cal_kthread.specs.Turns.{OneTurnMore, TurnsAddUp};
+ghost use Rattle.cal_kthread.specs.End.Account.{StaysSettled, DrainedIsAccounted};
+ghost use Rattle.cal_kthread.specs.Journal.Entries.{EachMayCome, FrontIsJournal, JournalByEntries};
+ghost use Rattle.cal_kthread.specs.Journal.Entries.{OthersChangeNothing, RecordShowsTaken};
+ghost use Rattle.cal_kthread.specs.End.OnePlace.{NeverIsNowhere, OnceIsInOnePlace};
+ghost use Rattle.cal_kthread.specs.Team.Turns.{TurnKeepsPlace, SamePlaceKeepsTeam};
+ghost use Rattle.cal_kthread.specs.Team.Turns.{NoEndsYet, OneEndMore, EndsAreATeam};
+ghost use Rattle.cal_kthread.specs.Turn.Turns.{OneTurnMore, TurnsAddUp};
 
-/// A turn leaves the thread its place in its team: its queue, its own end's shares of it, and its thieves, each at the
-/// queue of the same thread.
+/// A turn leaves the thread its place in its team: its queue, its own end's shares of it, and its
+/// thieves, each at the queue of the same thread.
 pub fn turn_keeps_place()
     ensures { TurnKeepsPlace }
 {}
@@ -17,13 +20,15 @@ pub fn one_turn_more()
     ensures { OneTurnMore }
 {}
 
-/// Turns of a thread that began with an empty journal publish one record each, with its clock as the stamp; what
-/// arrived is what they were given; and each put at most five entries into the journal. So 209,714 turns never fill it.
+/// Turns of a thread that began with an empty journal publish one record each, with its clock as
+/// the stamp; what arrived is what they were given; and each put at most five entries into the
+/// journal. So 209,714 turns never fill it.
 pub fn turns_add_up()
     ensures { TurnsAddUp }
 {}
 
-/// When one thread of a team changes and keeps its place, as in a `turn` (its clause `place`), they are a team still.
+/// When one thread of a team changes and keeps its place, as in a `turn` (its clause `place`), they
+/// are a team still.
 pub fn same_place_keeps_team()
     ensures { SamePlaceKeepsTeam }
 {}
@@ -33,14 +38,15 @@ pub fn no_ends_yet()
     ensures { NoEndsYet }
 {}
 
-/// One thread more and its end, which has its place, go to threads and their ends: so ends that come back one by one,
-/// from joins, have the places of the threads so far.
+/// One thread more and its end, which has its place, go to threads and their ends: so ends that
+/// come back one by one, from joins, have the places of the threads so far.
 pub fn one_end_more()
     ensures { OneEndMore }
 {}
 
-/// Ends that have, one by one, the places of a team's threads are a team, as `settle` asks. `end` keeps its thread's
-/// place (its clause `place`), so the ends of a team are one after any number of turns.
+/// Ends that have, one by one, the places of a team's threads are a team, as `settle` asks. `end`
+/// keeps its thread's place (its clause `place`), so the ends of a team are one after any number of
+/// turns.
 pub fn ends_are_a_team()
     ensures { EndsAreATeam }
 {}
@@ -50,15 +56,15 @@ pub fn handing_out_stays_settled()
     ensures { StaysSettled }
 {}
 
-/// Where after `settle` each end's `left` answered None, the account holds: for each name as many requests with it
-/// arrived, over all journals, as were served and as were handed out; and each request that was handed out is one that
-/// arrived, with its first `work`.
+/// Where after `settle` each end's `left` answered None, the account holds: for each name as many
+/// requests with it arrived, over all journals, as were served and as were handed out; and each
+/// request that was handed out is one that arrived, with its first `work`.
 pub fn drained_is_accounted()
     ensures { DrainedIsAccounted }
 {}
 
-/// Where the account holds, an id that arrived once stands in exactly one place: in one Served entry of one thread, or
-/// in one request that one thread had left.
+/// Where the account holds, an id that arrived once stands in exactly one place: in one Served
+/// entry of one thread, or in one request that one thread had left.
 pub fn once_is_in_one_place()
     ensures { OnceIsInOnePlace }
 {}
@@ -68,8 +74,8 @@ pub fn never_is_nowhere()
     ensures { NeverIsNowhere }
 {}
 
-/// A list that ends with an entry is a journal exactly where what is before the entry is one, after which the entry may
-/// come.
+/// A list that ends with an entry is a journal exactly where what is before the entry is one, after
+/// which the entry may come.
 pub fn journals_by_entries()
     ensures { JournalByEntries }
 {}
@@ -79,17 +85,20 @@ pub fn front_is_journal()
     ensures { FrontIsJournal }
 {}
 
-/// Each entry of a journal may come after those before it; so each publication may follow the one before it.
+/// Each entry of a journal may come after those before it; so each publication may follow the one
+/// before it.
 pub fn each_may_come()
     ensures { EachMayCome }
 {}
 
-/// The record at place n of a journal's page shows as `taken` how many commands were taken up to the n-th publication.
+/// The record at place n of a journal's page shows as `taken` how many commands were taken up to
+/// the n-th publication.
 pub fn record_shows_taken()
     ensures { RecordShowsTaken }
 {}
 
-/// Arrivals, thefts and services change neither the state nor the records nor the commands of a journal.
+/// Arrivals, thefts and services change neither the state nor the records nor the commands of a
+/// journal.
 pub fn others_change_nothing()
     ensures { OthersChangeNothing }
 {}

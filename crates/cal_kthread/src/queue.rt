@@ -1,10 +1,16 @@
 //! The queue of a kernel thread: the thread's own end, and the thieves that steal from it.
-ghost use Rattle.std.specs.Prelude.{◌≡◌, ◌+◌, ◌-◌, ◌<◌, ◌≤◌, [], ◌∷◌, ◌++◌, IfOk, IfSome, MatchOption, MatchResult};
-ghost use Rattle.cal_kthread.specs.QueueRule.{AllTaken, TookWhatCame};
 
-use crate::knowledge::Knowledge;
-use crate::queue_rule::{Balance, HandingOut, OneShare, Pushing, Taking};
-use crate::waiting::Waiting;
+pub mod knowledge;
+pub mod rule;
+pub mod waiting;
+
+ghost use Rattle.std.specs.Prelude.{◌≡◌, ◌+◌, ◌-◌, ◌<◌, ◌≤◌, [], ◌∷◌, ◌++◌};
+ghost use Rattle.std.specs.Prelude.{IfOk, IfSome, MatchOption, MatchResult};
+ghost use Rattle.cal_kthread.specs.Queue.Rule.{AllTaken, TookWhatCame};
+
+use crate::queue::knowledge::Knowledge;
+use crate::queue::rule::{Balance, HandingOut, OneShare, Pushing, Taking};
+use crate::queue::waiting::Waiting;
 use crossbeam_deque::{Pass, Steal, Stealer, Worker};
 use std::alloc::{AllocError, Global};
 use std::marker::Model;
@@ -12,11 +18,12 @@ use std::marker::Model;
 /// How many requests a new queue has room for. It grows.
 const FIRST_ROOM: usize = 4;
 
-/// The own end of a queue, first in first out. Its thread pushes at the back and pops at the front. (That threads of a task
-/// steal from one another is Caladan's; the shares are this project's own.)
+/// The own end of a queue, first in first out. Its thread pushes at the back and pops at the front.
+/// (That threads of a task steal from one another is Caladan's; the shares are this project's own.)
 ///
-/// A contract sees which queue it is, how many of its 16 shares this end has, what it pushed, what it
-/// popped (or got back from thieves), and what it handed out at the end, which is nothing so far.
+/// A contract sees which queue it is, how many of its 16 shares this end has, what it pushed, what
+/// it popped (or got back from thieves), and what it handed out at the end, which is nothing so
+/// far.
 #[derive(Drop)]
 pub struct OwnQueue {
     worker: Worker<Waiting, Global, Knowledge, Balance>,
@@ -25,13 +32,14 @@ pub struct OwnQueue {
 impl Model for OwnQueue {
     ghost use Rattle.std.specs.Prelude.{◌≡◌, ◌<◌, []};
     ghost use Rattle.crossbeam_deque.specs.Handles.{worker_view, worker_flavor};
-    ghost use Rattle.cal_kthread.specs.Queues.{QueueView, queue_view};
+    ghost use Rattle.cal_kthread.specs.Queue.{QueueView, queue_view};
 
     ghost Value = { QueueView };
 
     ghost view = { λ q. queue_view q.worker };
 
-    ghost invariant = { λ q. (worker_flavor q.worker ≡ 0) × (0 < (worker_view q.worker).shares) × ((worker_view q.worker).handed ≡ []) };
+    ghost invariant = { λ q. (worker_flavor q.worker ≡ 0) × (0 < (worker_view q.worker).shares)
+        × ((worker_view q.worker).handed ≡ []) };
 }
 
 impl OwnQueue {
@@ -58,8 +66,8 @@ impl OwnQueue {
         Ok(Thief { stealer, pass })
     }
 
-    /// Puts a request at the back. An error is want of memory or that the queue cannot grow further, and
-    /// then nothing has changed.
+    /// Puts a request at the back. An error is want of memory or that the queue cannot grow
+    /// further, and then nothing has changed.
     pub fn push(&mut self, waiting: Waiting) -> Result<(), AllocError>
         ensures { MatchResult result
             (λ _. self.new ≡ record self.old { pushed = self.old.pushed ++ waiting ∷ [] })
@@ -71,8 +79,8 @@ impl OwnQueue {
         }
     }
 
-    /// The request at the front. None where none was found, and then nothing has changed. That it finds
-    /// what is there is no promise.
+    /// The request at the front. None where none was found, and then nothing has changed. That it
+    /// finds what is there is no promise.
     pub fn pop(&mut self) -> Option<Waiting>
         ensures { MatchOption result (self.new ≡ self.old)
             (λ waiting. self.new ≡ record self.old { had = self.old.had ++ waiting ∷ [] }) }
@@ -91,7 +99,8 @@ impl OwnQueue {
     }
 }
 
-/// The own end of a queue whose thread's turns are over: it takes the thieves' shares back, and hands out what is left.
+/// The own end of a queue whose thread's turns are over: it takes the thieves' shares back, and
+/// hands out what is left.
 ///
 /// A contract sees the same as of the `OwnQueue`.
 #[derive(Drop)]
@@ -102,7 +111,7 @@ pub struct EndQueue {
 impl Model for EndQueue {
     ghost use Rattle.std.specs.Prelude.{◌≡◌, ◌<◌};
     ghost use Rattle.crossbeam_deque.specs.Handles.{worker_view, worker_flavor};
-    ghost use Rattle.cal_kthread.specs.Queues.{QueueView, queue_view};
+    ghost use Rattle.cal_kthread.specs.Queue.{QueueView, queue_view};
 
     ghost Value = { QueueView };
 
@@ -112,13 +121,14 @@ impl Model for EndQueue {
 }
 
 impl EndQueue {
-    /// The request at the front, which is handed out at the end of a run; with all 16 shares, one that was
-    /// pushed and was neither taken nor handed out before. None where none was found: with all 16 shares, all
-    /// that was pushed was then taken or handed out.
+    /// The request at the front, which is handed out at the end of a run; with all 16 shares, one
+    /// that was pushed and was neither taken nor handed out before. None where none was found: with
+    /// all 16 shares, all that was pushed was then taken or handed out.
     pub fn hand_out(&mut self) -> Option<Waiting>
         ensures handed { MatchOption result (self.new ≡ self.old)
             (λ waiting. self.new ≡ record self.old { handed = self.old.handed ++ waiting ∷ [] }) }
-        ensures came { IfSome result (λ _. self.old.shares ≡ 16 → TookWhatCame self.new.pushed self.new.had self.new.handed) }
+        ensures came { IfSome result (λ _. self.old.shares ≡ 16 →
+            TookWhatCame self.new.pushed self.new.had self.new.handed) }
         ensures empty { MatchOption result
             (self.old.shares ≡ 16 → AllTaken self.old.pushed self.old.had self.old.handed)
             (λ _. Unit {0}) }
@@ -129,15 +139,18 @@ impl EndQueue {
     /// Takes a thief's share back, with what the thief stole.
     pub fn absorb(&mut self, thief: Thief)
         requires { thief.queue ≡ self.old.queue }
-        ensures { self.new ≡ record self.old { shares = self.old.shares + 1; had = self.old.had ++ thief.had } }
+        ensures { self.new ≡ record self.old {
+          shares = self.old.shares + 1;
+          had = self.old.had ++ thief.had;
+        } }
     {
         let Thief { stealer: _, pass } = thief;
         self.worker.absorb::<OneShare>(pass);
     }
 }
 
-/// An end that steals from a queue. It has one of the queue's shares, and may be moved to a thread of
-/// its own.
+/// An end that steals from a queue. It has one of the queue's shares, and may be moved to a thread
+/// of its own.
 ///
 /// A contract sees which queue it is, and what it stole.
 #[derive(Drop)]
@@ -147,7 +160,7 @@ pub struct Thief {
 }
 
 impl Model for Thief {
-    ghost use Rattle.cal_kthread.specs.Queues.{ThiefView, thief_view, IsThief};
+    ghost use Rattle.cal_kthread.specs.Queue.{ThiefView, thief_view, IsThief};
 
     ghost Value = { ThiefView };
 
@@ -157,8 +170,8 @@ impl Model for Thief {
 }
 
 impl Thief {
-    /// One try to steal the request at the front. None where it found none, or met another thief, and
-    /// then nothing has changed. That it finds what is there is no promise.
+    /// One try to steal the request at the front. None where it found none, or met another thief,
+    /// and then nothing has changed. That it finds what is there is no promise.
     pub fn steal(&mut self) -> Option<Waiting>
         ensures { MatchOption result (self.new ≡ self.old)
             (λ waiting. self.new ≡ record self.old { had = self.old.had ++ waiting ∷ [] }) }

@@ -1,21 +1,26 @@
 //! A team of kernel threads is opened.
+
+pub mod linking;
+pub mod opening;
+
 ghost use Rattle.std.specs.Prelude.{◌≡◌, ◌≤◌, [], map, length, IfOk};
 ghost use Rattle.cal_machine.specs.Tasks.{threads_in};
-ghost use Rattle.cal_kthread.specs.Linking.{StoleNothing, unlinked};
-ghost use Rattle.cal_kthread.specs.Opening.{AreOpened, AreLinked};
+ghost use Rattle.cal_kthread.specs.Team.Linking.{StoleNothing, unlinked};
+ghost use Rattle.cal_kthread.specs.Team.Opening.{AreOpened, AreLinked};
 ghost use Rattle.cal_kthread.specs.Places.{Each};
-ghost use Rattle.cal_kthread.specs.Teams.{IsTeam, place_of};
-ghost use Rattle.cal_kthread.specs.Threads.{IsFresh};
+ghost use Rattle.cal_kthread.specs.Team.{IsTeam, place_of};
+ghost use Rattle.cal_kthread.specs.Turn.Thread.{IsFresh};
 
 use crate::kernel_thread::KernelThread;
-use crate::linking::link_task;
-use crate::opening::{Opened, open_thread};
+use crate::team::linking::link_task;
+use crate::team::opening::{Opened, open_thread};
 use cal_command::Sender;
 use cal_machine::Config;
 use cal_signal::Observer;
 use std::alloc::{AllocError, Global};
 
-/// The kernel threads of a table, in thread order, with the other ends of their pages and rings in the same order.
+/// The kernel threads of a table, in thread order, with the other ends of their pages and rings in
+/// the same order.
 #[derive(Drop)]
 pub struct Team {
     /// The kernel threads.
@@ -28,11 +33,13 @@ pub struct Team {
     pub watchers: Vec<Observer>,
 }
 
-/// A team of kernel threads, one for each of the table's: each with a page, a ring and a queue of its own, and with one
-/// share of the queue of each other thread of its task. An error is want of memory.
+/// A team of kernel threads, one for each of the table's: each with a page, a ring and a queue of
+/// its own, and with one share of the queue of each other thread of its task. An error is want of
+/// memory.
 pub fn open_threads(alloc: Global, config: &Config) -> Result<Team, AllocError>
     ensures count { IfOk result (λ team. length team.threads.items ≡ threads_in config.now.tasks) }
-    ensures opened { IfOk result (λ team. AreOpened team.threads.items team.observers.items team.senders.items team.watchers.items) }
+    ensures opened { IfOk result (λ team.
+        AreOpened team.threads.items team.observers.items team.senders.items team.watchers.items) }
     ensures team { IfOk result (λ team. IsTeam (map (λ k. place_of k.thread) team.threads.items)) }
     ensures thieves { IfOk result (λ team. AreLinked config.now.tasks team.threads.items) }
 {
@@ -55,7 +62,8 @@ pub fn open_threads(alloc: Global, config: &Config) -> Result<Team, AllocError>
 fn open_each(alloc: Global, count: usize) -> Result<Team, AllocError>
     requires { count ≤ 128 }
     ensures count { IfOk result (λ team. length team.threads.items ≡ count) }
-    ensures opened { IfOk result (λ team. AreOpened team.threads.items team.observers.items team.senders.items team.watchers.items) }
+    ensures opened { IfOk result (λ team.
+        AreOpened team.threads.items team.observers.items team.senders.items team.watchers.items) }
     ensures fresh { IfOk result (λ team. Each IsFresh team.threads.items) }
 {
     let mut threads = Vec::new(alloc);

@@ -1,9 +1,10 @@
-//! What no clause says: that threads open, serve, steal and end as the worked examples say, also while others do.
+//! What no clause says: that threads open, serve, steal and end as the worked examples say, also
+//! while others do.
 ghost use Rattle.std.specs.Prelude.{◌≡◌, ◌≤◌, IfOk, IfSome, IsTrue, length, map};
-ghost use Rattle.cal_kthread.specs.Account.{IsAccounted, KeepsItsWork};
-ghost use Rattle.cal_kthread.specs.HandingOut.{HandedOutNothing};
+ghost use Rattle.cal_kthread.specs.End.Account.{IsAccounted, KeepsItsWork};
+ghost use Rattle.cal_kthread.specs.End.HandingOut.{HandedOutNothing};
 ghost use Rattle.cal_kthread.specs.Places.{Each};
-ghost use Rattle.cal_kthread.specs.Teams.{IsTeam, place_of, place_of_rest};
+ghost use Rattle.cal_kthread.specs.Team.{IsTeam, place_of, place_of_rest};
 ghost use Rattle.cal_machine.specs.Tasks.{threads_in};
 
 mod faults;
@@ -33,17 +34,7 @@ fn request(id: u64, work: u64) -> Request {
 
 /// A record of these words, in their order.
 fn record(words: [u64; 9]) -> Record {
-    Record {
-        taken: words[0],
-        running: words[1],
-        queued: words[2],
-        oldest: words[3],
-        started: words[4],
-        misses: words[5],
-        stamp: words[6],
-        paused: words[7],
-        since: words[8],
-    }
+    Record::from_words(words)
 }
 
 /// Is there no request, or one with work?
@@ -56,7 +47,8 @@ fn may_arrive(arriving: Option<Request>) -> bool
     }
 }
 
-/// A turn with this request or none. False where the clock falls or the request has no work: then none is made.
+/// A turn with this request or none. False where the clock falls or the request has no work: then
+/// none is made.
 fn turn(thread: &mut KernelThread, now: u64, arriving: Option<Request>) -> Result<bool, TurnFault>
     ensures { place_of thread.new.thread ≡ place_of thread.old.thread }
 {

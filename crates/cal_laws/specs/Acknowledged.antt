@@ -1,14 +1,15 @@
 -- Cores are freed only where their thread showed that it left.
 use Rattle.std.specs.Prelude.{◌≡◌, ℕ, ◌<◌, ◌≤◌, List, Some}
-use Rattle.cal_policy.specs.declared.pass_action.Action.{Action}
-use Rattle.cal_policy.specs.declared.pass_action.Action.TheVariants.{Free}
-use Rattle.cal_policy.specs.declared.holding.Placement as placements
+use Rattle.cal_policy.specs.declared.history.action.Action.{Action}
+use Rattle.cal_policy.specs.declared.history.action.Action.TheVariants.{Free}
+use Rattle.cal_policy.specs.declared.board.holders.Placement as placements
 use Rattle.cal_policy.specs.History.{holder_of}
 use Rattle.cal_policy.specs.Board.{placement_of}
 use Rattle.cal_policy.specs.Setting.{Setting, so_far, kept_now}
 use Rattle.cal_laws.specs.Point.{Point, IsPoint, setting_at, made_at, next_at}
 
--- the core is the machine's, is held or being left, and the kept record of its thread acknowledges the Run that put it there and shows it on no core
+-- the core is the machine's, is held or being left, and the kept record of its thread acknowledges
+-- the Run that put it there and shows it on no core
 pub record HasBeenLeft (s : Setting) (acts : List Action) (core : ℕ) : Type 0 where
   pub own : core < s.table.cores
   pub left : placements.Placement
@@ -16,6 +17,7 @@ pub record HasBeenLeft (s : Setting) (acts : List Action) (core : ℕ) : Type 0 
   pub acknowledged : left.number ≤ (kept_now s left.thread).taken
   pub on_none : (kept_now s left.thread).running ≡ 0
 
--- so it is of each core that is freed
+-- each core that is freed has been left
 abbrev pub FreedCoresWereLeft : Type 0
-FreedCoresWereLeft = (here : Point) → IsPoint here → (core : ℕ) → next_at here ≡ Some (Free core) → HasBeenLeft (setting_at here) (made_at here) core
+FreedCoresWereLeft = (here : Point) → IsPoint here → (core : ℕ) → next_at here ≡ Some (Free core) →
+    HasBeenLeft (setting_at here) (made_at here) core

@@ -1,18 +1,19 @@
--- Why each core was taken away. (The causes are own: a revocation without one would take a core from a task for nothing.)
+-- Why each core was taken away. (The causes are own: a revocation without one would take a core
+-- from a task for nothing.)
 use Rattle.std.specs.Prelude.{◌≡◌, ℕ, ◌-◌, ◌<◌, ◌≤◌, true, false, List, [], ◌∷◌, ◌++◌, length, Some}
 use Rattle.cal_machine.specs.Machine.{sibling_of}
 use Rattle.cal_policy.specs.Tasks.{owner_of, limit_of, guaranteed_of, is_latency_critical}
-use Rattle.cal_policy.specs.declared.pass_action.Action.{Action}
-use Rattle.cal_policy.specs.declared.pass_action.Action.TheVariants.{Ban, Cap, Revoke}
-use Rattle.cal_policy.specs.declared.pass_action.Cause.{Cause}
-use Rattle.cal_policy.specs.declared.pass_action.Cause.TheVariants as causes
-use Rattle.cal_policy.specs.declared.holding.Placement as placements
-use Rattle.cal_policy.specs.declared.holding.Holder.TheVariants as holders
+use Rattle.cal_policy.specs.declared.history.action.Action.{Action}
+use Rattle.cal_policy.specs.declared.history.action.Action.TheVariants.{Ban, Cap, Revoke}
+use Rattle.cal_policy.specs.declared.history.action.Cause.{Cause}
+use Rattle.cal_policy.specs.declared.history.action.Cause.TheVariants as causes
+use Rattle.cal_policy.specs.declared.board.holders.Placement as placements
+use Rattle.cal_policy.specs.declared.board.holders.Holder.TheVariants as holders
 use Rattle.cal_policy.specs.History.{holder_of}
-use Rattle.cal_policy.specs.Counts.{held_by, booked_by}
+use Rattle.cal_policy.specs.Board.Counts.{held_by, booked_by}
 use Rattle.cal_policy.specs.Setting.{Setting, so_far, kept_now, has_room}
-use Rattle.cal_policy.specs.Bandwidth.{task_misses}
-use Rattle.cal_policy.specs.Grants.{is_congested}
+use Rattle.cal_policy.specs.Pass.Bandwidth.{task_misses}
+use Rattle.cal_policy.specs.Pass.Grants.{is_congested}
 use Rattle.cal_laws.specs.Point.{Point, IsPoint, setting_at, made_at, next_at}
 use Rattle.cal_laws.specs.Bans.{IsDue, IsOverWithRoom}
 use Rattle.cal_laws.specs.Choice.{IsLeastPossible, IsBurst}
@@ -32,16 +33,17 @@ pub record IsCandidate (s : Setting) (x : List Action) (t : ℕ) : Type 0 where
   pub core : ℕ
   pub loses : CanLose s x t core
 
--- the task that loses: a candidate above its guarantee; no candidate has had more misses since the pass before, none with as many has a
--- lesser number
+-- the task that loses: a candidate above its guarantee; no candidate has had more misses since the
+-- pass before, none with as many has a lesser number
 pub record HasMisses (s : Setting) (x : List Action) (t : ℕ) : Type 0 where
   pub candidate : IsCandidate s x t
   pub over : guaranteed_of s.table t < held_by s.table x t
   pub none_greater : (other : ℕ) → IsCandidate s x other → task_misses s other ≤ task_misses s t
-  pub none_lesser : (other : ℕ) → IsCandidate s x other → task_misses s other ≡ task_misses s t → t ≤ other
+  pub none_lesser : (other : ℕ) → IsCandidate s x other → task_misses s other ≡ task_misses s t →
+      t ≤ other
 
--- for bandwidth: the figure is over the limit, and of the cores of the task with the most misses this is the highest; the action just before
--- has capped that task one below what it holds
+-- for bandwidth: the figure is over the limit, and of the cores of the task with the most misses
+-- this is the highest; the action just before has capped that task one below what it holds
 pub record IsForBandwidth (s : Setting) (acts : List Action) (core : ℕ) : Type 0 where
   pub over_limit : s.table.bandwidth_limit < s.input.bandwidth
   pub victim : ℕ
@@ -51,8 +53,9 @@ pub record IsForBandwidth (s : Setting) (acts : List Action) (core : ℕ) : Type
   pub loses : CanLose s (so_far s acts) victim core
   pub none_higher : (c : ℕ) → CanLose s (so_far s acts) victim c → c ≤ core
 
--- for task t: it is congested and books less than its limit; of all pairs of class and core that are possible for it this is the least, and
--- the core may be taken from its holder for it, which no core is being left for
+-- for task t: it is congested and books less than its limit; of all pairs of class and core that
+-- are possible for it this is the least, and the core may be taken from its holder for it, which no
+-- core is being left for
 pub record IsForTask (s : Setting) (acts : List Action) (core t : ℕ) : Type 0 where
   pub own : t < length s.table.tasks
   pub congested : is_congested s t ≡ true
@@ -61,7 +64,8 @@ pub record IsForTask (s : Setting) (acts : List Action) (core t : ℕ) : Type 0 
   pub least : IsLeastPossible s acts t class core
   pub burst : IsBurst s acts t class core
 
--- for a ban beside core `by`: the action just before is the ban of this core, which was due; the core is held by a task that is over
+-- for a ban beside core `by`: the action just before is the ban of this core, which was due; the
+-- core is held by a task that is over
 pub record IsForBan (s : Setting) (acts : List Action) (core by : ℕ) : Type 0 where
   pub earlier : List Action
   pub thread : ℕ
@@ -80,5 +84,6 @@ HasCause s acts core (causes.Preempt task) = IsForTask s acts core task
 
 -- each revocation is for what its cause says
 abbrev pub RevocationsHaveCause : Type 0
-RevocationsHaveCause = (here : Point) → IsPoint here → (core : ℕ) (cause : Cause) → next_at here ≡ Some (Revoke core cause) →
+RevocationsHaveCause = (here : Point) → IsPoint here → (core : ℕ) (cause : Cause) →
+    next_at here ≡ Some (Revoke core cause) →
     HasCause (setting_at here) (made_at here) core cause

@@ -1,17 +1,19 @@
--- Which core and which thread a task gets. (After Caladan's core allocator; the classes and the order of choice are own.)
+-- Which core and which thread a task gets. (After Caladan's core allocator; the classes and the
+-- order of choice are own.)
 use Rattle.std.specs.Prelude.{◌≡◌, ◌≢◌, ◌↔◌, ℕ, ◌<◌, ◌≤◌, true, false, List, length, Some, ◌⊎◌}
 use Rattle.cal_machine.specs.Machine.{sibling_of}
 use Rattle.cal_machine.specs.Table.{Table}
-use Rattle.cal_policy.specs.Tasks.{owner_of, thread_of, limit_of, guaranteed_of, is_latency_critical}
-use Rattle.cal_policy.specs.declared.pass_action.Action.{Action}
-use Rattle.cal_policy.specs.declared.pass_action.Action.TheVariants.{Revoke, Grant}
-use Rattle.cal_policy.specs.declared.pass_action.Cause.TheVariants as causes
-use Rattle.cal_policy.specs.declared.holding.Placement as placements
-use Rattle.cal_policy.specs.declared.holding.Holder.TheVariants as holders
+use Rattle.cal_policy.specs.Tasks.{owner_of, thread_of, limit_of}
+use Rattle.cal_policy.specs.Tasks.{guaranteed_of, is_latency_critical}
+use Rattle.cal_policy.specs.declared.history.action.Action.{Action}
+use Rattle.cal_policy.specs.declared.history.action.Action.TheVariants.{Revoke, Grant}
+use Rattle.cal_policy.specs.declared.history.action.Cause.TheVariants as causes
+use Rattle.cal_policy.specs.declared.board.holders.Placement as placements
+use Rattle.cal_policy.specs.declared.board.holders.Holder.TheVariants as holders
 use Rattle.cal_policy.specs.History.{holder_of, last_thread, is_banned}
-use Rattle.cal_policy.specs.Counts.{held_by, booked_by, cores_of_thread}
+use Rattle.cal_policy.specs.Board.Counts.{held_by, booked_by, cores_of_thread}
 use Rattle.cal_policy.specs.Setting.{Setting, so_far, has_room}
-use Rattle.cal_policy.specs.Grants.{thread_delay, is_congested, may_book, is_granted_in, class_of}
+use Rattle.cal_policy.specs.Pass.Grants.{thread_delay, is_congested, may_book, is_granted_in, class_of}
 use Rattle.cal_laws.specs.Point.{Point, IsPoint, setting_at, made_at, actions_at, next_at}
 
 -- a thread that a core may be granted to: it holds and leaves none, and its ring has room
@@ -19,7 +21,8 @@ pub record IsFreeWithRoom (s : Setting) (x : List Action) (k : ℕ) : Type 0 whe
   pub free : cores_of_thread s.table x k ≡ 0
   pub room : has_room s k ≡ true
 
--- of the threads of task t that are free with room no other has a greater delay, and of those with as great a one none a lesser number
+-- of the threads of task t that are free with room no other has a greater delay, and of those with
+-- as great a one none a lesser number
 pub record HasGreatestDelay (s : Setting) (x : List Action) (t thread : ℕ) : Type 0 where
   pub number : ℕ
   pub own : number < limit_of s.table t
@@ -67,17 +70,19 @@ pub record IsOther (s : Setting) (x : List Action) (t class core : ℕ) : Type 0
   pub not_beside : ¬ IsHeldBy s.table x t (sibling_of core)
   pub not_last : ¬ WentLastTo s.table x t core
 
--- a core that may be taken for task t: t is latency-critical and no core is being left for it; the core is held by a thread whose ring has
--- room, and was not granted in this pass
+-- a core that may be taken for task t: t is latency-critical and no core is being left for it; the
+-- core is held by a thread whose ring has room, and was not granted in this pass
 pub record MayBeTaken (s : Setting) (acts : List Action) (t core : ℕ) : Type 0 where
   pub critical : is_latency_critical s.table t ≡ true
-  pub none_leaves : (c : ℕ) (left : placements.Placement) → c < s.table.cores → holder_of (so_far s acts) c ≢ holders.Leaving left (causes.Preempt t)
+  pub none_leaves : (c : ℕ) (left : placements.Placement) → c < s.table.cores →
+      holder_of (so_far s acts) c ≢ holders.Leaving left (causes.Preempt t)
   pub placement : placements.Placement
   pub held : holder_of (so_far s acts) core ≡ holders.Held placement
   pub room : has_room s placement.thread ≡ true
   pub not_granted : is_granted_in acts core ≡ false
 
--- another latency-critical task lends task t a core: it holds more than it is guaranteed, and t has booked less than it is
+-- another latency-critical task lends task t a core: it holds more than it is guaranteed, and t has
+-- booked less than it is
 pub record Lends (s : Setting) (x : List Action) (t other : ℕ) : Type 0 where
   pub critical : is_latency_critical s.table other ≡ true
   pub another : other ≢ t
@@ -87,17 +92,21 @@ pub record Lends (s : Setting) (x : List Action) (t other : ℕ) : Type 0 where
 -- class 4: a core of a best-effort task; class 5: one that a latency-critical task lends
 pub record IsBurst (s : Setting) (acts : List Action) (t class core : ℕ) : Type 0 where
   pub taken : MayBeTaken s acts t core
-  pub lender : ((class ≡ 4) × (is_latency_critical s.table (owner_of s.table taken.placement.thread) ≡ false))
+  pub lender : ((class ≡ 4) × (is_latency_critical s.table (owner_of s.table taken.placement.thread)
+      ≡ false))
       ⊎ ((class ≡ 5) × Lends s (so_far s acts) t (owner_of s.table taken.placement.thread))
 
 -- the core is of this class for task t
 abbrev pub IsOfClass : Setting → List Action → ℕ → ℕ → ℕ → Type 0
 IsOfClass s acts t class core =
-    IsSibling s (so_far s acts) t class core ⊎ (IsRecent s (so_far s acts) t class core ⊎ (IsOther s (so_far s acts) t class core ⊎ IsBurst s acts t class core))
+    IsSibling s (so_far s acts) t class core
+    ⊎ (IsRecent s (so_far s acts) t class core
+    ⊎ (IsOther s (so_far s acts) t class core ⊎ IsBurst s acts t class core))
 
 -- what the pass takes for the class of a core is the class that it is of
 abbrev pub ClassesAreTold : Type 0
-ClassesAreTold = (s : Setting) (acts : List Action) (t class core : ℕ) → (class_of s acts t core ≡ Some class) ↔ IsOfClass s acts t class core
+ClassesAreTold = (s : Setting) (acts : List Action) (t class core : ℕ) →
+    (class_of s acts t core ≡ Some class) ↔ IsOfClass s acts t class core
 
 -- a pair of class and core that is possible for task t
 pub record IsPossible (s : Setting) (acts : List Action) (t class core : ℕ) : Type 0 where
@@ -106,14 +115,17 @@ pub record IsPossible (s : Setting) (acts : List Action) (t class core : ℕ) : 
 
 -- one pair of class and core is less than another: by its class, and within a class by its core
 abbrev pub IsLessPair : ℕ → ℕ → ℕ → ℕ → Type 0
-IsLessPair class core other_class other_core = (class < other_class) ⊎ ((class ≡ other_class) × (core < other_core))
+IsLessPair class core other_class other_core =
+    (class < other_class) ⊎ ((class ≡ other_class) × (core < other_core))
 
 -- a pair is possible for task t, and no possible pair is less
 pub record IsLeastPossible (s : Setting) (acts : List Action) (t class core : ℕ) : Type 0 where
   pub possible : IsPossible s acts t class core
-  pub none_less : (other_class other_core : ℕ) → IsPossible s acts t other_class other_core → ¬ IsLessPair other_class other_core class core
+  pub none_less : (other_class other_core : ℕ) → IsPossible s acts t other_class other_core →
+      ¬ IsLessPair other_class other_core class core
 
--- a grant of this class: the thread's task is congested and may book one more core; core and thread are the best that the task can have
+-- a grant of this class: the thread's task is congested and may book one more core; core and thread
+-- are the best that the task can have
 pub record IsBestGrant (s : Setting) (acts : List Action) (core thread class : ℕ) : Type 0 where
   pub task : ℕ
   pub own : task < length s.table.tasks
@@ -126,7 +138,8 @@ pub record IsBestGrant (s : Setting) (acts : List Action) (core thread class : �
 
 -- each grant is the best that its task can have
 abbrev pub GrantsAreBest : Type 0
-GrantsAreBest = (here : Point) → IsPoint here → (core thread class : ℕ) → next_at here ≡ Some (Grant core thread class) →
+GrantsAreBest = (here : Point) → IsPoint here → (core thread class : ℕ) →
+    next_at here ≡ Some (Grant core thread class) →
     IsBestGrant (setting_at here) (made_at here) core thread class
 
 -- some thread of task t is free with room
@@ -137,5 +150,6 @@ pub record HasThread (s : Setting) (x : List Action) (t : ℕ) : Type 0 where
 
 -- where a core is taken for a task, the task has a thread to run on it
 abbrev pub PreemptionsHaveThread : Type 0
-PreemptionsHaveThread = (here : Point) → IsPoint here → (core t : ℕ) → next_at here ≡ Some (Revoke core (causes.Preempt t)) →
+PreemptionsHaveThread = (here : Point) → IsPoint here → (core t : ℕ) →
+    next_at here ≡ Some (Revoke core (causes.Preempt t)) →
     HasThread (setting_at here) (actions_at here) t

@@ -2,11 +2,11 @@
 use Rattle.std.specs.Prelude.{◌≡◌, ℕ, ◌-◌, ◌<◌, ◌≤◌, false, List, length, None}
 use Rattle.cal_machine.specs.Table.{Table, IsTable}
 use Rattle.cal_policy.specs.Tasks.{is_latency_critical}
-use Rattle.cal_policy.specs.Bans.{NoPairBanned}
-use Rattle.cal_policy.specs.declared.pass_action.Action.{Action}
-use Rattle.cal_policy.specs.declared.pass_entry.PassEntry.{PassEntry}
+use Rattle.cal_policy.specs.Pass.Bans.{NoPairBanned}
+use Rattle.cal_policy.specs.declared.history.action.Action.{Action}
+use Rattle.cal_policy.specs.declared.history.entry.PassEntry.{PassEntry}
 use Rattle.cal_policy.specs.History.{actions_of, holder_of}
-use Rattle.cal_policy.specs.Counts.{held_by, cap_of}
+use Rattle.cal_policy.specs.Board.Counts.{held_by, cap_of}
 use Rattle.cal_policy.specs.Pass.{IsLegal}
 use Rattle.cal_laws.specs.Point.{Point, IsPoint, actions_at, next_at}
 use Rattle.cal_laws.specs.Exclusion.{HaveOneCore, IsByLastRun}
@@ -16,7 +16,13 @@ use Rattle.cal_laws.specs.Runs.{RunsStand}
 
 -- after all actions of the last pass, which is this entry
 abbrev pub end_of : Table → List PassEntry → PassEntry → Point
-end_of table history entry = record { table = table; history = history; pass = length history - 1; entry = entry; made = length entry.actions }
+end_of table history entry = record {
+  table = table;
+  history = history;
+  pass = length history - 1;
+  entry = entry;
+  made = length entry.actions;
+}
 
 -- at that point all actions of the history are made, and none comes next
 pub record IsEnd (history : List PassEntry) (here : Point) : Type 0 where
@@ -30,11 +36,12 @@ pub record EndsAtPoint (table : Table) (history : List PassEntry) : Type 0 where
   pub end : IsEnd history (end_of table history entry)
 
 abbrev pub EndsArePoints : Type 0
-EndsArePoints = (table : Table) (history : List PassEntry) → IsTable table → IsLegal table history → 0 < length history → EndsAtPoint table history
+EndsArePoints = (table : Table) (history : List PassEntry) → IsTable table → IsLegal table history →
+    0 < length history → EndsAtPoint table history
 
 -- what every law of all actions so far says, after the whole passes of a history: one core for each
--- thread, by its last Run; Runs stand until they are left; limits and caps are kept; no pair is banned,
--- and no banned core is held
+-- thread, by its last Run; Runs stand until they are left; limits and caps are kept; no pair is
+-- banned, and no banned core is held
 pub record IsSafeBetween (table : Table) (history : List PassEntry) (x : List Action) : Type 0 where
   pub one_core : HaveOneCore table x
   pub last_run : (c : ℕ) → c < table.cores → IsByLastRun x c (holder_of x c)
@@ -44,6 +51,7 @@ pub record IsSafeBetween (table : Table) (history : List PassEntry) (x : List Ac
   pub apart : NoPairBanned x
   pub empty : NoneHeld x
 
--- so it is after every legal history, the empty one included
+-- every legal history, the empty one included, is safe at its end
 abbrev pub LegalIsSafeBetween : Type 0
-LegalIsSafeBetween = (table : Table) (history : List PassEntry) → IsTable table → IsLegal table history → IsSafeBetween table history (actions_of history)
+LegalIsSafeBetween = (table : Table) (history : List PassEntry) → IsTable table →
+    IsLegal table history → IsSafeBetween table history (actions_of history)

@@ -2,16 +2,17 @@
 use Rattle.std.specs.Prelude.{◌≡◌, ◌≢◌, ℕ, ◌-◌, ◌≤◌, List, take, Some, slice_get}
 use Rattle.cal_machine.specs.Table.{Table}
 use Rattle.cal_signal.specs.declared.record.Record.{Record}
-use Rattle.cal_policy.specs.declared.pass_action.Action.{Action}
-use Rattle.cal_policy.specs.declared.pass_entry.PassEntry.{PassEntry}
-use Rattle.cal_policy.specs.declared.judged_look.Seen.TheVariants.{Whole}
-use Rattle.cal_policy.specs.declared.holding.Placement as placements
+use Rattle.cal_policy.specs.declared.history.action.Action.{Action}
+use Rattle.cal_policy.specs.declared.history.entry.PassEntry.{PassEntry}
+use Rattle.cal_policy.specs.declared.history.look.Seen.TheVariants.{Whole}
+use Rattle.cal_policy.specs.declared.board.holders.Placement as placements
 use Rattle.cal_policy.specs.History.{actions_of, holder_of, sent_to}
 use Rattle.cal_policy.specs.Board.{placement_of}
 use Rattle.cal_policy.specs.Setting.{kept_now}
 use Rattle.cal_laws.specs.Point.{Point, IsPoint, setting_at, actions_at}
 
--- after the actions x thread k holds or leaves the core that the record shows it on, by a Run that the record acknowledges
+-- after the actions x thread k holds or leaves the core that the record shows it on, by a Run that
+-- the record acknowledges
 pub record IsOnCore (table : Table) (x : List Action) (k : ℕ) (rec : Record) : Type 0 where
   pub low : rec.running ≤ table.cores
   pub place : placements.Placement
@@ -19,24 +20,31 @@ pub record IsOnCore (table : Table) (x : List Action) (k : ℕ) (rec : Record) :
   pub thread : place.thread ≡ k
   pub acknowledged : place.number ≤ rec.taken
 
--- a look of pass number `pass` let the record of thread k be kept, and as the pass began the thread was on the core that it shows
-pub record WasKeptOnCore (table : Table) (history : List PassEntry) (k : ℕ) (rec : Record) (pass : ℕ) : Type 0 where
+-- a look of pass number `pass` let the record of thread k be kept, and as the pass began the thread
+-- was on the core that it shows
+pub record WasKeptOnCore (table : Table) (history : List PassEntry) (k : ℕ) (rec : Record)
+    (pass : ℕ) : Type 0 where
   pub entry : PassEntry
   pub is_pass : slice_get history pass ≡ Some entry
   pub number : ℕ
   pub whole : slice_get entry.input.seen k ≡ Some (Whole number rec)
   pub on_core : IsOnCore table (actions_of (take pass history)) k rec
 
--- the record acknowledges no more than was sent; where it shows its thread on a core, it was kept in this pass or an earlier one, with the thread on that core
+-- the record acknowledges no more than was sent; where it shows its thread on a core, it was kept
+-- in this pass or an earlier one, with the thread on that core
 pub record IsTrueRecord (here : Point) (k : ℕ) (rec : Record) : Type 0 where
   pub sent : rec.taken ≤ sent_to (actions_at here) k
-  pub shown : rec.running ≢ 0 → (pass : ℕ) × (pass ≤ here.pass) × WasKeptOnCore here.table here.history k rec pass
+  pub shown : rec.running ≢ 0 →
+      (pass : ℕ) × (pass ≤ here.pass) × WasKeptOnCore here.table here.history k rec pass
 
--- so it is of each thread's kept record at every point
+-- at every point the kept record of each thread is true
 abbrev pub KeptRecordsAreTrue : Type 0
-KeptRecordsAreTrue = (here : Point) → IsPoint here → (k : ℕ) → IsTrueRecord here k (kept_now (setting_at here) k)
+KeptRecordsAreTrue = (here : Point) → IsPoint here → (k : ℕ) →
+    IsTrueRecord here k (kept_now (setting_at here) k)
 
--- at every point, where a thread's kept record shows it on a core, the thread holds or leaves that core, by a Run that the record acknowledges
+-- at every point, where a thread's kept record shows it on a core, the thread holds or leaves that
+-- core, by a Run that the record acknowledges
 abbrev pub KeptThreadsAreOnCore : Type 0
-KeptThreadsAreOnCore = (here : Point) → IsPoint here → (k : ℕ) → (kept_now (setting_at here) k).running ≢ 0 →
+KeptThreadsAreOnCore = (here : Point) → IsPoint here → (k : ℕ) →
+    (kept_now (setting_at here) k).running ≢ 0 →
     IsOnCore here.table (actions_at here) k (kept_now (setting_at here) k)

@@ -1,12 +1,13 @@
 -- A point inside a pass of a legal history: every law is said at one.
 use Rattle.std.specs.Prelude.{◌≡◌, ℕ, ◌≤◌, List, length, take, Some, Option, slice_get}
 use Rattle.cal_machine.specs.Table.{Table, IsTable}
-use Rattle.cal_policy.specs.declared.pass_action.Action.{Action}
-use Rattle.cal_policy.specs.declared.pass_entry.PassEntry.{PassEntry}
+use Rattle.cal_policy.specs.declared.history.action.Action.{Action}
+use Rattle.cal_policy.specs.declared.history.entry.PassEntry.{PassEntry}
 use Rattle.cal_policy.specs.Setting.{Setting, setting_of, so_far}
 use Rattle.cal_policy.specs.Pass.{IsLegal}
 
--- where a run has come: `entry` is pass number `pass` of the history, and the first `made` of its actions are made
+-- where a run has come: `entry` is pass number `pass` of the history, and the first `made` of its
+-- actions are made
 pub record Point : Type 0 where
   pub table : Table
   pub history : List PassEntry
@@ -30,7 +31,8 @@ actions_at here = so_far (setting_at here) (made_at here)
 abbrev pub next_at : Point → Option Action
 next_at here = slice_get here.entry.actions here.made
 
--- the point lies in a pass of a legal history: before its first action, between two, or after its last
+-- the point lies in a pass of a legal history: before its first action, between two, or after its
+-- last
 pub record IsPoint (here : Point) : Type 0 where
   pub table : IsTable here.table
   pub legal : IsLegal here.table here.history

@@ -1,11 +1,10 @@
 -- Runs that were sent, and what becomes of their cores.
-use Rattle.std.specs.Prelude.{◌≡◌, ℕ, ◌+◌, ◌<◌, ◌≤◌, ◌⊎◌, List, [], ◌∷◌, ◌++◌, Some, slice_get}
+use Rattle.std.specs.Prelude.{◌≡◌, ℕ, ◌+◌, ◌<◌, ◌≤◌, ◌⊎◌, List, ◌∷◌, ◌++◌, Some, slice_get}
 use Rattle.cal_machine.specs.declared.command.Command.TheVariants.{Run}
 use Rattle.cal_machine.specs.Table.{Table}
-use Rattle.cal_policy.specs.declared.pass_action.Action.{Action}
-use Rattle.cal_policy.specs.declared.pass_action.Action.TheVariants.{Free}
-use Rattle.cal_policy.specs.declared.pass_entry.PassEntry.{PassEntry}
-use Rattle.cal_policy.specs.declared.holding.Placement as placements
+use Rattle.cal_policy.specs.declared.history.action.Action.{Action}
+use Rattle.cal_policy.specs.declared.history.action.Action.TheVariants.{Free}
+use Rattle.cal_policy.specs.declared.history.entry.PassEntry.{PassEntry}
 use Rattle.cal_policy.specs.History.{holder_of, commands_to}
 use Rattle.cal_policy.specs.Board.{placement_of}
 use Rattle.cal_policy.specs.Setting.{kept_now}
@@ -19,7 +18,8 @@ pub record IsRunOf (x : List Action) (k number c : ℕ) : Type 0 where
 
 -- thread k holds or leaves core c, by its command of this number
 abbrev pub IsThereBy : List Action → ℕ → ℕ → ℕ → Type 0
-IsThereBy x k number c = placement_of (holder_of x c) ≡ Some (record { thread = k; number = number })
+IsThereBy x k number c = placement_of (holder_of x c)
+    ≡ Some (record { thread = k; number = number })
 
 -- at this point thread k is on core c by that Run, the next action frees the core, and the thread's
 -- kept record has taken the Run and shows no core
@@ -30,21 +30,36 @@ pub record IsLeft (here : Point) (k number c : ℕ) : Type 0 where
   pub on_none : (kept_now (setting_at here) k).running ≡ 0
 
 -- so it was at a point of the history, whose actions and that Free are the first of the actions x
-pub record WasLeft (table : Table) (history : List PassEntry) (x : List Action) (k number c : ℕ) : Type 0 where
+pub record WasLeft (table : Table) (history : List PassEntry) (x : List Action)
+    (k number c : ℕ) : Type 0 where
   pub pass : ℕ
   pub entry : PassEntry
   pub made : ℕ
   pub is_pass : slice_get history pass ≡ Some entry
-  pub left : IsLeft (record { table = table; history = history; pass = pass; entry = entry; made = made }) k number c
+  pub left : IsLeft (record {
+    table = table;
+    history = history;
+    pass = pass;
+    entry = entry;
+    made = made;
+  }) k number c
   pub after : List Action
-  pub earlier : x ≡ actions_at (record { table = table; history = history; pass = pass; entry = entry; made = made }) ++ Free c ∷ after
+  pub earlier : x ≡ actions_at (record {
+    table = table;
+    history = history;
+    pass = pass;
+    entry = entry;
+    made = made;
+  }) ++ Free c ∷ after
 
--- after the actions x of the history each Run that was sent is of a core of the machine, and stands, or
--- was left
+-- after the actions x of the history each Run that was sent is of a core of the machine, and
+-- stands, or was left
 pub record RunsStand (table : Table) (history : List PassEntry) (x : List Action) : Type 0 where
   pub own : (k number c : ℕ) → IsRunOf x k number c → c < table.cores
-  pub stand : (k number c : ℕ) → IsRunOf x k number c → IsThereBy x k number c ⊎ WasLeft table history x k number c
+  pub stand : (k number c : ℕ) → IsRunOf x k number c →
+      IsThereBy x k number c ⊎ WasLeft table history x k number c
 
--- so it is at every point
+-- at every point: each Run stands, or its core was left
 abbrev pub RunsStandUntilLeft : Type 0
-RunsStandUntilLeft = (here : Point) → IsPoint here → RunsStand here.table here.history (actions_at here)
+RunsStandUntilLeft = (here : Point) → IsPoint here →
+    RunsStand here.table here.history (actions_at here)

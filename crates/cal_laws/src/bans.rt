@@ -1,6 +1,8 @@
 //! Banned cores, and what each ban stands for.
 
-ghost use Rattle.cal_laws.specs.Bans.{NoBannedIsGranted, BansAreDue, NoPairIsBanned, BannedAreEmptyAfterPasses, BannedAreEmptiedAtOnce, BansEndUnshown, BansAreShownAfterPasses};
+ghost use Rattle.cal_laws.specs.Bans.{NoBannedIsGranted, BansAreDue, NoPairIsBanned};
+ghost use Rattle.cal_laws.specs.Bans.{BannedAreEmptyAfterPasses, BannedAreEmptiedAtOnce};
+ghost use Rattle.cal_laws.specs.Bans.{BansEndUnshown, BansAreShownAfterPasses};
 
 use cal_policy::{action_is_one_more, chosen_is_of_least_class, legal_is_apart, legal_is_sound};
 
@@ -12,24 +14,25 @@ pub fn no_banned_is_granted()
     chosen_is_of_least_class();
 }
 
-/// Each ban is due at its place: a thread of a latency-critical task holds the sibling, its kept record
-/// shows it there at a request begun longer ago, in clock ticks, than its task allows, neither core is
-/// banned, and the core is free, being left, or held with room by a task above its guarantee. (After
-/// Caladan's controller of hyperthread siblings; the exact rule is this project's own.)
+/// Each ban is due at its place: a thread of a latency-critical task holds the sibling, its kept
+/// record shows it there at a request begun longer ago, in clock ticks, than its task allows,
+/// neither core is banned, and the core is free, being left, or held with room by a task above its
+/// guarantee. (After Caladan's controller of hyperthread siblings; the exact rule is this project's
+/// own.)
 pub fn bans_are_due()
     ensures { BansAreDue }
 {
     legal_is_sound();
 }
 
-/// A core and its sibling are never banned at once. (This project's own rule.)
+/// A core and its sibling are never banned at once.
 pub fn no_pair_is_banned()
     ensures { NoPairIsBanned }
 {
     legal_is_apart();
 }
 
-/// After each pass no banned core is held. (This project's own rule.)
+/// After each pass no banned core is held.
 pub fn banned_are_empty_after_passes()
     ensures { BannedAreEmptyAfterPasses }
 {
@@ -37,8 +40,8 @@ pub fn banned_are_empty_after_passes()
     chosen_is_of_least_class();
 }
 
-/// Inside a pass a banned core is held only between its ban and its revocation for that ban, which is
-/// the next action. (This project's own rule.)
+/// Inside a pass a banned core is held only between its ban and its revocation for that ban, which
+/// is the next action.
 pub fn banned_are_emptied_at_once()
     ensures { BannedAreEmptiedAtOnce }
 {
@@ -46,16 +49,16 @@ pub fn banned_are_emptied_at_once()
     chosen_is_of_least_class();
 }
 
-/// A ban ends only where the kept record of its thread no longer shows the sibling as its core and the
-/// request for which the core is banned. (This project's own rule.)
+/// A ban ends only where the kept record of its thread no longer shows the sibling as its core and
+/// the request for which the core is banned.
 pub fn bans_end_unshown()
     ensures { BansEndUnshown }
 {
     legal_is_sound();
 }
 
-/// At the end of each pass the thread of each ban still shows, in its kept record, the sibling as its
-/// core and the request for which the core is banned. (This project's own rule.)
+/// At the end of each pass the thread of each ban still shows, in its kept record, the sibling as
+/// its core and the request for which the core is banned.
 pub fn bans_are_shown_after_passes()
     ensures { BansAreShownAfterPasses }
 {

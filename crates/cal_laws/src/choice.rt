@@ -5,18 +5,18 @@ ghost use Rattle.cal_laws.specs.Choice.{ClassesAreTold, GrantsAreBest, Preemptio
 use cal_machine::laws::threads_are_of_their_task;
 use cal_policy::{chosen_has_waited_longest, chosen_is_of_least_class, legal_is_sound};
 
-/// What a pass takes for the class of a core is the class that the core is of: 1 idle beside a core of
-/// the task, 2 idle and last granted to the task, 3 idle otherwise, 4 held by a best-effort task, 5 lent
-/// by a latency-critical one above its guarantee; each where none before it applies. (After Caladan's
-/// core allocator; the classes are this project's own.)
+/// What a pass takes for the class of a core is the class that the core is of: 1 idle beside a core
+/// of the task, 2 idle and last granted to the task, 3 idle otherwise, 4 held by a best-effort
+/// task, 5 lent by a latency-critical one above its guarantee; each where none before it applies.
+/// (After Caladan's core allocator; the classes are this project's own.)
 pub fn classes_are_told()
     ensures { ClassesAreTold }
 {}
 
 /// A core is granted only for a task that is congested and may book one more. Of all pairs of class
-/// and core that are possible for the task it is the least; its thread has the greatest delay of the
-/// task's threads that have no core and whose ring has room, and among equals the least number. (After
-/// Caladan's core allocator; the order of choice is this project's own.)
+/// and core that are possible for the task it is the least; its thread has the greatest delay of
+/// the task's threads that have no core and whose ring has room, and among equals the least number.
+/// (After Caladan's core allocator; the order of choice is this project's own.)
 pub fn grants_are_best()
     ensures { GrantsAreBest }
 {
@@ -26,8 +26,8 @@ pub fn grants_are_best()
     threads_are_of_their_task();
 }
 
-/// Where a core is taken for a task, some thread of the task has no core and room in its ring: so the
-/// core is not taken for nothing. (This project's own rule.)
+/// Where a core is taken for a task, some thread of the task has no core and room in its ring: so
+/// the core is not taken for nothing.
 pub fn preemptions_have_thread()
     ensures { PreemptionsHaveThread }
 {

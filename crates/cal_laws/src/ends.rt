@@ -8,15 +8,15 @@ use crate::limits::{tasks_keep_to_caps, tasks_keep_to_limits};
 use crate::runs::runs_stand_until_left;
 use cal_policy::legal_is_steady;
 
-/// A legal history that is not empty ends at a point of it: there all its actions are made, and none
-/// comes next. So each law of points is one of what stands between passes.
+/// A legal history that is not empty ends at a point of it: there all its actions are made, and
+/// none comes next. So each law of points is one of what stands between passes.
 pub fn ends_are_points()
     ensures { EndsArePoints }
 {}
 
-/// After the whole passes of a legal history, the empty one included: each thread has at most one core,
-/// by its last Run; Runs stand until they are left; limits and caps are kept; no core and its sibling
-/// are both banned, and no banned core is held.
+/// After the whole passes of a legal history, the empty one included: each thread has at most one
+/// core, by its last Run; Runs stand until they are left; limits and caps are kept; no core and its
+/// sibling are both banned, and no banned core is held.
 pub fn legal_is_safe_between()
     ensures { LegalIsSafeBetween }
 {

@@ -1,8 +1,12 @@
-//! What every legal history is safe from: laws over the definitions of a pass alone, in the subject's own words.
+//! What every legal history is safe from: laws over the definitions of a pass alone, in the
+//! subject's own words.
 //!
-//! Each law is the contract of a function that does nothing, its statement a definition in specs/. It is said at
-//! every point inside a pass, not only between passes, so that whoever follows a run action by action can cite it.
-//! To cite a law, call its function: its contract is then a fact of the proof.
+//! Each law is the contract of a function that does nothing, its statement a definition in specs/.
+//! It is said at every point inside a pass, not only between passes, so that whoever follows a run
+//! action by action can cite it. To cite a law, call its function: its contract is then a fact of
+//! the proof.
+//!
+//! The rules are this project's own, but where a law says that it is after Caladan.
 #![tactic(auto)]
 
 mod acknowledged;

@@ -1,6 +1,7 @@
 //! No task has more than it may, and none is pressed below its guarantee.
 
-ghost use Rattle.cal_laws.specs.Limits.{TasksKeepToLimits, GrantsKeepToCaps, TasksKeepToCaps, RevocationsLeaveGuarantees};
+ghost use Rattle.cal_laws.specs.Limits.{TasksKeepToLimits, GrantsKeepToCaps};
+ghost use Rattle.cal_laws.specs.Limits.{TasksKeepToCaps, RevocationsLeaveGuarantees};
 
 use cal_machine::laws::threads_are_of_their_task;
 use cal_policy::{
@@ -8,8 +9,7 @@ use cal_policy::{
     legal_is_steady, victim_has_most_misses,
 };
 
-/// At every point every task holds no more cores than it books, and books no more than its limit. (This project's own
-/// rule.)
+/// At every point every task holds no more cores than it books, and books no more than its limit.
 pub fn tasks_keep_to_limits()
     ensures { TasksKeepToLimits }
 {
@@ -17,8 +17,9 @@ pub fn tasks_keep_to_limits()
     legal_is_sound();
 }
 
-/// A task is granted a core only where it has booked less than its limit and, if it is best-effort, less than its
-/// cap. (After Caladan's controller of memory bandwidth; the cap is this project's own.)
+/// A task is granted a core only where it has booked less than its limit and, if it is best-effort,
+/// less than its cap. (After Caladan's controller of memory bandwidth; the cap is this project's
+/// own.)
 pub fn grants_keep_to_caps()
     ensures { GrantsKeepToCaps }
 {
@@ -27,9 +28,9 @@ pub fn grants_keep_to_caps()
     threads_are_of_their_task();
 }
 
-/// At every point a best-effort task holds no more cores than its cap, but between a cut of its cap and the revocation
-/// that follows at once: there it holds at most one more. (After Caladan's controller of memory bandwidth; the cap is
-/// this project's own.)
+/// At every point a best-effort task holds no more cores than its cap, but between a cut of its cap
+/// and the revocation that follows at once: there it holds at most one more. (After Caladan's
+/// controller of memory bandwidth; the cap is this project's own.)
 pub fn tasks_keep_to_caps()
     ensures { TasksKeepToCaps }
 {
@@ -39,8 +40,9 @@ pub fn tasks_keep_to_caps()
     threads_are_of_their_task();
 }
 
-/// A core is revoked only from a task that holds more than it is guaranteed: so none holds less than its guarantee
-/// for having lost a core, whatever the cause. (After Caladan's guaranteed and burstable cores; this project's own rule.)
+/// A core is revoked only from a task that holds more than it is guaranteed: so none holds less
+/// than its guarantee for having lost a core, whatever the cause. (After Caladan's guaranteed and
+/// burstable cores; this project's own rule.)
 pub fn revocations_leave_guarantees()
     ensures { RevocationsLeaveGuarantees }
 {

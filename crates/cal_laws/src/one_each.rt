@@ -1,6 +1,8 @@
 //! How much one pass sends.
 
-ghost use Rattle.cal_laws.specs.OneEach.{CommandsGoWhereIsRoom, ActionsComeInTurn, TasksAreServedOnce, ThreadsAreSentOneCommand, PassesAreShort};
+ghost use Rattle.cal_laws.specs.OneEach.{CommandsGoWhereIsRoom, ActionsComeInTurn};
+ghost use Rattle.cal_laws.specs.OneEach.{TasksAreServedOnce};
+ghost use Rattle.cal_laws.specs.OneEach.{ThreadsAreSentOneCommand, PassesAreShort};
 
 use cal_machine::laws::threads_are_of_their_task;
 use cal_policy::{
@@ -8,7 +10,7 @@ use cal_policy::{
     legal_is_short, legal_is_sound, victim_has_most_misses,
 };
 
-/// A command is sent only to a thread whose ring has room. (This project's own rule.)
+/// A command is sent only to a thread whose ring has room.
 pub fn commands_go_where_is_room()
     ensures { CommandsGoWhereIsRoom }
 {
@@ -21,9 +23,9 @@ pub fn commands_go_where_is_room()
     threads_are_of_their_task();
 }
 
-/// The actions of a pass come strictly in turn, part by part: frees, unbans, bans with their revocations, each core by
-/// core upwards; at most one cap with its revocation; then what is done for latency-critical tasks by number, then for
-/// best-effort tasks by number. (This project's own order.)
+/// The actions of a pass come strictly in turn, part by part: frees, unbans, bans with their
+/// revocations, each core by core upwards; at most one cap with its revocation; then what is done
+/// for latency-critical tasks by number, then for best-effort tasks by number.
 pub fn actions_come_in_turn()
     ensures { ActionsComeInTurn }
 {
@@ -31,14 +33,14 @@ pub fn actions_come_in_turn()
     threads_are_of_their_task();
 }
 
-/// A pass makes at most one grant or preemption for each task. (This project's own rule.)
+/// A pass makes at most one grant or preemption for each task.
 pub fn tasks_are_served_once()
     ensures { TasksAreServedOnce }
 {
     actions_come_in_turn();
 }
 
-/// A pass sends each thread at most one command. (This project's own rule.)
+/// A pass sends each thread at most one command.
 pub fn threads_are_sent_one_command()
     ensures { ThreadsAreSentOneCommand }
 {
@@ -50,7 +52,7 @@ pub fn threads_are_sent_one_command()
     threads_are_of_their_task();
 }
 
-/// A pass has at most 338 actions. (This project's own limit.)
+/// A pass has at most 338 actions.
 pub fn passes_are_short()
     ensures { PassesAreShort }
 {

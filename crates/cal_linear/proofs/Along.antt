@@ -1,17 +1,17 @@
--- What a list of events says of the scheduler and of each thread, told so that one more event is one step:
--- each is carried along the list, next to the events before. That it is what cal_world reads off the whole
--- list is shown in Bridge.antt.
+-- What a list of events says of the scheduler and of each thread, told so that one more event is
+-- one step: each is carried along the list, next to the events before. That it is what cal_world
+-- reads off the whole list is shown in Bridge.antt.
 use Rattle.std.specs.Prelude.{ℕ, ◌+◌, ◌==◌, List, [], ◌∷◌, ◌++◌, length, Option, Some, None, slice_get, option_map, option_to_list, if◌then◌else◌}
 use Rattle.std.specs.List.{filter_map}
 use Rattle.cal_machine.specs.declared.command.Command.{Command}
 use Rattle.cal_signal.specs.declared.record.Record.{Record}
 use Rattle.cal_signal.specs.Pages.{page_of, last_from}
-use Rattle.cal_policy.specs.declared.judged_look.Seen.{Seen}
-use Rattle.cal_policy.specs.declared.judged_look.Seen.TheVariants.{Whole}
-use Rattle.cal_policy.specs.declared.pass_entry.PassEntry.{PassEntry}
+use Rattle.cal_policy.specs.declared.history.look.Seen.{Seen}
+use Rattle.cal_policy.specs.declared.history.look.Seen.TheVariants.{Whole}
+use Rattle.cal_policy.specs.declared.history.entry.PassEntry.{PassEntry}
 use Rattle.cal_policy.specs.History.{actions_of, commands_to}
-use Rattle.cal_kthread.specs.declared.entry.Entry.{Entry}
-use Rattle.cal_kthread.specs.declared.entry.Entry.TheVariants.{Took, Yielded, Published}
+use Rattle.cal_kthread.specs.declared.journal.entry.Entry.{Entry}
+use Rattle.cal_kthread.specs.declared.journal.entry.Entry.TheVariants.{Took, Yielded, Published}
 use Rattle.cal_kthread.specs.Journal.{state_after, records_of}
 use Rattle.cal_world.specs.Projections.{history_in}
 use Rattle.cal_world.specs.Watches.{watches_in}
@@ -22,8 +22,9 @@ use Rattle.cal_world.specs.declared.event.Event.TheVariants.{Take, Yield, Publis
 abbrev pub took_next : ℕ → List Command → List Entry
 took_next taken commands = option_to_list (option_map (Took (taken + 1)) (slice_get commands taken))
 
--- what an event adds to the journal of thread k, where `own` stands in it and `history` was decided: a Take the next of
--- the commands sent to the thread, a Publish the record with the next number
+-- what an event adds to the journal of thread k, where `own` stands in it and `history` was
+-- decided: a Take the next of the commands sent to the thread, a Publish the record with the next
+-- number
 abbrev pub adds_to : ℕ → List Entry → List PassEntry → Event → List Entry
 adds_to k own history (Take thread) = if thread == k then took_next (state_after own).taken (commands_to (actions_of history) k) else []
 adds_to k own history (Yield thread) = if thread == k then Yielded ∷ [] else []
@@ -35,7 +36,8 @@ abbrev pub journal_after : ℕ → List Entry → List Event → List Event → 
 journal_after k own before [] = own
 journal_after k own before (event ∷ events) = journal_after k (own ++ adds_to k own (history_in before) event) (before ++ event ∷ []) events
 
--- what thread k did, as a journal: its Takes with their commands, its Yields, its Publishes with their numbers
+-- what thread k did, as a journal: its Takes with their commands, its Yields, its Publishes with
+-- their numbers
 abbrev pub journal_along : List Event → ℕ → List Entry
 journal_along events k = journal_after k [] [] events
 
@@ -60,8 +62,8 @@ place_at k watch = if watch.0 == k then Some watch.1 else None
 abbrev pub watch_floor_along : List Event → ℕ → ℕ
 watch_floor_along events k = last_from 0 (filter_map (place_at k) (watches_in events))
 
--- what an event makes of the looks since the last Decide: a Read adds a whole look of the record at its place, a Skip
--- its own, and after a Decide there is none
+-- what an event makes of the looks since the last Decide: a Read adds a whole look of the record at
+-- its place, a Skip its own, and after a Decide there is none
 abbrev pub looks_with : List Seen → List Event → Event → List Seen
 looks_with looks before (Read thread place) = looks ++ option_to_list (option_map (Whole place) (slice_get (page_of (published_along before thread)) place))
 looks_with looks before (Skip thread seen) = looks ++ seen ∷ []

@@ -1,4 +1,5 @@
--- A list that is legal as it is told in LegalAlong.antt is legal as cal_world tells it, with the same projections.
+-- A list that is legal as it is told in LegalAlong.antt is legal as cal_world tells it, with the
+-- same projections.
 use Rattle.std.proofs.Common.{◌≡◌, ℕ, ◌+◌, ◌<◌, ◌≤◌, zero, suc, Bool, true, false, eqb, cond, List, [], ◌∷◌, ◌++◌, length, get_or, take, Option, Some, None, refl, sym, ap, subst, ◌∙◌, append_assoc, append-nil, arith, length-append}
 use Rattle.std.specs.Prelude.{option_to_list, option_map}
 use Rattle.std.specs.List.{slice_get, filter_map, count_by, cons_option}
@@ -14,16 +15,16 @@ use Rattle.cal_machine.specs.declared.command.Command.TheVariants.{Park}
 use Rattle.cal_signal.specs.declared.record.Record.{Record}
 use Rattle.cal_signal.specs.Records.{zero_record}
 use Rattle.cal_signal.specs.Pages.{last_from, page_of}
-use Rattle.cal_policy.specs.declared.judged_look.Seen.{Seen}
-use Rattle.cal_policy.specs.declared.judged_look.Seen.TheVariants.{Whole}
-use Rattle.cal_policy.specs.declared.pass_entry.PassEntry.{PassEntry}
-use Rattle.cal_policy.specs.Lists.{last_of}
+use Rattle.cal_policy.specs.declared.history.look.Seen.{Seen}
+use Rattle.cal_policy.specs.declared.history.look.Seen.TheVariants.{Whole}
+use Rattle.cal_policy.specs.declared.history.entry.PassEntry.{PassEntry}
+use Rattle.cal_policy.specs.History.Lists.{last_of}
 use Rattle.cal_policy.specs.History.{actions_of, commands_to}
-use Rattle.cal_policy.proofs.Lists.{last_of_push, each_of_push, unwrap_or_or}
-use Rattle.cal_kthread.specs.declared.entry.Entry.{Entry}
-use Rattle.cal_kthread.specs.declared.entry.Entry.TheVariants.{Took, Yielded, Published}
+use Rattle.cal_policy.proofs.ListLemmas.OneMore.{last_of_push, each_of_push, unwrap_or_or}
+use Rattle.cal_kthread.specs.declared.journal.entry.Entry.{Entry}
+use Rattle.cal_kthread.specs.declared.journal.entry.Entry.TheVariants.{Took, Yielded, Published}
 use Rattle.cal_kthread.specs.Journal.{State, changed_by, state_after, record_in, records_of}
-use Rattle.cal_kthread.proofs.Journals.{filter_map-push, state_after-push}
+use Rattle.cal_kthread.proofs.JournalLemmas.OneEntryMore.{filter_map-push, state_after-push}
 use Rattle.cal_world.specs.declared.event.Event.{Event}
 use Rattle.cal_world.specs.declared.event.Event.TheVariants.{Take, Yield, Publish, Read, Skip, Decide, Watch}
 use Rattle.cal_world.specs.Projections.{history_in}
@@ -40,7 +41,7 @@ use Rattle.cal_world.specs.Looks.{decided, since_decide, record_at, look_made, l
 use Rattle.cal_world.specs.World.{HasCommand, Passes, IsAllowed, IsLegalList}
 use Rattle.cal_linear.proofs.Lists.{last_from_push}
 use Rattle.cal_linear.proofs.OneMore.{journal_push, looks_push, floor_push, watches_push}
-use Rattle.cal_world.proofs.SinceDecide.{since_more, since_none}
+use Rattle.cal_world.proofs.ScheduleLemmas.SinceDecide.{since_more, since_none}
 
 -- a Read of a place that is published
 abbrev pub IsOnPage : List Event → Event → Type 0

@@ -1,16 +1,14 @@
 -- A journal and its front up to a publication.
-use Rattle.std.proofs.Common.{◌≡◌, ℕ, ◌+◌, ◌<◌, ◌≤◌, zero, suc, List, [], ◌∷◌, ◌++◌, length, Some, refl, sym, ap, ◌∙◌, append_assoc, arith, length-append}
+use Rattle.std.proofs.Common.{◌≡◌, ℕ, ◌+◌, ◌<◌, ◌≤◌, zero, suc, List, [], ◌∷◌, ◌++◌, length, refl, sym, ap, ◌∙◌, arith, length-append}
 use Rattle.std.specs.List.{slice_get}
 use Rattle.std.proofs.lemmas.List.Elements.{filter_map-append}
-use Rattle.cal_signal.specs.declared.record.Record.{Record}
 use Rattle.cal_signal.specs.Pages.{page_of}
-use Rattle.cal_signal.specs.Records.{zero_record}
-use Rattle.cal_kthread.proofs.JournalParts.{taken-all}
-use Rattle.cal_kthread.specs.declared.entry.Entry.{Entry}
-use Rattle.cal_kthread.specs.declared.entry.Entry.TheVariants.{Arrived, Took, Stole, Served, Yielded, Published}
-use Rattle.cal_kthread.specs.Journal.{State, first_state, changed_by, state_from, state_after, record_in, records_of, command_in, commands_of, StandAfter}
-use Rattle.cal_kthread.specs.Journals.{up_to, past, still_after, steps_of}
-use Rattle.cal_linear.proofs.Lists.{get_front}
+use Rattle.cal_kthread.proofs.JournalLemmas.Parts.{taken-all}
+use Rattle.cal_kthread.specs.declared.journal.entry.Entry.{Entry}
+use Rattle.cal_kthread.specs.declared.journal.entry.Entry.TheVariants.{Arrived, Took, Stole, Served, Yielded, Published}
+use Rattle.cal_kthread.specs.Journal.{state_after, record_in, records_of, command_in, commands_of}
+use Rattle.cal_kthread.specs.Journal.Entries.{up_to, past, still_after}
+use Rattle.cal_lists.proofs.Places.{slice_get_front}
 
 -- the front and what is left of it are the whole
 pub cut_whole : (n : ℕ) (xs : List Entry) → up_to n xs ++ past n xs ≡ xs
@@ -51,7 +49,7 @@ cut_page n xs le =
     let len = cut_records n xs le in
     let whole : records_of xs ≡ records_of (up_to n xs) ++ records_of (past n xs) = ap records_of (sym (cut_whole n xs)) ∙ filter_map-append record_in (up_to n xs) (past n xs) in
     let lt : n < length (page_of (records_of (up_to n xs))) = omega (arith, len) in
-    sym (get_front (page_of (records_of (up_to n xs))) (records_of (past n xs)) n lt) ∙ ap (λ l. slice_get (page_of l) n) (sym whole)
+    sym (slice_get_front (page_of (records_of (up_to n xs))) (records_of (past n xs)) n lt) ∙ ap (λ l. slice_get (page_of l) n) (sym whole)
 
 -- more entries take no fewer commands
 pub taken_more : (xs ys : List Entry) → (state_after xs).taken ≤ (state_after (xs ++ ys)).taken

@@ -26,10 +26,11 @@ MayBePublished state published rec = (rec.taken ≡ state.taken) × (rec.running
 abbrev pub IsTurnOf : List Event → ℕ → Type 0
 IsTurnOf before k = length (looks_along before) ≡ k
 
--- An event may happen after these ones. A Take: a command was sent and not taken. A Yield: the thread is on a core. A
--- Publish: the record shows its state, and may follow on its page. A Read: the place is not below the floor, and is
--- published. Looks come one a thread, in thread order, between two Decides. A Decide: its entry has those looks, and is a
--- pass. A Watch: as a Read, at any place in the list, with a floor of its own.
+-- An event may happen after these ones. A Take: a command was sent and not taken. A Yield: the
+-- thread is on a core. A Publish: the record shows its state, and may follow on its page. A Read:
+-- the place is not below the floor, and is published. Looks come one a thread, in thread order,
+-- between two Decides. A Decide: its entry has those looks, and is a pass. A Watch: as a Read, at
+-- any place in the list, with a floor of its own.
 abbrev pub IsAllowedAlong : Table → List Event → Event → Type 0
 IsAllowedAlong table before (Take k) = (k < threads_of_table table) × ((state_along before k).taken < sent_to (actions_of (history_in before)) k)
 IsAllowedAlong table before (Yield k) = (k < threads_of_table table) × IsSome (state_along before k).core

@@ -8,24 +8,24 @@ use Rattle.cal_machine.specs.Table.{Table}
 use Rattle.cal_machine.specs.declared.command.Command.{Command}
 use Rattle.cal_signal.specs.declared.record.Record.{Record}
 use Rattle.cal_signal.specs.Pages.{last_from}
-use Rattle.cal_policy.specs.declared.judged_look.Seen.{Seen}
-use Rattle.cal_policy.specs.declared.pass_entry.PassEntry.{PassEntry}
+use Rattle.cal_policy.specs.declared.history.look.Seen.{Seen}
+use Rattle.cal_policy.specs.declared.history.entry.PassEntry.{PassEntry}
 use Rattle.cal_policy.specs.Tasks.{threads_of_table}
 use Rattle.cal_policy.specs.History.{actions_of, commands_to}
-use Rattle.cal_kthread.specs.declared.entry.Entry.{Entry}
-use Rattle.cal_kthread.specs.declared.entry.Entry.TheVariants.{Arrived, Took, Stole, Served, Yielded, Published}
-use Rattle.cal_kthread.specs.Journal.{State, first_state, state_after, records_of}
+use Rattle.cal_kthread.specs.declared.journal.entry.Entry.{Entry}
+use Rattle.cal_kthread.specs.declared.journal.entry.Entry.TheVariants.{Arrived, Took, Stole, Served, Yielded, Published}
+use Rattle.cal_kthread.specs.Journal.{State, state_after, records_of}
 use Rattle.cal_world.specs.declared.event.Event.{Event}
 use Rattle.cal_world.specs.declared.event.Event.TheVariants.{Take, Yield, Publish}
 use Rattle.cal_world.specs.Projections.{entry_in, history_in}
 use Rattle.cal_linear.proofs.Along.{adds_to, took_next, journal_along, place_of_read, floor_along, looks_with, looks_along}
 use Rattle.cal_world.specs.Watches.{watch_in, watches_in}
 use Rattle.cal_linear.proofs.LegalAlong.{IsAllowedAlong, IsLegalAlong, MayBePublished}
-use Rattle.cal_kthread.specs.Journals.{steps_of, is_step}
+use Rattle.cal_kthread.specs.Journal.Entries.{steps_of, is_step}
 use Rattle.cal_linear.specs.Steps.{event_of, events_of}
 use Rattle.cal_linear.proofs.Lists.{eqb_self}
 use Rattle.cal_linear.proofs.OneMore.{history_push, journal_push, looks_push, floor_push, watches_push, legal_push}
-use Rattle.cal_kthread.proofs.JournalParts.{others-change-nothing}
+use Rattle.cal_kthread.proofs.JournalLemmas.Parts.{others-change-nothing}
 use Rattle.cal_linear.proofs.Standing.{MayHappen, MayAllHappen}
 
 -- after `es` a legal list went on to `new` by steps of thread k alone, which has now done `own`

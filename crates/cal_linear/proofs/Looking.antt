@@ -9,12 +9,12 @@ use Rattle.cal_machine.specs.Table.{Table}
 use Rattle.cal_machine.specs.declared.command.Command.{Command}
 use Rattle.cal_signal.specs.declared.record.Record.{Record}
 use Rattle.cal_signal.specs.Pages.{last_from, page_of}
-use Rattle.cal_policy.specs.declared.judged_look.Seen.{Seen}
-use Rattle.cal_policy.specs.declared.judged_look.Seen.TheVariants.{Whole, Busy, Ahead, Foreign}
-use Rattle.cal_policy.specs.declared.pass_entry.PassEntry.{PassEntry}
+use Rattle.cal_policy.specs.declared.history.look.Seen.{Seen}
+use Rattle.cal_policy.specs.declared.history.look.Seen.TheVariants.{Whole, Busy, Ahead, Foreign}
+use Rattle.cal_policy.specs.declared.history.entry.PassEntry.{PassEntry}
 use Rattle.cal_policy.specs.Tasks.{threads_of_table}
 use Rattle.cal_policy.specs.History.{actions_of, commands_to, sent_to}
-use Rattle.cal_kthread.specs.declared.entry.Entry.{Entry}
+use Rattle.cal_kthread.specs.declared.journal.entry.Entry.{Entry}
 use Rattle.cal_kthread.specs.Journal.{IsJournal, state_after, records_of}
 use Rattle.cal_world.specs.declared.event.Event.{Event}
 use Rattle.cal_world.specs.declared.event.Event.TheVariants.{Read, Skip}
@@ -23,20 +23,20 @@ use Rattle.cal_linear.proofs.Along.{journal_along, place_of_read, floor_along, l
 use Rattle.cal_world.specs.Watches.{watches_in}
 use Rattle.cal_world.specs.World.{KeepsNone}
 use Rattle.cal_linear.proofs.LegalAlong.{IsAllowedAlong, IsLegalAlong}
-use Rattle.cal_kthread.specs.Journals.{up_to, past, steps_of}
+use Rattle.cal_kthread.specs.Journal.Entries.{up_to, past, steps_of}
 use Rattle.cal_linear.specs.Steps.{between, events_of, journal_at}
 use Rattle.cal_linear.proofs.Places.{with_look, with_looks, look_leaves}
 use Rattle.cal_linear.specs.Linear.{look_events, looks_from}
 use Rattle.cal_linear.specs.Runs.{IsPublication}
 use Rattle.cal_linear.proofs.Lists.{last_from_push}
 use Rattle.cal_linear.proofs.OneMore.{history_push, journal_push, looks_push, floor_push, watches_push, legal_push}
-use Rattle.cal_kthread.proofs.JournalParts.{others-change-nothing, record-shows-taken, taken-all}
+use Rattle.cal_kthread.proofs.JournalLemmas.Parts.{others-change-nothing, record-shows-taken, taken-all}
 use Rattle.cal_linear.proofs.Cuts.{cut_whole, cut_more, cut_records, cut_page}
 use Rattle.cal_linear.proofs.Standing.{MayAllHappen, HasFirst, split, all_with}
 use Rattle.cal_linear.proofs.Listing.{GoesOn, list_on}
 
--- where a legal list has come: these passes are decided, and after them these looks made; of each thread the place that
--- was read last, and all that it did up to that publication
+-- where a legal list has come: these passes are decided, and after them these looks made; of each
+-- thread the place that was read last, and all that it did up to that publication
 pub record HasCome (table : Table) (journals : List (List Entry)) (places : ℕ → ℕ) (passes : List PassEntry) (looks : List Seen) (es : List Event) : Type 0 where
   pub legal : IsLegalAlong table es
   pub decided : history_in es ≡ passes
@@ -45,7 +45,8 @@ pub record HasCome (table : Table) (journals : List (List Entry)) (places : ℕ 
   pub floors : (j : ℕ) → floor_along es j ≡ places j
   pub done : (j : ℕ) → journal_along es j ≡ steps_of (up_to (places j) (journal_at journals j))
 
--- a journal whose entries may all happen once these commands were sent, of which the first were sent by these passes
+-- a journal whose entries may all happen once these commands were sent, of which the first were
+-- sent by these passes
 pub record IsSound (sent : List Command) (passes : List PassEntry) (k : ℕ) (journal : List Entry) : Type 0 where
   pub kept : IsJournal journal
   pub may : MayAllHappen sent [] journal

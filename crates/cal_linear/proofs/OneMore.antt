@@ -4,9 +4,9 @@ use Rattle.std.specs.Prelude.{option_to_list}
 use Rattle.std.specs.List.{filter_map}
 use Rattle.cal_machine.specs.Table.{Table}
 use Rattle.cal_signal.specs.Pages.{last_from}
-use Rattle.cal_kthread.proofs.Journals.{filter_map-push}
-use Rattle.cal_kthread.specs.declared.entry.Entry.{Entry}
-use Rattle.cal_policy.specs.declared.judged_look.Seen.{Seen}
+use Rattle.cal_kthread.proofs.JournalLemmas.OneEntryMore.{filter_map-push}
+use Rattle.cal_kthread.specs.declared.journal.entry.Entry.{Entry}
+use Rattle.cal_policy.specs.declared.history.look.Seen.{Seen}
 use Rattle.cal_world.specs.declared.event.Event.{Event}
 use Rattle.cal_world.specs.Projections.{entry_in, history_in}
 use Rattle.cal_linear.proofs.Along.{adds_to, journal_after, journal_along, place_of_read, floor_along, looks_with, looks_after, looks_along}

@@ -9,32 +9,33 @@ use Rattle.std.proofs.lemmas.Grind.{flat_map-append}
 use Rattle.std.proofs.Math.Seq.{take-append_seam}
 use Rattle.cal_machine.specs.Table.{Table}
 use Rattle.cal_machine.specs.declared.command.Command.{Command}
-use Rattle.cal_policy.specs.declared.judged_look.Seen.{Seen}
-use Rattle.cal_policy.specs.declared.pass_action.Action.{Action}
-use Rattle.cal_policy.specs.declared.pass_entry.PassEntry.{PassEntry}
+use Rattle.cal_policy.specs.declared.history.look.Seen.{Seen}
+use Rattle.cal_policy.specs.declared.history.action.Action.{Action}
+use Rattle.cal_policy.specs.declared.history.entry.PassEntry.{PassEntry}
 use Rattle.cal_policy.specs.Tasks.{threads_of_table}
-use Rattle.cal_policy.specs.Lists.{each_after}
+use Rattle.cal_policy.specs.History.Lists.{each_after}
 use Rattle.cal_policy.specs.History.{actions_of, commands_to, sends, sent_to}
 use Rattle.cal_policy.specs.Pass.{IsPass}
-use Rattle.cal_kthread.specs.declared.entry.Entry.{Entry}
+use Rattle.cal_kthread.specs.declared.journal.entry.Entry.{Entry}
 use Rattle.cal_world.specs.declared.event.Event.{Event}
 use Rattle.cal_world.specs.declared.event.Event.TheVariants.{Decide}
 use Rattle.cal_world.specs.Projections.{history_in}
 use Rattle.cal_linear.proofs.Along.{journal_along, place_of_read}
 use Rattle.cal_world.specs.Watches.{watches_in}
 use Rattle.cal_linear.proofs.LegalAlong.{IsLegalAlong}
-use Rattle.cal_kthread.specs.Journals.{up_to, past, steps_of}
+use Rattle.cal_kthread.specs.Journal.Entries.{up_to, past, steps_of}
 use Rattle.cal_linear.specs.Steps.{events_of, journal_at}
 use Rattle.cal_linear.proofs.Places.{with_looks, furthest_next}
 use Rattle.cal_linear.specs.Linear.{rests_from, looks_from, pass_events, passes_and_rests}
 use Rattle.cal_linear.specs.Runs.{AreOfOneRun}
-use Rattle.cal_linear.proofs.Lists.{get_front, get_seam}
 use Rattle.cal_linear.proofs.OneMore.{history_push, journal_push, looks_push, floor_push, watches_push, legal_push}
 use Rattle.cal_linear.proofs.Cuts.{cut_whole}
 use Rattle.cal_linear.proofs.Standing.{MayAllHappen, HasFirst, split, journal_may_happen}
 use Rattle.cal_linear.proofs.Listing.{list_on}
 use Rattle.cal_linear.proofs.Looking.{HasCome, IsSound, looks_on}
 use Rattle.cal_linear.proofs.Fitting.{AreShown, pass_fits, shown_after}
+use Rattle.cal_lists.proofs.Places.{slice_get_front, slice_get_seam}
+use Rattle.cal_policy.proofs.ListLemmas.OneMore.{each_after_append}
 
 -- a pass, with its looks before it
 decide_on : (table : Table) (journals : List (List Entry)) (places : ℕ → ℕ) (passes : List PassEntry) (entry : PassEntry) (es : List Event) →
@@ -51,19 +52,12 @@ decide_on table journals places passes entry es come is =
       done = λ j. journal_push j es e ∙ append-nil (journal_along es j) ∙ come.done j;
     }
 
--- what was sent stays the first part of what is sent
-each_more : {X Y : Type 0} (f : List X → X → List Y) (before xs ys : List X) → each_after f before (xs ++ ys) ≡ each_after f before xs ++ each_after f (before ++ xs) ys
-each_more f before [] ys = ap (λ b. each_after f b ys) (sym (append-nil before))
-each_more f before (x ∷ xs) ys =
-    ap (λ l. f before x ++ l) (each_more f (before ++ x ∷ []) xs ys ∙ ap (λ b. each_after f (before ++ x ∷ []) xs ++ each_after f b ys) (append_assoc before (x ∷ []) xs))
-    ∙ sym (append_assoc (f before x) (each_after f (before ++ x ∷ []) xs) (each_after f (before ++ x ∷ xs) ys))
-
 pub sent_first : (passes more : List PassEntry) (k : ℕ) → HasFirst (commands_to (actions_of (passes ++ more)) k) (commands_to (actions_of passes) k) (sent_to (actions_of passes) k)
 sent_first passes more k i lt =
     let x : List Action = actions_of passes in
     let both : actions_of (passes ++ more) ≡ x ++ actions_of more = flat_map-append (λ (entry : PassEntry). entry.actions) passes more in
-    let whole : commands_to (actions_of (passes ++ more)) k ≡ commands_to x k ++ each_after (sends k) x (actions_of more) = ap (λ y. commands_to y k) both ∙ each_more (sends k) [] x (actions_of more) in
-    sym (ap (λ l. slice_get l i) whole ∙ get_front (commands_to x k) (each_after (sends k) x (actions_of more)) i lt)
+    let whole : commands_to (actions_of (passes ++ more)) k ≡ commands_to x k ++ each_after (sends k) x (actions_of more) = ap (λ y. commands_to y k) both ∙ each_after_append (sends k) [] x (actions_of more) in
+    sym (ap (λ l. slice_get l i) whole ∙ slice_get_front (commands_to x k) (each_after (sends k) x (actions_of more)) i lt)
 
 -- all of the passes and the journals is listed
 pub record HasAll (table : Table) (history : List PassEntry) (journals : List (List Entry)) (es : List Event) : Type 0 where
@@ -143,7 +137,7 @@ passes_on table history journals passes [] es run at shown come =
 passes_on table history journals passes (entry ∷ entries) es run at shown come =
     let seen : List Seen = entry.input.seen in
     let from : ℕ → ℕ = furthest passes in
-    let there : slice_get history (length passes) ≡ Some entry = sym (ap (λ l. slice_get l (length passes)) at) ∙ get_seam passes entry entries in
+    let there : slice_get history (length passes) ≡ Some entry = sym (ap (λ l. slice_get l (length passes)) at) ∙ slice_get_seam passes entry entries in
     let before : take (length passes) history ≡ passes = sym (ap (take (length passes)) at) ∙ take-append_seam passes (entry ∷ entries) in
     let I : List PassEntry → Type 0 = λ h. IsPass table h entry in
     let is : IsPass table passes entry = subst I before (run.legal.passes (length passes) entry there) in

@@ -7,14 +7,15 @@ use Rattle.cal_machine.specs.declared.command.Command.{Command}
 use Rattle.cal_signal.specs.declared.record.Record.{Record}
 use Rattle.cal_signal.specs.Pages.{Chain, last_from}
 use Rattle.cal_signal.specs.Records.{MayFollow, zero_record}
-use Rattle.cal_kthread.specs.declared.entry.Entry.{Entry}
-use Rattle.cal_kthread.specs.declared.entry.Entry.TheVariants.{Arrived, Took, Stole, Served, Yielded, Published}
+use Rattle.cal_kthread.specs.declared.journal.entry.Entry.{Entry}
+use Rattle.cal_kthread.specs.declared.journal.entry.Entry.TheVariants.{Arrived, Took, Stole, Served, Yielded, Published}
 use Rattle.cal_kthread.specs.Journal.{state_after, record_in, records_of, command_in, commands_of, MayStand, StandAfter, IsJournal}
-use Rattle.cal_kthread.proofs.Journals.{filter_map-push}
+use Rattle.cal_kthread.proofs.JournalLemmas.OneEntryMore.{filter_map-push}
 use Rattle.cal_linear.proofs.LegalAlong.{MayBePublished}
-use Rattle.cal_kthread.proofs.JournalParts.{taken-all}
+use Rattle.cal_kthread.proofs.JournalLemmas.Parts.{taken-all}
 use Rattle.cal_linear.proofs.Cuts.{taken_more}
-use Rattle.cal_linear.proofs.Lists.{get_seam, last_from_push}
+use Rattle.cal_linear.proofs.Lists.{last_from_push}
+use Rattle.cal_lists.proofs.Places.{slice_get_seam}
 
 -- after these entries of its thread, of which these commands were sent to it
 abbrev pub MayHappen : List Command → List Entry → Entry → Type 0
@@ -66,7 +67,7 @@ one_of_journal sent before (Arrived r) xs may chain first = tt
 one_of_journal sent before (Took number command) xs may chain first =
     let e : commands_of (before ++ Took number command ∷ xs) ≡ commands_of before ++ command ∷ commands_of xs = filter_map-append command_in before (Took number command ∷ xs) in
     let at : slice_get (commands_of (before ++ Took number command ∷ xs)) (state_after before).taken ≡ Some command =
-    ap (λ l. slice_get l (state_after before).taken) e ∙ ap (slice_get (commands_of before ++ command ∷ commands_of xs)) (taken-all before) ∙ get_seam (commands_of before) command (commands_of xs) in
+    ap (λ l. slice_get l (state_after before).taken) e ∙ ap (slice_get (commands_of before ++ command ∷ commands_of xs)) (taken-all before) ∙ slice_get_seam (commands_of before) command (commands_of xs) in
     (may, first (state_after before).taken command at)
 one_of_journal sent before (Stole from id) xs may chain first = tt
 one_of_journal sent before (Served id) xs may chain first = tt

@@ -11,25 +11,25 @@ use Rattle.cal_signal.specs.declared.record.Record.{Record}
 use Rattle.cal_signal.specs.declared.look.Look.{Look}
 use Rattle.cal_signal.specs.declared.look.Look.TheVariants as found
 use Rattle.cal_signal.specs.Pages.{last_from, FitsFrom}
-use Rattle.cal_policy.specs.declared.pass_entry.PassEntry.{PassEntry}
+use Rattle.cal_policy.specs.declared.history.entry.PassEntry.{PassEntry}
 use Rattle.cal_policy.specs.Tasks.{threads_of_table}
-use Rattle.cal_kthread.specs.declared.entry.Entry.{Entry}
+use Rattle.cal_kthread.specs.declared.journal.entry.Entry.{Entry}
 use Rattle.cal_kthread.specs.Journal.{records_of}
-use Rattle.cal_kthread.proofs.Journals.{filter_map-push}
+use Rattle.cal_kthread.proofs.JournalLemmas.OneEntryMore.{filter_map-push}
 use Rattle.cal_world.specs.declared.event.Event.{Event}
 use Rattle.cal_world.specs.declared.event.Event.TheVariants.{Watch}
 use Rattle.cal_world.specs.Projections.{history_in}
 use Rattle.cal_linear.proofs.Along.{journal_along, published_along, place_at, watch_floor_along}
 use Rattle.cal_world.specs.Watches.{watches_in}
 use Rattle.cal_linear.proofs.LegalAlong.{IsLegalAlong}
-use Rattle.cal_kthread.specs.Journals.{steps_of}
+use Rattle.cal_kthread.specs.Journal.Entries.{steps_of}
 use Rattle.cal_linear.specs.Steps.{journal_at}
 use Rattle.cal_linear.specs.Linear.{whole_looks_from, whole_looks_of, watch_events, linear, passes_and_rests}
 use Rattle.cal_linear.specs.Runs.{found_of, AreOfOneRun, AreWatched, page_at, found_by}
 use Rattle.cal_linear.specs.Law.{IsLinearised}
 use Rattle.cal_linear.proofs.Lists.{last_from_push}
 use Rattle.cal_linear.proofs.OneMore.{history_push, journal_push, watches_push, legal_push}
-use Rattle.cal_kthread.proofs.JournalParts.{others-change-nothing}
+use Rattle.cal_kthread.proofs.JournalLemmas.Parts.{others-change-nothing}
 use Rattle.cal_linear.proofs.Passing.{all_on}
 use Rattle.cal_linear.proofs.Bridge.{agrees, legal_there}
 

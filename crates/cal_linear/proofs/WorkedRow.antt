@@ -1,4 +1,5 @@
--- The worked run: its steps are those of one run, where its passes are legal. So what is asked of a run can be met.
+-- The worked run: its steps are those of one run, where its passes are legal. So what is asked of a
+-- run can be met.
 use Rattle.std.proofs.Common.{◌≡◌, ℕ, zero, suc, List, [], ◌∷◌, length, take, Some, refl, sym, ap, subst, ◌∙◌, arith}
 use Rattle.std.specs.List.{slice_get}
 use Rattle.cal_machine.specs.Table.{Table}
@@ -6,12 +7,12 @@ use Rattle.cal_signal.specs.declared.record.Record.{Record}
 use Rattle.cal_signal.specs.declared.look.Look.{Look}
 use Rattle.cal_signal.specs.declared.look.Look.TheVariants as found
 use Rattle.cal_signal.specs.Pages.{FitsPage}
-use Rattle.cal_policy.specs.declared.judged_look.Seen.{Seen}
-use Rattle.cal_policy.specs.declared.judged_look.Seen.TheVariants.{Whole}
+use Rattle.cal_policy.specs.declared.history.look.Seen.{Seen}
+use Rattle.cal_policy.specs.declared.history.look.Seen.TheVariants.{Whole}
 use Rattle.cal_policy.specs.History.{actions_of, commands_to}
 use Rattle.cal_policy.specs.Pass.{IsLegal}
 use Rattle.cal_policy.specs.Tasks.{threads_of_table}
-use Rattle.cal_policy.specs.declared.pass_entry.PassEntry.{PassEntry}
+use Rattle.cal_policy.specs.declared.history.entry.PassEntry.{PassEntry}
 use Rattle.cal_kthread.specs.Journal.{IsJournal, commands_of}
 use Rattle.cal_world.specs.declared.event.Event.TheVariants.{Take, Publish, Read, Decide}
 use Rattle.cal_linear.specs.Steps.{journal_at}

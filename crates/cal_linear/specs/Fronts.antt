@@ -1,9 +1,9 @@
 -- How far each thread's journal is listed.
 use Rattle.std.specs.Prelude.{◌≡◌, ◌≤◌, ℕ, List, length, Some, slice_get, slice_index_or}
-use Rattle.cal_policy.specs.declared.pass_entry.PassEntry.{PassEntry}
-use Rattle.cal_kthread.specs.declared.entry.Entry.{Entry}
+use Rattle.cal_policy.specs.declared.history.entry.PassEntry.{PassEntry}
+use Rattle.cal_kthread.specs.declared.journal.entry.Entry.{Entry}
 use Rattle.cal_linear.specs.declared.front.Front.{Front}
-use Rattle.cal_kthread.specs.Journals.{up_to}
+use Rattle.cal_kthread.specs.Journal.Entries.{up_to}
 use Rattle.cal_linear.specs.Steps.{journal_at}
 
 -- nothing of it

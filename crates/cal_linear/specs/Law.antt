@@ -3,12 +3,12 @@ use Rattle.std.specs.Prelude.{◌≡◌, ℕ, List, Some, slice_get}
 use Rattle.cal_machine.specs.Table.{Table}
 use Rattle.cal_signal.specs.declared.look.Look.{Look}
 use Rattle.cal_signal.specs.Pages.{FitsPage}
-use Rattle.cal_policy.specs.declared.pass_entry.PassEntry.{PassEntry}
-use Rattle.cal_kthread.specs.declared.entry.Entry.{Entry}
+use Rattle.cal_policy.specs.declared.history.entry.PassEntry.{PassEntry}
+use Rattle.cal_kthread.specs.declared.journal.entry.Entry.{Entry}
 use Rattle.cal_world.specs.declared.event.Event.{Event}
 use Rattle.cal_world.specs.Projections.{history_in, journal_in}
 use Rattle.cal_world.specs.World.{IsLegalList}
-use Rattle.cal_kthread.specs.Journals.{steps_of}
+use Rattle.cal_kthread.specs.Journal.Entries.{steps_of}
 use Rattle.cal_linear.specs.Steps.{journal_at}
 use Rattle.cal_world.specs.Watches.{watches_in}
 use Rattle.cal_linear.specs.Linear.{linear, whole_looks_of}

@@ -2,9 +2,9 @@
 use Rattle.std.specs.Prelude.{ℕ, zero, max, List, [], ◌∷◌, Option, Some, None, slice_get}
 use Rattle.std.specs.List.{filter_map}
 use Rattle.std.specs.Option.{option_and_then}
-use Rattle.cal_policy.specs.declared.judged_look.Seen.{Seen}
-use Rattle.cal_policy.specs.declared.judged_look.Seen.TheVariants.{Whole}
-use Rattle.cal_policy.specs.declared.pass_entry.PassEntry.{PassEntry}
+use Rattle.cal_policy.specs.declared.history.look.Seen.{Seen}
+use Rattle.cal_policy.specs.declared.history.look.Seen.TheVariants.{Whole}
+use Rattle.cal_policy.specs.declared.history.entry.PassEntry.{PassEntry}
 
 -- the place that a look read; none where it is not whole
 abbrev pub place_of : Seen → Option ℕ

@@ -1,19 +1,20 @@
 -- When a history, journals and watched rounds are those of one run.
-use Rattle.std.specs.Prelude.{◌≡◌, ℕ, List, [], length, take, Option, Some, None, slice_get, option_map}
+use Rattle.std.specs.Prelude.{◌≡◌, ℕ, List, [], length, take, Option}
+use Rattle.std.specs.Prelude.{Some, None, slice_get, option_map}
 use Rattle.std.specs.List.{flat_map}
 use Rattle.cal_machine.specs.Table.{Table}
 use Rattle.cal_signal.specs.declared.record.Record.{Record}
 use Rattle.cal_signal.specs.declared.look.Look.{Look}
 use Rattle.cal_signal.specs.Pages.{page_of, FitsPage}
 use Rattle.cal_signal.specs.Looks.{whole_of}
-use Rattle.cal_policy.specs.declared.judged_look.Seen.{Seen}
-use Rattle.cal_policy.specs.declared.judged_look.Seen.TheVariants.{Whole}
-use Rattle.cal_policy.specs.declared.pass_entry.PassEntry.{PassEntry}
+use Rattle.cal_policy.specs.declared.history.look.Seen.{Seen}
+use Rattle.cal_policy.specs.declared.history.look.Seen.TheVariants.{Whole}
+use Rattle.cal_policy.specs.declared.history.entry.PassEntry.{PassEntry}
 use Rattle.cal_policy.specs.Tasks.{threads_of_table}
 use Rattle.cal_policy.specs.History.{actions_of, commands_to}
-use Rattle.cal_policy.specs.Looks.{look_of}
+use Rattle.cal_policy.specs.History.Looks.{look_of}
 use Rattle.cal_policy.specs.Pass.{IsLegal}
-use Rattle.cal_kthread.specs.declared.entry.Entry.{Entry}
+use Rattle.cal_kthread.specs.declared.journal.entry.Entry.{Entry}
 use Rattle.cal_kthread.specs.Journal.{IsJournal, records_of, commands_of}
 use Rattle.cal_linear.specs.Steps.{journal_at}
 

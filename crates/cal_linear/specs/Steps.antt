@@ -1,9 +1,9 @@
 -- The events of a journal, and the part of one between two of its publications.
 use Rattle.std.specs.Prelude.{ℕ, ◌-◌, List, [], Option, Some, None, slice_index_or}
 use Rattle.std.specs.List.{filter_map}
-use Rattle.cal_kthread.specs.declared.entry.Entry.{Entry}
-use Rattle.cal_kthread.specs.declared.entry.Entry.TheVariants.{Took, Yielded, Published}
-use Rattle.cal_kthread.specs.Journals.{up_to, past}
+use Rattle.cal_kthread.specs.declared.journal.entry.Entry.{Entry}
+use Rattle.cal_kthread.specs.declared.journal.entry.Entry.TheVariants.{Took, Yielded, Published}
+use Rattle.cal_kthread.specs.Journal.Entries.{up_to, past}
 use Rattle.cal_world.specs.declared.event.Event.{Event}
 use Rattle.cal_world.specs.declared.event.Event.TheVariants.{Take, Yield, Publish}
 

@@ -1,7 +1,7 @@
 //! How far a thread's journal is listed, and what a look adds.
 
 ghost use Rattle.std.specs.Prelude.{◌≡◌, ◌++◌, IfOk};
-ghost use Rattle.cal_kthread.specs.Journals.{past};
+ghost use Rattle.cal_kthread.specs.Journal.Entries.{past};
 ghost use Rattle.cal_linear.specs.Steps.{events_of};
 ghost use Rattle.cal_linear.specs.Reads.{further, place_of};
 ghost use Rattle.cal_linear.specs.Linear.{look_events};

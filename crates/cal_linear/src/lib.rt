@@ -5,7 +5,7 @@
 //! `AreWatched`), their steps stand in one order that is a legal list of events. So what holds of
 //! every legal list holds of what they did.
 //!
-//! Not promised: that the list is the order in time between threads.
+//! The order is this project's own. Not promised: that it is the order in time between threads.
 #![tactic(auto)]
 
 mod front;

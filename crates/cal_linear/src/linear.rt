@@ -20,7 +20,7 @@ use std::alloc::{AllocError, Global};
 /// journal up to the record that was read and then the Read, or for another look the Skip alone;
 /// then the Decide. After the passes comes the rest of each journal, in thread order, and then a
 /// Watch for each whole look of the watched rounds, in order. `Took`, `Yielded` and `Published`
-/// give a Take, a Yield and a Publish, other entries nothing. (This project's own order.)
+/// give a Take, a Yield and a Publish, other entries nothing.
 ///
 /// The list is legal, and the history, the journals' steps and the whole looks are its projections.
 /// Its error is want of memory alone.

@@ -2,7 +2,7 @@
 //! journal.
 
 ghost use Rattle.std.specs.Prelude.{◌≡◌, ◌≤◌, ◌++◌, [], length, IfOk};
-ghost use Rattle.cal_policy.specs.Lists.{each_of};
+ghost use Rattle.cal_policy.specs.History.Lists.{each_of};
 ghost use Rattle.cal_linear.specs.Reads.{furthest, after_looks};
 ghost use Rattle.cal_linear.specs.Linear.{looks_from, pass_events, rests_from, passes_and_rests};
 ghost use Rattle.cal_linear.specs.Fronts.{AreFronts, HaveAtMost, places_in};

@@ -1,7 +1,7 @@
 //! The events for which the entries of a journal stand.
 
 ghost use Rattle.std.specs.Prelude.{◌≡◌, ◌-◌, ◌<◌, ◌≤◌, ◌++◌, ◌∷◌, [], length, IfOk};
-ghost use Rattle.cal_kthread.specs.Journals.{up_to, still_after};
+ghost use Rattle.cal_kthread.specs.Journal.Entries.{up_to, still_after};
 ghost use Rattle.cal_linear.specs.Steps.{events_of};
 
 use cal_kthread::Entry;

@@ -1,6 +1,7 @@
 //! The Watches of a watcher's rounds.
 
-ghost use Rattle.std.specs.Prelude.{◌≡◌, ◌≤◌, ◌++◌, ◌∷◌, [], ℕ, List, length, Some, slice_get, IfOk};
+ghost use Rattle.std.specs.Prelude.{◌≡◌, ◌≤◌, ◌++◌, ◌∷◌, [], ℕ, List};
+ghost use Rattle.std.specs.Prelude.{length, Some, slice_get, IfOk};
 ghost use Rattle.cal_signal.specs.declared.look.Look.{Look};
 ghost use Rattle.cal_linear.specs.Linear.{whole_looks_from, whole_looks_of, watch_events};
 

@@ -121,7 +121,8 @@ sums_are table got e = go (nat_le (guaranteed_in table.tasks) table.cores) (nat_
 pub few_tasks : (fields : TopFields) (top : Top) (tasks : List Task) → top_within fields ≡ Ok top → tasks_from top.tasks ≡ Ok tasks → length tasks ≤ 16
 few_tasks fields top tasks within read = omega (arith, (tasks_are top.tasks tasks read).0, (top_is fields top within).3)
 
--- a top table within its ranges, and tasks that were read from it and do not ask too much together, are a table
+-- a top table within its ranges, and tasks that were read from it and do not ask too much together,
+-- are a table
 pub parts_are : (fields : TopFields) (top : Top) (tasks : List Task) → top_within fields ≡ Ok top → tasks_from top.tasks ≡ Ok tasks
     → guaranteed_in tasks ≤ top.cores → threads_in tasks ≤ 128
     → IsTable (record { cores = top.cores; bandwidth_limit = top.bandwidth_limit; tasks = tasks })

@@ -1,13 +1,16 @@
 -- What a TOML table has at its keys.
-use Rattle.std.specs.Prelude.{◌&&◌, ◌||◌, ℕ, ℤ, pos, negsuc, List, [], ◌∷◌, Bool, true, false, codes, nat_le, Result, Ok, Err, if◌then◌else◌}
+use Rattle.std.specs.Prelude.{◌&&◌, ◌||◌, ℕ, ℤ, pos, negsuc, List, [], ◌∷◌, Bool, true}
+use Rattle.std.specs.Prelude.{false, codes, nat_le, Result, Ok, Err, if◌then◌else◌}
 use Rattle.std.specs.Str.{bytes_eq}
-use Rattle.toml.specs.Data.{Data, Items, Members, no_members, member, get_member, as_integer, as_str, as_array, as_table}
+use Rattle.toml.specs.Data.{Data, Items, Members, no_members, member}
+use Rattle.toml.specs.Data.{get_member, as_integer, as_str, as_array, as_table}
 use Rattle.cal_machine.specs.Machine.{is_machine}
 use Rattle.cal_machine.specs.Outcome.{or_fault}
 use Rattle.cal_machine.specs.declared.task.Kind.{Kind}
 use Rattle.cal_machine.specs.declared.task.Kind.TheVariants.{LatencyCritical, BestEffort}
 use Rattle.cal_machine.specs.declared.fault.ConfigFault.{ConfigFault}
-use Rattle.cal_machine.specs.declared.fault.ConfigFault.TheVariants.{UnknownKey, MissingKey, WrongType, OutOfRange}
+use Rattle.cal_machine.specs.declared.fault.ConfigFault.TheVariants.{UnknownKey, MissingKey}
+use Rattle.cal_machine.specs.declared.fault.ConfigFault.TheVariants.{WrongType, OutOfRange}
 
 -- A key is one of these.
 abbrev pub is_one_of : List (List ℕ) → List ℕ → Bool
@@ -52,4 +55,5 @@ cores_in (negsuc n) = Err OutOfRange
 
 -- A kind: `lc` or `be`.
 abbrev pub kind_in : List ℕ → Result Kind ConfigFault
-kind_in text = if bytes_eq text (codes "lc") then Ok LatencyCritical else if bytes_eq text (codes "be") then Ok BestEffort else Err OutOfRange
+kind_in text = if bytes_eq text (codes "lc") then Ok LatencyCritical
+    else if bytes_eq text (codes "be") then Ok BestEffort else Err OutOfRange

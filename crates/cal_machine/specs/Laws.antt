@@ -11,11 +11,12 @@ abbrev pub SiblingsArePairs : Type 0
 SiblingsArePairs = (cores core : ℕ) → IsMachine cores → core < cores
     → (sibling_of core < cores) × (sibling_of core ≢ core) × (sibling_of (sibling_of core) ≡ core)
 
--- A kernel thread is of a task exactly where it is one of the task's threads: to number the threads of a task and to
--- find the task of a thread undo each other.
+-- A kernel thread is of a task exactly where it is one of the task's threads: to number the threads
+-- of a task and to find the task of a thread undo each other.
 abbrev pub ThreadsAreOfTheirTask : Type 0
 ThreadsAreOfTheirTask = (tasks : List Task) (t k : ℕ) → t < length tasks → k < threads_in tasks
-    → (task_of tasks k ≡ t) ↔ ((first_thread tasks t ≤ k) × (k < first_thread tasks t + (task_at tasks t).limit))
+    → (task_of tasks k ≡ t) ↔ ((first_thread tasks t ≤ k)
+    × (k < first_thread tasks t + (task_at tasks t).limit))
 
 -- Each table that a text spells is within every limit.
 abbrev pub AcceptedAreTables : Type 0

@@ -11,6 +11,7 @@ pub record IsMachine (cores : ℕ) : Type 0 where
 abbrev pub is_machine : ℕ → Bool
 is_machine cores = cores % 2 == 0 && nat_le 2 cores && nat_le cores 128
 
--- The sibling of a core, the other hyperthread of its pair: the next core of an even one, the one before of an odd one.
+-- The sibling of a core, the other hyperthread of its pair: the next core of an even one, the one
+-- before of an odd one.
 abbrev pub sibling_of : ℕ → ℕ
 sibling_of core = if core % 2 == 0 then core + 1 else core - 1

@@ -5,7 +5,8 @@ use Rattle.cal_machine.specs.declared.fault.ConfigFault.TheVariants.{Memory}
 
 -- One check and then the next, which is told what the first one found.
 infixl 10 ◌>>=◌
-abbrev pub ◌>>=◌ : {A B : Type 0} → Result A ConfigFault → (A → Result B ConfigFault) → Result B ConfigFault
+abbrev pub ◌>>=◌ : {A B : Type 0} → Result A ConfigFault → (A → Result B ConfigFault) →
+    Result B ConfigFault
 (Ok x) >>= f = f x
 (Err e) >>= f = Err e
 

@@ -1,16 +1,21 @@
--- Reading the task table: its checks in their order, of which the first that fails is the fault. The form and all limits
--- are this project's own.
-use Rattle.std.specs.Prelude.{◌==◌, ◌&&◌, ◌+◌, ℕ, ℤ, List, [], ◌∷◌, codes, not, nat_le, Option, Some, None, option_and_then, Result, Ok, Err, if◌then◌else◌}
+-- Reading the task table: its checks in their order, of which the first that fails is the fault.
+-- The form and all limits are this project's own.
+use Rattle.std.specs.Prelude.{◌==◌, ◌&&◌, ◌+◌, ℕ, ℤ, List, [], ◌∷◌, codes, not, nat_le, Option}
+use Rattle.std.specs.Prelude.{Some, None, option_and_then, Result, Ok, Err, if◌then◌else◌}
 use Rattle.std.specs.Str.{is_utf8}
 use Rattle.toml.specs.Parse.{parse_document}
 use Rattle.toml.specs.Data.{Data, Items, no_items, item, Members}
 use Rattle.cal_machine.specs.Outcome.{◌>>=◌}
-use Rattle.cal_machine.specs.Fields.{known_keys, value_at, integer_of, string_of, items_of, table_of, number_in, cores_in, kind_in}
+use Rattle.cal_machine.specs.Fields.{known_keys, value_at, integer_of, string_of}
+use Rattle.cal_machine.specs.Fields.{items_of, table_of, number_in, cores_in, kind_in}
 use Rattle.cal_machine.specs.Table.{Table, most_ticks}
 use Rattle.cal_machine.specs.Tasks.{is_best_effort, threads_in, guaranteed_in}
 use Rattle.cal_machine.specs.declared.task.Task.{Task}
 use Rattle.cal_machine.specs.declared.fault.ConfigFault.{ConfigFault}
-use Rattle.cal_machine.specs.declared.fault.ConfigFault.TheVariants.{NotToml, OutOfRange, BestEffortGuarantee, GuaranteesExceedCores, TooManyThreads}
+use Rattle.cal_machine.specs.declared.fault.ConfigFault.TheVariants.{NotToml, OutOfRange}
+use Rattle.cal_machine.specs.declared.fault.ConfigFault.TheVariants.{BestEffortGuarantee}
+use Rattle.cal_machine.specs.declared.fault.ConfigFault.TheVariants.{GuaranteesExceedCores}
+use Rattle.cal_machine.specs.declared.fault.ConfigFault.TheVariants.{TooManyThreads}
 
 -- The numbers of the top table, and its tasks as they stand.
 pub record TopFields : Type 0 where
@@ -43,7 +48,8 @@ item_count (item first items) = item_count items + 1
 
 -- 1 to 16 tasks.
 abbrev pub few_in : Items → Result Items ConfigFault
-few_in items = if nat_le 1 (item_count items) && nat_le (item_count items) 16 then Ok items else Err OutOfRange
+few_in items = if nat_le 1 (item_count items) && nat_le (item_count items) 16 then Ok items
+    else Err OutOfRange
 
 -- The ranges of the top table.
 unfoldable pub top_within : TopFields → Result Top ConfigFault
@@ -64,13 +70,20 @@ pub record TaskValues : Type 0 where
 -- A task's table: no unknown key, no missing key.
 unfoldable pub task_values : Members → Result TaskValues ConfigFault
 task_values members = do
-  known ← known_keys (codes "kind" ∷ codes "guaranteed" ∷ codes "limit" ∷ codes "delay" ∷ codes "request" ∷ []) members
+  known ← known_keys (codes "kind" ∷ codes "guaranteed" ∷ codes "limit" ∷ codes "delay" ∷ codes
+      "request" ∷ []) members
   kind ← value_at (codes "kind") known
   guaranteed ← value_at (codes "guaranteed") known
   limit ← value_at (codes "limit") known
   delay ← value_at (codes "delay") known
   request ← value_at (codes "request") known
-  Ok (record { kind = kind; guaranteed = guaranteed; limit = limit; delay = delay; request = request })
+  Ok (record {
+    kind = kind;
+    guaranteed = guaranteed;
+    limit = limit;
+    delay = delay;
+    request = request;
+  })
 
 -- The text and the numbers of a task.
 pub record TaskFields : Type 0 where
@@ -88,11 +101,18 @@ task_fields values = do
   limit ← integer_of values.limit
   delay ← integer_of values.delay
   request ← integer_of values.request
-  Ok (record { kind = kind; guaranteed = guaranteed; limit = limit; delay = delay; request = request })
+  Ok (record {
+    kind = kind;
+    guaranteed = guaranteed;
+    limit = limit;
+    delay = delay;
+    request = request;
+  })
 
 -- No core is guaranteed to a best-effort task.
 abbrev pub fair : Task → Result Task ConfigFault
-fair task = if is_best_effort task.kind && not (task.guaranteed == 0) then Err BestEffortGuarantee else Ok task
+fair task = if is_best_effort task.kind && not (task.guaranteed == 0) then Err BestEffortGuarantee
+    else Ok task
 
 -- A task's ranges; then no core is guaranteed to a best-effort task.
 unfoldable pub task_within : TaskFields → Result Task ConfigFault
@@ -102,7 +122,13 @@ task_within fields = do
   guaranteed ← number_in 0 limit fields.guaranteed
   delay ← number_in 0 most_ticks fields.delay
   request ← number_in 0 most_ticks fields.request
-  fair (record { kind = kind; guaranteed = guaranteed; limit = limit; delay = delay; request = request })
+  fair (record {
+    kind = kind;
+    guaranteed = guaranteed;
+    limit = limit;
+    delay = delay;
+    request = request;
+  })
 
 -- One task: it is a table, its keys, its types, its ranges.
 unfoldable pub task_from : Data → Result Task ConfigFault
@@ -143,6 +169,7 @@ abbrev pub document_from : Option Members → Result Table ConfigFault
 document_from None = Err NotToml
 document_from (Some members) = table_from members
 
--- The task table that bytes spell, or the first check that fails: they are a TOML document, and then its checks.
+-- The task table that bytes spell, or the first check that fails: they are a TOML document, and
+-- then its checks.
 abbrev pub table_in : List ℕ → Result Table ConfigFault
 table_in bytes = document_from (option_and_then parse_document (text_of bytes))

@@ -1,15 +1,17 @@
 -- The tasks of a table and their kernel threads, numbered from 0 in task order.
-use Rattle.std.specs.Prelude.{◌+◌, ◌-◌, ℕ, Bool, true, false, List, [], ◌∷◌, nat_lt, take, sum_by, slice_index_or, if◌then◌else◌}
+use Rattle.std.specs.Prelude.{◌+◌, ◌-◌, ℕ, Bool, true, false, List, [], ◌∷◌}
+use Rattle.std.specs.Prelude.{nat_lt, take, sum_by, slice_index_or, if◌then◌else◌}
 use Rattle.cal_machine.specs.declared.task.Task.{Task}
 use Rattle.cal_machine.specs.declared.task.Kind.{Kind}
 use Rattle.cal_machine.specs.declared.task.Kind.TheVariants.{LatencyCritical, BestEffort}
 
--- A task gets only what latency-critical tasks do not need.
+-- whether a task is best-effort: it gets only cores that latency-critical tasks do not need
 abbrev pub is_best_effort : Kind → Bool
 is_best_effort LatencyCritical = false
 is_best_effort BestEffort = true
 
--- What stands for a task past the end of the table, of which nothing is ever asked: it may have nothing.
+-- What stands for a task past the end of the table, of which nothing is ever asked: it may have
+-- nothing.
 abbrev pub no_task : Task
 no_task = record { kind = LatencyCritical; guaranteed = 0; limit = 0; delay = 0; request = 0 }
 

@@ -9,17 +9,18 @@ ghost use Rattle.cal_machine.specs.Reading.{table_in};
 
 use crate::fault::ConfigFault;
 use crate::machine::Machine;
-use crate::numbering::{firsts_of, owners_of, threads_in};
+use crate::numbering::{MOST_THREADS, firsts_of, owners_of, threads_in};
 use crate::table::read;
 use crate::task::Task;
+use crate::task_table::MOST_TASKS;
 use std::alloc::{AllocError, Global};
 use std::marker::Model;
 
-/// The accepted task table: a machine, the bandwidth limit and 1 to 16 tasks. Every one that there is meets every limit
-/// of the table.
+/// The accepted task table: a machine, the bandwidth limit and 1 to 16 tasks. Every one that there
+/// is meets every limit of the table.
 ///
-/// Contracts see it as the table. Tasks are numbered from 0 in the table's order, and kernel threads from 0 in task
-/// order.
+/// Contracts see it as the table. Tasks are numbered from 0 in the table's order, and kernel
+/// threads from 0 in task order.
 #[derive(Drop, Debug)]
 pub struct Config {
     machine: Machine,
@@ -27,8 +28,8 @@ pub struct Config {
     tasks: Vec<Task>,
     // how many kernel threads there are, the first one of each task, and the task of each
     threads: u8,
-    firsts: [u8; 16],
-    owners: [u8; 128],
+    firsts: [u8; MOST_TASKS],
+    owners: [u8; MOST_THREADS],
 }
 
 impl Model for Config {
@@ -39,21 +40,29 @@ impl Model for Config {
 
     ghost Value = { Table };
 
-    ghost view = { λ c. record { cores = c.machine; bandwidth_limit = c.bandwidth_limit; tasks = c.tasks.items } };
+    ghost view = { λ c. record {
+      cores = c.machine;
+      bandwidth_limit = c.bandwidth_limit;
+      tasks = c.tasks.items;
+    } };
 
-    ghost invariant = { λ c. IsTable (record { cores = c.machine; bandwidth_limit = c.bandwidth_limit; tasks = c.tasks.items })
+    ghost invariant = { λ c. IsTable (record {
+      cores = c.machine;
+      bandwidth_limit = c.bandwidth_limit;
+      tasks = c.tasks.items;
+    })
         × (c.threads ≡ threads_in c.tasks.items)
         × AreFirsts c.tasks.items c.firsts
         × AreOwners c.tasks.items c.owners };
 }
 
 impl Config {
-    /// The task table that a text spells, or the first check that fails, in the order of `ConfigFault`'s numbers within
-    /// the top table, then within each task in order, then of the sums. `Memory` may come at any place, only where memory
-    /// was refused.
+    /// The task table that a text spells, or the first check that fails, in the order of
+    /// `ConfigFault`'s numbers within the top table, then within each task in order, then of the
+    /// sums. `Memory` may come at any place, only where memory was refused.
     ///
-    /// The text is TOML: `cores`, `bandwidth_limit`, and for each task a `[[task]]` with `kind` (`lc` or `be`),
-    /// `guaranteed`, `limit`, `delay` and `request` (this project's own form).
+    /// The text is TOML: `cores`, `bandwidth_limit`, and for each task a `[[task]]` with `kind`
+    /// (`lc` or `be`), `guaranteed`, `limit`, `delay` and `request`.
     pub fn read(alloc: Global, text: &[u8]) -> Result<Config, ConfigFault>
         ensures table { Gives (λ config. config) result (table_in text.now) }
         ensures accepted { IfOk result IsTable }
@@ -63,8 +72,16 @@ impl Config {
 
     /// The table of these parts.
     pub(crate) fn new(machine: Machine, bandwidth_limit: u64, tasks: Vec<Task>) -> Config
-        requires { IsTable (record { cores = machine; bandwidth_limit = bandwidth_limit; tasks = tasks.items }) }
-        ensures { result ≡ record { cores = machine; bandwidth_limit = bandwidth_limit; tasks = tasks.items } }
+        requires { IsTable (record {
+          cores = machine;
+          bandwidth_limit = bandwidth_limit;
+          tasks = tasks.items;
+        }) }
+        ensures { result ≡ record {
+          cores = machine;
+          bandwidth_limit = bandwidth_limit;
+          tasks = tasks.items;
+        } }
     {
         let threads = threads_in(tasks.as_slice()) as u8;
         let firsts = firsts_of(tasks.as_slice());
@@ -134,7 +151,8 @@ impl Config {
         ensures task { result ≡ task_of self.now.tasks k }
         ensures is_task { result < length self.now.tasks }
         ensures from_first { first_thread self.now.tasks result ≤ k }
-        ensures within { k < first_thread self.now.tasks result + (task_at self.now.tasks result).limit }
+        ensures within { k < first_thread self.now.tasks
+            result + (task_at self.now.tasks result).limit }
     {
         self.owners[k] as usize
     }
@@ -145,7 +163,8 @@ impl Config {
         ensures first { result.0 ≡ first_thread self.now.tasks t }
         ensures count { result.1 ≡ (task_at self.now.tasks t).limit }
         ensures within { result.0 + result.1 ≤ threads_in self.now.tasks }
-        ensures each { (k : ℕ) → result.0 ≤ k → k < result.0 + result.1 → task_of self.now.tasks k ≡ t }
+        ensures each { (k : ℕ) → result.0 ≤ k → k < result.0 + result.1 →
+            task_of self.now.tasks k ≡ t }
     {
         (self.firsts[t] as usize, self.task(t).limit as usize)
     }

@@ -55,7 +55,8 @@ impl CoreSet {
         Some(self.bits.trailing_zeros() as u8)
     }
 
-    /// The least core of the set from this one on, `None` where there is none: to go over the set upwards.
+    /// The least core of the set from this one on, `None` where there is none: to go over the set
+    /// upwards.
     pub fn least_from(&self, first: u8) -> Option<u8>
         ensures least { IfSome result (IsLeastFrom self.now first) }
         ensures none { IfNone result ((core : ℕ) → first ≤ core → has self.now core ≡ false) }

@@ -1,6 +1,7 @@
 //! What follows from the definitions alone. Each function does nothing: its contract is the law.
 
-ghost use Rattle.cal_machine.specs.Laws.{SiblingsArePairs, ThreadsAreOfTheirTask, AcceptedAreTables};
+ghost use Rattle.cal_machine.specs.Laws.{SiblingsArePairs, ThreadsAreOfTheirTask};
+ghost use Rattle.cal_machine.specs.Laws.{AcceptedAreTables};
 
 /// A core's sibling is another core of the machine, and the core is its sibling's sibling.
 pub fn siblings_are_pairs()

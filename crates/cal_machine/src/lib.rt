@@ -1,11 +1,13 @@
 //! The machine and its tasks.
 //!
-//! A `Machine` is a number of cores, two and two siblings; a `CoreSet` is a set of cores; a `Config` is the accepted
-//! task table, which says for each task what it may have and numbers the kernel threads of all tasks one after the
-//! other. Two small values that several crates speak of stand here too: `Command`, what the scheduler tells a kernel
-//! thread, and `Request`, a piece of work for one.
+//! A `Machine` is a number of cores, two and two siblings; a `CoreSet` is a set of cores; a
+//! `Config` is the accepted task table, which says for each task what it may have and numbers the
+//! kernel threads of all tasks one after the other. Two small values that several crates speak of
+//! stand here too: `Command`, what the scheduler tells a kernel thread, and `Request`, a piece of
+//! work for one.
 //!
-//! Nothing here decides who gets a core: the rules of a pass are cal_policy's.
+//! The form and the limits are this project's own. Nothing here decides who gets a core: the rules
+//! of a pass are cal_policy's.
 #![tactic(auto)]
 
 mod command;
@@ -25,9 +27,11 @@ pub use command::Command;
 pub use config::Config;
 pub use core_set::CoreSet;
 pub use fault::ConfigFault;
-pub use machine::Machine;
+pub use machine::{MOST_CORES, Machine};
+pub use numbering::MOST_THREADS;
 pub use request::Request;
 pub use task::{Kind, Task};
+pub use task_table::MOST_TASKS;
 
 #[cfg(test)]
 mod tests;

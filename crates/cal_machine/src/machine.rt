@@ -5,7 +5,11 @@ ghost use Rattle.cal_machine.specs.Machine.{IsMachine, sibling_of};
 
 use std::marker::Model;
 
-/// A machine: cores `0 .. n-1`, where `n` is even, 2 to 128. The scheduler's own core is not counted.
+/// The most cores of a machine.
+pub const MOST_CORES: usize = 128;
+
+/// A machine: cores `0 .. n-1`, where `n` is even, 2 to 128. The scheduler's own core is not
+/// counted.
 ///
 /// Contracts see it as its number of cores.
 #[derive(Clone, Copy, Debug, PartialEq, Eq)]
@@ -27,11 +31,11 @@ impl Model for Machine {
 }
 
 impl Machine {
-    /// A machine of so many cores: `None` unless the number is even and 2 to 128 (this project's own limit).
+    /// A machine of so many cores: `None` unless the number is even and 2 to 128.
     pub fn new(cores: u8) -> Option<Machine>
         ensures { SomeIff result (IsMachine cores) cores }
     {
-        if cores % 2 == 0 && 2 <= cores && cores <= 128 {
+        if cores % 2 == 0 && 2 <= cores && cores as usize <= MOST_CORES {
             Some(Machine { cores })
         } else {
             None
@@ -46,8 +50,8 @@ impl Machine {
         self.cores
     }
 
-    /// The other hyperthread of a core's pair: the next core of an even one, the one before of an odd one. It is its
-    /// own inverse.
+    /// The other hyperthread of a core's pair: the next core of an even one, the one before of an
+    /// odd one. It is its own inverse.
     pub fn sibling(&self, core: u8) -> u8
         requires { core < self.now }
         ensures value { result ≡ sibling_of core }

@@ -1,21 +1,23 @@
 //! Kernel threads numbered from 0 in task order.
 
-ghost use Rattle.std.specs.Prelude.{◌≡◌, ◌+◌, ◌<◌, ◌≤◌, ℕ, length, slice_index, if◌then◌else◌, nat_le, nat_lt, ◌&&◌};
+ghost use Rattle.std.specs.Prelude.{◌≡◌, ◌+◌, ◌<◌, ◌≤◌, ℕ, length, slice_index};
+ghost use Rattle.std.specs.Prelude.{if◌then◌else◌, nat_le, nat_lt, ◌&&◌};
 ghost use Rattle.cal_machine.specs.Tasks.{threads_in, guaranteed_in};
 ghost use Rattle.cal_machine.specs.Numbering.{AreFirsts, AreOwners};
 
 use crate::task::Task;
+use crate::task_table::MOST_TASKS;
 
 /// The most kernel threads of all tasks together.
 pub const MOST_THREADS: usize = 128;
 
 /// The first thread of each task.
-pub fn firsts_of(tasks: &[Task]) -> [u8; 16]
+pub fn firsts_of(tasks: &[Task]) -> [u8; MOST_TASKS]
     requires few { length tasks.now ≤ 16 }
     requires threads { threads_in tasks.now ≤ 128 }
     ensures { AreFirsts tasks.now result }
 {
-    let mut firsts = [0; 16];
+    let mut firsts = [0; MOST_TASKS];
     let mut next = 0;
     for t in 0..tasks.len() {
         firsts[t] = next;
@@ -25,12 +27,12 @@ pub fn firsts_of(tasks: &[Task]) -> [u8; 16]
 }
 
 /// The task of each thread.
-pub fn owners_of(tasks: &[Task]) -> [u8; 128]
+pub fn owners_of(tasks: &[Task]) -> [u8; MOST_THREADS]
     requires few { length tasks.now ≤ 16 }
     requires threads { threads_in tasks.now ≤ 128 }
     ensures { AreOwners tasks.now result }
 {
-    let mut owners = [0; 128];
+    let mut owners = [0; MOST_THREADS];
     let mut next = 0;
     for t in 0..tasks.len() {
         let end = next + tasks[t].limit as usize;
@@ -40,8 +42,8 @@ pub fn owners_of(tasks: &[Task]) -> [u8; 128]
     owners
 }
 
-// Gives the threads from `first` up to `end` to a task.
-fn give(owners: &mut [u8; 128], first: usize, end: usize, task: u8)
+/// Gives the threads from `first` up to `end` to a task.
+fn give(owners: &mut [u8; MOST_THREADS], first: usize, end: usize, task: u8)
     requires order { first ≤ end }
     requires end { end ≤ 128 }
     ensures { (k : ℕ) → slice_index owners.new k

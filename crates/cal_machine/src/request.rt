@@ -1,6 +1,6 @@
 //! A request for a kernel thread.
 
-/// A piece of work that comes to a kernel thread's queue (this project's own form).
+/// A piece of work that comes to a kernel thread's queue.
 #[derive(Clone, Copy, Debug, PartialEq, Eq)]
 pub struct Request {
     /// Its name: what tells it from others.

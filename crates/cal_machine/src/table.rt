@@ -3,7 +3,8 @@
 ghost use Rattle.std.specs.Prelude.{◌≡◌, option_copied, length};
 ghost use Rattle.toml.specs.View.{table_view, items_view};
 ghost use Rattle.cal_machine.specs.Outcome.{Gives};
-ghost use Rattle.cal_machine.specs.Reading.{top_fields, top_within, tasks_from, table_from, table_in, text_of, few_in};
+ghost use Rattle.cal_machine.specs.Reading.{top_fields, top_within, tasks_from};
+ghost use Rattle.cal_machine.specs.Reading.{table_from, table_in, text_of, few_in};
 
 use crate::config::Config;
 use crate::fault::ConfigFault;
@@ -29,7 +30,7 @@ pub fn read(alloc: Global, text: &[u8]) -> Result<Config, ConfigFault>
     }
 }
 
-// The bytes as text, if they are UTF-8.
+/// The bytes as text, if they are UTF-8.
 fn as_text(bytes: &[u8]) -> Option<&str>
     ensures { option_copied result ≡ text_of bytes.now }
 {
@@ -39,7 +40,7 @@ fn as_text(bytes: &[u8]) -> Option<&str>
     }
 }
 
-// The numbers of the top table, and its tasks as they stand.
+/// The numbers of the top table, and its tasks as they stand.
 #[derive(Clone, Copy)]
 struct TopFields<'a> {
     cores: i64,
@@ -47,7 +48,7 @@ struct TopFields<'a> {
     tasks: &'a [Value],
 }
 
-// The top table within its ranges, its tasks not looked at yet.
+/// The top table within its ranges, its tasks not looked at yet.
 #[derive(Clone, Copy)]
 struct Top<'a> {
     machine: Machine,
@@ -55,10 +56,14 @@ struct Top<'a> {
     tasks: &'a [Value],
 }
 
-// The keys: none is unknown, none is missing. Then the types.
+/// The keys: none is unknown, none is missing. Then the types.
 #[tactic(auto, unfolding(crate::specs::Reading::top_fields))]
 fn top_fields(table: &Table) -> Result<TopFields<'_>, ConfigFault>
-    ensures { Gives (λ f. record { cores = f.cores; bandwidth_limit = f.bandwidth_limit; tasks = items_view f.tasks.now })
+    ensures { Gives (λ f. record {
+      cores = f.cores;
+      bandwidth_limit = f.bandwidth_limit;
+      tasks = items_view f.tasks.now;
+    })
         result (top_fields (table_view table.now)) }
 {
     if !has_only(table, &["cores", "bandwidth_limit", "task"]) {
@@ -77,11 +82,20 @@ fn top_fields(table: &Table) -> Result<TopFields<'_>, ConfigFault>
     })
 }
 
-// The ranges.
+/// The ranges.
 #[tactic(auto, unfolding(crate::specs::Reading::top_within))]
 fn top_within<'a>(fields: TopFields<'a>) -> Result<Top<'a>, ConfigFault>
-    ensures { Gives (λ t. record { cores = t.machine; bandwidth_limit = t.bandwidth_limit; tasks = items_view t.tasks.now })
-        result (top_within (record { cores = fields.entry.cores; bandwidth_limit = fields.entry.bandwidth_limit; tasks = items_view fields.entry.tasks.now })) }
+    ensures { Gives (λ t. record {
+      cores = t.machine;
+      bandwidth_limit = t.bandwidth_limit;
+      tasks = items_view t.tasks.now;
+    })
+        result (top_within (record {
+          cores = fields.entry.cores;
+          bandwidth_limit = fields.entry.bandwidth_limit;
+          tasks =
+              items_view fields.entry.tasks.now;
+        })) }
 {
     let machine = machine_in(fields.cores)?;
     let bandwidth_limit = number_in(fields.bandwidth_limit, 0, MOST_TICKS)?;
@@ -93,7 +107,7 @@ fn top_within<'a>(fields: TopFields<'a>) -> Result<Top<'a>, ConfigFault>
     })
 }
 
-// As many tasks as a table may have.
+/// As many tasks as a table may have.
 fn few_in(tasks: &[Value]) -> Result<&[Value], ConfigFault>
     ensures { Gives (λ t. items_view t.now) result (few_in (items_view tasks.now)) }
 {
@@ -114,7 +128,7 @@ fn tasks_from(alloc: Global, items: &[Value]) -> Result<Vec<Task>, ConfigFault>
     Ok(tasks)
 }
 
-// The table of the parts, if they do not ask too much together.
+/// The table of the parts, if they do not ask too much together.
 #[tactic(auto, unfolding(crate::specs::Reading::table_from))]
 fn table_from(alloc: Global, table: &Table) -> Result<Config, ConfigFault>
     ensures { Gives (λ config. config) result (table_from (table_view table.now)) }

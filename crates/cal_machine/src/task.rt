@@ -20,7 +20,7 @@ pub struct Task {
     pub limit: u8,
     /// The queueing delay above which it is congested, in clock ticks as handed in.
     pub delay: u64,
-    /// The age of a request above which its core's sibling is banned, in clock ticks as handed in. Not used for a
-    /// best-effort task.
+    /// The age of a request above which its core's sibling is banned, in clock ticks as handed in.
+    /// Not used for a best-effort task.
     pub request: u64,
 }

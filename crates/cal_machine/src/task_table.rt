@@ -41,10 +41,16 @@ pub struct TaskFields<'a> {
     request: i64,
 }
 
-// The keys: none is unknown, none is missing.
+/// The keys: none is unknown, none is missing.
 #[tactic(auto, unfolding(crate::specs::Reading::task_values))]
 fn task_values(table: &Table) -> Result<TaskValues<'_>, ConfigFault>
-    ensures { Gives (λ v. record { kind = view v.kind.now; guaranteed = view v.guaranteed.now; limit = view v.limit.now; delay = view v.delay.now; request = view v.request.now })
+    ensures { Gives (λ v. record {
+      kind = view v.kind.now;
+      guaranteed = view v.guaranteed.now;
+      limit = view v.limit.now;
+      delay = view v.delay.now;
+      request = view v.request.now;
+    })
         result (task_values (table_view table.now)) }
 {
     if !has_only(table, &["kind", "guaranteed", "limit", "delay", "request"]) {
@@ -64,11 +70,24 @@ fn task_values(table: &Table) -> Result<TaskValues<'_>, ConfigFault>
     })
 }
 
-// The types.
+/// The types.
 #[tactic(auto, unfolding(crate::specs::Reading::task_fields))]
 fn task_fields<'a>(values: TaskValues<'a>) -> Result<TaskFields<'a>, ConfigFault>
-    ensures { Gives (λ f. record { kind = f.kind.now; guaranteed = f.guaranteed; limit = f.limit; delay = f.delay; request = f.request })
-        result (task_fields (record { kind = view values.entry.kind.now; guaranteed = view values.entry.guaranteed.now; limit = view values.entry.limit.now; delay = view values.entry.delay.now; request = view values.entry.request.now })) }
+    ensures { Gives (λ f. record {
+      kind = f.kind.now;
+      guaranteed = f.guaranteed;
+      limit = f.limit;
+      delay = f.delay;
+      request = f.request;
+    })
+        result (task_fields (record {
+          kind = view values.entry.kind.now;
+          guaranteed = view values.entry.guaranteed.now;
+          limit = view values.entry.limit.now;
+          delay =
+              view values.entry.delay.now;
+          request = view values.entry.request.now;
+        })) }
 {
     let kind = string_of(values.kind)?;
     let guaranteed = integer_of(values.guaranteed)?;
@@ -84,7 +103,7 @@ fn task_fields<'a>(values: TaskValues<'a>) -> Result<TaskFields<'a>, ConfigFault
     })
 }
 
-// A task of which no core is guaranteed where it is best-effort.
+/// A task of which no core is guaranteed where it is best-effort.
 fn fair(task: Task) -> Result<Task, ConfigFault>
     ensures { Gives (λ t. t) result (fair task) }
 {
@@ -94,10 +113,17 @@ fn fair(task: Task) -> Result<Task, ConfigFault>
     }
 }
 
-// The ranges, and then the guarantee of a best-effort task.
+/// The ranges, and then the guarantee of a best-effort task.
 #[tactic(auto, unfolding(crate::specs::Reading::task_within))]
 fn task_within<'a>(fields: TaskFields<'a>) -> Result<Task, ConfigFault>
-    ensures { Gives (λ t. t) result (task_within (record { kind = fields.entry.kind.now; guaranteed = fields.entry.guaranteed; limit = fields.entry.limit; delay = fields.entry.delay; request = fields.entry.request })) }
+    ensures { Gives (λ t. t) result
+        (task_within (record {
+          kind = fields.entry.kind.now;
+          guaranteed = fields.entry.guaranteed;
+          limit = fields.entry.limit;
+          delay = fields.entry.delay;
+          request = fields.entry.request;
+        })) }
 {
     let kind = kind_in(fields.kind)?;
     let limit = small_in(fields.limit, 1, MOST_LIMIT)?;

@@ -4,11 +4,14 @@ use std::test::Fail;
 
 /// The table of one latency-critical task on two cores.
 const TABLE: &[u8] =
-    b"cores = 2\nbandwidth_limit = 1000\n\n[[task]]\nkind = \"lc\"\nguaranteed = 1\nlimit = 1\ndelay = 10\nrequest = 50\n";
+    b"cores = 2\nbandwidth_limit = 1000\n\n[[task]]\nkind = \"lc\"\nguaranteed = 1\nlimit = 1\n\
+    delay = 10\nrequest = 50\n";
 
 /// Two latency-critical tasks and a best-effort one on four cores.
 const THREE_TASKS: &[u8] =
-    b"cores = 4\nbandwidth_limit = 1000\n[[task]]\nkind = \"lc\"\nguaranteed = 1\nlimit = 2\ndelay = 10\nrequest = 50\n[[task]]\nkind = \"be\"\nguaranteed = 0\nlimit = 3\ndelay = 20\nrequest = 0\n[[task]]\nkind = \"lc\"\nguaranteed = 2\nlimit = 4\ndelay = 30\nrequest = 70\n";
+    b"cores = 4\nbandwidth_limit = 1000\n[[task]]\nkind = \"lc\"\nguaranteed = 1\nlimit = 2\n\
+    delay = 10\nrequest = 50\n[[task]]\nkind = \"be\"\nguaranteed = 0\nlimit = 3\ndelay = 20\n\
+    request = 0\n[[task]]\nkind = \"lc\"\nguaranteed = 2\nlimit = 4\ndelay = 30\nrequest = 70\n";
 
 fn fault(alloc: Global, text: &[u8]) -> Option<ConfigFault> {
     Config::read(alloc, text).err()
@@ -87,8 +90,8 @@ fn too_many(rt: HostRuntime) -> Result<(), Fail> {
         fault(alloc, many_tasks(alloc, 17)?.as_bytes()),
         Some(ConfigFault::OutOfRange)
     );
-    let no_tables =
-        b"cores = 2\nbandwidth_limit = 1000\ntask = [1, 2, 3, 4, 5, 6, 7, 8, 9, 10, 11, 12, 13, 14, 15, 16, 17]\n";
+    let no_tables = b"cores = 2\nbandwidth_limit = 1000\n\
+        task = [1, 2, 3, 4, 5, 6, 7, 8, 9, 10, 11, 12, 13, 14, 15, 16, 17]\n";
     assert_eq!(rt; fault(alloc, no_tables), Some(ConfigFault::OutOfRange));
     Ok(())
 }
@@ -193,7 +196,7 @@ fn what_a_table_says(rt: HostRuntime) -> Result<(), Fail> {
     Ok(())
 }
 
-// Whether these are the numbers of a table of three tasks.
+/// Whether these are the numbers of a table of three tasks.
 fn has_three_tasks(config: &Config) -> bool {
     if config.tasks() != 3 || config.threads() != 9 || config.bandwidth_limit() != 1000 {
         return false;
@@ -204,8 +207,8 @@ fn has_three_tasks(config: &Config) -> bool {
         && config.task(2).guaranteed == 2
 }
 
-// With one allocation refused, wherever that is, the answer is want of memory by its name, or the ample one.
-// (tools/refusals runs these so.)
+/// With one allocation refused, wherever that is, the answer is want of memory by its name, or the
+/// ample one. (tools/refusals runs these so.)
 #[test]
 fn refused_memory_read(rt: HostRuntime) {
     match Config::read(rt.alloc(), THREE_TASKS) {
@@ -217,7 +220,8 @@ fn refused_memory_read(rt: HostRuntime) {
 #[test]
 fn refused_memory_read_of_a_fault(rt: HostRuntime) {
     let kinds_late =
-        b"cores = 2\nbandwidth_limit = 1000\n[[task]]\nkind = \"be\"\nguaranteed = 1\nlimit = 1\ndelay = 10\nrequest = 50\n";
+        b"cores = 2\nbandwidth_limit = 1000\n[[task]]\nkind = \"be\"\nguaranteed = 1\nlimit = 1\n\
+        delay = 10\nrequest = 50\n";
     match Config::read(rt.alloc(), kinds_late) {
         Ok(_) => panic!(rt; "the table was read"),
         Err(ConfigFault::Memory) => {}

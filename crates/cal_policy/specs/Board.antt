@@ -1,38 +1,49 @@
 -- When the plain data that a pass keeps is what the actions and looks so far say.
-use Rattle.std.specs.Prelude.{◌≡◌, ℕ, ◌<◌, ◌≤◌, ◌^◌, List, min, Option, Some, None, slice_index, slice_index_or, option_map, [], ◌∷◌, ◌++◌, length}
+pub mod CoreSets
+pub mod Counts
+pub mod Losing
+pub mod Survey
+use Rattle.std.specs.Prelude.{◌≡◌, ℕ, ◌<◌, ◌≤◌, ◌^◌, List, min, Option, Some, None}
+use Rattle.std.specs.Prelude.{slice_index, slice_index_or, option_map, [], ◌∷◌, ◌++◌, length}
 use Rattle.std.specs.Option.{IfSome}
 use Rattle.cal_machine.specs.Table.{Table}
 use Rattle.cal_machine.specs.declared.core_set.CoreSet.{CoreSet}
 use Rattle.cal_machine.specs.CoreSet.{has}
 use Rattle.cal_policy.specs.Tasks.{threads_of_table}
-use Rattle.cal_policy.specs.declared.pass_action.Action.{Action}
-use Rattle.cal_policy.specs.declared.pass_action.Action.TheVariants.{Free, Unban, Ban, Revoke, Cap, Grant}
-use Rattle.cal_policy.specs.declared.judged_look.Seen.{Seen}
-use Rattle.cal_policy.specs.declared.pass_input.Input.{Input}
-use Rattle.cal_policy.specs.declared.pass_entry.PassEntry.{PassEntry}
-use Rattle.cal_policy.specs.declared.holding.Placement as placements
-use Rattle.cal_policy.specs.declared.holding.Holder.{Holder}
-use Rattle.cal_policy.specs.declared.holding.Holder.TheVariants as holders
-use Rattle.cal_policy.specs.declared.holding.Holding.{Holding}
-use Rattle.cal_policy.specs.declared.banning.Bans.{Bans}
-use Rattle.cal_policy.specs.declared.capping.Caps.{Caps}
-use Rattle.cal_policy.specs.declared.keeping.Keeping.{Keeping}
+use Rattle.cal_policy.specs.declared.history.action.Action.{Action}
+use Rattle.cal_policy.specs.declared.history.action.Action.TheVariants.{Free, Unban, Ban}
+use Rattle.cal_policy.specs.declared.history.action.Action.TheVariants.{Revoke, Cap, Grant}
+use Rattle.cal_policy.specs.declared.history.look.Seen.{Seen}
+use Rattle.cal_policy.specs.declared.history.input.Input.{Input}
+use Rattle.cal_policy.specs.declared.history.entry.PassEntry.{PassEntry}
+use Rattle.cal_policy.specs.declared.board.holders.Placement as placements
+use Rattle.cal_policy.specs.declared.board.holders.Holder.{Holder}
+use Rattle.cal_policy.specs.declared.board.holders.Holder.TheVariants as holders
+use Rattle.cal_policy.specs.declared.board.holders.Holding.{Holding}
+use Rattle.cal_policy.specs.declared.board.bans.Bans.{Bans}
+use Rattle.cal_policy.specs.declared.board.caps.Caps.{Caps}
+use Rattle.cal_policy.specs.declared.board.records.Keeping.{Keeping}
 use Rattle.cal_policy.specs.declared.board.Board.{Board}
-use Rattle.cal_policy.specs.History.{actions_of, looks_of, holder_of, last_placement, sent_to, ban_of, last_cap}
+use Rattle.cal_policy.specs.History.{actions_of, looks_of, holder_of}
+use Rattle.cal_policy.specs.History.{last_placement, sent_to, ban_of, last_cap}
 use Rattle.cal_signal.specs.Records.{zero_record}
 use Rattle.cal_signal.specs.Shown.{nothing_shown}
-use Rattle.cal_policy.specs.Looks.{kept_by, last_shown}
+use Rattle.cal_policy.specs.History.Looks.{kept_by, last_shown}
 use Rattle.cal_policy.specs.Setting.{Setting, so_far, kept_now, kept_before}
-use Rattle.cal_policy.specs.Grants.{is_granted_in}
-use Rattle.cal_policy.specs.Survey.{Surveys}
-use Rattle.cal_policy.specs.CoreSets.{Sorts, IsSetOfBanned}
+use Rattle.cal_policy.specs.Pass.Grants.{is_granted_in}
+use Rattle.cal_policy.specs.Board.Survey.{Surveys}
+use Rattle.cal_policy.specs.Board.CoreSets.{Sorts, IsSetOfBanned}
 
--- a number of commands as it is kept: no record acknowledges 2^64, so what is above need not be told apart
+-- a number of commands as it is kept: no record acknowledges 2^64, so what is above need not be
+-- told apart
 abbrev pub kept_number : ℕ → ℕ
 kept_number n = min n (2 ^ 64)
 
 abbrev pub kept_placement : placements.Placement → placements.Placement
-kept_placement placement = record { thread = placement.thread; number = kept_number placement.number }
+kept_placement placement = record {
+  thread = placement.thread;
+  number = kept_number placement.number;
+}
 
 abbrev pub kept_holder : Holder → Holder
 kept_holder holders.Free = holders.Free
@@ -69,14 +80,18 @@ core_changed (Cap task cap) = None
 
 -- cores, threads and numbers of commands are as the actions x say
 pub record HoldingAgrees (h : Holding) (x : List Action) : Type 0 where
-  pub granted : (c : ℕ) → c < 128 → slice_index_or h.granted c None ≡ option_map kept_placement (last_placement x c)
-  pub holders : (c : ℕ) → c < 128 → slice_index_or h.holders c holders.Free ≡ kept_holder (holder_of x c)
+  pub granted : (c : ℕ) → c < 128 →
+      slice_index_or h.granted c None ≡ option_map kept_placement (last_placement x c)
+  pub holders : (c : ℕ) → c < 128 →
+      slice_index_or h.holders c holders.Free ≡ kept_holder (holder_of x c)
   pub sent : (k : ℕ) → k < 128 → slice_index h.sent k ≡ kept_number (sent_to x k)
 
 -- threads are below this number, and numbers of commands at most 2^64
 pub record HoldingSound (threads : ℕ) (h : Holding) : Type 0 where
-  pub granted : (c : ℕ) → IfSome (slice_index_or h.granted c None) (λ placement. placement.thread < threads)
-  pub holders : (c : ℕ) → IfSome (placement_of (slice_index_or h.holders c holders.Free)) (λ placement. placement.thread < threads)
+  pub granted : (c : ℕ) → IfSome (slice_index_or h.granted c None)
+      (λ placement. placement.thread < threads)
+  pub holders : (c : ℕ) → IfSome (placement_of (slice_index_or h.holders c holders.Free))
+      (λ placement. placement.thread < threads)
   pub sent : (k : ℕ) → slice_index h.sent k ≤ 2 ^ 64
 
 -- bans are as the actions x say
@@ -116,7 +131,7 @@ pub record Agrees (b : Board) (x : List Action) : Type 0 where
   pub caps : CapsAgree b.caps x
   pub banned : IsSetOfBanned b.sets.banned x
 
--- threads are below this number
+-- every thread that a holder, a last grant or a ban names is below this number
 pub record IsSound (threads : ℕ) (b : Board) : Type 0 where
   pub holding : HoldingSound threads b.holding
   pub bans : BansSound threads b.bans
@@ -125,12 +140,13 @@ pub record IsSound (threads : ℕ) (b : Board) : Type 0 where
 abbrev pub NamesTable : Table → Action → Type 0
 NamesTable table action = NamesCores table.cores (threads_of_table table) action
 
--- the board's threads are the table's, its counts are those of its cores, and its sets have each core where its holder says
+-- the board's threads are the table's, its counts are those of its cores, and its sets have each
+-- core where its holder says
 pub record IsReady (table : Table) (b : Board) : Type 0 where
   pub sound : IsSound 128 b
   pub own : IsSound (threads_of_table table) b
   pub counts : Surveys table (holder_in b.holding) b.survey
-  pub sets : Sorts table (holder_in b.holding) b.sets
+  pub sets : Sorts (holder_in b.holding) b.sets
 
 -- the set has the cores that were granted in this pass
 pub record IsFresh (granted : CoreSet) (acts : List Action) : Type 0 where
@@ -142,7 +158,9 @@ pub record Stands (b : Board) (s : Setting) (acts : List Action) : Type 0 where
   pub fresh : IsFresh b.fresh acts
   pub kept : (k : ℕ) → k < 128 → slice_index_or b.keeping.kept k zero_record ≡ kept_now s k
   pub before : (k : ℕ) → k < 128 → slice_index b.keeping.before k ≡ (kept_before s k).misses
-  pub shown : (k : ℕ) → k < 128 → slice_index_or b.keeping.shown k nothing_shown ≡ last_shown (looks_of s.history ++ s.input.seen ∷ []) k
+  pub shown : (k : ℕ) → k < 128 →
+      slice_index_or b.keeping.shown k nothing_shown
+      ≡ last_shown (looks_of s.history ++ s.input.seen ∷ []) k
 
 -- the board agrees with the history followed by this entry
 pub record AgreesAfter (b : Board) (history : List PassEntry) (entry : PassEntry) : Type 0 where

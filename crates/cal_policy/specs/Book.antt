@@ -5,8 +5,8 @@ use Rattle.cal_machine.specs.Table.{Table}
 use Rattle.cal_machine.specs.declared.command.Command.{Command}
 use Rattle.cal_machine.specs.declared.command.Command.TheVariants.{Run, Park}
 use Rattle.cal_policy.specs.declared.book.Book.{Book}
-use Rattle.cal_policy.specs.declared.pass_action.Action.{Action}
-use Rattle.cal_policy.specs.declared.pass_entry.PassEntry.{PassEntry}
+use Rattle.cal_policy.specs.declared.history.action.Action.{Action}
+use Rattle.cal_policy.specs.declared.history.entry.PassEntry.{PassEntry}
 use Rattle.cal_policy.specs.Tasks.{threads_of_table}
 use Rattle.cal_policy.specs.History.{actions_of, looks_of, sends, addressed_to}
 use Rattle.cal_policy.specs.Board.{Agrees, KeepingAgrees, IsReady}
@@ -25,8 +25,10 @@ abbrev pub RunsOnTable : Table → Command → Type 0
 RunsOnTable table (Run core) = core < table.cores
 RunsOnTable table Park = Unit {0}
 
--- the action, made after the actions x, sends this command to this thread of the table and nothing else, or it sends nothing
-pub record IsSentBy (table : Table) (x : List Action) (action : Action) (sent : Option (ℕ × Command)) : Type 0 where
+-- the action, made after the actions x, sends this command to this thread of the table and nothing
+-- else, or it sends nothing
+pub record IsSentBy (table : Table) (x : List Action) (action : Action)
+    (sent : Option (ℕ × Command)) : Type 0 where
   pub exact : (k : ℕ) → addressed_to k sent ≡ sends k x action
   pub thread : IfSome sent (λ s. s.0 < threads_of_table table)
   pub core : IfSome sent (λ s. RunsOnTable table s.1)

@@ -1,19 +1,24 @@
--- What all actions so far say of cores, threads and tasks. The actions are a list from the first pass on; nothing is carried along.
-use Rattle.std.specs.Prelude.{ℕ, ◌+◌, ◌==◌, Bool, List, [], ◌∷◌, length, map, Option, Some, None, if◌then◌else◌}
+-- What all actions so far say of cores, threads and tasks. The actions are a list from the first
+-- pass on; nothing is carried along.
+pub mod Lists
+pub mod Looks
+use Rattle.std.specs.Prelude.{ℕ, ◌+◌, ◌==◌, Bool, List, [], ◌∷◌, length}
+use Rattle.std.specs.Prelude.{map, Option, Some, None, if◌then◌else◌}
 use Rattle.std.specs.Option.{unwrap_or, is_some}
 use Rattle.std.specs.List.{flat_map}
 use Rattle.cal_machine.specs.declared.command.Command.{Command}
 use Rattle.cal_machine.specs.declared.command.Command.TheVariants.{Run, Park}
-use Rattle.cal_policy.specs.declared.pass_action.Action.{Action}
-use Rattle.cal_policy.specs.declared.pass_action.Action.TheVariants.{Free, Unban, Ban, Revoke, Cap, Grant}
-use Rattle.cal_policy.specs.declared.pass_action.Cause.{Cause}
-use Rattle.cal_policy.specs.declared.holding.Holder.{Holder}
-use Rattle.cal_policy.specs.declared.holding.Holder.TheVariants as holders
-use Rattle.cal_policy.specs.declared.holding.Placement as placements
-use Rattle.cal_policy.specs.declared.banning.BannedFor.{BannedFor}
-use Rattle.cal_policy.specs.declared.pass_entry.PassEntry.{PassEntry}
-use Rattle.cal_policy.specs.declared.judged_look.Seen.{Seen}
-use Rattle.cal_policy.specs.Lists.{last_of, each_of}
+use Rattle.cal_policy.specs.declared.history.action.Action.{Action}
+use Rattle.cal_policy.specs.declared.history.action.Action.TheVariants.{Free, Unban, Ban}
+use Rattle.cal_policy.specs.declared.history.action.Action.TheVariants.{Revoke, Cap, Grant}
+use Rattle.cal_policy.specs.declared.history.action.Cause.{Cause}
+use Rattle.cal_policy.specs.declared.board.holders.Holder.{Holder}
+use Rattle.cal_policy.specs.declared.board.holders.Holder.TheVariants as holders
+use Rattle.cal_policy.specs.declared.board.holders.Placement as placements
+use Rattle.cal_policy.specs.declared.board.bans.BannedFor.{BannedFor}
+use Rattle.cal_policy.specs.declared.history.entry.PassEntry.{PassEntry}
+use Rattle.cal_policy.specs.declared.history.look.Seen.{Seen}
+use Rattle.cal_policy.specs.History.Lists.{last_of, each_of}
 
 -- the actions of all passes of a history, end to end
 abbrev pub actions_of : List PassEntry → List Action
@@ -46,7 +51,8 @@ abbrev pub addressed_to : ℕ → Option (ℕ × Command) → List Command
 addressed_to k None = []
 addressed_to k (Some sent) = command_to k (Some sent.0) sent.1
 
--- what an action sends to thread k: a grant to it sends Run, a revocation of a core whose last grant before went to it sends Park
+-- what an action sends to thread k: a grant to it sends Run, a revocation of a core whose last
+-- grant before went to it sends Park
 abbrev pub sends : ℕ → List Action → Action → List Command
 sends k before (Grant core thread class) = command_to k (Some thread) (Run core)
 sends k before (Revoke core cause) = command_to k (last_thread before core) Park
@@ -69,7 +75,8 @@ placed before thread = record { thread = thread; number = sent_to before thread 
 
 -- an action as a grant of core c: the thread, and the number of its command
 abbrev pub placement_made : ℕ → List Action → Action → Option placements.Placement
-placement_made c before (Grant core thread class) = if core == c then Some (placed before thread) else None
+placement_made c before (Grant core thread class) =
+    if core == c then Some (placed before thread) else None
 placement_made c before (Free core) = None
 placement_made c before (Unban core) = None
 placement_made c before (Ban core thread started) = None
@@ -88,8 +95,10 @@ left_by (Some placement) cause = holders.Leaving placement cause
 -- what an action that names core c makes of its holder
 abbrev pub holder_made : ℕ → List Action → Action → Option Holder
 holder_made c before (Free core) = if core == c then Some holders.Free else None
-holder_made c before (Grant core thread class) = if core == c then Some (holders.Held (placed before thread)) else None
-holder_made c before (Revoke core cause) = if core == c then Some (left_by (last_placement before core) cause) else None
+holder_made c before (Grant core thread class) =
+    if core == c then Some (holders.Held (placed before thread)) else None
+holder_made c before (Revoke core cause) =
+    if core == c then Some (left_by (last_placement before core) cause) else None
 holder_made c before (Unban core) = None
 holder_made c before (Ban core thread started) = None
 holder_made c before (Cap task cap) = None
@@ -100,7 +109,8 @@ holder_of x c = unwrap_or (last_of (holder_made c) x) holders.Free
 
 -- what an action that names core c makes of its ban
 abbrev pub ban_made : ℕ → List Action → Action → Option (Option BannedFor)
-ban_made c before (Ban core thread started) = if core == c then Some (Some (record { thread = thread; started = started })) else None
+ban_made c before (Ban core thread started) =
+    if core == c then Some (Some (record { thread = thread; started = started })) else None
 ban_made c before (Unban core) = if core == c then Some None else None
 ban_made c before (Free core) = None
 ban_made c before (Revoke core cause) = None

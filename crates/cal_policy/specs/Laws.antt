@@ -1,39 +1,47 @@
 -- Laws over the definitions alone.
-use Rattle.std.specs.Prelude.{◌≡◌, ℕ, ◌<◌, ◌≤◌, ◌↔◌, false, List, [], ◌∷◌, ◌++◌, length, take, Option, Some, None, slice_get}
+use Rattle.std.specs.Prelude.{◌≡◌, ℕ, ◌<◌, ◌≤◌, ◌↔◌, false, List, [], ◌∷◌, ◌++◌}
+use Rattle.std.specs.Prelude.{length, take, Some, None, slice_get}
 use Rattle.std.specs.Option.{MatchOption, option_map, option_or, unwrap_or}
-use Rattle.cal_policy.specs.declared.pass_action.Action.{Action}
-use Rattle.cal_policy.specs.declared.holding.Placement as placements
+use Rattle.cal_policy.specs.declared.history.action.Action.{Action}
+use Rattle.cal_policy.specs.declared.board.holders.Placement as placements
 use Rattle.cal_signal.specs.declared.record.Record.{Record}
 use Rattle.cal_signal.specs.declared.look.Look.{Look}
 use Rattle.cal_signal.specs.declared.look.Look.TheVariants as found
-use Rattle.cal_policy.specs.declared.judged_look.Seen.{Seen}
-use Rattle.cal_policy.specs.declared.judged_look.Seen.TheVariants.{Whole}
-use Rattle.cal_policy.specs.Lists.{each_after}
-use Rattle.cal_policy.specs.History.{actions_of, holder_of, holder_made, last_placement, placement_made, last_thread, commands_to, sent_to, sends, ban_of, ban_made, last_cap, cap_made}
-use Rattle.cal_policy.specs.Looks.{kept_by, to_keep_at, last_shown, shown_at, look_of}
-use Rattle.cal_policy.specs.Judging.{judged, is_foreign}
-use Rattle.cal_policy.specs.Steady.{IsSteady, IsSound}
+use Rattle.cal_policy.specs.declared.history.look.Seen.{Seen}
+use Rattle.cal_policy.specs.declared.history.look.Seen.TheVariants.{Whole}
+use Rattle.cal_policy.specs.History.Lists.{each_after}
+use Rattle.cal_policy.specs.History.{actions_of, holder_of, holder_made, last_placement}
+use Rattle.cal_policy.specs.History.{placement_made, last_thread, commands_to, sent_to}
+use Rattle.cal_policy.specs.History.{sends, ban_of, ban_made, last_cap, cap_made}
+use Rattle.cal_policy.specs.History.Looks.{kept_by, to_keep_at, last_shown, shown_at, look_of}
+use Rattle.cal_policy.specs.Judgement.Judging.{judged, is_foreign}
+use Rattle.cal_policy.specs.Pass.Steady.{IsSteady, IsSound}
 use Rattle.cal_machine.specs.Table.{Table, IsTable}
-use Rattle.cal_policy.specs.declared.pass_entry.PassEntry.{PassEntry}
-use Rattle.cal_policy.specs.declared.choosing.Candidate.{Candidate}
+use Rattle.cal_policy.specs.declared.history.entry.PassEntry.{PassEntry}
+use Rattle.cal_policy.specs.declared.pass.choice.Candidate.{Candidate}
 use Rattle.cal_policy.specs.Tasks.{limit_of, thread_of}
 use Rattle.cal_policy.specs.Setting.{Setting, setting_of, so_far}
-use Rattle.cal_policy.specs.Bans.{NoPairBanned}
-use Rattle.cal_policy.specs.Bandwidth.{victim_rank, victim_of}
-use Rattle.cal_policy.specs.Grants.{thread_rank, thread_choice, class_of, choice_of}
-use Rattle.cal_policy.specs.Orderly.{IsOrderly}
+use Rattle.cal_policy.specs.Pass.Bans.{NoPairBanned}
+use Rattle.cal_policy.specs.Pass.Bandwidth.{victim_rank, victim_of}
+use Rattle.cal_policy.specs.Pass.Grants.{thread_rank, thread_choice, class_of, choice_of}
+use Rattle.cal_policy.specs.Judgement.Orderly.{IsOrderly}
 use Rattle.cal_policy.specs.Pass.{IsPass, IsLegal}
 
 -- a legal history is orderly
 abbrev pub LegalIsOrderly : Type 0
-LegalIsOrderly = (table : Table) (history : List PassEntry) → IsTable table → IsLegal table history → IsOrderly table history
+LegalIsOrderly = (table : Table) (history : List PassEntry) → IsTable table →
+    IsLegal table history → IsOrderly table history
 
--- of the threads of task t that may be granted a core it is the one that has waited longest, and of those that have waited as long the first
-pub record HasWaitedLongest (s : Setting) (x : List Action) (t : ℕ) (thread : Candidate) : Type 0 where
+-- of the threads of task t that may be granted a core it is the one that has waited longest, and of
+-- those that have waited as long the first
+pub record HasWaitedLongest (s : Setting) (x : List Action) (t : ℕ)
+    (thread : Candidate) : Type 0 where
   pub own : thread.number < limit_of s.table t
   pub may_have : thread_rank s x (thread_of s.table t thread.number) ≡ Some thread.rank
-  pub none_longer : (j delay : ℕ) → j < limit_of s.table t → thread_rank s x (thread_of s.table t j) ≡ Some delay → delay ≤ thread.rank
-  pub earlier_less : (j delay : ℕ) → j < thread.number → thread_rank s x (thread_of s.table t j) ≡ Some delay → delay < thread.rank
+  pub none_longer : (j delay : ℕ) → j < limit_of s.table t →
+      thread_rank s x (thread_of s.table t j) ≡ Some delay → delay ≤ thread.rank
+  pub earlier_less : (j delay : ℕ) → j < thread.number →
+      thread_rank s x (thread_of s.table t j) ≡ Some delay → delay < thread.rank
 
 -- the chosen thread is that one; where none is chosen, none may be granted a core
 abbrev pub ChosenHasWaitedLongest : Type 0
@@ -42,11 +50,14 @@ ChosenHasWaitedLongest = (s : Setting) (x : List Action) (t : ℕ) → MatchOpti
     (HasWaitedLongest s x t)
 
 -- of the cores that have a class for task t it is one of the least class, and of those the lowest
-pub record IsOfLeastClass (s : Setting) (acts : List Action) (t : ℕ) (core : Candidate) : Type 0 where
+pub record IsOfLeastClass (s : Setting) (acts : List Action) (t : ℕ)
+    (core : Candidate) : Type 0 where
   pub own : core.number < s.table.cores
   pub class : class_of s acts t core.number ≡ Some core.rank
-  pub none_less : (c class : ℕ) → c < s.table.cores → class_of s acts t c ≡ Some class → core.rank ≤ class
-  pub lower_greater : (c class : ℕ) → c < core.number → class_of s acts t c ≡ Some class → core.rank < class
+  pub none_less : (c class : ℕ) → c < s.table.cores → class_of s acts t c ≡ Some class →
+      core.rank ≤ class
+  pub lower_greater : (c class : ℕ) → c < core.number → class_of s acts t c ≡ Some class →
+      core.rank < class
 
 -- the chosen core is that one; where none is chosen, no core has a class for the task
 abbrev pub ChosenIsOfLeastClass : Type 0
@@ -56,17 +67,23 @@ ChosenIsOfLeastClass = (s : Setting) (acts : List Action) (t : ℕ) → MatchOpt
 
 -- after each number of its passes a legal history is steady
 abbrev pub LegalIsSteady : Type 0
-LegalIsSteady = (table : Table) (history : List PassEntry) → IsTable table → IsLegal table history → (p : ℕ) → p ≤ length history → IsSteady table (actions_of (take p history))
+LegalIsSteady = (table : Table) (history : List PassEntry) → IsTable table → IsLegal table history →
+    (p : ℕ) → p ≤ length history → IsSteady table (actions_of (take p history))
 
--- each action of each pass of a legal history is made at its place and fits the state there, which is steady
+-- each action of each pass of a legal history is made at its place and fits the state there, which
+-- is steady
 abbrev pub LegalIsSound : Type 0
-LegalIsSound = (table : Table) (history : List PassEntry) → IsTable table → IsLegal table history → (p : ℕ) (entry : PassEntry) → slice_get history p ≡ Some entry →
-    (i : ℕ) (action : Action) → slice_get entry.actions i ≡ Some action → IsSound (setting_of table (take p history) entry) (take i entry.actions) action
+LegalIsSound = (table : Table) (history : List PassEntry) → IsTable table → IsLegal table history →
+    (p : ℕ) (entry : PassEntry) → slice_get history p ≡ Some entry →
+    (i : ℕ) (action : Action) → slice_get entry.actions i ≡ Some action →
+    IsSound (setting_of table (take p history) entry) (take i entry.actions) action
 
 -- what one more action makes of the state: what it says, and where it says nothing all is as it was
 pub record IsOneMore (x : List Action) (action : Action) : Type 0 where
-  pub holder : (c : ℕ) → holder_of (x ++ action ∷ []) c ≡ unwrap_or (holder_made c x action) (holder_of x c)
-  pub placement : (c : ℕ) → last_placement (x ++ action ∷ []) c ≡ option_or (placement_made c x action) (last_placement x c)
+  pub holder : (c : ℕ) → holder_of (x ++ action ∷ []) c ≡ unwrap_or (holder_made c x action)
+      (holder_of x c)
+  pub placement : (c : ℕ) → last_placement (x ++ action ∷ []) c
+      ≡ option_or (placement_made c x action) (last_placement x c)
   pub commands : (k : ℕ) → commands_to (x ++ action ∷ []) k ≡ commands_to x k ++ sends k x action
   pub ban : (c : ℕ) → ban_of (x ++ action ∷ []) c ≡ unwrap_or (ban_made c x action) (ban_of x c)
   pub cap : (t : ℕ) → last_cap (x ++ action ∷ []) t ≡ option_or (cap_made t x action) (last_cap x t)
@@ -76,28 +93,38 @@ ActionIsOneMore = (x : List Action) (action : Action) → IsOneMore x action
 
 -- the thread of a core's last grant is that of its last placement
 abbrev pub LastThreadIsPlaced : Type 0
-LastThreadIsPlaced = (x : List Action) (c : ℕ) → last_thread x c ≡ option_map (λ (placement : placements.Placement). placement.thread) (last_placement x c)
+LastThreadIsPlaced = (x : List Action) (c : ℕ) →
+    last_thread x c ≡ option_map (λ (placement : placements.Placement). placement.thread)
+    (last_placement x c)
 
--- after one more pass's looks a kept record is the one that they let be kept, and without one it is as it was
+-- after one more pass's looks a kept record is the one that they let be kept, and without one it is
+-- as it was
 abbrev pub LookIsOneMore : Type 0
-LookIsOneMore = (looks : List (List Seen)) (seen : List Seen) (k : ℕ) → kept_by (looks ++ seen ∷ []) k ≡ unwrap_or (to_keep_at seen k) (kept_by looks k)
+LookIsOneMore = (looks : List (List Seen)) (seen : List Seen) (k : ℕ) →
+    kept_by (looks ++ seen ∷ []) k ≡ unwrap_or (to_keep_at seen k) (kept_by looks k)
 
--- after one more pass's looks what was last shown is what they carried, and without a record in them it is as it was
+-- after one more pass's looks what was last shown is what they carried, and without a record in
+-- them it is as it was
 abbrev pub ShownIsOneMore : Type 0
-ShownIsOneMore = (looks : List (List Seen)) (seen : List Seen) (k : ℕ) → last_shown (looks ++ seen ∷ []) k ≡ unwrap_or (shown_at seen k) (last_shown looks k)
+ShownIsOneMore = (looks : List (List Seen)) (seen : List Seen) (k : ℕ) →
+    last_shown (looks ++ seen ∷ []) k ≡ unwrap_or (shown_at seen k) (last_shown looks k)
 
 -- what is judged of a look is said of that very look
 abbrev pub JudgedIsOfItsLook : Type 0
-JudgedIsOfItsLook = (cores : ℕ) (x : List Action) (k : ℕ) (look : Look) → look_of (judged cores x k look) ≡ look
+JudgedIsOfItsLook = (cores : ℕ) (x : List Action) (k : ℕ) (look : Look) →
+    look_of (judged cores x k look) ≡ look
 
--- a look that is judged Whole acknowledges no more than was sent, and a core that it shows is its thread's by a Run that it acknowledges
-pub record IsAllowed (cores : ℕ) (x : List Action) (k number : ℕ) (rec : Record) (look : Look) : Type 0 where
+-- a look that is judged Whole acknowledges no more than was sent, and a core that it shows is its
+-- thread's by a Run that it acknowledges
+pub record IsAllowed (cores : ℕ) (x : List Action) (k number : ℕ) (rec : Record)
+    (look : Look) : Type 0 where
   pub whole : look ≡ found.Whole number rec
   pub sent : rec.taken ≤ sent_to x k
   pub own : is_foreign cores x k rec ≡ false
 
 abbrev pub WholeIsAllowed : Type 0
-WholeIsAllowed = (cores : ℕ) (x : List Action) (k number : ℕ) (rec : Record) (look : Look) → judged cores x k look ≡ Whole number rec → IsAllowed cores x k number rec look
+WholeIsAllowed = (cores : ℕ) (x : List Action) (k number : ℕ) (rec : Record) (look : Look) →
+    judged cores x k look ≡ Whole number rec → IsAllowed cores x k number rec look
 
 -- nothing is a legal history
 abbrev pub NothingIsLegal : Type 0
@@ -105,27 +132,35 @@ NothingIsLegal = (table : Table) → IsLegal table []
 
 -- a legal history cut off after any number of passes is legal
 abbrev pub PrefixesAreLegal : Type 0
-PrefixesAreLegal = (table : Table) (history : List PassEntry) (p : ℕ) → IsLegal table history → IsLegal table (take p history)
+PrefixesAreLegal = (table : Table) (history : List PassEntry) (p : ℕ) → IsLegal table history →
+    IsLegal table (take p history)
 
--- a history with one entry more is legal exactly where it was legal and the entry is a pass after it
+-- a history with one entry more is legal exactly where it was legal and the entry is a pass after
+-- it
 abbrev pub OnePassMoreIsLegal : Type 0
-OnePassMoreIsLegal = (table : Table) (history : List PassEntry) (entry : PassEntry) → IsLegal table (history ++ entry ∷ []) ↔ (IsLegal table history × IsPass table history entry)
+OnePassMoreIsLegal = (table : Table) (history : List PassEntry) (entry : PassEntry) →
+    IsLegal table (history ++ entry ∷ []) ↔ (IsLegal table history × IsPass table history entry)
 
 -- what more actions send a thread comes after all that was sent to it before
 abbrev pub CommandsFollow : Type 0
-CommandsFollow = (x more : List Action) (k : ℕ) → commands_to (x ++ more) k ≡ commands_to x k ++ each_after (sends k) x more
+CommandsFollow = (x more : List Action) (k : ℕ) →
+    commands_to (x ++ more) k ≡ commands_to x k ++ each_after (sends k) x more
 
 -- the commands of a history are the first ones of those of each longer history
 abbrev pub CommandsBeginAlike : Type 0
 CommandsBeginAlike = (history more : List PassEntry) (k : ℕ) →
-    commands_to (actions_of history) k ≡ take (sent_to (actions_of history) k) (commands_to (actions_of (history ++ more)) k)
+    commands_to (actions_of history) k ≡ take (sent_to (actions_of history) k)
+    (commands_to (actions_of (history ++ more)) k)
 
--- of the tasks that may be the victim it is the one with the most misses, and of those with as many the first
+-- of the tasks that may be the victim it is the one with the most misses, and of those with as many
+-- the first
 pub record HasMostMisses (s : Setting) (x : List Action) (victim : Candidate) : Type 0 where
   pub own : victim.number < length s.table.tasks
   pub may_be : victim_rank s x victim.number ≡ Some victim.rank
-  pub none_more : (t misses : ℕ) → t < length s.table.tasks → victim_rank s x t ≡ Some misses → misses ≤ victim.rank
-  pub earlier_less : (t misses : ℕ) → t < victim.number → victim_rank s x t ≡ Some misses → misses < victim.rank
+  pub none_more : (t misses : ℕ) → t < length s.table.tasks → victim_rank s x t ≡ Some misses →
+      misses ≤ victim.rank
+  pub earlier_less : (t misses : ℕ) → t < victim.number → victim_rank s x t ≡ Some misses →
+      misses < victim.rank
 
 -- the victim is that one; where there is none, no task may be it
 abbrev pub VictimHasMostMisses : Type 0
@@ -135,10 +170,12 @@ VictimHasMostMisses = (s : Setting) (x : List Action) → MatchOption (victim_of
 
 -- at each place inside each pass of a legal history no core is banned while its sibling is
 abbrev pub LegalIsApart : Type 0
-LegalIsApart = (table : Table) (history : List PassEntry) → IsTable table → IsLegal table history → (p : ℕ) (entry : PassEntry) → slice_get history p ≡ Some entry →
+LegalIsApart = (table : Table) (history : List PassEntry) → IsTable table → IsLegal table history →
+    (p : ℕ) (entry : PassEntry) → slice_get history p ≡ Some entry →
     (i : ℕ) → NoPairBanned (so_far (setting_of table (take p history) entry) (take i entry.actions))
 
 -- a pass of a legal history has at most 338 actions
 abbrev pub LegalIsShort : Type 0
-LegalIsShort = (table : Table) (history : List PassEntry) → IsTable table → IsLegal table history → (p : ℕ) (entry : PassEntry) → slice_get history p ≡ Some entry →
+LegalIsShort = (table : Table) (history : List PassEntry) → IsTable table → IsLegal table history →
+    (p : ℕ) (entry : PassEntry) → slice_get history p ≡ Some entry →
     length entry.actions ≤ 338

@@ -1,14 +1,23 @@
 -- A pass, and legal histories.
+pub mod Among
+pub mod Bandwidth
+pub mod Bans
+pub mod Choice
+pub mod Coupled
+pub mod Frees
+pub mod Grants
+pub mod Made
+pub mod Steady
 use Rattle.std.specs.Prelude.{◌≡◌, ℕ, List, [], ◌++◌, take, Some, slice_get}
 use Rattle.cal_machine.specs.Table.{Table}
-use Rattle.cal_policy.specs.declared.pass_action.Action.{Action}
-use Rattle.cal_policy.specs.declared.pass_entry.PassEntry.{PassEntry}
+use Rattle.cal_policy.specs.declared.history.action.Action.{Action}
+use Rattle.cal_policy.specs.declared.history.entry.PassEntry.{PassEntry}
 use Rattle.cal_policy.specs.Setting.{Setting}
-use Rattle.cal_policy.specs.Frees.{frees}
-use Rattle.cal_policy.specs.Bans.{unbans, bans}
-use Rattle.cal_policy.specs.Bandwidth.{bandwidth_part}
-use Rattle.cal_policy.specs.Grants.{critical_grants, best_effort_grants}
-use Rattle.cal_policy.specs.Judging.{IsInput}
+use Rattle.cal_policy.specs.Pass.Frees.{frees}
+use Rattle.cal_policy.specs.Pass.Bans.{unbans, bans}
+use Rattle.cal_policy.specs.Pass.Bandwidth.{bandwidth_part}
+use Rattle.cal_policy.specs.Pass.Grants.{critical_grants, best_effort_grants}
+use Rattle.cal_policy.specs.Judgement.Judging.{IsInput}
 
 -- the actions so far, and then what a part makes after them
 abbrev pub followed : List Action → (List Action → List Action) → List Action
@@ -24,11 +33,17 @@ pass_of s =
     let granted = followed bounded (critical_grants s) in
     followed granted (best_effort_grants s)
 
--- an entry is a pass after these: its input is one that it may be given, and its actions are the pass's
+-- an entry is a pass after these: its input is one that it may be given, and its actions are the
+-- pass's
 pub record IsPass (table : Table) (before : List PassEntry) (entry : PassEntry) : Type 0 where
   pub input : IsInput table before entry.input
-  pub actions : entry.actions ≡ pass_of (record { table = table; history = before; input = entry.input })
+  pub actions : entry.actions ≡ pass_of (record {
+    table = table;
+    history = before;
+    input = entry.input;
+  })
 
 -- a legal history: each entry is a pass after those before it
 pub record IsLegal (table : Table) (history : List PassEntry) : Type 0 where
-  pub passes : (p : ℕ) (entry : PassEntry) → slice_get history p ≡ Some entry → IsPass table (take p history) entry
+  pub passes : (p : ℕ) (entry : PassEntry) → slice_get history p ≡ Some entry →
+      IsPass table (take p history) entry

@@ -2,13 +2,13 @@
 use Rattle.std.specs.Prelude.{ℕ, Bool, false, List, [], ◌∷◌, ◌++◌, slice_index_or}
 use Rattle.cal_signal.specs.declared.record.Record.{Record}
 use Rattle.cal_machine.specs.Table.{Table}
-use Rattle.cal_policy.specs.declared.pass_action.Action.{Action}
-use Rattle.cal_policy.specs.declared.pass_input.Input.{Input}
-use Rattle.cal_policy.specs.declared.pass_entry.PassEntry.{PassEntry}
-use Rattle.cal_policy.specs.declared.holding.Holder.{Holder}
-use Rattle.cal_policy.specs.declared.holding.Holder.TheVariants.{Free, Held, Leaving}
+use Rattle.cal_policy.specs.declared.history.action.Action.{Action}
+use Rattle.cal_policy.specs.declared.history.input.Input.{Input}
+use Rattle.cal_policy.specs.declared.history.entry.PassEntry.{PassEntry}
+use Rattle.cal_policy.specs.declared.board.holders.Holder.{Holder}
+use Rattle.cal_policy.specs.declared.board.holders.Holder.TheVariants.{Free, Held, Leaving}
 use Rattle.cal_policy.specs.History.{actions_of, looks_of}
-use Rattle.cal_policy.specs.Looks.{kept_by}
+use Rattle.cal_policy.specs.History.Looks.{kept_by}
 
 -- what a pass goes by: the task table, the passes before it, and its input
 pub record Setting : Type 0 where

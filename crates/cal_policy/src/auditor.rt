@@ -2,23 +2,23 @@
 
 ghost use Rattle.std.specs.Prelude.{◌≡◌, ◌<◌, ◌^◌, ◌++◌, ◌∷◌, ◌↔◌, [], List, length, IfOk, IsTrue};
 ghost use Rattle.cal_machine.specs.Table.{Table};
-ghost use Rattle.cal_policy.specs.Auditing.{IsAuditOf, IsAuditorOf};
+ghost use Rattle.cal_policy.specs.Auditor.{IsAuditOf, IsAuditorOf};
 ghost use Rattle.cal_policy.specs.Book.{AgreesWith, IsBookOf};
 ghost use Rattle.cal_policy.specs.Pass.{IsPass, IsLegal};
-ghost use Rattle.cal_policy.specs.Verdicts.{IsVerdict};
-ghost use Rattle.cal_policy.specs.declared.pass_entry.PassEntry.{PassEntry};
+ghost use Rattle.cal_policy.specs.Verdict.{IsVerdict};
+ghost use Rattle.cal_policy.specs.declared.history.entry.PassEntry.{PassEntry};
 
-use crate::action_list::Actions;
 use crate::book::Book;
-use crate::pass_entry::PassEntry;
+use crate::history::action_list::Actions;
+use crate::history::entry::PassEntry;
 use crate::verdict::{Verdict, same_actions};
 use cal_machine::Config;
 use std::alloc::{AllocError, Global};
 
-/// The audit of a history that is handed to it one pass after the other, whether it was read whole or
-/// still grows. It says at any time what `audit` says of the passes so far, and each pass costs the
-/// work of that pass alone: it goes by a Book, where `audit` goes over all passes before. Only opening
-/// it takes memory.
+/// The audit of a history that is handed to it one pass after the other, whether it was read whole
+/// or still grows. It says at any time what `audit` says of the passes so far, and each pass costs
+/// the work of that pass alone: it goes by a Book, where `audit` goes over all passes before. Only
+/// opening it takes memory.
 ///
 /// Every call is to be given the table that it was opened for.
 #[derive(Drop)]
@@ -68,7 +68,8 @@ impl Auditor {
     /// Takes the next pass of the history. Any entry may be handed in.
     pub fn next(&mut self, config: &Config, entry: &PassEntry)
         requires of { IsAuditorOf config.now self.old }
-        ensures audits { (h : List PassEntry) → length h < 2 ^ 64 → IsAuditOf config.now h self.old →
+        ensures audits { (h : List PassEntry) → length h < 2 ^ 64 →
+            IsAuditOf config.now h self.old →
             IsAuditOf config.now (h ++ entry.now ∷ []) self.new }
         ensures of { IsAuditorOf config.now self.new }
     {
@@ -86,7 +87,8 @@ impl Auditor {
 
     /// What the audit says of the passes so far.
     pub fn verdict(&self) -> Verdict
-        ensures { (table : Table) (h : List PassEntry) → IsAuditOf table h self.now → IsVerdict table h result }
+        ensures { (table : Table) (h : List PassEntry) → IsAuditOf table h self.now →
+            IsVerdict table h result }
     {
         self.verdict
     }

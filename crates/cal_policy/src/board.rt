@@ -1,19 +1,29 @@
 //! What the actions and looks so far have made of cores, threads and tasks, as plain data.
 
-ghost use Rattle.std.specs.Prelude.{◌≡◌, ◌≤◌, ◌++◌, ◌∷◌, [], List, length};
-ghost use Rattle.cal_policy.specs.declared.pass_action.Action.{Action};
-ghost use Rattle.cal_policy.specs.declared.judged_look.Seen.{Seen};
-ghost use Rattle.cal_machine.specs.Table.{Table, IsTable};
-ghost use Rattle.cal_policy.specs.Board.{Agrees, IsReady, IsFresh, KeepingAgrees, KeepsBefore, NamesCores, NamesTable};
+pub mod bans;
+pub mod caps;
+pub mod core_sets;
+pub mod counts;
+pub mod holders;
+pub mod records;
+pub mod replay;
+pub mod survey;
 
-use crate::banning::Bans;
-use crate::capping::Caps;
-use crate::core_sets::CoreSets;
-use crate::holding::{Holding, core_changed_by};
-use crate::judged_look::Seen;
-use crate::keeping::Keeping;
-use crate::pass_action::Action;
-use crate::surveying::Survey;
+ghost use Rattle.std.specs.Prelude.{◌≡◌, ◌≤◌, ◌++◌, ◌∷◌, [], List, length};
+ghost use Rattle.cal_policy.specs.declared.history.action.Action.{Action};
+ghost use Rattle.cal_policy.specs.declared.history.look.Seen.{Seen};
+ghost use Rattle.cal_machine.specs.Table.{Table, IsTable};
+ghost use Rattle.cal_policy.specs.Board.{Agrees, IsReady, IsFresh, KeepingAgrees};
+ghost use Rattle.cal_policy.specs.Board.{KeepsBefore, NamesCores, NamesTable};
+
+use crate::board::bans::Bans;
+use crate::board::caps::Caps;
+use crate::board::core_sets::CoreSets;
+use crate::board::holders::{Holding, core_changed_by};
+use crate::board::records::Keeping;
+use crate::board::survey::Survey;
+use crate::history::action::Action;
+use crate::history::look::Seen;
 use cal_machine::{Config, CoreSet};
 
 /// The state that the actions and looks so far leave. It has no model: what each part means is said
@@ -35,7 +45,8 @@ pub struct Board {
 /// Notes the core of a grant.
 fn note_grant(fresh: &mut CoreSet, action: Action)
     requires { NamesCores 128 128 action }
-    ensures { (acts : List Action) → IsFresh fresh.old acts → IsFresh fresh.new (acts ++ action ∷ []) }
+    ensures { (acts : List Action) → IsFresh fresh.old acts →
+        IsFresh fresh.new (acts ++ action ∷ []) }
 {
     match action {
         Action::Grant { core, .. } => fresh.insert(core),
@@ -71,8 +82,10 @@ impl Board {
         requires table { IsTable config.now }
         requires ready { IsReady config.now self.old }
         requires names { NamesTable config.now action }
-        ensures agrees { (x : List Action) → Agrees self.old x → Agrees self.new (x ++ action ∷ []) }
-        ensures fresh { (acts : List Action) → IsFresh self.old.fresh acts → IsFresh self.new.fresh (acts ++ action ∷ []) }
+        ensures agrees { (x : List Action) → Agrees self.old x →
+            Agrees self.new (x ++ action ∷ []) }
+        ensures fresh { (acts : List Action) → IsFresh self.old.fresh acts →
+            IsFresh self.new.fresh (acts ++ action ∷ []) }
         ensures ready { IsReady config.now self.new }
         ensures keeping { self.new.keeping ≡ self.old.keeping }
     {
@@ -82,7 +95,7 @@ impl Board {
         self.holding.apply(action);
         let after = self.holding.holder_at(core);
         self.survey.add(config, after);
-        self.sets.move_core(config, core, before, after);
+        self.sets.move_core(core, before, after);
         self.sets.note_ban(action);
         self.bans.apply(action);
         self.caps.apply(action);
@@ -108,8 +121,6 @@ impl Board {
             sets: CoreSets {
                 free: self.sets.free,
                 taken: self.sets.taken,
-                leaving: self.sets.leaving,
-                of_task: self.sets.of_task,
                 banned: self.sets.banned,
             },
             bans: Bans {
@@ -133,8 +144,10 @@ impl Board {
         ensures agrees { (x : List Action) → Agrees self.old x → Agrees self.new x }
         ensures fresh { IsFresh self.new.fresh [] }
         ensures ready { (table : Table) → IsReady table self.old → IsReady table self.new }
-        ensures keeping { (looks : List (List Seen)) → KeepingAgrees self.old.keeping looks → KeepingAgrees self.new.keeping (looks ++ seen.now ∷ []) }
-        ensures before { (looks : List (List Seen)) → KeepingAgrees self.old.keeping looks → KeepsBefore self.new.keeping looks }
+        ensures keeping { (looks : List (List Seen)) → KeepingAgrees self.old.keeping looks →
+            KeepingAgrees self.new.keeping (looks ++ seen.now ∷ []) }
+        ensures before { (looks : List (List Seen)) → KeepingAgrees self.old.keeping looks →
+            KeepsBefore self.new.keeping looks }
     {
         self.fresh = CoreSet::empty();
         self.keeping.look(seen);

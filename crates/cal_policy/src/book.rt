@@ -1,39 +1,40 @@
 //! A pass without looking back: a Book keeps what the history so far comes to.
 
-ghost use Rattle.std.specs.Prelude.{◌≡◌, ℕ, ◌<◌, ◌++◌, ◌∷◌, ◌↔◌, [], List, Some, length, take, slice_get, IfOk, IsTrue};
+ghost use Rattle.std.specs.Prelude.{◌≡◌, ℕ, ◌<◌, ◌++◌, ◌∷◌, ◌↔◌, [], List, Some};
+ghost use Rattle.std.specs.Prelude.{length, take, slice_get, IfOk, IsTrue};
 ghost use Rattle.cal_machine.specs.Table.{Table, IsTable};
 ghost use Rattle.cal_policy.specs.Tasks.{threads_of_table};
-ghost use Rattle.cal_policy.specs.declared.pass_entry.PassEntry.{PassEntry};
-ghost use Rattle.cal_policy.specs.Counts as counts;
+ghost use Rattle.cal_policy.specs.declared.judgement.open_input.FoundLook.{FoundLook};
+ghost use Rattle.cal_policy.specs.declared.history.entry.PassEntry.{PassEntry};
+ghost use Rattle.cal_policy.specs.Board.Counts as counts;
 ghost use Rattle.cal_policy.specs.History.{actions_of, holder_of};
-ghost use Rattle.cal_policy.specs.Found.{judged_input};
-ghost use Rattle.cal_policy.specs.Judging.{judged, IsInput};
+ghost use Rattle.cal_policy.specs.Judgement.OpenInput.{judged_input};
+ghost use Rattle.cal_policy.specs.Judgement.Judging.{judged, IsInput};
 ghost use Rattle.cal_policy.specs.Setting.{setting};
 ghost use Rattle.cal_policy.specs.Pass.{pass_of, IsLegal};
 ghost use Rattle.cal_policy.specs.Board.{HasSizes, kept_holder};
 ghost use Rattle.cal_policy.specs.Book.{AgreesWith, IsBookOf, IsSentBy};
 
-use crate::action_list::Actions;
-use crate::board::Board;
-use crate::deciding::decide;
-use crate::holding::Holder;
-use crate::judged_look::Seen;
-use crate::open_input::{FoundLook, OpenInput};
-use crate::pass_action::Action;
-use crate::pass_input::Input;
-use crate::{counting, judging};
+use crate::board::holders::Holder;
+use crate::board::{Board, counts};
+use crate::history::action::Action;
+use crate::history::action_list::Actions;
+use crate::history::input::Input;
+use crate::history::look::Seen;
+use crate::judgement::judging;
+use crate::judgement::open_input::{FoundLook, OpenInput};
+use crate::pass::deciding::decide;
 use cal_machine::{Command, Config};
 use cal_signal::Look;
 use std::alloc::{AllocError, Global};
 
-/// What the history so far comes to: holders with the numbers of their Runs, the task of each core's
-/// last grant, counts, bans, caps, numbers of commands, kept records and the misses of those of the pass
-/// before, and the last look with a record of each thread; beside them the sets of the free, taken,
-/// leaving and banned cores and of the cores of each task, which no clause names. It decides each pass
-/// from that alone, so a pass costs the work of that pass, and only opening a book takes memory.
+/// What the history so far comes to: who has each core and since which command, whom it was granted
+/// to last, bans, caps, and of each thread the commands sent to it and the records it showed. It
+/// decides each pass from that alone, so a pass costs the work of that pass however long the
+/// history is, and only opening a book takes memory.
 ///
-/// Every call is to be given the table that the book was opened for. What a book says holds of every
-/// legal history with which it agrees.
+/// Every call is to be given the table that the book was opened for. What a book says holds of
+/// every legal history with which it agrees.
 #[derive(Drop)]
 pub struct Book {
     board: Box<Board>,
@@ -53,7 +54,8 @@ impl Book {
     /// What a look at thread `k` comes to after the history.
     pub fn judge(&self, config: &Config, k: usize, look: Look) -> Seen
         requires { k < threads_of_table config.now }
-        ensures { (h : List PassEntry) → AgreesWith self.now h → result ≡ judged config.now.cores (actions_of h) k look }
+        ensures { (h : List PassEntry) → AgreesWith self.now h →
+            result ≡ judged config.now.cores (actions_of h) k look }
     {
         config.limits();
         judging::judged_by(&self.board, config.machine().cores(), k, look)
@@ -84,11 +86,23 @@ impl Book {
 
     /// Whether the next pass may be given this input.
     pub fn fits(&self, config: &Config, input: &Input) -> bool
-        ensures fits { (h : List PassEntry) → AgreesWith self.now h → IsTrue result ↔ IsInput config.now h input.entry.now }
+        ensures fits { (h : List PassEntry) → AgreesWith self.now h → IsTrue result ↔
+            IsInput config.now h input.entry.now }
         ensures sizes { IsTrue result → HasSizes config.now input.entry.now }
     {
         config.limits();
         judging::fits(&self.board, config, input)
+    }
+
+    /// Whether the next pass may be given an input that was made of what was found, by this book as it
+    /// stands: `fits`, but no look is judged again.
+    pub fn made_fits(&self, config: &Config, input: &Input) -> bool
+        ensures fits { (h : List PassEntry) (now bandwidth : ℕ) (found : List FoundLook) → AgreesWith self.now h →
+            input.entry.now ≡ judged_input config.now h now bandwidth found → IsTrue result ↔ IsInput config.now h input.entry.now }
+        ensures sizes { IsTrue result → HasSizes config.now input.entry.now }
+    {
+        config.limits();
+        judging::looks_fit(&self.board.keeping, config, input)
     }
 
     /// Who has a core after the history. A number is the least of the Run's and 2^64.
@@ -108,7 +122,7 @@ impl Book {
             result ≡ counts.held_by config.now (actions_of h) task }
     {
         config.limits();
-        counting::held_by(config, &self.board, task)
+        counts::held_by(config, &self.board, task)
     }
 
     /// How many cores a task's threads hold or leave after the history.
@@ -119,7 +133,7 @@ impl Book {
             result ≡ counts.booked_by config.now (actions_of h) task }
     {
         config.limits();
-        counting::booked_by(config, &self.board, task)
+        counts::booked_by(config, &self.board, task)
     }
 
     /// The cap of a task after the history: its last one, else its limit.
@@ -129,7 +143,7 @@ impl Book {
             result ≡ counts.cap_of config.now (actions_of h) task }
     {
         config.limits();
-        counting::cap_of(config, &self.board, task)
+        counts::cap_of(config, &self.board, task)
     }
 
     /// What an action of the last pass sends, and to which thread: a grant sends Run, and a
@@ -139,7 +153,8 @@ impl Book {
     /// The book is the one after the pass: what a pass revokes it grants to nobody any more.
     pub fn command_of(&self, action: Action) -> Option<(u8, Command)>
         ensures { (table : Table) (h : List PassEntry) (entry : PassEntry) →
-            IsTable table → IsLegal table (h ++ entry ∷ []) → AgreesWith self.now (h ++ entry ∷ []) →
+            IsTable table → IsLegal table (h ++ entry ∷ []) →
+            AgreesWith self.now (h ++ entry ∷ []) →
             (i : ℕ) → slice_get entry.actions i ≡ Some action →
             IsSentBy table (actions_of h ++ take i entry.actions) action result }
     {
@@ -154,15 +169,17 @@ impl Book {
         }
     }
 
-    /// Appends the actions of the next pass, on an input that fits, to an empty list, and takes the pass
-    /// into the book.
+    /// Appends the actions of the next pass, on an input that fits, to an empty list, and takes the
+    /// pass into the book.
     pub fn step(&mut self, config: &Config, input: &Input, out: &mut Actions)
         requires of { IsBookOf config.now self.old }
         requires sizes { HasSizes config.now input.now }
         requires empty { out.old ≡ [] }
-        ensures acts { (h : List PassEntry) → IsLegal config.now h → AgreesWith self.old h → IsInput config.now h input.entry.now →
+        ensures acts { (h : List PassEntry) → IsLegal config.now h → AgreesWith self.old h →
+            IsInput config.now h input.entry.now →
             out.new ≡ pass_of (setting config.now h input.entry.now) }
-        ensures agrees { (h : List PassEntry) → IsLegal config.now h → AgreesWith self.old h → IsInput config.now h input.entry.now →
+        ensures agrees { (h : List PassEntry) → IsLegal config.now h → AgreesWith self.old h →
+            IsInput config.now h input.entry.now →
             AgreesWith self.new (h ++ record { input = input.entry.now; actions = out.new } ∷ []) }
         ensures of { IsBookOf config.now self.new }
     {

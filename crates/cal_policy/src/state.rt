@@ -2,11 +2,11 @@
 //! it. Whoever only wants this policy's passes needs none of this.
 
 pub use crate::board::Board;
-pub use crate::counting::{cap_of, held_by, holds_for, is_over};
-pub use crate::holding::{Holder, Placement};
-pub use crate::judging::{fits, judged_by};
-pub use crate::kinds::is_latency_critical;
-pub use crate::order::{is_banned, is_fit, is_held};
-pub use crate::parts::frees::is_left;
-pub use crate::replay::board_of;
-pub use crate::surveying::{Survey, survey_of};
+pub use crate::board::counts::{booked_by, cap_of, held_by, holds_for, is_over};
+pub use crate::board::holders::{Holder, Placement};
+pub use crate::board::replay::board_of;
+pub use crate::board::survey::{Survey, survey_of};
+pub use crate::judgement::judging::{fits, judged_by};
+pub use crate::judgement::orderly::{is_banned, is_fit, is_held};
+pub use crate::pass::frees::is_left;
+pub use crate::tasks::is_latency_critical;

@@ -1,5 +1,5 @@
-//! The worked rows that begin in a state, as passes over two entries made by hand: the first grants the
-//! cores, the second shows the threads on them.
+//! The worked rows that begin in a state, as passes over two entries made by hand: the first grants
+//! the cores, the second shows the threads on them.
 
 mod book;
 mod states;
@@ -12,28 +12,7 @@ use std::test::Fail;
 
 /// A record of these nine words.
 fn rec(words: [u64; 9]) -> Record {
-    let [
-        taken,
-        running,
-        queued,
-        oldest,
-        started,
-        misses,
-        stamp,
-        paused,
-        since,
-    ] = words;
-    Record {
-        taken,
-        running,
-        queued,
-        oldest,
-        started,
-        misses,
-        stamp,
-        paused,
-        since,
-    }
+    Record::from_words(words)
 }
 
 /// A table of these first numbers and these tasks: kind, guaranteed, limit, delay, request.
@@ -41,7 +20,8 @@ fn table(alloc: Global, cores: u8, tasks: &[(&str, u8, u8, u64, u64)]) -> Result
     let mut text = format!(in alloc; "cores = {cores}\nbandwidth_limit = 1000\n")?;
     for (kind, guaranteed, limit, delay, request) in tasks {
         let task = format!(in alloc;
-            "[[task]]\nkind = \"{kind}\"\nguaranteed = {guaranteed}\nlimit = {limit}\ndelay = {delay}\nrequest = {request}\n"
+            "[[task]]\nkind = \"{kind}\"\nguaranteed = {guaranteed}\nlimit = {limit}\n\
+            delay = {delay}\nrequest = {request}\n"
         )?;
         text.push_str(task.as_str())?;
     }
@@ -79,7 +59,8 @@ fn entry(alloc: Global, input: Input, actions: &[Action]) -> Result<PassEntry, F
     Ok(PassEntry { input, actions })
 }
 
-/// The plain pass on this input, which then stands at the end of the history: its actions are these.
+/// The plain pass on this input, which then stands at the end of the history: its actions are
+/// these.
 fn assert_pass<R: Abort + AllocGlobal>(
     rt: &R,
     config: &Config,

@@ -2,17 +2,17 @@
 
 ghost use Rattle.std.specs.Prelude.{◌≡◌, ◌↔◌, List, IfOk, IsTrue};
 ghost use Rattle.cal_policy.specs.Setting.{setting};
-ghost use Rattle.cal_policy.specs.Judging.{IsInput};
-ghost use Rattle.cal_policy.specs.Orderly.{IsOrderly};
+ghost use Rattle.cal_policy.specs.Judgement.Judging.{IsInput};
+ghost use Rattle.cal_policy.specs.Judgement.Orderly.{IsOrderly};
 ghost use Rattle.cal_policy.specs.Pass.{pass_of, IsPass};
-ghost use Rattle.cal_policy.specs.Verdicts.{IsVerdict};
+ghost use Rattle.cal_policy.specs.Verdict.{IsVerdict};
 
-use crate::action_list::Actions;
-use crate::judging::is_input;
-use crate::law::legal_is_orderly;
-use crate::pass_action::Action;
-use crate::pass_entry::PassEntry;
-use crate::plain::plain_pass;
+use crate::history::action::Action;
+use crate::history::action_list::Actions;
+use crate::history::entry::PassEntry;
+use crate::judgement::judging::is_input;
+use crate::laws::legal_is_orderly;
+use crate::pass::plain::plain_pass;
 use cal_machine::Config;
 use std::alloc::{AllocError, Global};
 
@@ -36,15 +36,16 @@ pub fn same_actions(a: &[Action], b: &[Action]) -> bool
 fn does_so(config: &Config, before: &[PassEntry], entry: &PassEntry, actions: &mut Actions) -> bool
     requires orderly { IsOrderly config.now before.now }
     requires input { IsInput config.now before.now entry.now.input }
-    ensures { IsTrue result ↔ entry.now.actions ≡ pass_of (setting config.now before.now entry.now.input) }
+    ensures { IsTrue result ↔ entry.now.actions
+        ≡ pass_of (setting config.now before.now entry.now.input) }
 {
     actions.clear();
     plain_pass(config, before, &entry.input, actions);
     same_actions(entry.actions.as_slice(), actions.as_slice())
 }
 
-/// Whether an entry is the policy's pass after those before it, which are gone over once. `actions` is
-/// room to work in.
+/// Whether an entry is the policy's pass after those before it, which are gone over once. `actions`
+/// is room to work in.
 pub fn is_pass(
     config: &Config,
     before: &[PassEntry],
@@ -60,9 +61,9 @@ pub fn is_pass(
     does_so(config, before, entry, actions)
 }
 
-/// Whether a history is legal: `Legal` exactly where each pass may be given its input and does what the policy does on
-/// it after the passes before; else the first pass that is not so. Any history may be asked about. Its error is want of
-/// memory alone.
+/// Whether a history is legal: `Legal` exactly where each pass may be given its input and does what
+/// the policy does on it after the passes before; else the first pass that is not so. Any history
+/// may be asked about. Its error is want of memory alone.
 pub fn audit(alloc: Global, config: &Config, history: &[PassEntry]) -> Result<Verdict, AllocError>
     ensures { IfOk result (λ verdict. IsVerdict config.now history.now verdict) }
 {
@@ -80,20 +81,21 @@ pub fn audit(alloc: Global, config: &Config, history: &[PassEntry]) -> Result<Ve
 #[cfg(test)]
 mod tests {
     use super::*;
-    use crate::action_list::ActionList;
     use crate::book::Book;
-    use crate::judged_look::{Seen, SeenList};
-    use crate::judging::judge;
-    use crate::order::orderly;
-    use crate::pass_input::{Input, Rooms};
+    use crate::history::action_list::ActionList;
+    use crate::history::input::{Input, Rooms};
+    use crate::history::look::{Seen, SeenList};
+    use crate::judgement::judging::judge;
+    use crate::judgement::orderly::orderly;
     use cal_machine::ConfigFault;
     use cal_signal::{Look, Record};
     use std::process::Abort;
     use std::test::Fail;
 
-    // Two cores and one latency-critical task of one thread, congested at a delay above 10.
+    /// Two cores and one latency-critical task of one thread, congested at a delay above 10.
     const TABLE: &[u8] =
-        b"cores = 2\nbandwidth_limit = 1000\n\n[[task]]\nkind = \"lc\"\nguaranteed = 1\nlimit = 1\ndelay = 10\nrequest = 50\n";
+        b"cores = 2\nbandwidth_limit = 1000\n\n[[task]]\nkind = \"lc\"\nguaranteed = 1\nlimit = 1\n\
+        delay = 10\nrequest = 50\n";
 
     const GRANT: Action = Action::Grant {
         core: 0,
@@ -101,33 +103,18 @@ mod tests {
         class: 3,
     };
 
-    // A record of a thread off every core, with one request that came at 100.
+    /// A record of a thread off every core, with one request that came at 100.
     fn waiting() -> Record {
         Record {
-            taken: 0,
-            running: 0,
             queued: 1,
             oldest: 100,
-            started: 0,
-            misses: 0,
             stamp: 105,
-            paused: 0,
-            since: 0,
+            ..Record::ZERO
         }
     }
 
     fn nothing() -> Record {
-        Record {
-            taken: 0,
-            running: 0,
-            queued: 0,
-            oldest: 0,
-            started: 0,
-            misses: 0,
-            stamp: 0,
-            paused: 0,
-            since: 0,
-        }
+        Record::ZERO
     }
 
     fn input(alloc: Global, clock: u64, seen: Seen) -> Result<Input, AllocError> {
@@ -254,8 +241,8 @@ mod tests {
         made.to_list(alloc)
     }
 
-    // With one allocation refused, wherever that is, the answer is want of memory by its name, or the ample one.
-    // (tools/refusals runs it so.)
+    /// With one allocation refused, wherever that is, the answer is want of memory by its name, or
+    /// the ample one. (tools/refusals runs it so.)
     #[test]
     fn refused_memory(rt: HostRuntime) -> Result<(), Fail> {
         let alloc = rt.alloc();

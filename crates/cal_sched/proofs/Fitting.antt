@@ -1,7 +1,7 @@
 -- What a pass finds makes an input that the pass may be given.
-use Rattle.std.proofs.Common.{◌≡◌, ℕ, zero, suc, ◌+◌, ◌<◌, ◌≤◌, Bool, true, false, nat_lt, List, [], ◌∷◌, ◌++◌, length, map, Option, Some, None, slice_get, refl, sym, ap, subst, ◌∙◌, arith, option_map, if◌then◌else◌}
+use Rattle.std.proofs.Common.{◌≡◌, ℕ, zero, suc, ◌+◌, ◌<◌, Bool, true, false, nat_lt, List, [], ◌∷◌, ◌++◌, length, map, Option, Some, None, slice_get, refl, sym, ap, ◌∙◌, arith, option_map, if◌then◌else◌}
 use Rattle.std.specs.Option.{unwrap_or, option_or, option_and_then}
-use Rattle.std.specs.List.{enumerate_from, flat_map}
+use Rattle.std.specs.List.{enumerate_from}
 use Rattle.std.proofs.lemmas.List.{append-nil, length-map}
 use Rattle.std.proofs.lemmas.Grind.{flat_map-append}
 use Rattle.std.proofs.lemmas.Option.{slice_get_within}
@@ -10,26 +10,28 @@ use Rattle.cal_signal.specs.declared.look.Look.{Look}
 use Rattle.cal_signal.specs.declared.look.Look.TheVariants.{Whole, Busy}
 use Rattle.cal_signal.specs.declared.shown.Shown.{Shown}
 use Rattle.cal_signal.specs.Ends.{ObserverView}
-use Rattle.cal_signal.specs.Looks.{whole_of, IsBusyPair}
+use Rattle.cal_signal.specs.Looks.{whole_of}
 use Rattle.cal_signal.specs.Shown.{IsFitShown, found_from, last_found, nothing_shown, shown_of}
 use Rattle.cal_signal.proofs.Following.{follows}
 use Rattle.cal_machine.specs.Table.{Table}
-use Rattle.cal_policy.specs.declared.judged_look.Seen.{Seen}
-use Rattle.cal_policy.specs.declared.judged_look.Seen.TheVariants as seen
-use Rattle.cal_policy.specs.declared.open_input.FoundLook.{FoundLook}
-use Rattle.cal_policy.specs.declared.pass_action.Action.{Action}
-use Rattle.cal_policy.specs.declared.pass_entry.PassEntry.{PassEntry}
-use Rattle.cal_policy.specs.Found.{judged_looks, judged_input, rooms_found}
+use Rattle.cal_policy.specs.declared.history.look.Seen.{Seen}
+use Rattle.cal_policy.specs.declared.history.look.Seen.TheVariants as seen
+use Rattle.cal_policy.specs.declared.judgement.open_input.FoundLook.{FoundLook}
+use Rattle.cal_policy.specs.declared.history.action.Action.{Action}
+use Rattle.cal_policy.specs.declared.history.entry.PassEntry.{PassEntry}
+use Rattle.cal_policy.specs.Judgement.OpenInput.{judged_looks, judged_input}
 use Rattle.cal_policy.specs.History.{actions_of, looks_of, sent_to}
-use Rattle.cal_policy.specs.Judging.{judged, is_foreign, IsFitLook, IsInput}
-use Rattle.cal_policy.specs.Lists.{last_after}
-use Rattle.cal_policy.specs.Looks.{last_shown, look_of, shown_at, shown_by}
+use Rattle.cal_policy.specs.Judgement.Judging.{judged, is_foreign, IsFitLook, IsInput}
+use Rattle.cal_policy.specs.History.Lists.{last_after}
+use Rattle.cal_policy.specs.History.Looks.{last_shown, shown_at, shown_by}
 use Rattle.cal_policy.specs.Tasks.{threads_of_table}
-use Rattle.cal_policy.proofs.Found.{length-judged_looks}
-use Rattle.cal_policy.proofs.Lists.{unwrap_or_or}
+use Rattle.cal_policy.proofs.JudgementLemmas.OpenInput.{length-judged_looks}
+use Rattle.cal_policy.proofs.ListLemmas.OneMore.{unwrap_or_or}
 use Rattle.cal_sched.specs.Looking.{HasLooked}
 use Rattle.cal_sched.specs.Scheduler.{carried_by, looks_at}
-use Rattle.cal_sched.proofs.Lists.{some_same, slice_get_at}
+use Rattle.cal_lists.proofs.Places.{slice_get_at}
+use Rattle.cal_lists.proofs.Last.{some_same}
+use Rattle.cal_policy.proofs.JudgementLemmas.Judged.{look_of-judged}
 
 -- one of the three judgements of a whole look
 three : (P : Seen → Type 0) (ahead foreign : Bool) (number : ℕ) (rec : Record) → P (seen.Ahead number rec) → P (seen.Foreign number rec) → P (seen.Whole number rec)
@@ -37,12 +39,6 @@ three : (P : Seen → Type 0) (ahead foreign : Bool) (number : ℕ) (rec : Recor
 three P true foreign number rec a f w = a
 three P false true number rec a f w = f
 three P false false number rec a f w = w
-
--- a judged look is the look that was judged
-pub look_of-judged : (cores : ℕ) (x : List Action) (k : ℕ) (look : Look) → look_of (judged cores x k look) ≡ look
-look_of-judged cores x k (Busy first second) = refl
-look_of-judged cores x k (Whole number rec) =
-    three (λ s. look_of s ≡ Whole number rec) (nat_lt (sent_to x k) rec.taken) (is_foreign cores x k rec) number rec refl refl refl
 
 -- the look of a thread, as judged
 judged_from : (cores : ℕ) (x : List Action) (n : ℕ) (found : List FoundLook) (k : ℕ)

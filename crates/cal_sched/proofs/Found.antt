@@ -1,12 +1,13 @@
 -- What a pass finds, as far as it has come.
-use Rattle.std.proofs.Common.{◌≡◌, ◌≢◌, ℕ, ◌+◌, ◌<◌, ◌≤◌, ◌⊎◌, inl, inr, List, [], ◌∷◌, ◌++◌, length, set, Option, Some, slice_get, refl, sym, ap, ◌∙◌, arith, length-append}
+use Rattle.std.proofs.Common.{◌≡◌, ◌≢◌, ℕ, ◌+◌, ◌<◌, ◌≤◌, inl, inr, List, [], ◌∷◌, ◌++◌, length, set, Some, slice_get, refl, sym, ◌∙◌, arith, length-append}
 use Rattle.std.proofs.Math.ListN.{length-set}
 use Rattle.cal_signal.specs.Ends.{ObserverView}
 use Rattle.cal_command.specs.Rings.{SenderView}
-use Rattle.cal_policy.specs.declared.open_input.FoundLook.{FoundLook}
+use Rattle.cal_policy.specs.declared.judgement.open_input.FoundLook.{FoundLook}
 use Rattle.cal_sched.specs.Looking.{HasLooked}
 use Rattle.cal_sched.specs.Passing.{HasAsked, HaveFound}
-use Rattle.cal_sched.proofs.Lists.{some_same, slice_get-set_other, slice_get-set_same, last_or_before}
+use Rattle.cal_sched.proofs.Lists.{slice_get-set_other, slice_get-set_same}
+use Rattle.cal_lists.proofs.Last.{some_same, last_or_before}
 
 -- the first k pages and rings have been gone to, and the others are as they were
 pub record FoundBelow (k : ℕ) (observers looked : List ObserverView) (senders asked : List SenderView) (found : List FoundLook) : Type 0 where

@@ -1,11 +1,10 @@
 -- Lists by place, after a write and after one member more.
-use Rattle.std.proofs.Common.{◌≡◌, ◌≢◌, ℕ, zero, suc, ◌<◌, ◌-◌, ◌≤◌, ◌⊎◌, inl, inr, List, [], ◌∷◌, ◌++◌, length, take, drop, set, Some, None, slice_get, refl, sym, ap, ◌∙◌, arith, unwrap_or, length-append}
+use Rattle.std.proofs.Common.{◌≡◌, ◌≢◌, ℕ, zero, suc, ◌<◌, ◌-◌, ◌≤◌, List, [], ◌∷◌, ◌++◌, length, take, drop, set, Some, None, slice_get, refl, sym, ap, ◌∙◌, arith, length-append}
 use Rattle.std.proofs.lemmas.List.{take-append-le, take_all}
 use Rattle.std.proofs.Math.Seq.{take-append_seam}
 use Rattle.std.proofs.lemmas.Option.{slice_get_within}
-
-pub some_same : {X : Type 0} (a b : X) → Some a ≡ Some b → a ≡ b
-some_same a b e = ap (λ o. unwrap_or o a) e
+use Rattle.cal_lists.proofs.Places.{slice_get_front}
+use Rattle.cal_lists.proofs.Last.{some_same, slice_get-last}
 
 pub slice_get-set_other : {X : Type 0} (xs : List X) (i j : ℕ) (x : X) → j ≢ i → slice_get (set xs i x) j ≡ slice_get xs j
 slice_get-set_other [] i j x other = refl
@@ -19,33 +18,6 @@ slice_get-set_same [] i x lt = absurd (omega arith)
 slice_get-set_same (y ∷ ys) zero x lt = refl
 slice_get-set_same (y ∷ ys) (suc i) x lt = slice_get-set_same ys i x (omega arith)
 
--- one member more at the end
-pub slice_get-last : {X : Type 0} (xs : List X) (x : X) → slice_get (xs ++ x ∷ []) (length xs) ≡ Some x
-slice_get-last [] x = refl
-slice_get-last (y ∷ ys) x = slice_get-last ys x
-
-pub slice_get-before : {X : Type 0} (xs ys : List X) (k : ℕ) → k < length xs → slice_get (xs ++ ys) k ≡ slice_get xs k
-slice_get-before [] ys k lt = absurd (omega arith)
-slice_get-before (x ∷ xs) ys zero lt = refl
-slice_get-before (x ∷ xs) ys (suc k) lt = slice_get-before xs ys k (omega arith)
-
--- what stands in a list with one member more stood there before, or is that member
-pub last_or_before : {X : Type 0} (xs : List X) (x y : X) (k : ℕ) → slice_get (xs ++ x ∷ []) k ≡ Some y
-    → ((k < length xs) × (slice_get xs k ≡ Some y)) ⊎ ((k ≡ length xs) × (x ≡ y))
-last_or_before [] x y zero e = inr (refl, some_same x y e)
-last_or_before [] x y (suc k) e = absurd (cc)
-last_or_before (z ∷ zs) x y zero e = inl (omega arith, e)
-last_or_before (z ∷ zs) x y (suc k) e = elim (last_or_before zs x y k e) [
-  | inl h ↦ let lt : k < length zs = h.0 in inl (omega arith, h.1)
-  | inr h ↦ let is : k ≡ length zs = h.0 in inr (omega arith, h.1)
-]
-
--- what stands at a place within the list
-pub slice_get_at : {X : Type 0} (xs : List X) (k : ℕ) → k < length xs → (x : X) × (slice_get xs k ≡ Some x)
-slice_get_at [] k lt = absurd (omega arith)
-slice_get_at (x ∷ xs) zero lt = (x, refl)
-slice_get_at (x ∷ xs) (suc k) lt = slice_get_at xs k (omega arith)
-
 -- a list that was written whole, as long as it was
 pub written_whole : {X : Type 0} (n : ℕ) (new old : List X) → n ≡ length old → length new ≡ length old → take n (new ++ drop (length new) old) ≡ new
 written_whole n new old is same =
@@ -58,7 +30,7 @@ pub taken_off : {X : Type 0} (P : X → Type 0) (xs ys : List X) (y : X) → xs 
     → P y × ((i : ℕ) (x : X) → slice_get ys i ≡ Some x → P x)
 taken_off P xs ys y is each = (
   each (length ys) y (rw is (slice_get-last ys y)),
-  λ i x e. each i x (rw is (slice_get-before ys (y ∷ []) i (slice_get_within ys i x e) ∙ e)),
+  λ i x e. each i x (rw is (slice_get_front ys (y ∷ []) i (slice_get_within ys i x e) ∙ e)),
 )
 
 -- the next member of a list is its last, where it is cut off behind it

@@ -1,10 +1,11 @@
 -- One look at each page, as far as it has come.
 use Rattle.std.proofs.Common.{◌≡◌, ◌≢◌, ℕ, ◌+◌, ◌<◌, ◌≤◌, inl, inr, List, [], ◌∷◌, ◌++◌, length, set, Some, slice_get, refl, sym, ◌∙◌, arith, length-append}
 use Rattle.std.proofs.Math.ListN.{length-set}
-use Rattle.cal_sched.proofs.Lists.{some_same, slice_get-set_other, slice_get-set_same, last_or_before}
+use Rattle.cal_sched.proofs.Lists.{slice_get-set_other, slice_get-set_same}
 use Rattle.cal_signal.specs.declared.look.Look.{Look}
 use Rattle.cal_signal.specs.Ends.{ObserverView}
 use Rattle.cal_sched.specs.Looking.{HasLooked, HaveLooked}
+use Rattle.cal_lists.proofs.Last.{some_same, last_or_before}
 
 -- the first k have looked, and the others are as they were
 pub record LookedBelow (k : ℕ) (before now : List ObserverView) (looks : List Look) : Type 0 where

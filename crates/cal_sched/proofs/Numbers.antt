@@ -1,23 +1,22 @@
 -- A number of commands is never above the number of passes, so it is kept as it is.
-use Rattle.std.proofs.Common.{◌≡◌, ℕ, zero, suc, add-one, ◌+◌, ◌<◌, ◌≤◌, ◌^◌, min, List, [], ◌∷◌, ◌++◌, length, take, Option, Some, slice_get, refl, sym, ap, subst, ◌∙◌, arith, length-append}
+use Rattle.std.proofs.Common.{◌≡◌, ℕ, zero, suc, ◌+◌, ◌<◌, ◌≤◌, ◌^◌, List, [], ◌∷◌, ◌++◌, length, take, Some, slice_get, refl, sym, ap, subst, ◌∙◌, arith, length-append}
 use Rattle.std.proofs.lemmas.List.{take_all}
 use Rattle.cal_machine.specs.Table.{Table, IsTable}
 use Rattle.cal_machine.specs.declared.command.Command.{Command}
 use Rattle.cal_machine.specs.declared.command.Command.TheVariants.{Run, Park}
-use Rattle.cal_policy.specs.declared.holding.Holder.{Holder}
-use Rattle.cal_policy.specs.declared.holding.Holder.TheVariants.{Free, Held, Leaving}
-use Rattle.cal_policy.specs.declared.holding.Placement as placements
-use Rattle.cal_policy.specs.declared.pass_action.Action.{Action}
-use Rattle.cal_policy.specs.declared.pass_action.Cause.{Cause}
-use Rattle.cal_policy.specs.declared.pass_entry.PassEntry.{PassEntry}
+use Rattle.cal_policy.specs.declared.board.holders.Holder.{Holder}
+use Rattle.cal_policy.specs.declared.board.holders.Holder.TheVariants.{Free, Held, Leaving}
+use Rattle.cal_policy.specs.declared.board.holders.Placement as placements
+use Rattle.cal_policy.specs.declared.history.entry.PassEntry.{PassEntry}
 use Rattle.cal_policy.specs.Board.{kept_number, kept_placement, kept_holder}
-use Rattle.cal_policy.specs.History.{actions_of, commands_to, sent_to, holder_of}
+use Rattle.cal_policy.specs.History.{actions_of, sent_to, holder_of}
 use Rattle.cal_policy.specs.Pass.{IsLegal}
-use Rattle.cal_policy.proofs.Commands.{actions_after}
 use Rattle.cal_laws.specs.Exclusion.{HoldersAreOfTheirLastRun, IsByLastRun, WasRun}
 use Rattle.cal_laws.specs.OneEach.{ThreadsAreSentOneCommand}
 use Rattle.cal_laws.specs.Point.{Point, IsPoint}
-use Rattle.cal_sched.proofs.Lists.{slice_get_at, take_next}
+use Rattle.cal_sched.proofs.Lists.{take_next}
+use Rattle.cal_lists.proofs.Places.{slice_get_at}
+use Rattle.cal_policy.proofs.BoardLemmas.Replayed.{actions_push}
 
 module _ (table : Table) (history : List PassEntry) (ok : IsTable table) (legal : IsLegal table history) where
   -- the end of a pass
@@ -33,7 +32,7 @@ module _ (table : Table) (history : List PassEntry) (ok : IsTable table) (legal 
   by_end p entry at =
       let le : length entry.actions ≤ length entry.actions = omega arith in
       ap (λ xs. actions_of (take p history) ++ xs) (take_all (length entry.actions) entry.actions le)
-      ∙ sym (actions_after (take p history) entry)
+      ∙ sym (actions_push (take p history) entry)
       ∙ ap actions_of (sym (take_next history p entry at))
 
   -- a thread is sent no more commands than there are passes

@@ -1,30 +1,29 @@
--- One pass more: what was found is its input, what was decided is sent, and what a scheduler keeps holds again.
-use Rattle.std.proofs.Common.{◌≡◌, ℕ, ◌+◌, ◌<◌, ◌≤◌, Bool, true, false, IsTrue, List, [], ◌∷◌, ◌++◌, length, map, Option, Some, slice_get, slice_index_or, option_map, refl, sym, ap, subst, ◌∙◌, arith, length-append}
+-- One pass more: what was found is its input, what was decided is sent, and what a scheduler keeps
+-- holds again.
+use Rattle.std.proofs.Common.{◌≡◌, ℕ, ◌<◌, true, false, List, [], ◌∷◌, ◌++◌, length, Some, slice_get, slice_index_or, option_map, refl, sym, ap, ◌∙◌, arith, length-append}
 use Rattle.std.specs.Option.{unwrap_or}
 use Rattle.std.proofs.lemmas.Option.{slice_get_within, slice_get-map, unwrap_or-slice_get}
 use Rattle.cal_signal.specs.declared.record.Record.{Record}
 use Rattle.cal_signal.specs.Ends.{ObserverView}
 use Rattle.cal_signal.specs.Looks.{whole_of}
-use Rattle.cal_command.specs.Rings.{SenderView, HasRoom}
-use Rattle.cal_machine.specs.Table.{Table}
+use Rattle.cal_command.specs.Rings.{SenderView}
 use Rattle.cal_policy.specs.declared.book.Book.{Book}
-use Rattle.cal_policy.specs.declared.open_input.FoundLook.{FoundLook}
-use Rattle.cal_policy.specs.declared.pass_action.Action.{Action}
-use Rattle.cal_policy.specs.declared.pass_entry.PassEntry.{PassEntry}
-use Rattle.cal_policy.specs.declared.pass_input.Input.{Input}
+use Rattle.cal_policy.specs.declared.judgement.open_input.FoundLook.{FoundLook}
+use Rattle.cal_policy.specs.declared.history.action.Action.{Action}
+use Rattle.cal_policy.specs.declared.history.entry.PassEntry.{PassEntry}
+use Rattle.cal_policy.specs.declared.history.input.Input.{Input}
 use Rattle.cal_policy.specs.Book.{AgreesWith}
-use Rattle.cal_policy.specs.Found.{judged_input, rooms_found}
-use Rattle.cal_policy.specs.History.{actions_of, commands_to}
-use Rattle.cal_policy.specs.Judging.{IsInput}
+use Rattle.cal_policy.specs.Judgement.OpenInput.{judged_input, rooms_found}
+use Rattle.cal_policy.specs.Judgement.Judging.{IsInput}
 use Rattle.cal_policy.specs.Pass.{IsLegal, pass_of}
 use Rattle.cal_policy.specs.Setting.{setting}
-use Rattle.cal_policy.proofs.Legality.{legal_more}
+use Rattle.cal_policy.proofs.PassLemmas.Legality.{legal_more}
 use Rattle.cal_sched.specs.Looking.{HasLooked}
 use Rattle.cal_sched.specs.Passing.{HasAsked, HaveFound, HaveSent, pass_on}
-use Rattle.cal_sched.specs.Scheduler.{SchedulerView, IsKept, carried_by, looks_at}
+use Rattle.cal_sched.specs.Scheduler.{SchedulerView, IsKept, looks_at}
 use Rattle.cal_sched.specs.Sending.{MaySend}
 use Rattle.cal_sched.proofs.Fitting.{found_is_input, carried_at, looks_at-append}
-use Rattle.cal_sched.proofs.Lists.{slice_get_at}
+use Rattle.cal_lists.proofs.Places.{slice_get_at}
 
 module _ (s : SchedulerView) (now bandwidth : ℕ) (looked : List ObserverView) (asked : List SenderView) (found : List FoundLook) where
   -- the input of the pass, and the pass itself

@@ -1,5 +1,5 @@
 -- The commands of a pass, sent one action after the other.
-use Rattle.std.proofs.Common.{◌≡◌, ◌≢◌, ℕ, zero, suc, add-one, lit<, if◌then◌else◌, ◌+◌, ◌<◌, ◌≤◌, ◌==◌, ◌⊎◌, inl, inr, Bool, true, false, eqb, List, [], ◌∷◌, ◌++◌, length, take, set, Option, Some, None, slice_get, slice_index_or, refl, sym, ap, subst, ◌∙◌, arith, length-append, append_assoc}
+use Rattle.std.proofs.Common.{◌≡◌, ◌≢◌, ℕ, add-one, lit<, if◌then◌else◌, ◌+◌, ◌<◌, ◌≤◌, ◌⊎◌, inl, inr, Bool, true, false, eqb, List, [], ◌∷◌, ◌++◌, length, take, set, Option, Some, None, slice_get, slice_index_or, refl, sym, ap, subst, ◌∙◌, arith, length-append, append_assoc}
 use Rattle.std.proofs.Math.ListN.{length-set}
 use Rattle.std.proofs.lemmas.Bool.{eqb-true, eqb-false, eq-eqb}
 use Rattle.std.proofs.lemmas.List.{append-nil, take_all}
@@ -10,19 +10,20 @@ use Rattle.cal_machine.specs.Table.{Table, IsTable}
 use Rattle.cal_machine.specs.declared.command.Command.{Command}
 use Rattle.cal_machine.specs.declared.command.Command.TheVariants.{Run, Park}
 use Rattle.cal_policy.specs.declared.book.Book.{Book}
-use Rattle.cal_policy.specs.declared.pass_action.Action.{Action}
-use Rattle.cal_policy.specs.declared.pass_entry.PassEntry.{PassEntry}
-use Rattle.cal_policy.specs.Book.{AgreesWith, IsSentBy, RunsOnTable}
+use Rattle.cal_policy.specs.declared.history.action.Action.{Action}
+use Rattle.cal_policy.specs.declared.history.entry.PassEntry.{PassEntry}
+use Rattle.cal_policy.specs.Book.{AgreesWith, RunsOnTable}
 use Rattle.cal_policy.specs.History.{actions_of, commands_to, sent_to, sends, addressed_to, command_to}
 use Rattle.cal_policy.specs.Pass.{IsLegal}
-use Rattle.cal_policy.specs.Tasks.{threads_of_table}
-use Rattle.cal_policy.proofs.Commands.{actions_after}
-use Rattle.cal_policy.proofs.History.{commands_push, sent_push}
+use Rattle.cal_policy.proofs.HistoryLemmas.OneMore.{commands_push}
 use Rattle.cal_laws.specs.OneEach.{CommandsGoWhereIsRoom, ThreadsAreSentOneCommand}
 use Rattle.cal_laws.specs.Point.{Point, IsPoint}
 use Rattle.cal_sched.specs.Passing.{HaveSent}
 use Rattle.cal_sched.specs.Sending.{MaySend}
-use Rattle.cal_sched.proofs.Lists.{some_same, slice_get-set_other, slice_get-set_same, slice_get_at, slice_get-last, take_next, take-last, snoc_same}
+use Rattle.cal_sched.proofs.Lists.{slice_get-set_other, slice_get-set_same, take_next, take-last, snoc_same}
+use Rattle.cal_lists.proofs.Places.{slice_get_at}
+use Rattle.cal_lists.proofs.Last.{some_same, slice_get-last}
+use Rattle.cal_policy.proofs.BoardLemmas.Replayed.{actions_push}
 
 -- the commands of the first i actions were sent, and a ring on which none of them was is as it was
 pub record SentBelow (i : ℕ) (before : List PassEntry) (last : PassEntry) (senders now : List SenderView) : Type 0 where
@@ -180,7 +181,7 @@ module _ (before : List PassEntry) (last : PassEntry) (senders : List SenderView
   SentBelow-all i now ge below = record {
     rings = below.rings;
     same = below.same;
-    sent = λ k is e. below.sent k is e ∙ ap (λ xs. commands_to (actions_of before ++ xs) k) (take_all i last.actions ge) ∙ ap (λ xs. commands_to xs k) (sym (actions_after before last));
+    sent = λ k is e. below.sent k is e ∙ ap (λ xs. commands_to (actions_of before ++ xs) k) (take_all i last.actions ge) ∙ ap (λ xs. commands_to xs k) (sym (actions_push before last));
   }
 
 -- what may be sent, of the last pass and those before it

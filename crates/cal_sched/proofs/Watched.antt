@@ -9,7 +9,8 @@ use Rattle.cal_signal.specs.Looks.{whole_of}
 use Rattle.cal_signal.specs.Ends.{ObserverView}
 use Rattle.cal_sched.specs.Looking.{HasLooked, HaveLooked}
 use Rattle.cal_sched.specs.Watching.{AreWatched, whole_looks_at, whole_of_some}
-use Rattle.cal_sched.proofs.Lists.{some_same, slice_get_at, last_or_before}
+use Rattle.cal_lists.proofs.Places.{slice_get_at}
+use Rattle.cal_lists.proofs.Last.{some_same, last_or_before}
 
 -- one round more gives each page's looks one look more
 whole_looks_at-append : (k : ℕ) (rounds : List (List Look)) (round : List Look) (look : Look) → slice_get round k ≡ Some look

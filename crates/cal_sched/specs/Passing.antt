@@ -1,12 +1,13 @@
 -- What a pass of the scheduler finds, decides and sends.
-use Rattle.std.specs.Prelude.{◌≡◌, ℕ, ◌≤◌, ◌<◌, ◌↔◌, true, Bool, IsTrue, List, [], ◌∷◌, ◌++◌, length, Some, slice_get}
+use Rattle.std.specs.Prelude.{◌≡◌, ℕ, ◌≤◌, ◌↔◌, Bool, IsTrue}
+use Rattle.std.specs.Prelude.{List, [], ◌∷◌, ◌++◌, length, Some, slice_get}
 use Rattle.cal_signal.specs.Ends.{ObserverView}
 use Rattle.cal_command.specs.Rings.{SenderView, HasRoom}
 use Rattle.cal_machine.specs.Table.{Table}
-use Rattle.cal_policy.specs.declared.open_input.FoundLook.{FoundLook}
-use Rattle.cal_policy.specs.declared.pass_entry.PassEntry.{PassEntry}
-use Rattle.cal_policy.specs.declared.pass_input.Input.{Input}
-use Rattle.cal_policy.specs.Found.{judged_input}
+use Rattle.cal_policy.specs.declared.judgement.open_input.FoundLook.{FoundLook}
+use Rattle.cal_policy.specs.declared.history.entry.PassEntry.{PassEntry}
+use Rattle.cal_policy.specs.declared.history.input.Input.{Input}
+use Rattle.cal_policy.specs.Judgement.OpenInput.{judged_input}
 use Rattle.cal_policy.specs.History.{actions_of, commands_to}
 use Rattle.cal_policy.specs.Pass.{pass_of}
 use Rattle.cal_policy.specs.Setting.{setting}
@@ -23,7 +24,8 @@ pub record HasAsked (before after : SenderView) (room : Bool) : Type 0 where
 
 -- one look at each page and one question to each ring, in thread order: what each end was, what it
 -- is then, and what was found
-pub record HaveFound (observers looked : List ObserverView) (senders asked : List SenderView) (found : List FoundLook) : Type 0 where
+pub record HaveFound (observers looked : List ObserverView) (senders asked : List SenderView)
+    (found : List FoundLook) : Type 0 where
   pub pages : length looked ≡ length observers
   pub rings : length asked ≡ length senders
   pub one_each : length found ≡ length observers
@@ -35,12 +37,17 @@ pub record HaveFound (observers looked : List ObserverView) (senders asked : Lis
 -- on each ring the commands of these passes were sent by now, and each is the ring that it was
 pub record HaveSent (before after : List SenderView) (history : List PassEntry) : Type 0 where
   pub rings : length after ≡ length before
-  pub same : (k : ℕ) (was is : SenderView) → slice_get before k ≡ Some was → slice_get after k ≡ Some is → is.ring ≡ was.ring
-  pub sent : (k : ℕ) (is : SenderView) → slice_get after k ≡ Some is → is.sent ≡ commands_to (actions_of history) k
+  pub same : (k : ℕ) (was is : SenderView) → slice_get before k ≡ Some was →
+      slice_get after k ≡ Some is → is.ring ≡ was.ring
+  pub sent : (k : ℕ) (is : SenderView) → slice_get after k ≡ Some is →
+      is.sent ≡ commands_to (actions_of history) k
 
 -- the pass on this input after these passes
 abbrev pub pass_on : Table → List PassEntry → Input → PassEntry
-pass_on table before input = record { input = input; actions = pass_of (setting table before input) }
+pass_on table before input = record {
+  input = input;
+  actions = pass_of (setting table before input);
+}
 
 -- One pass more: one look at each page and one question to each ring, in thread order; the looks as
 -- they are judged, the answers and the figures that were given make the input of the pass, and the
@@ -49,6 +56,8 @@ pub record IsPassed (now bandwidth : ℕ) (before after : SchedulerView) : Type 
   pub found : List FoundLook
   pub asked : List SenderView
   pub finds : HaveFound before.observers after.observers before.senders asked found
-  pub history : after.history ≡ before.history ++ pass_on before.table before.history (judged_input before.table before.history now bandwidth found) ∷ []
+  pub history : after.history ≡ before.history
+      ++ pass_on before.table before.history
+      (judged_input before.table before.history now bandwidth found) ∷ []
   pub sends : HaveSent asked after.senders after.history
   pub table : after.table ≡ before.table

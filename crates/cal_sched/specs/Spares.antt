@@ -7,4 +7,5 @@ use Rattle.cal_signal.specs.declared.look.Look.{Look}
 
 -- each is empty and has room for that many looks
 abbrev pub AreSpare : ℕ → List (Vec Look Global) → Type 0
-AreSpare pages lists = (i : ℕ) (list : Vec Look Global) → slice_get lists i ≡ Some list → (list.items ≡ []) × (pages ≤ vec_capacity list)
+AreSpare pages lists = (i : ℕ) (list : Vec Look Global) → slice_get lists i ≡ Some list →
+    (list.items ≡ []) × (pages ≤ vec_capacity list)

@@ -17,7 +17,12 @@ pub record WatchView : Type 0 where
 
 -- a watch that was just made of these observers
 abbrev pub new_watch : List ObserverView → ℕ → WatchView
-new_watch observers most = record { given = observers; observers = observers; rounds = []; most = most }
+new_watch observers most = record {
+  given = observers;
+  observers = observers;
+  rounds = [];
+  most = most;
+}
 
 -- the place and the record of a whole look, where there is one
 abbrev pub whole_of_some : Option Look → List (ℕ × Record)
@@ -38,8 +43,11 @@ pub record IsRoundMore (before after : WatchView) : Type 0 where
 
 -- each round has a look at each page; each observer stays at its page, and its whole looks since it
 -- was handed in are, in order, those of the rounds
-pub record AreWatched (given observers : List ObserverView) (rounds : List (List Look)) : Type 0 where
+pub record AreWatched (given observers : List ObserverView)
+    (rounds : List (List Look)) : Type 0 where
   pub same_many : length observers ≡ length given
-  pub one_each : (i : ℕ) (round : List Look) → slice_get rounds i ≡ Some round → length round ≡ length given
-  pub each : (k : ℕ) (was is : ObserverView) → slice_get given k ≡ Some was → slice_get observers k ≡ Some is
+  pub one_each : (i : ℕ) (round : List Look) → slice_get rounds i ≡ Some round →
+      length round ≡ length given
+  pub each : (k : ℕ) (was is : ObserverView) → slice_get given k ≡ Some was →
+      slice_get observers k ≡ Some is
       → (is.page ≡ was.page) × (is.looks ≡ was.looks ++ whole_looks_at k rounds)

@@ -1,10 +1,10 @@
 //! What a pass finds: one look at each page, and one question to each ring.
 
 ghost use Rattle.std.specs.Prelude.{◌≡◌, [], List, length};
-ghost use Rattle.cal_policy.specs.declared.open_input.FoundLook.{FoundLook};
-ghost use Rattle.cal_policy.specs.declared.pass_entry.PassEntry.{PassEntry};
+ghost use Rattle.cal_policy.specs.declared.judgement.open_input.FoundLook.{FoundLook};
+ghost use Rattle.cal_policy.specs.declared.history.entry.PassEntry.{PassEntry};
 ghost use Rattle.cal_policy.specs.Book.{AgreesWith};
-ghost use Rattle.cal_policy.specs.Found.{IsOfFound};
+ghost use Rattle.cal_policy.specs.Judgement.OpenInput.{IsOfFound};
 ghost use Rattle.cal_policy.specs.Tasks.{threads_of_table};
 ghost use Rattle.cal_sched.specs.Passing.{HaveFound};
 

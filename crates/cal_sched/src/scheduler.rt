@@ -1,7 +1,7 @@
 //! The scheduler: passes over pages and rings.
 
 ghost use Rattle.std.specs.Prelude.{◌≡◌, ◌<◌, ◌≤◌, ◌↔◌, [], Err, length, IfOk, IfErr};
-ghost use Rattle.cal_policy.specs.Counts as counts;
+ghost use Rattle.cal_policy.specs.Board.Counts as counts;
 ghost use Rattle.cal_policy.specs.History.{actions_of, holder_of};
 ghost use Rattle.cal_policy.specs.Tasks.{threads_of_table};
 ghost use Rattle.cal_sched.specs.declared.fault.PassFault.TheVariants.{HistoryFull};
@@ -19,7 +19,7 @@ use cal_signal::Observer;
 use std::alloc::{AllocError, Global};
 use std::marker::Model;
 
-/// How many passes a history has at most (this project's own limit).
+/// How many passes a history has at most.
 const MOST_PASSES: usize = 1_048_576;
 
 /// The scheduler of a table's kernel threads. It may be moved to a thread of its own; no call of it
@@ -104,7 +104,8 @@ impl Scheduler {
           senders = senders.items;
         }) }
         ensures handed_back { IfErr result (λ refused.
-            (refused.config ≡ config) × (refused.observers ≡ observers) × (refused.senders ≡ senders)) }
+            (refused.config ≡ config) × (refused.observers ≡ observers)
+            × (refused.senders ≡ senders)) }
     {
         match Book::open(alloc, &config) {
             Ok(book) => Ok(Scheduler {

@@ -18,33 +18,13 @@ use std::test::Fail;
 
 /// A record of these nine words.
 fn rec(words: [u64; 9]) -> Record {
-    let [
-        taken,
-        running,
-        queued,
-        oldest,
-        started,
-        misses,
-        stamp,
-        paused,
-        since,
-    ] = words;
-    Record {
-        taken,
-        running,
-        queued,
-        oldest,
-        started,
-        misses,
-        stamp,
-        paused,
-        since,
-    }
+    Record::from_words(words)
 }
 
 /// Two cores and one latency-critical task of one thread.
 const TABLE: &[u8] =
-    b"cores = 2\nbandwidth_limit = 1000\n[[task]]\nkind = \"lc\"\nguaranteed = 1\nlimit = 1\ndelay = 10\nrequest = 50\n";
+    b"cores = 2\nbandwidth_limit = 1000\n[[task]]\nkind = \"lc\"\nguaranteed = 1\nlimit = 1\n\
+    delay = 10\nrequest = 50\n";
 
 /// What a scheduler of one thread is made of.
 #[derive(Drop)]

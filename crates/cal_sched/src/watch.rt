@@ -1,6 +1,7 @@
 //! A watch beside the scheduler: rounds of looks at pages, which decide nothing.
 
-ghost use Rattle.std.specs.Prelude.{◌≡◌, ◌<◌, ◌≤◌, ◌+◌, ◌↔◌, [], ℕ, length, IsTrue, IfOk, IfErr, MatchBool, Some, slice_get};
+ghost use Rattle.std.specs.Prelude.{◌≡◌, ◌<◌, ◌≤◌, ◌+◌, ◌↔◌, [], ℕ, length, IsTrue};
+ghost use Rattle.std.specs.Prelude.{IfOk, IfErr, MatchBool, Some, slice_get};
 ghost use Rattle.std.specs.Vec.{vec_capacity, vec_len};
 ghost use Rattle.cal_signal.specs.declared.look.Look.{Look};
 ghost use Rattle.cal_sched.specs.Watching.{new_watch, IsRoundMore, AreWatched};

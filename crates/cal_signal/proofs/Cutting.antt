@@ -76,8 +76,8 @@ module _ {T : Type 0} (words : T → List ℕ) (of : List ℕ → T) (n : ℕ) (
             (at_snoc (set s.views id (without_watcher v)) (watcher_part v) d j e);
       }
 
-  -- a seat with the publisher's part alone takes in an observer's, whose part of the new view may have
-  -- learned more
+  -- a seat with the publisher's part alone takes in an observer's, whose part of the new view may
+  -- have learned more
   joins_as : (id : ℕ) (v : V) (other : ℕ) (w both : V) → v.publishes ≡ true → v.observes ≡ false → v.watches ≡ false → sees w ≡ true
       → (both.publishes ≡ true) × (both.observes ≡ w.observes) × (both.watches ≡ w.watches) × (both.version ≡ v.version) × (both.published ≡ v.published) × (both.stored ≡ v.stored)
       → ((x : ℕ) (page : List T) → v.version ≡ x → v.published ≡ page → x / 2 ≡ length page → Observes words n first x page w → Observes words n first x page both) → Joins Rule id v other w both no_part

@@ -10,10 +10,10 @@ use Rattle.cal_signal.specs.Shown.{IsFitShown, shown_of, found_from, nothing_sho
 use Rattle.cal_signal.specs.Laws.{IsOneLookMore}
 
 -- a record is later than itself, and than what those before it are later than
-later_refl : (a : Record) → IsLater a a
+pub later_refl : (a : Record) → IsLater a a
 later_refl a = (omega arith, omega arith, omega arith)
 
-later_trans : (a b c : Record) → IsLater a b → IsLater b c → IsLater a c
+pub later_trans : (a b c : Record) → IsLater a b → IsLater b c → IsLater a c
 later_trans a b c h k = (omega arith, omega arith, omega arith)
 
 -- each record of a page is later than the first

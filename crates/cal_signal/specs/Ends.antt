@@ -1,5 +1,6 @@
 -- What a contract sees of the ends of a page, and what the fields of each end keep.
-use Rattle.std.specs.Prelude.{◌≡◌, ℕ, ◌+◌, ◌*◌, ◌%◌, ◌^◌, ◌<◌, ◌≤◌, true, false, List, [], length, take}
+use Rattle.std.specs.Prelude.{◌≡◌, ℕ, ◌+◌, ◌*◌, ◌%◌, ◌^◌, ◌<◌, ◌≤◌}
+use Rattle.std.specs.Prelude.{true, false, List, [], length, take}
 use Rattle.atomic_table.specs.Seated.{TableId}
 use Rattle.atomic_table.specs.declared.shared.Seat.{Seat}
 use Rattle.cal_signal.specs.declared.view.View.{View}
@@ -13,7 +14,8 @@ pub record PublisherView : Type 0 where
   pub page : TableId
   pub published : List Record
 
--- the same while the next record is being written: that record, and how many of its words are stored
+-- the same while the next record is being written: that record, and how many of its words are
+-- stored
 pub record OpenView : Type 0 where
   pub page : TableId
   pub published : List Record
@@ -60,7 +62,8 @@ pub record IsPublisher (s : PageSeat) (z : TableId) (place : ℕ) (last : Record
   pub bound : place < 2 ^ 62
 
 -- the same while the next record is being written
-pub record IsOpen (s : PageSeat) (z : TableId) (place : ℕ) (pending : Record) (count : ℕ) : Type 0 where
+pub record IsOpen (s : PageSeat) (z : TableId) (place : ℕ) (pending : Record)
+    (count : ℕ) : Type 0 where
   pub sits : Sits s z
   pub part : parts_of s.me.0 ≡ (true, false, false)
   pub version : s.me.0.version ≡ 2 * place + 1
@@ -77,7 +80,8 @@ pub record IsObserver (s : PageSeat) (z : TableId) (floor : ℕ) : Type 0 where
   pub low : floor ≡ floor_of s.me.0.looks
 
 -- the same in the middle of a look
-pub record IsLooking (s : PageSeat) (z : TableId) (floor first : ℕ) (words : List ℕ) (count : ℕ) : Type 0 where
+pub record IsLooking (s : PageSeat) (z : TableId) (floor first : ℕ) (words : List ℕ)
+    (count : ℕ) : Type 0 where
   pub sits : Sits s z
   pub part : sees s.me.0 ≡ true
   pub low : floor ≡ floor_of s.me.0.looks

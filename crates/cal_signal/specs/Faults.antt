@@ -6,13 +6,15 @@ use Rattle.cal_signal.specs.declared.fault.PublishFault.TheVariants.{Backwards, 
 use Rattle.cal_signal.specs.Records.{IsLater, IsShaped}
 use Rattle.cal_signal.specs.Pages.{last_of}
 
--- it is later than the last record, it is shaped, and there is a place left: the last one is 2^62 - 1
--- (this project's own)
+-- it is later than the last record, it is shaped, and there is a place left: the last one is 2^62 -
+-- 1
 abbrev pub MayPublish : List Record → Record → Type 0
-MayPublish published rec = IsLater (last_of published) rec × IsShaped rec × (length published < 2 ^ 62 - 1)
+MayPublish published rec = IsLater (last_of published) rec × IsShaped rec
+    × (length published < 2 ^ 62 - 1)
 
--- the first of these three that fails is the refusal (this project's own)
+-- the first of these three that fails is the refusal
 abbrev pub IsRefusal : List Record → Record → PublishFault → Type 0
 IsRefusal published rec Backwards = ¬ IsLater (last_of published) rec
 IsRefusal published rec BadShape = IsLater (last_of published) rec × (¬ IsShaped rec)
-IsRefusal published rec Exhausted = IsLater (last_of published) rec × IsShaped rec × (length published ≡ 2 ^ 62 - 1)
+IsRefusal published rec Exhausted =
+    IsLater (last_of published) rec × IsShaped rec × (length published ≡ 2 ^ 62 - 1)

@@ -22,10 +22,12 @@ module _ {T : Type 0} where
   last_from x [] = x
   last_from x (y ∷ ys) = last_from y ys
 
-  -- each look is a place of the page with the record there, and places never fall, from the floor on
+  -- each look is a place of the page with the record there, and places never fall, from the floor
+  -- on
   abbrev pub FitsFrom : List T → ℕ → List (ℕ × T) → Type 0
   FitsFrom page floor [] = Unit {0}
-  FitsFrom page floor (l ∷ ls) = (floor ≤ l.0) × (get_elem? page l.0 ≡ some l.1) × FitsFrom page l.0 ls
+  FitsFrom page floor (l ∷ ls) =
+      (floor ≤ l.0) × (get_elem? page l.0 ≡ some l.1) × FitsFrom page l.0 ls
 
   -- the place of the last look, the floor where there is none
   abbrev pub floor_from : ℕ → List (ℕ × T) → ℕ
@@ -34,10 +36,10 @@ module _ {T : Type 0} where
 
   -- some page has the looks
   abbrev pub FitsSomeOf : (T → T → Type 0) → T → List (ℕ × T) → Type 0
-  FitsSomeOf follows first looks = (page : List T) × IsPageOf follows first page × FitsFrom page 0 looks
+  FitsSomeOf follows first looks =
+      (page : List T) × IsPageOf follows first page × FitsFrom page 0 looks
 
--- place 0 is the zero record, and each further one is shaped and later than the one before (this project's
--- own)
+-- place 0 is the zero record, and each further one is shaped and later than the one before
 abbrev pub IsPage : List Record → Type 0
 IsPage = IsPageOf MayFollow zero_record
 
@@ -49,8 +51,8 @@ page_of published = zero_record ∷ published
 abbrev pub last_of : List Record → Record
 last_of = last_from zero_record
 
--- each look is a place of the page with the record there, and places never fall (the textbook seqlock's
--- promise)
+-- each look is a place of the page with the record there, and places never fall (the textbook
+-- seqlock's promise)
 abbrev pub FitsPage : List Record → List (ℕ × Record) → Type 0
 FitsPage page looks = FitsFrom page 0 looks
 

@@ -2,11 +2,11 @@
 use Rattle.std.specs.Prelude.{ℕ, ◌≤◌, ◌^◌, List, [], ◌∷◌, slice_index}
 use Rattle.cal_signal.specs.declared.record.Record.{Record}
 
--- b may stand after a: none of these three words falls (this project's own)
+-- b may stand after a: none of these three words falls
 abbrev pub IsLater : Record → Record → Type 0
 IsLater a b = (a.taken ≤ b.taken) × (a.misses ≤ b.misses) × (a.stamp ≤ b.stamp)
 
--- running names no core above the last of 128, and 16 counts of misses have a sum (this project's own)
+-- running names no core above the last of 128, and 16 counts of misses have a sum
 abbrev pub IsShaped : Record → Type 0
 IsShaped a = (a.running ≤ 128) × (a.misses ≤ 2 ^ 56)
 
@@ -16,11 +16,23 @@ MayFollow a b = IsLater a b × IsShaped b
 
 -- the record at place 0 of every page: all words 0
 abbrev pub zero_record : Record
-zero_record = record { taken = 0; running = 0; queued = 0; oldest = 0; started = 0; misses = 0; stamp = 0; paused = 0; since = 0 }
+zero_record = record {
+  taken = 0;
+  running = 0;
+  queued = 0;
+  oldest = 0;
+  started = 0;
+  misses = 0;
+  stamp = 0;
+  paused = 0;
+  since = 0;
+}
 
 -- its nine words, in order
 abbrev pub words_of : Record → List ℕ
-words_of a = a.taken ∷ a.running ∷ a.queued ∷ a.oldest ∷ a.started ∷ a.misses ∷ a.stamp ∷ a.paused ∷ a.since ∷ []
+words_of a =
+    a.taken ∷ a.running ∷ a.queued ∷ a.oldest ∷ a.started ∷ a.misses ∷ a.stamp ∷ a.paused
+    ∷ a.since ∷ []
 
 -- the record that these words make
 abbrev pub record_of : List ℕ → Record

@@ -8,8 +8,8 @@ use Rattle.cal_signal.specs.Records.{IsLater, IsShaped, zero_record}
 abbrev pub nothing_shown : Shown
 nothing_shown = record { number = 0; rec = zero_record }
 
--- a record may be shown after another: its place is not lower, the same place has the same record, and a
--- higher place a later one
+-- a record may be shown after another: its place is not lower, the same place has the same record,
+-- and a higher place a later one
 pub record IsShownAfter (last next : Shown) : Type 0 where
   pub not_below : last.number ≤ next.number
   pub same : last.number ≡ next.number → last.rec ≡ next.rec

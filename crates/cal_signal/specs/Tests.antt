@@ -1,5 +1,5 @@
--- The rules of records and looks once more as tests, for definitions that compute by them. The public
--- function of each rule says that it is both.
+-- The rules of records and looks once more as tests, for definitions that compute by them. The
+-- public function of each rule says that it is both.
 use Rattle.std.specs.Prelude.{◌==◌, ◌&&◌, ◌||◌, ◌%◌, ◌^◌, nat_le, nat_lt, ℕ, Bool}
 use Rattle.cal_signal.specs.declared.record.Record.{Record}
 use Rattle.cal_signal.specs.declared.shown.Shown.{Shown}
@@ -15,14 +15,17 @@ is_later a b = nat_le a.taken b.taken && nat_le a.misses b.misses && nat_le a.st
 -- the records are the same in all nine words
 abbrev pub is_same : Record → Record → Bool
 is_same a b =
-    (a.taken == b.taken) && (a.running == b.running) && (a.queued == b.queued) && (a.oldest == b.oldest)
+    (a.taken == b.taken) && (a.running == b.running) && (a.queued == b.queued)
+    && (a.oldest == b.oldest)
     && (a.started == b.started) && (a.misses == b.misses) && (a.stamp == b.stamp)
     && (a.paused == b.paused) && (a.since == b.since)
 
 -- `IsShownAfter`
 abbrev pub is_shown_after : Shown → Shown → Bool
-is_shown_after a b = ((a.number == b.number) && is_same a.rec b.rec) || (nat_lt a.number b.number && is_later a.rec b.rec)
+is_shown_after a b = ((a.number == b.number) && is_same a.rec b.rec)
+    || (nat_lt a.number b.number && is_later a.rec b.rec)
 
 -- `IsBusyPair`
 abbrev pub is_busy_pair : ℕ → ℕ → Bool
-is_busy_pair first second = ((first % 2 == 1) && (second == first)) || ((first % 2 == 0) && nat_lt first second)
+is_busy_pair first second = ((first % 2 == 1) && (second == first))
+    || ((first % 2 == 0) && nat_lt first second)

@@ -1,7 +1,7 @@
 //! Why a record is refused.
 use thiserror::Error;
 
-/// Why a page refuses a record, checked in this order (this project's own). The page is unchanged.
+/// Why a page refuses a record, checked in this order. The page is unchanged.
 /// `fault as u8` is its number, 1 to 3.
 #[derive(Clone, Copy, Debug, PartialEq, Eq, Error)]
 pub enum PublishFault {

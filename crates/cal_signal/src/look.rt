@@ -19,8 +19,8 @@ pub enum Look {
 /// One round of looks at several pages, in the order of the pages.
 pub type Round = Listed<Look>;
 
-/// Whether a busy look can have loaded these two versions: an odd one, given twice, or an even one and
-/// then a greater.
+/// Whether a busy look can have loaded these two versions: an odd one, given twice, or an even one
+/// and then a greater.
 pub fn is_busy_pair(first: u64, second: u64) -> bool
     ensures rule { IsTrue result ↔ IsBusyPair first second }
     ensures test { result ≡ is_busy_pair first second }

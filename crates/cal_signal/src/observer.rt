@@ -6,15 +6,16 @@ ghost use Rattle.cal_signal.specs.Found.{Found, RefusedAtOnce};
 
 use crate::look::Look;
 use crate::open_look::OpenLook;
+use crate::record::Record;
 use crate::rule::{FirstLoad, PageSeat, PageTable, SecondLoad};
-use crate::words::{WORDS, load_words, record};
+use crate::words::{WORDS, load_words};
 use std::marker::Model;
 use std::sync::Arc;
 
 /// An end of a page that looks. A page has one or two, which may be moved to threads of their own.
 ///
-/// A contract sees which page it is, each version that was loaded, and each successful look with its
-/// place and its record.
+/// A contract sees which page it is, each version that was loaded, and each successful look with
+/// its place and its record.
 #[derive(Drop)]
 pub struct Observer {
     pub(crate) table: Arc<PageTable>,
@@ -41,11 +42,11 @@ impl Observer {
         self.floor
     }
 
-    /// One look: a version load, nine word loads and a second version load; an odd first version ends
-    /// it at once. Waits for nobody.
+    /// One look: a version load, nine word loads and a second version load; an odd first version
+    /// ends it at once. Waits for nobody.
     ///
-    /// `Whole` gives the record at place `number`, which is not below the floor and is the new floor.
-    /// `Busy` leaves the floor.
+    /// `Whole` gives the record at place `number`, which is not below the floor and is the new
+    /// floor. `Busy` leaves the floor.
     pub fn observe(&mut self) -> Look
         ensures page { self.new.page ≡ self.old.page }
         ensures looks { self.new.looks ≡ self.old.looks ++ whole_of result }
@@ -66,12 +67,12 @@ impl Observer {
         self.floor = first / 2;
         Look::Whole {
             number: first / 2,
-            rec: record(words),
+            rec: Record::from_words(words),
         }
     }
 
-    /// Begins a look in steps: the first version load. An odd version is answered at once as `Busy`,
-    /// with the observer, whose floor is as before. Waits for nobody.
+    /// Begins a look in steps: the first version load. An odd version is answered at once as
+    /// `Busy`, with the observer, whose floor is as before. Waits for nobody.
     pub fn start(self) -> Result<OpenLook, (Look, Observer)>
         ensures begun { IfOk result (λ begun. begun ≡ record {
           page = self.page;

@@ -5,15 +5,16 @@ ghost use Rattle.cal_signal.specs.Looks.{whole_of};
 
 use crate::look::Look;
 use crate::observer::Observer;
+use crate::record::Record;
 use crate::rule::{PageSeat, PageTable, SecondLoad, WordLoad};
-use crate::words::{WORDS, record};
+use crate::words::WORDS;
 use std::marker::Model;
 use std::sync::Arc;
 
 /// A look whose words are being loaded. The publisher may act between any two steps.
 ///
-/// A contract sees what it sees of the observer, the first version, which is even, and how many words
-/// are loaded.
+/// A contract sees what it sees of the observer, the first version, which is even, and how many
+/// words are loaded.
 #[derive(Drop)]
 pub struct OpenLook {
     pub(crate) table: Arc<PageTable>,
@@ -30,9 +31,16 @@ impl Model for OpenLook {
 
     ghost Value = { LookView };
 
-    ghost view = { λ p. record { page = p.seat.table_id; loads = p.seat.me.0.loads; looks = p.seat.me.0.looks; first = p.first; loaded = p.count } };
+    ghost view = { λ p. record {
+      page = p.seat.table_id;
+      loads = p.seat.me.0.loads;
+      looks = p.seat.me.0.looks;
+      first = p.first;
+      loaded = p.count;
+    } };
 
-    ghost invariant = { λ p. IsLooking p.seat (arc_value p.table).shared.table_id p.floor p.first p.words p.count };
+    ghost invariant = { λ p. IsLooking p.seat (arc_value p.table).shared.table_id p.floor p.first
+        p.words p.count };
 }
 
 impl OpenLook {
@@ -43,7 +51,8 @@ impl OpenLook {
         self.count
     }
 
-    /// Loads the next word, in the record's order. Asks that fewer than nine are loaded. Waits for nobody.
+    /// Loads the next word, in the record's order. Asks that fewer than nine are loaded. Waits for
+    /// nobody.
     pub fn load_next(&mut self)
         requires { self.old.loaded < 9 }
         ensures { self.new ≡ record self.old { loaded = self.old.loaded + 1 } }
@@ -56,8 +65,8 @@ impl OpenLook {
         self.count += 1;
     }
 
-    /// The second version load: answers as `Observer::observe` does, and hands the observer back. Asks
-    /// that all nine words are loaded. Waits for nobody.
+    /// The second version load: answers as `Observer::observe` does, and hands the observer back.
+    /// Asks that all nine words are loaded. Waits for nobody.
     pub fn finish(self) -> (Look, Observer)
         requires { self.loaded ≡ 9 }
         ensures page { result.1.page ≡ self.page }
@@ -81,7 +90,7 @@ impl OpenLook {
         }
         let look = Look::Whole {
             number: first / 2,
-            rec: record(words),
+            rec: Record::from_words(words),
         };
         let floor = first / 2;
         (look, Observer { table, seat, floor })

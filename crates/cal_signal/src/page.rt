@@ -15,7 +15,8 @@ use std::sync::Arc;
 /// A new page with one observer. Want of memory is the only error.
 pub fn open_page(alloc: Global) -> Result<(Publisher, Observer), AllocError>
     ensures one_page { IfOk result (λ ends. ends.0.page ≡ ends.1.page) }
-    ensures fresh { IfOk result (λ ends. (ends.0.published ≡ []) × (ends.1.loads ≡ []) × (ends.1.looks ≡ [])) }
+    ensures fresh { IfOk result (λ ends. (ends.0.published ≡ []) × (ends.1.loads ≡ [])
+        × (ends.1.looks ≡ [])) }
 {
     let (table, mut seat) = PageTable::of_words(alloc, &[0; 1 + WORDS], &())?;
     let observing = table.shared.split_seat::<Parts>(&mut seat);
@@ -37,7 +38,8 @@ pub fn open_page(alloc: Global) -> Result<(Publisher, Observer), AllocError>
 
 /// A new page with two observers. Want of memory is the only error.
 pub fn open_watched(alloc: Global) -> Result<(Publisher, Observer, Observer), AllocError>
-    ensures one_page { IfOk result (λ ends. (ends.0.page ≡ ends.1.page) × (ends.0.page ≡ ends.2.page)) }
+    ensures one_page { IfOk result (λ ends. (ends.0.page ≡ ends.1.page)
+        × (ends.0.page ≡ ends.2.page)) }
     ensures fresh { IfOk result (λ ends. (ends.0.published ≡ [])
         × (ends.1.loads ≡ []) × (ends.1.looks ≡ []) × (ends.2.loads ≡ []) × (ends.2.looks ≡ [])) }
 {
@@ -66,13 +68,15 @@ pub fn open_watched(alloc: Global) -> Result<(Publisher, Observer, Observer), Al
     Ok((publisher, observer, watcher))
 }
 
-/// A look at a page while its next record is being written: busy, with the odd version twice. The floor
-/// stays. Asks for two ends of one page; takes either observer of a watched one. Waits for nobody.
+/// A look at a page while its next record is being written: busy, with the odd version twice. The
+/// floor stays. Asks for two ends of one page; takes either observer of a watched one. Waits for
+/// nobody.
 pub fn look_open(page: OpenPage, observer: Observer) -> (OpenPage, Observer, Look)
     requires { page.page ≡ observer.page }
     ensures page { result.0 ≡ page }
     ensures look { let version = 2 * length page.published + 1 in
-        (result.2 ≡ Look.Busy version version) × (result.1 ≡ record observer { loads = observer.loads ++ version ∷ [] }) }
+        (result.2 ≡ Look.Busy version version)
+        × (result.1 ≡ record observer { loads = observer.loads ++ version ∷ [] }) }
 {
     let OpenPage {
         table,
@@ -108,13 +112,16 @@ pub fn look_open(page: OpenPage, observer: Observer) -> (OpenPage, Observer, Loo
     (page, observer, look)
 }
 
-/// The record at the last place, which is the observer's new floor. It is never busy. Asks for two ends
-/// of one page; takes either observer of a watched one. Waits for nobody.
+/// The record at the last place, which is the observer's new floor. It is never busy. Asks for two
+/// ends of one page; takes either observer of a watched one. Waits for nobody.
 pub fn read_back(publisher: Publisher, observer: Observer) -> (Publisher, Observer, Record)
     requires { publisher.page ≡ observer.page }
     ensures publisher { result.0 ≡ publisher }
     ensures last { result.2 ≡ last_of publisher.published }
-    ensures looks { result.1 ≡ record observer { looks = observer.looks ++ (length publisher.published, result.2) ∷ [] } }
+    ensures looks { result.1 ≡ record observer {
+      looks = observer.looks
+          ++ (length publisher.published, result.2) ∷ [];
+    } }
 {
     let Publisher {
         table,
@@ -159,7 +166,8 @@ pub fn close_page(publisher: Publisher, observer: Observer) -> PageEnd
     requires { publisher.page ≡ observer.page }
     ensures page { IsPage (page_of publisher.published) }
     ensures fits { FitsPage (page_of publisher.published) observer.looks }
-    ensures ends { (result.published ≡ length publisher.published) × (result.seen ≡ floor_of observer.looks) }
+    ensures ends { (result.published ≡ length publisher.published)
+        × (result.seen ≡ floor_of observer.looks) }
 {
     let Publisher {
         table,
@@ -191,7 +199,8 @@ pub struct WatchEnd {
     pub second: u64,
 }
 
-/// Ends a page with two observers, which may come in either order. Asks for the three ends of one page.
+/// Ends a page with two observers, which may come in either order. Asks for the three ends of one
+/// page.
 ///
 /// What was published is a page, and every record that either observer saw is the one at its place
 /// there. Nothing is said of the order between the two.

@@ -10,8 +10,8 @@ use std::sync::Arc;
 
 /// A page whose next record is being written. Observers may look at it between any two steps.
 ///
-/// A contract sees which page it is, the records that were published, the one that is being written,
-/// and how many of its words are stored.
+/// A contract sees which page it is, the records that were published, the one that is being
+/// written, and how many of its words are stored.
 #[derive(Drop)]
 pub struct OpenPage {
     pub(crate) table: Arc<PageTable>,
@@ -27,9 +27,15 @@ impl Model for OpenPage {
 
     ghost Value = { OpenView };
 
-    ghost view = { λ p. record { page = p.seat.table_id; published = p.seat.me.0.published; pending = p.pending; stored = p.count } };
+    ghost view = { λ p. record {
+      page = p.seat.table_id;
+      published = p.seat.me.0.published;
+      pending = p.pending;
+      stored = p.count;
+    } };
 
-    ghost invariant = { λ p. IsOpen p.seat (arc_value p.table).shared.table_id p.place p.pending p.count };
+    ghost invariant = { λ p. IsOpen p.seat (arc_value p.table).shared.table_id p.place p.pending
+        p.count };
 }
 
 impl OpenPage {
@@ -40,7 +46,8 @@ impl OpenPage {
         self.count
     }
 
-    /// Stores the next word, in the record's order. Asks that fewer than nine are stored. Waits for nobody.
+    /// Stores the next word, in the record's order. Asks that fewer than nine are stored. Waits for
+    /// nobody.
     pub fn store_next(&mut self)
         requires { self.old.stored < 9 }
         ensures { self.new ≡ record self.old { stored = self.old.stored + 1 } }
@@ -53,11 +60,14 @@ impl OpenPage {
         self.count += 1;
     }
 
-    /// Stores the even version: the record is published. Asks that all nine words are stored. Waits for
-    /// nobody.
+    /// Stores the even version: the record is published. Asks that all nine words are stored. Waits
+    /// for nobody.
     pub fn finish(self) -> Publisher
         requires { self.stored ≡ 9 }
-        ensures { result ≡ record { page = self.page; published = self.published ++ self.pending ∷ [] } }
+        ensures { result ≡ record {
+          page = self.page;
+          published = self.published ++ self.pending ∷ [];
+        } }
     {
         let OpenPage {
             table,

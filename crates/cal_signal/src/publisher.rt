@@ -11,7 +11,7 @@ use crate::words::{store_words, words};
 use std::marker::Model;
 use std::sync::Arc;
 
-/// The greatest place on a page (this project's own).
+/// The greatest place on a page.
 const LAST_PLACE: u64 = (1 << 62) - 1;
 
 /// The end of a page that publishes. A page has one, which may be moved to a thread of its own.
@@ -33,11 +33,13 @@ impl Model for Publisher {
 
     ghost view = { λ p. publisher_view p.seat };
 
-    ghost invariant = { λ p. IsPublisher p.seat (arc_value p.table).shared.table_id p.place p.last };
+    ghost invariant = { λ p. IsPublisher p.seat (arc_value p.table).shared.table_id p.place
+        p.last };
 }
 
 impl Publisher {
-    /// The last place and the record there: place 0 and the zero record before the first publication.
+    /// The last place and the record there: place 0 and the zero record before the first
+    /// publication.
     pub fn last(&self) -> (u64, Record)
         ensures place { result.0 ≡ length self.now.published }
         ensures last { result.1 ≡ last_of self.now.published }
@@ -95,7 +97,12 @@ impl Publisher {
     pub fn begin(self, rec: Record) -> Result<OpenPage, (PublishFault, Publisher)>
         ensures { MatchResult result
             (λ begun. MayPublish self.published rec
-            × (begun ≡ record { page = self.page; published = self.published; pending = rec; stored = 0 }))
+            × (begun ≡ record {
+              page = self.page;
+              published = self.published;
+              pending = rec;
+              stored = 0;
+            }))
             (λ refused. IsRefusal self.published rec refused.0 × (refused.1 ≡ self)) }
     {
         if let Err(fault) = self.check(&rec) {

@@ -1,9 +1,9 @@
 //! The record that a kernel thread publishes.
 ghost use Rattle.std.specs.Prelude.{◌≡◌, ◌↔◌, IsTrue};
-ghost use Rattle.cal_signal.specs.Records.{IsLater, IsShaped};
+ghost use Rattle.cal_signal.specs.Records.{IsLater, IsShaped, record_of};
 ghost use Rattle.cal_signal.specs.Tests.{is_later, is_shaped};
 
-/// What a kernel thread shows of itself, nine words in this order (this project's own).
+/// What a kernel thread shows of itself, nine words in this order.
 ///
 /// Times are clock ticks as they were handed in.
 #[derive(Clone, Copy, Debug, PartialEq, Eq)]
@@ -41,10 +41,27 @@ impl Record {
         paused: 0,
         since: 0,
     };
+
+    /// The record of these nine words, in their order.
+    pub fn from_words(words: [u64; 9]) -> Record
+        ensures { result ≡ record_of words }
+    {
+        Record {
+            taken: words[0],
+            running: words[1],
+            queued: words[2],
+            oldest: words[3],
+            started: words[4],
+            misses: words[5],
+            stamp: words[6],
+            paused: words[7],
+            since: words[8],
+        }
+    }
 }
 
 /// Whether `next` may stand after `last`: its `taken`, `misses` and `stamp` are not below those of
-/// `last`. The other words may be any numbers (this project's own).
+/// `last`. The other words may be any numbers.
 pub fn later(last: &Record, next: &Record) -> bool
     ensures rule { IsTrue result ↔ IsLater last.now next.now }
     ensures test { result ≡ is_later last.now next.now }
@@ -53,7 +70,7 @@ pub fn later(last: &Record, next: &Record) -> bool
 }
 
 /// Whether the record has the right shape: `running` is at most 128 and `misses` at most 2^56. The
-/// other words may be any numbers (this project's own).
+/// other words may be any numbers.
 pub fn shaped(rec: &Record) -> bool
     ensures rule { IsTrue result ↔ IsShaped rec.now }
     ensures test { result ≡ is_shaped rec.now }

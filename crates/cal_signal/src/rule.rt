@@ -1,7 +1,10 @@
 //! The rule of a page, and the kinds of atomic step on it.
 ghost use Rattle.cal_signal.specs.Records.{words_of, record_of, zero_record, MayFollow};
 ghost use Rattle.cal_signal.specs.Rule.{Kept};
-ghost use Rattle.cal_signal.specs.Steps.{opening_view, no_part, publisher_part, observer_part, without_watcher, watcher_part, both_parts, both_looking, both_reading, learned, opened, wrote, closed, started, peeked, ended};
+ghost use Rattle.cal_signal.specs.Steps.{opening_view, no_part, publisher_part};
+ghost use Rattle.cal_signal.specs.Steps.{observer_part, without_watcher, watcher_part};
+ghost use Rattle.cal_signal.specs.Steps.{both_parts, both_looking, both_reading, learned};
+ghost use Rattle.cal_signal.specs.Steps.{opened, wrote, closed, started, peeked, ended};
 
 use crate::record::Record;
 use crate::view::View;

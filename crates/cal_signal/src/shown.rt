@@ -22,8 +22,8 @@ impl Shown {
     };
 }
 
-/// Whether a thread that showed `last` may show `next` later on: its place is not lower, the same place
-/// has the same record, and a higher place a later one.
+/// Whether a thread that showed `last` may show `next` later on: its place is not lower, the same
+/// place has the same record, and a higher place a later one.
 pub fn may_follow(last: &Shown, next: &Shown) -> bool
     ensures rule { IsTrue result ↔ IsShownAfter last.now next.now }
     ensures test { result ≡ is_shown_after last.now next.now }

@@ -364,8 +364,8 @@ fn second_observer_sees_what_the_first_sees(rt: HostRuntime) -> Result<(), Fail>
     Ok(())
 }
 
-// With one allocation refused, wherever that is, opening answers want of memory, or the page serves as ever.
-// (tools/refusals runs it so, and the next one.)
+/// With one allocation refused, wherever that is, opening answers want of memory, or the page
+/// serves as ever. (tools/refusals runs it so, and the next one.)
 #[test]
 fn refused_memory_of_a_page(rt: HostRuntime) -> Result<(), Fail> {
     let (mut publisher, mut observer) = match open_page(rt.alloc()) {

@@ -1,6 +1,6 @@
 //! A record as the nine words of a page.
 ghost use Rattle.std.specs.Prelude.{◌≡◌, ◌%◌, true, []};
-ghost use Rattle.cal_signal.specs.Records.{words_of, record_of};
+ghost use Rattle.cal_signal.specs.Records.{words_of};
 
 use crate::record::Record;
 use crate::rule::{PageSeat, PageTable, WordLoad, WordStore};
@@ -25,27 +25,12 @@ pub fn words(rec: &Record) -> [u64; WORDS]
     ]
 }
 
-/// The record that these words make.
-pub fn record(words: [u64; WORDS]) -> Record
-    ensures { result ≡ record_of words }
-{
-    Record {
-        taken: words[0],
-        running: words[1],
-        queued: words[2],
-        oldest: words[3],
-        started: words[4],
-        misses: words[5],
-        stamp: words[6],
-        paused: words[7],
-        since: words[8],
-    }
-}
-
 /// Stores the words one after the other, while the version is odd.
 pub fn store_words(table: &PageTable, seat: &mut PageSeat, words: [u64; WORDS])
-    requires own { (seat.old.table_id ≡ table.now.shared.table_id) × (seat.old.table_id.words ≡ 10) }
-    requires open { (seat.old.me.0.publishes ≡ true) × (seat.old.me.0.version % 2 ≡ 1) × (seat.old.me.0.stored ≡ []) }
+    requires own { (seat.old.table_id ≡ table.now.shared.table_id)
+        × (seat.old.table_id.words ≡ 10) }
+    requires open { (seat.old.me.0.publishes ≡ true) × (seat.old.me.0.version % 2 ≡ 1)
+        × (seat.old.me.0.stored ≡ []) }
     ensures same { (seat.new.table_id ≡ seat.old.table_id) × (seat.new.id ≡ seat.old.id) }
     ensures view { seat.new.me ≡ (record seat.old.me.0 { stored = words }, seat.old.me.1) }
 {
@@ -56,7 +41,8 @@ pub fn store_words(table: &PageTable, seat: &mut PageSeat, words: [u64; WORDS])
 
 /// Loads the words one after the other, just after the first version load of a look.
 pub fn load_words(table: &PageTable, seat: &mut PageSeat) -> [u64; WORDS]
-    requires own { (seat.old.table_id ≡ table.now.shared.table_id) × (seat.old.table_id.words ≡ 10) }
+    requires own { (seat.old.table_id ≡ table.now.shared.table_id)
+        × (seat.old.table_id.words ≡ 10) }
     requires fresh { seat.old.me.0.read ≡ [] }
     ensures same { (seat.new.table_id ≡ seat.old.table_id) × (seat.new.id ≡ seat.old.id) }
     ensures view { seat.new.me ≡ (record seat.old.me.0 { read = result }, seat.old.me.1) }

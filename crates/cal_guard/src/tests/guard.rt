@@ -12,7 +12,7 @@ fn refused(place: usize, why: Why) -> Result<(), Refused> {
     Err(Refused { place, why })
 }
 
-// The input of a first pass, with or without room in each ring.
+/// The input of a first pass, with or without room in each ring.
 fn first_input(alloc: Global, room: bool) -> Result<Input, Fail> {
     Ok(entry(alloc, room, look(0, 0), look(0, 0), &[])?.input)
 }

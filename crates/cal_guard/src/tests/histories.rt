@@ -23,7 +23,8 @@ fn permitted_and_not_legal(rt: HostRuntime) -> Result<(), Fail> {
         audit(alloc, &config, &granted)?,
         Verdict::Illegal { pass: 0 }
     );
-    // It is revoked in the pass after, banned and freed when its thread is off it, and granted to another thread.
+    // It is revoked in the pass after, banned and freed when its thread is off it, and granted to
+    // another thread.
     let all = [
         entry(alloc, true, look(0, 0), look(0, 0), &[grant(3, 0)])?,
         entry(alloc, true, look(1, 4), look(0, 0), &[ban(3), revoke(3)])?,
@@ -57,7 +58,8 @@ fn what_is_refused(rt: HostRuntime) -> Result<(), Fail> {
     let alloc = rt.alloc();
     let config = Config::read(alloc, TABLE)?;
     let none = look(0, 0);
-    // A thread or a core is granted twice; a core that is not the machine's; a thread that is not the table's; a full ring.
+    // A thread or a core is granted twice; a core that is not the machine's; a thread that is not
+    // the table's; a full ring.
     assert!(rt;
         !is_permitted(
             &config,
@@ -73,7 +75,8 @@ fn what_is_refused(rt: HostRuntime) -> Result<(), Fail> {
     assert!(rt; !is_permitted(&config, &[entry(alloc, true, none, none, &[grant(4, 0)])?]));
     assert!(rt; !is_permitted(&config, &[entry(alloc, true, none, none, &[grant(0, 4)])?]));
     assert!(rt; !is_permitted(&config, &[entry(alloc, false, none, none, &[grant(0, 0)])?]));
-    // Two commands to one thread in a pass; a banned core; a pair banned at once; a core freed that nobody left.
+    // Two commands to one thread in a pass; a banned core; a pair banned at once; a core freed that
+    // nobody left.
     assert!(rt;
         !is_permitted(
             &config,
@@ -123,7 +126,8 @@ fn what_is_refused(rt: HostRuntime) -> Result<(), Fail> {
             &[entry(alloc, true, none, none, &[Action::Cap { task: 1, cap: 3 }])?]
         )
     );
-    // A held core that is banned and not revoked at once, and one that is revoked while its ring is full.
+    // A held core that is banned and not revoked at once, and one that is revoked while its ring is
+    // full.
     let held = look(1, 1);
     assert!(rt;
         !is_permitted(

@@ -3,23 +3,20 @@
 use cal_policy::{Action, ActionList, Cause, Input, PassEntry, Record, Rooms, Seen, SeenList};
 use std::alloc::{AllocError, Global};
 
-/// Four cores, a latency-critical task of two threads that is guaranteed nothing, and a best-effort one
-/// of two.
+/// Four cores, a latency-critical task of two threads that is guaranteed nothing, and a best-effort
+/// one of two.
 pub const TABLE: &[u8] =
-    b"cores = 4\nbandwidth_limit = 1000\n[[task]]\nkind = \"lc\"\nguaranteed = 0\nlimit = 2\ndelay = 10\nrequest = 50\n[[task]]\nkind = \"be\"\nguaranteed = 0\nlimit = 2\ndelay = 10\nrequest = 50\n";
+    b"cores = 4\nbandwidth_limit = 1000\n[[task]]\nkind = \"lc\"\nguaranteed = 0\nlimit = 2\n\
+    delay = 10\nrequest = 50\n[[task]]\nkind = \"be\"\nguaranteed = 0\nlimit = 2\ndelay = 10\n\
+    request = 50\n";
 
 pub fn look(taken: u8, running: u64) -> Seen {
     let taken = u64::from(taken);
     let rec = Record {
         taken,
         running,
-        queued: 0,
-        oldest: 0,
-        started: 0,
-        misses: 0,
         stamp: 100 + taken,
-        paused: 0,
-        since: 0,
+        ..Record::ZERO
     };
     Seen::Whole {
         number: 1 + taken,

@@ -1,6 +1,6 @@
 //! Two kernel threads of a task, each in a thread of its own, steal from a third at the same time.
 ghost use Rattle.std.specs.Prelude.{◌≡◌, [], ◌∷◌, IfOk, IfSome};
-ghost use Rattle.cal_kthread.specs.Teams.{place_of};
+ghost use Rattle.cal_kthread.specs.Team.{place_of};
 
 use super::{add_names, ends_of, left_of_all, request, run, turn};
 use crate::{KernelThread, Team, open_threads};
@@ -10,14 +10,15 @@ use std::alloc::{AllocError, Global};
 use std::test::Fail;
 use std::thread;
 
-// One task of three threads.
+/// One task of three threads.
 const THREE_THREADS: &[u8] =
-    b"cores = 4\nbandwidth_limit = 1000\n[[task]]\nkind = \"lc\"\nguaranteed = 0\nlimit = 3\ndelay = 10\nrequest = 1000\n";
+    b"cores = 4\nbandwidth_limit = 1000\n[[task]]\nkind = \"lc\"\nguaranteed = 0\nlimit = 3\n\
+    delay = 10\nrequest = 1000\n";
 
-// How many requests there are.
+/// How many requests there are.
 const REQUESTS: u64 = 1_000;
 
-// The three threads, where there are three.
+/// The three threads, where there are three.
 fn three_of(threads: Vec<KernelThread>) -> Option<(KernelThread, KernelThread, KernelThread)>
     ensures { IfSome result (λ three. threads.items ≡ three.0 ∷ three.1 ∷ three.2 ∷ []) }
 {
@@ -31,7 +32,7 @@ fn three_of(threads: Vec<KernelThread>) -> Option<(KernelThread, KernelThread, K
     None
 }
 
-// The three threads as one list.
+/// The three threads as one list.
 fn list_of(
     alloc: Global,
     first: KernelThread,
@@ -47,7 +48,7 @@ fn list_of(
     Ok(threads)
 }
 
-// That many turns in which nothing arrives. One that is refused is left out.
+/// That many turns in which nothing arrives. One that is refused is left out.
 fn idle_turns(thread: KernelThread, count: u64) -> KernelThread
     ensures { place_of result.thread ≡ place_of thread.thread }
 {
@@ -58,7 +59,7 @@ fn idle_turns(thread: KernelThread, count: u64) -> KernelThread
     thread
 }
 
-// The requests come to the thread, one a turn, all of one turn's work.
+/// The requests come to the thread, one a turn, all of one turn's work.
 fn requests_come(thread: KernelThread) -> Option<KernelThread>
     ensures { IfSome result (λ after. place_of after.thread ≡ place_of thread.thread) }
 {
@@ -71,15 +72,15 @@ fn requests_come(thread: KernelThread) -> Option<KernelThread>
     Some(thread)
 }
 
-// Sends as many Runs for the core as there is room for.
+/// Sends as many Runs for the core as there is room for.
 fn runs(sender: &mut Sender, core: u8) {
     for _ in 0..4 {
         run(sender, core);
     }
 }
 
-// Each of the two takes a Run again after a theft that found the other in its way. What they served and what the third
-// had left are then the requests that came, each once.
+/// Each of the two takes a Run again after a theft that found the other in its way. What they
+/// served and what the third had left are then the requests that came, each once.
 #[test]
 fn two_threads_steal_at_once(rt: HostRuntime) -> Result<(), Fail> {
     let config = Config::read(rt.alloc(), THREE_THREADS)?;

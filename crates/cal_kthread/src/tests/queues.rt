@@ -1,11 +1,11 @@
 //! A queue: pops and steals find what is there, first in, first out.
 
 use crate::queue::OwnQueue;
-use crate::waiting::Waiting;
+use crate::queue::waiting::Waiting;
 use cal_machine::Request;
 use std::test::Fail;
 
-// A request of this name, which arrived then.
+/// A request of this name, which arrived then.
 fn waiting(id: u64) -> Waiting {
     Waiting {
         request: Request {
@@ -17,7 +17,7 @@ fn waiting(id: u64) -> Waiting {
     }
 }
 
-// A body that never steals is refused here.
+/// A body that never steals is refused here.
 #[test]
 fn owner_and_thief_take_the_front(rt: HostRuntime) -> Result<(), Fail> {
     let mut queue = OwnQueue::open(rt.alloc())?;

@@ -1,20 +1,22 @@
-//! A turn's search for work: first in its own queue, then with each other thread of its task, from the next one on.
+//! A turn's search for work: first in its own queue, then with each other thread of its task, from
+//! the next one on.
 use super::{record, request, run, turn};
 use crate::{Entry, KernelThread, Team, open_threads};
 use cal_command::{Command, Sender};
 use cal_machine::Config;
 use std::test::Fail;
 
-// One task of three threads.
+/// One task of three threads.
 const THREE_THREADS: &[u8] =
-    b"cores = 4\nbandwidth_limit = 1000\n[[task]]\nkind = \"lc\"\nguaranteed = 0\nlimit = 3\ndelay = 10\nrequest = 1000\n";
+    b"cores = 4\nbandwidth_limit = 1000\n[[task]]\nkind = \"lc\"\nguaranteed = 0\nlimit = 3\n\
+    delay = 10\nrequest = 1000\n";
 
-// What a thread publishes at its place that took one Run and has nothing left to do.
+/// What a thread publishes at its place that took one Run and has nothing left to do.
 fn published(place: u64, running: u64, misses: u64, stamp: u64) -> Entry {
     Entry::Published(place, record([1, running, 0, 0, 0, misses, stamp, 0, 0]))
 }
 
-// The three threads of a team, and the ring of the last.
+/// The three threads of a team, and the ring of the last.
 fn three_of(team: Team) -> Option<(KernelThread, KernelThread, KernelThread, Sender)> {
     let Team {
         mut threads,
@@ -28,8 +30,8 @@ fn three_of(team: Team) -> Option<(KernelThread, KernelThread, KernelThread, Sen
     Some((first, next_to_last, last, to_last))
 }
 
-// Bodies that are refused here: a thread that tries to steal before it looks into its own queue, one that tries the
-// last of the others first, and one that tries the first of them alone.
+/// Bodies that are refused here: a thread that tries to steal before it looks into its own queue,
+/// one that tries the last of the others first, and one that tries the first of them alone.
 #[test]
 fn own_queue_then_the_next_thread_first(rt: HostRuntime) -> Result<(), Fail> {
     let config = Config::read(rt.alloc(), THREE_THREADS)?;

@@ -1,7 +1,7 @@
-//! A team: it opens, a thread steals from another, what arrived is served or handed out at the end, and what refused
-//! memory leaves.
+//! A team: it opens, a thread steals from another, what arrived is served or handed out at the end,
+//! and what refused memory leaves.
 ghost use Rattle.std.specs.Prelude.{◌≡◌, length, map};
-ghost use Rattle.cal_kthread.specs.Teams.{IsTeam, place_of};
+ghost use Rattle.cal_kthread.specs.Team.{IsTeam, place_of};
 
 use super::{add_names, ends_of, left_of_all, record, request, run, turn};
 use crate::laws::same_place_keeps_team;
@@ -11,11 +11,12 @@ use cal_machine::{Config, ConfigFault};
 use std::alloc::{AllocError, Global};
 use std::test::Fail;
 
-// One task of two threads.
+/// One task of two threads.
 const TWO_THREADS: &[u8] =
-    b"cores = 2\nbandwidth_limit = 1000\n[[task]]\nkind = \"lc\"\nguaranteed = 0\nlimit = 2\ndelay = 10\nrequest = 1000\n";
+    b"cores = 2\nbandwidth_limit = 1000\n[[task]]\nkind = \"lc\"\nguaranteed = 0\nlimit = 2\n\
+    delay = 10\nrequest = 1000\n";
 
-// A turn of this thread of a team.
+/// A turn of this thread of a team.
 fn turn_of(threads: &mut Vec<KernelThread>, k: usize, now: u64, arriving: Option<Request>) -> bool
     requires { IsTeam (map (λ t. place_of t.thread) threads.old.items) }
     ensures team { IsTeam (map (λ t. place_of t.thread) threads.new.items) }
@@ -66,10 +67,11 @@ fn second_thread_steals(rt: HostRuntime) -> Result<(), Fail> {
     Ok(())
 }
 
-// Turns of a team's threads: which one, when, the core of a Run that is sent to it before, and what arrives.
+/// Turns of a team's threads: which one, when, the core of a Run that is sent to it before, and
+/// what arrives.
 type Turns = [(usize, u64, Option<u8>, Option<Request>); 7];
 
-// The turns, one after the other.
+/// The turns, one after the other.
 fn all_turns(threads: &mut Vec<KernelThread>, senders: &mut Vec<Sender>, turns: Turns) -> bool
     requires { IsTeam (map (λ t. place_of t.thread) threads.old.items) }
     ensures team { IsTeam (map (λ t. place_of t.thread) threads.new.items) }
@@ -83,7 +85,7 @@ fn all_turns(threads: &mut Vec<KernelThread>, senders: &mut Vec<Sender>, turns: 
     true
 }
 
-// Sends a Run for the core to the thread, if there is a core.
+/// Sends a Run for the core to the thread, if there is a core.
 fn sent(senders: &mut Vec<Sender>, k: usize, core: Option<u8>) -> bool {
     match core {
         Some(core) => k < senders.len() && run(&mut senders[k], core),
@@ -91,8 +93,9 @@ fn sent(senders: &mut Vec<Sender>, k: usize, core: Option<u8>) -> bool {
     }
 }
 
-// The first thread serves 7, is then at 9, and has 10 as its front and 11 in its queue. The second one steals 8 and
-// serves it, and is then at 12. What arrived is served, or is handed out at the end with its first work, each once.
+/// The first thread serves 7, is then at 9, and has 10 as its front and 11 in its queue. The second
+/// one steals 8 and serves it, and is then at 12. What arrived is served, or is handed out at the
+/// end with its first work, each once.
 #[test]
 fn arrived_is_served_or_left(rt: HostRuntime) -> Result<(), Fail> {
     let config = Config::read(rt.alloc(), TWO_THREADS)?;
@@ -132,7 +135,8 @@ fn arrived_is_served_or_left(rt: HostRuntime) -> Result<(), Fail> {
     Ok(())
 }
 
-// The first thread of a team and what it did in four turns, each made again where memory was refused.
+/// The first thread of a team and what it did in four turns, each made again where memory was
+/// refused.
 fn four_turns(alloc: Global, config: &Config) -> Result<Option<KernelThread>, AllocError> {
     let mut team = open_threads(alloc, config)?;
     let Some(mut thread) = team.threads.pop() else {
@@ -150,8 +154,9 @@ fn four_turns(alloc: Global, config: &Config) -> Result<Option<KernelThread>, Al
     Ok(Some(thread))
 }
 
-// With one allocation refused, wherever that is, the answer is want of memory by its name, or the ample one; and after
-// a refused turn the same turn gives the ample answer. (tools/refusals runs it so.)
+/// With one allocation refused, wherever that is, the answer is want of memory by its name, or the
+/// ample one; and after a refused turn the same turn gives the ample answer. (tools/refusals runs
+/// it so.)
 #[test]
 fn refused_memory(rt: HostRuntime) -> Result<(), Fail> {
     let config = match Config::read(rt.alloc(), TWO_THREADS) {

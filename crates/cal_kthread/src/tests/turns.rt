@@ -1,11 +1,12 @@
 //! Turns of one kernel thread, and a journal that is full.
 use super::{record, turn};
-use crate::opening::{Opened, open_thread};
+use crate::team::opening::{Opened, open_thread};
 use crate::{Entry, KernelThread, Request, TurnFault};
 use cal_command::Command;
 use std::test::Fail;
 
-// How many turns a thread makes that only publishes, and why it stops, where it does before that many.
+/// How many turns a thread makes that only publishes, and why it stops, where it does before that
+/// many.
 fn turns_that_publish(thread: KernelThread, most: u64) -> (u64, Option<TurnFault>) {
     let mut thread = thread;
     for made in 0..most {
@@ -53,7 +54,8 @@ fn one_request_served(rt: HostRuntime) -> Result<(), Fail> {
     Ok(())
 }
 
-// A thread that yielded before it took its Park stays off when it takes it, and goes on a core by the next Run.
+/// A thread that yielded before it took its Park stays off when it takes it, and goes on a core by
+/// the next Run.
 #[test]
 fn yield_before_park(rt: HostRuntime) -> Result<(), Fail> {
     let Opened {
@@ -90,7 +92,7 @@ fn yield_before_park(rt: HostRuntime) -> Result<(), Fail> {
     Ok(())
 }
 
-// A thread that only publishes makes 1,048,571 turns, and its journal is full at the next.
+/// A thread that only publishes makes 1,048,571 turns, and its journal is full at the next.
 #[test]
 fn full_journal(rt: HostRuntime) -> Result<(), Fail> {
     let Opened { thread, .. } = open_thread(rt.alloc(), 0)?;

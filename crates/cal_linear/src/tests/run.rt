@@ -3,7 +3,8 @@
 ghost use Rattle.std.specs.Prelude.{◌≡◌, ◌∷◌, [], IfOk, IsTrue};
 ghost use Rattle.cal_policy.specs.Tasks.{threads_of_table};
 ghost use Rattle.cal_linear.specs.Runs.{AreOfOneRun};
-ghost use Rattle.cal_linear.specs.WorkedRow.{waiting, at_work, served, pass_at, passes, journal, rounds, AreRowsRounds};
+ghost use Rattle.cal_linear.specs.WorkedRow.{waiting, at_work, served, pass_at};
+ghost use Rattle.cal_linear.specs.WorkedRow.{passes, journal, rounds, AreRowsRounds};
 
 use crate::linear::linearise;
 use cal_kthread::{Entry, Journal, Request};
@@ -16,7 +17,8 @@ use std::test::Fail;
 
 // Two cores, and one task of one thread.
 const TABLE: &[u8] =
-    b"cores = 2\nbandwidth_limit = 1000\n[[task]]\nkind = \"lc\"\nguaranteed = 1\nlimit = 1\ndelay = 10\nrequest = 50\n";
+    b"cores = 2\nbandwidth_limit = 1000\n[[task]]\nkind = \"lc\"\nguaranteed = 1\nlimit = 1\n\
+    delay = 10\nrequest = 50\n";
 
 // With a request that waits.
 fn waiting() -> Record

@@ -34,8 +34,9 @@ fn grant(class: u8) -> Action {
     }
 }
 
-// A thread shows each Run taken and its core left, though its taker took none. What it acknowledges
-// was sent, so it is believed, until its ring is full and it acknowledges a command that was not.
+/// A thread shows each Run taken and its core left, though its taker took none. What it
+/// acknowledges was sent, so it is believed, until its ring is full and it acknowledges a command
+/// that was not.
 #[test]
 fn false_records(rt: HostRuntime) -> Result<(), Fail> {
     let (mut scheduler, mut publisher, mut taker) = bare(&rt)?;
@@ -99,7 +100,7 @@ fn pass_until_refused(scheduler: &mut Scheduler, most: u64) -> (u64, Option<Pass
     (most, None)
 }
 
-// A history takes 1,048,576 passes.
+/// A history takes 1,048,576 passes.
 #[test]
 fn full_history(rt: HostRuntime) -> Result<(), Fail> {
     let (mut scheduler, _publisher, _taker) = bare(&rt)?;

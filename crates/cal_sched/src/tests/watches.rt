@@ -5,7 +5,7 @@ use cal_signal::{Look, open_page};
 use std::process::Abort;
 use std::test::Fail;
 
-// Two pages, one of which was published on, in two rounds and no third.
+/// Two pages, one of which was published on, in two rounds and no third.
 #[test]
 fn two_rounds_of_two_pages(rt: HostRuntime) -> Result<(), Fail> {
     let (_quiet, first) = open_page(rt.alloc())?;
@@ -40,7 +40,7 @@ fn two_rounds_of_two_pages(rt: HostRuntime) -> Result<(), Fail> {
     Ok(())
 }
 
-// More rounds than memory can hold are refused, and the observers come back.
+/// More rounds than memory can hold are refused, and the observers come back.
 #[test]
 fn rounds_past_all_memory(rt: HostRuntime) -> Result<(), Fail> {
     let (mut publisher, observer) = open_page(rt.alloc())?;

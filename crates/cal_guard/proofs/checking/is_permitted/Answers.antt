@@ -1,9 +1,9 @@
 use Rattle.std.proofs.Common.{◌≡◌, ℕ, ◌≤◌, List, length, take, sym, subst, ◌∙◌, arith, refl, true, false}
 use Rattle.std.proofs.lemmas.List.{take_all}
 use Rattle.std.proofs.lemmas.Option.{slice_get_read}
-use Rattle.cal_policy.specs.declared.pass_entry.PassEntry.{PassEntry}
+use Rattle.cal_policy.specs.declared.history.entry.PassEntry.{PassEntry}
 use Rattle.cal_guard.specs.Permitted.{IsPermittedPass, IsPermittedHistory}
-use Rattle.cal_policy.proofs.Each.{each_more_item}
+use Rattle.cal_policy.proofs.ListLemmas.Each.{each_more_item}
 use Rattle.cal_guard.proofs.Upto.{permitted_upto}
 use Rattle.cal_guard.proofs.checking.is_permitted.Goals as goal
 

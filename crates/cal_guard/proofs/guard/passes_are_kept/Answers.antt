@@ -1,5 +1,5 @@
 use Rattle.cal_policy.specs.Setting.{setting}
-use Rattle.cal_policy.proofs.Passing.{Stands_end}
+use Rattle.cal_policy.proofs.PassLemmas.FromParts.{Stands_end}
 use Rattle.cal_guard.proofs.guard.passes_are_kept.Goals as goal
 
 pub returns : goal.returns

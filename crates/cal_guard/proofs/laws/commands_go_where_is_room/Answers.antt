@@ -1,5 +1,5 @@
 use Rattle.cal_laws.specs.Point.{setting_at, made_at}
-use Rattle.cal_laws.proofs.Points.{safe_at}
+use Rattle.cal_laws.proofs.PointLemmas.EachAction.{safe_at}
 use Rattle.cal_guard.proofs.Sending.{sends_few}
 use Rattle.cal_guard.proofs.Steady.{permitted_at, safe_point}
 use Rattle.cal_guard.proofs.laws.commands_go_where_is_room.Goals as goal

@@ -1,4 +1,4 @@
-use Rattle.cal_laws.proofs.Excluded.{excludes_at}
+use Rattle.cal_laws.proofs.ExclusionLemmas.Excluded.{excludes_at}
 use Rattle.cal_guard.proofs.Steady.{safe_point}
 use Rattle.cal_guard.proofs.laws.holders_are_of_their_last_run.Goals as goal
 

@@ -1,4 +1,4 @@
-use Rattle.cal_laws.proofs.Truth.{true_at}
+use Rattle.cal_laws.proofs.KeptLemmas.Truth.{true_at}
 use Rattle.cal_guard.proofs.Steady.{safe_point}
 use Rattle.cal_guard.proofs.laws.kept_records_are_true.Goals as goal
 

@@ -1,4 +1,4 @@
-use Rattle.cal_laws.proofs.OnCore.{on_core_at}
+use Rattle.cal_laws.proofs.KeptLemmas.OnCore.{on_core_at}
 use Rattle.cal_guard.proofs.Steady.{safe_point}
 use Rattle.cal_guard.proofs.laws.kept_threads_are_on_core.Goals as goal
 

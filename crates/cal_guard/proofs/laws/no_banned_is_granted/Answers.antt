@@ -1,4 +1,4 @@
-use Rattle.cal_policy.specs.declared.pass_action.Action.TheVariants.{Grant}
+use Rattle.cal_policy.specs.declared.history.action.Action.TheVariants.{Grant}
 use Rattle.cal_guard.proofs.Steady.{permitted_at}
 use Rattle.cal_guard.proofs.laws.no_banned_is_granted.Goals as goal
 

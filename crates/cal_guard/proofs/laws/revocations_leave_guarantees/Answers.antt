@@ -1,12 +1,12 @@
 use Rattle.std.proofs.Common.{ℕ, List, arith}
 use Rattle.cal_policy.specs.Tasks.{owner_of}
-use Rattle.cal_policy.specs.declared.pass_action.Action.{Action}
-use Rattle.cal_policy.specs.declared.pass_action.Action.TheVariants.{Revoke}
-use Rattle.cal_policy.specs.declared.pass_action.Cause.{Cause}
+use Rattle.cal_policy.specs.declared.history.action.Action.{Action}
+use Rattle.cal_policy.specs.declared.history.action.Action.TheVariants.{Revoke}
+use Rattle.cal_policy.specs.declared.history.action.Cause.{Cause}
 use Rattle.cal_policy.specs.Setting.{Setting, so_far}
 use Rattle.cal_policy.specs.Laws.{ActionIsOneMore}
 use Rattle.cal_laws.specs.Limits.{LeavesGuarantee}
-use Rattle.cal_laws.proofs.Held.{loses_one}
+use Rattle.cal_laws.proofs.CapLemmas.Held.{loses_one}
 use Rattle.cal_guard.specs.Permitted.{MayBeRevoked}
 use Rattle.cal_guard.proofs.Steady.{permitted_at}
 use Rattle.cal_guard.proofs.laws.revocations_leave_guarantees.Goals as goal

@@ -1,4 +1,4 @@
-use Rattle.cal_laws.proofs.Standing.{runs_at}
+use Rattle.cal_laws.proofs.ExclusionLemmas.Standing.{runs_at}
 use Rattle.cal_guard.proofs.Steady.{safe_point}
 use Rattle.cal_guard.proofs.laws.runs_stand_until_left.Goals as goal
 

@@ -1,5 +1,5 @@
 use Rattle.std.proofs.Common.{◌<◌, sym, ◌∙◌, arith}
-use Rattle.cal_policy.proofs.Bandwidth.{lowest_none, lowest_found}
+use Rattle.cal_policy.proofs.PassLemmas.Bandwidth.{lowest_none, lowest_found}
 use Rattle.cal_guard.specs.Refusals as refusals
 use Rattle.cal_guard.proofs.passing.lowest_left_held.Goals as goal
 

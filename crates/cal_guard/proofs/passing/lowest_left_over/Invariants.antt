@@ -1,7 +1,7 @@
 use Rattle.std.proofs.Common.{◌≡◌, List, None}
-use Rattle.cal_policy.specs.declared.pass_action.Action.{Action}
+use Rattle.cal_policy.specs.declared.history.action.Action.{Action}
 use Rattle.cal_policy.specs.Board.{Agrees}
-use Rattle.cal_policy.specs.Choice.{lowest_below}
+use Rattle.cal_policy.specs.Pass.Choice.{lowest_below}
 use Rattle.cal_guard.specs.Refusals as refusals
 use Rattle.cal_guard.proofs.passing.lowest_left_over.Given as goal
 

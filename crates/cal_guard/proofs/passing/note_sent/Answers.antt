@@ -1,6 +1,6 @@
 use Rattle.std.proofs.Common.{Some, None, refl, sym, ◌∙◌, arith, slice_index_or, subst, ◌<◌}
 use Rattle.cal_policy.specs.Board.{NamesTable}
-use Rattle.cal_policy.specs.declared.pass_action.Action.TheVariants.{Free, Unban, Ban, Revoke, Cap, Grant}
+use Rattle.cal_policy.specs.declared.history.action.Action.TheVariants.{Free, Unban, Ban, Revoke, Cap, Grant}
 use Rattle.cal_policy.specs.Setting.{so_far}
 use Rattle.cal_guard.proofs.Sent.{noted, to_granted, to_revoked, inserted, not_some}
 use Rattle.cal_guard.proofs.passing.note_sent.Goals as goal

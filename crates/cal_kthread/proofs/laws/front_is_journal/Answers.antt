@@ -1,4 +1,4 @@
-use Rattle.cal_kthread.proofs.JournalParts.{front-is-journal}
+use Rattle.cal_kthread.proofs.JournalLemmas.Parts.{front-is-journal}
 use Rattle.cal_kthread.proofs.laws.front_is_journal.Goals as goal
 
 pub returns : goal.returns

@@ -1,4 +1,4 @@
-use Rattle.cal_kthread.proofs.Accounts.{stays-settled}
+use Rattle.cal_kthread.proofs.EndLemmas.Account.{stays-settled}
 use Rattle.cal_kthread.proofs.laws.handing_out_stays_settled.Goals as goal
 
 pub returns : goal.returns

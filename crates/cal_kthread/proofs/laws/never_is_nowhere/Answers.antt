@@ -1,4 +1,4 @@
-use Rattle.cal_kthread.proofs.OnePlace.{never-is-nowhere}
+use Rattle.cal_kthread.proofs.EndLemmas.OnePlace.{never-is-nowhere}
 use Rattle.cal_kthread.proofs.laws.never_is_nowhere.Goals as goal
 
 pub returns : goal.returns

@@ -1,4 +1,4 @@
-use Rattle.cal_kthread.proofs.TeamTurns.{no-ends-yet}
+use Rattle.cal_kthread.proofs.TeamLemmas.Turns.{no-ends-yet}
 use Rattle.cal_kthread.proofs.laws.no_ends_yet.Goals as goal
 
 pub returns : goal.returns

@@ -1,4 +1,4 @@
-use Rattle.cal_kthread.proofs.OnePlace.{once-is-in-one-place}
+use Rattle.cal_kthread.proofs.EndLemmas.OnePlace.{once-is-in-one-place}
 use Rattle.cal_kthread.proofs.laws.once_is_in_one_place.Goals as goal
 
 pub returns : goal.returns

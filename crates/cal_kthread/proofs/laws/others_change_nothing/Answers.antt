@@ -1,4 +1,4 @@
-use Rattle.cal_kthread.proofs.JournalParts.{others-change-nothing}
+use Rattle.cal_kthread.proofs.JournalLemmas.Parts.{others-change-nothing}
 use Rattle.cal_kthread.proofs.laws.others_change_nothing.Goals as goal
 
 pub returns : goal.returns

@@ -1,4 +1,4 @@
-use Rattle.cal_kthread.proofs.JournalParts.{record-shows-taken}
+use Rattle.cal_kthread.proofs.JournalLemmas.Parts.{record-shows-taken}
 use Rattle.cal_kthread.proofs.laws.record_shows_taken.Goals as goal
 
 pub returns : goal.returns

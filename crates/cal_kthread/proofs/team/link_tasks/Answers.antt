@@ -1,5 +1,5 @@
 use Rattle.std.proofs.Common.{refl, ◌∙◌, arith}
-use Rattle.cal_kthread.proofs.OpenedTeams.{none-linked, linked-task}
+use Rattle.cal_kthread.proofs.TeamLemmas.Opened.{none-linked, linked-task}
 use Rattle.cal_kthread.proofs.team.link_tasks.Goals as goal
 
 pub loop-t-init : goal.loop-t-init

@@ -1,5 +1,5 @@
 use Rattle.std.proofs.Common.{◌≡◌, length}
-use Rattle.cal_kthread.proofs.OpenedTeams.{LinkedUpTo}
+use Rattle.cal_kthread.proofs.TeamLemmas.Opened.{LinkedUpTo}
 use Rattle.cal_kthread.proofs.team.link_tasks.Given as goal
 
 abbrev pub invariant-loop-t : goal.invariant-loop-t

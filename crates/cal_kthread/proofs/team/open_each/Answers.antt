@@ -1,5 +1,5 @@
 use Rattle.std.proofs.Common.{sym, ◌∙◌, arith}
-use Rattle.cal_kthread.proofs.OpenedTeams.{one-more, more-fresh}
+use Rattle.cal_kthread.proofs.TeamLemmas.Opened.{one-more, more-fresh}
 use Rattle.cal_kthread.proofs.team.open_each.Goals as goal
 
 pub loop-number-preserved : goal.loop-number-preserved

@@ -1,8 +1,8 @@
 use Rattle.std.proofs.Common.{List, map, length, sym, ap, ◌∙◌, subst, arith}
-use Rattle.cal_kthread.specs.Linking.{unlinked}
-use Rattle.cal_kthread.specs.Opening.{AreOpened}
-use Rattle.cal_kthread.specs.Threads.{KernelView}
-use Rattle.cal_kthread.proofs.OpenedTeams.{opened-linked, written-back}
+use Rattle.cal_kthread.specs.Team.Linking.{unlinked}
+use Rattle.cal_kthread.specs.Team.Opening.{AreOpened}
+use Rattle.cal_kthread.specs.Turn.Thread.{KernelView}
+use Rattle.cal_kthread.proofs.TeamLemmas.Opened.{opened-linked, written-back}
 use Rattle.cal_kthread.proofs.team.open_threads.Goals as goal
 
 pub returns-clause-opened : goal.returns-clause-opened

@@ -1,10 +1,10 @@
 use Rattle.std.proofs.Common.{◌≡◌, ℕ, zero, suc, ◌∷◌, [], ◌++◌, List, length, length-append, sym, ap, subst, ◌∙◌, ⊎_elim, append_assoc, arith}
 use Rattle.std.specs.Vec.Iter.{into_iter_items}
 use Rattle.crossbeam_deque.proofs.Lists.{at_snoc}
-use Rattle.cal_kthread.specs.Account.{KeepsItsWork}
-use Rattle.cal_kthread.specs.HandingOut.{HandedOutNothing}
-use Rattle.cal_kthread.specs.Rests.{RestView}
-use Rattle.cal_kthread.proofs.TeamTurns.{one-end-more}
+use Rattle.cal_kthread.specs.End.Account.{KeepsItsWork}
+use Rattle.cal_kthread.specs.End.HandingOut.{HandedOutNothing}
+use Rattle.cal_kthread.specs.End.Rest.{RestView}
+use Rattle.cal_kthread.proofs.TeamLemmas.Turns.{one-end-more}
 use Rattle.cal_kthread.proofs.tests.ends_of.Goals as goal
 
 pub loop-thread-preserved : goal.loop-thread-preserved

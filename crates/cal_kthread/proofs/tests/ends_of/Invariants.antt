@@ -1,9 +1,9 @@
 use Rattle.std.proofs.Common.{◌≡◌, ◌++◌, length}
 use Rattle.std.specs.Vec.Iter.{into_iter_items, into_iter_len}
-use Rattle.cal_kthread.specs.Account.{KeepsItsWork}
-use Rattle.cal_kthread.specs.HandingOut.{HandedOutNothing}
+use Rattle.cal_kthread.specs.End.Account.{KeepsItsWork}
+use Rattle.cal_kthread.specs.End.HandingOut.{HandedOutNothing}
 use Rattle.cal_kthread.specs.Places.{Each}
-use Rattle.cal_kthread.specs.TeamTurns.{HavePlacesOf}
+use Rattle.cal_kthread.specs.Team.Turns.{HavePlacesOf}
 use Rattle.cal_kthread.proofs.tests.ends_of.Given as goal
 
 abbrev pub invariant-loop-thread : goal.invariant-loop-thread

@@ -1,4 +1,4 @@
-use Rattle.cal_laws.proofs.Emptied.{just_banned}
+use Rattle.cal_laws.proofs.BanLemmas.Emptied.{just_banned}
 use Rattle.cal_laws.proofs.bans.banned_are_emptied_at_once.Goals as goal
 
 pub returns : goal.returns

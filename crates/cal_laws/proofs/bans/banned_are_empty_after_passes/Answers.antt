@@ -1,4 +1,4 @@
-use Rattle.cal_laws.proofs.Emptied.{none_held_at_end}
+use Rattle.cal_laws.proofs.BanLemmas.Emptied.{none_held_at_end}
 use Rattle.cal_laws.proofs.bans.banned_are_empty_after_passes.Goals as goal
 
 pub returns : goal.returns

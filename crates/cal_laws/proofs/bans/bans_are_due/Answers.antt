@@ -1,8 +1,8 @@
-use Rattle.cal_policy.specs.declared.pass_action.Action.TheVariants.{Ban}
-use Rattle.cal_policy.specs.Made.{IsBanned}
+use Rattle.cal_policy.specs.declared.history.action.Action.TheVariants.{Ban}
+use Rattle.cal_policy.specs.Pass.Made.{IsBanned}
 use Rattle.cal_laws.specs.Point.{setting_at, made_at}
-use Rattle.cal_laws.proofs.BanDue.{is_due}
-use Rattle.cal_laws.proofs.Points.{sound_at}
+use Rattle.cal_laws.proofs.BanLemmas.BanDue.{is_due}
+use Rattle.cal_laws.proofs.PointLemmas.EachAction.{sound_at}
 use Rattle.cal_laws.proofs.bans.bans_are_due.Goals as goal
 
 pub returns : goal.returns

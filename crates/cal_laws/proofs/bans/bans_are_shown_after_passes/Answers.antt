@@ -1,4 +1,4 @@
-use Rattle.cal_laws.proofs.ShownBans.{shown_at_end}
+use Rattle.cal_laws.proofs.BanLemmas.ShownBans.{shown_at_end}
 use Rattle.cal_laws.proofs.bans.bans_are_shown_after_passes.Goals as goal
 
 pub returns : goal.returns

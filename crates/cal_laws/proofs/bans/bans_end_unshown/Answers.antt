@@ -1,12 +1,12 @@
 use Rattle.std.proofs.Common.{◌≡◌, ℕ, ◌+◌, true, eqb}
 use Rattle.std.proofs.lemmas.Bool.{and_from, eq-eqb, both_ways}
 use Rattle.cal_machine.specs.Machine.{sibling_of}
-use Rattle.cal_policy.specs.declared.pass_action.Action.TheVariants.{Unban}
-use Rattle.cal_policy.specs.declared.banning.BannedFor.{BannedFor}
+use Rattle.cal_policy.specs.declared.history.action.Action.TheVariants.{Unban}
+use Rattle.cal_policy.specs.declared.board.bans.BannedFor.{BannedFor}
 use Rattle.cal_policy.specs.Setting.{Setting, kept_now}
-use Rattle.cal_policy.specs.Bans.{still_shows}
+use Rattle.cal_policy.specs.Pass.Bans.{still_shows}
 use Rattle.cal_laws.specs.Bans.{IsShown}
-use Rattle.cal_laws.proofs.Points.{sound_at}
+use Rattle.cal_laws.proofs.PointLemmas.EachAction.{sound_at}
 use Rattle.cal_laws.proofs.bans.bans_end_unshown.Goals as goal
 
 shown : (s : Setting) (core : ℕ) (ban : BannedFor) → IsShown s core ban → still_shows (kept_now s ban.thread) (sibling_of core) ban.started ≡ true

@@ -1,7 +1,7 @@
-use Rattle.cal_policy.specs.declared.pass_action.Action.TheVariants.{Cap}
+use Rattle.cal_policy.specs.declared.history.action.Action.TheVariants.{Cap}
 use Rattle.cal_laws.specs.Point.{setting_at, made_at}
-use Rattle.cal_laws.proofs.CapsDue.{cap_due}
-use Rattle.cal_laws.proofs.Points.{sound_at}
+use Rattle.cal_laws.proofs.CapLemmas.CapsDue.{cap_due}
+use Rattle.cal_laws.proofs.PointLemmas.EachAction.{sound_at}
 use Rattle.cal_laws.proofs.caps.caps_are_due.Goals as goal
 
 pub returns : goal.returns

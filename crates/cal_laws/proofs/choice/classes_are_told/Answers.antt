@@ -1,4 +1,4 @@
-use Rattle.cal_laws.proofs.Classes.{of_its_class, class_from}
+use Rattle.cal_laws.proofs.ChoiceLemmas.Classes.{of_its_class, class_from}
 use Rattle.cal_laws.proofs.choice.classes_are_told.Goals as goal
 
 pub returns : goal.returns

@@ -1,7 +1,7 @@
-use Rattle.cal_policy.specs.declared.pass_action.Action.TheVariants.{Grant}
+use Rattle.cal_policy.specs.declared.history.action.Action.TheVariants.{Grant}
 use Rattle.cal_laws.specs.Point.{setting_at, made_at}
-use Rattle.cal_laws.proofs.Chosen.{best_grant}
-use Rattle.cal_laws.proofs.Points.{sound_at}
+use Rattle.cal_laws.proofs.ChoiceLemmas.Chosen.{best_grant}
+use Rattle.cal_laws.proofs.PointLemmas.EachAction.{sound_at}
 use Rattle.cal_laws.proofs.choice.grants_are_best.Goals as goal
 
 pub returns : goal.returns

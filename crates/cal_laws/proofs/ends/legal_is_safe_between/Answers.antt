@@ -1,4 +1,4 @@
-use Rattle.cal_laws.proofs.EndPoints.{between}
+use Rattle.cal_laws.proofs.PointLemmas.EndPoints.{between}
 use Rattle.cal_laws.proofs.ends.legal_is_safe_between.Goals as goal
 
 pub returns : goal.returns

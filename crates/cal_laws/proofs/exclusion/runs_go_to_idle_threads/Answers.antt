@@ -1,7 +1,7 @@
-use Rattle.cal_policy.specs.declared.pass_action.Action.TheVariants.{Grant}
+use Rattle.cal_policy.specs.declared.history.action.Action.TheVariants.{Grant}
 use Rattle.cal_laws.specs.Point.{actions_at}
-use Rattle.cal_laws.proofs.Idle.{goes_to_idle}
-use Rattle.cal_laws.proofs.Points.{sound_at}
+use Rattle.cal_laws.proofs.ChoiceLemmas.Idle.{goes_to_idle}
+use Rattle.cal_laws.proofs.PointLemmas.EachAction.{sound_at}
 use Rattle.cal_laws.proofs.exclusion.runs_go_to_idle_threads.Goals as goal
 
 pub returns : goal.returns

@@ -1,5 +1,5 @@
-use Rattle.cal_laws.proofs.Excluded.{excludes_at}
-use Rattle.cal_laws.proofs.Points.{safe_point}
+use Rattle.cal_laws.proofs.ExclusionLemmas.Excluded.{excludes_at}
+use Rattle.cal_laws.proofs.PointLemmas.EachAction.{safe_point}
 use Rattle.cal_laws.proofs.exclusion.threads_have_one_core.Goals as goal
 
 pub returns : goal.returns

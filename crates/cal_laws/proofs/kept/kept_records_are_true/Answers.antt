@@ -1,5 +1,5 @@
-use Rattle.cal_laws.proofs.Points.{safe_point}
-use Rattle.cal_laws.proofs.Truth.{true_at}
+use Rattle.cal_laws.proofs.PointLemmas.EachAction.{safe_point}
+use Rattle.cal_laws.proofs.KeptLemmas.Truth.{true_at}
 use Rattle.cal_laws.proofs.kept.kept_records_are_true.Goals as goal
 
 pub returns : goal.returns

@@ -1,5 +1,5 @@
-use Rattle.cal_laws.proofs.OnCore.{on_core_at}
-use Rattle.cal_laws.proofs.Points.{safe_point}
+use Rattle.cal_laws.proofs.KeptLemmas.OnCore.{on_core_at}
+use Rattle.cal_laws.proofs.PointLemmas.EachAction.{safe_point}
 use Rattle.cal_laws.proofs.kept.kept_threads_are_on_core.Goals as goal
 
 pub returns : goal.returns

@@ -1,14 +1,14 @@
 use Rattle.std.proofs.Common.{ℕ, List, arith}
 use Rattle.cal_policy.specs.Tasks.{owner_of}
-use Rattle.cal_policy.specs.declared.pass_action.Action.{Action}
-use Rattle.cal_policy.specs.declared.pass_action.Action.TheVariants.{Revoke}
-use Rattle.cal_policy.specs.declared.pass_action.Cause.{Cause}
+use Rattle.cal_policy.specs.declared.history.action.Action.{Action}
+use Rattle.cal_policy.specs.declared.history.action.Action.TheVariants.{Revoke}
+use Rattle.cal_policy.specs.declared.history.action.Cause.{Cause}
 use Rattle.cal_policy.specs.Setting.{Setting}
 use Rattle.cal_policy.specs.Laws.{ActionIsOneMore}
 use Rattle.cal_laws.specs.Limits.{LeavesGuarantee}
-use Rattle.cal_laws.proofs.Held.{loses_one}
-use Rattle.cal_laws.proofs.Points.{sound_at}
-use Rattle.cal_laws.proofs.Revoked.{IsRevocable, takes_held, revocable}
+use Rattle.cal_laws.proofs.CapLemmas.Held.{loses_one}
+use Rattle.cal_laws.proofs.PointLemmas.EachAction.{sound_at}
+use Rattle.cal_laws.proofs.CauseLemmas.Revoked.{IsRevocable, takes_held, revocable}
 use Rattle.cal_laws.proofs.limits.revocations_leave_guarantees.Goals as goal
 
 leaves : ActionIsOneMore → (s : Setting) (x : List Action) (core : ℕ) (cause : Cause) → IsRevocable s x core → LeavesGuarantee s.table x core cause

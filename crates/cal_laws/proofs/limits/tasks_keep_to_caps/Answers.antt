@@ -1,5 +1,5 @@
 use Rattle.std.proofs.Common.{inl, inr, ⊎_elim}
-use Rattle.cal_laws.proofs.Capped.{capped_at}
+use Rattle.cal_laws.proofs.CapLemmas.Capped.{capped_at}
 use Rattle.cal_laws.proofs.limits.tasks_keep_to_caps.Goals as goal
 
 pub returns : goal.returns

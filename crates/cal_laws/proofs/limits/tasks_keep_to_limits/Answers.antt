@@ -1,7 +1,7 @@
 use Rattle.cal_laws.specs.Point.{actions_at}
-use Rattle.cal_laws.proofs.Held.{held_le_booked}
-use Rattle.cal_laws.proofs.Points.{steady_at}
+use Rattle.cal_laws.proofs.PointLemmas.EachAction.{steady_at}
 use Rattle.cal_laws.proofs.limits.tasks_keep_to_limits.Goals as goal
+use Rattle.cal_policy.proofs.PassLemmas.Fits.{held_le_booked}
 
 pub returns : goal.returns
 returns c = λ here is t lt. record {

@@ -1,4 +1,4 @@
-use Rattle.cal_laws.proofs.Queues.{of_queues}
+use Rattle.cal_laws.proofs.OldDelayLemmas.{of_queues}
 use Rattle.cal_laws.proofs.old_delay.delays_are_of_queues.Goals as goal
 
 pub returns : goal.returns

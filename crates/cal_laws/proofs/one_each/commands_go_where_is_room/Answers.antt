@@ -4,18 +4,18 @@ use Rattle.cal_machine.specs.Laws.{ThreadsAreOfTheirTask}
 use Rattle.cal_machine.specs.Table.{IsTable}
 use Rattle.cal_machine.specs.declared.command.Command.{Command}
 use Rattle.cal_machine.specs.declared.command.Command.TheVariants.{Run, Park}
-use Rattle.cal_policy.specs.declared.pass_action.Action.{Action}
-use Rattle.cal_policy.specs.declared.pass_action.Action.TheVariants.{Free, Unban, Ban, Revoke, Cap, Grant}
+use Rattle.cal_policy.specs.declared.history.action.Action.{Action}
+use Rattle.cal_policy.specs.declared.history.action.Action.TheVariants.{Free, Unban, Ban, Revoke, Cap, Grant}
 use Rattle.cal_policy.specs.History.{command_to, sends}
 use Rattle.cal_policy.specs.Board.{placement_of}
 use Rattle.cal_policy.specs.Setting.{Setting, so_far, has_room}
-use Rattle.cal_policy.specs.Steady.{IsSound}
+use Rattle.cal_policy.specs.Pass.Steady.{IsSound}
 use Rattle.cal_policy.specs.Laws.{ActionIsOneMore, LastThreadIsPlaced, ChosenHasWaitedLongest, ChosenIsOfLeastClass, VictimHasMostMisses}
 use Rattle.cal_laws.specs.Point.{setting_at, made_at}
-use Rattle.cal_laws.proofs.Excluded.{last_loser}
-use Rattle.cal_laws.proofs.Granted.{grant_facts}
-use Rattle.cal_laws.proofs.Points.{sound_at}
-use Rattle.cal_laws.proofs.Revoked.{takes_held, revocable}
+use Rattle.cal_laws.proofs.ExclusionLemmas.Excluded.{last_loser}
+use Rattle.cal_laws.proofs.ChoiceLemmas.Granted.{grant_facts}
+use Rattle.cal_laws.proofs.PointLemmas.EachAction.{sound_at}
+use Rattle.cal_laws.proofs.CauseLemmas.Revoked.{takes_held, revocable}
 use Rattle.cal_laws.proofs.one_each.commands_go_where_is_room.Goals as goal
 
 -- a command goes to its thread alone

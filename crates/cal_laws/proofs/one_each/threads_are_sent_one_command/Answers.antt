@@ -1,4 +1,4 @@
-use Rattle.cal_laws.proofs.Sending.{at_most_one}
+use Rattle.cal_laws.proofs.OneEachLemmas.Sending.{at_most_one}
 use Rattle.cal_laws.proofs.one_each.threads_are_sent_one_command.Goals as goal
 
 pub returns : goal.returns

@@ -1,5 +1,5 @@
-use Rattle.cal_laws.proofs.Points.{safe_point}
-use Rattle.cal_laws.proofs.Standing.{runs_at}
+use Rattle.cal_laws.proofs.PointLemmas.EachAction.{safe_point}
+use Rattle.cal_laws.proofs.ExclusionLemmas.Standing.{runs_at}
 use Rattle.cal_laws.proofs.runs.runs_stand_until_left.Goals as goal
 
 pub returns : goal.returns

@@ -1,4 +1,4 @@
-use Rattle.cal_laws.proofs.Points.{legal_safe}
+use Rattle.cal_laws.proofs.PointLemmas.EachAction.{legal_safe}
 use Rattle.cal_laws.proofs.safe.legal_is_safe.Goals as goal
 
 pub returns : goal.returns

@@ -1,7 +1,7 @@
 use Rattle.std.proofs.Common.{◌∙◌, ap, ◌++◌, [], ◌∷◌, List}
 use Rattle.cal_world.specs.declared.event.Event.TheVariants.{Decide}
-use Rattle.cal_policy.specs.declared.pass_entry.PassEntry.{PassEntry}
-use Rattle.cal_policy.specs.declared.judged_look.Seen.{Seen}
+use Rattle.cal_policy.specs.declared.history.entry.PassEntry.{PassEntry}
+use Rattle.cal_policy.specs.declared.history.look.Seen.{Seen}
 use Rattle.cal_linear.specs.Linear.{looks_from}
 use Rattle.cal_linear.specs.Reads.{after_looks}
 use Rattle.cal_linear.specs.Fronts.{places_in}

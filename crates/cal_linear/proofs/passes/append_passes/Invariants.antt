@@ -1,5 +1,5 @@
 use Rattle.std.proofs.Common.{◌≡◌, ◌++◌, take}
-use Rattle.cal_policy.specs.Lists.{each_of}
+use Rattle.cal_policy.specs.History.Lists.{each_of}
 use Rattle.cal_linear.specs.Reads.{furthest}
 use Rattle.cal_linear.specs.Linear.{pass_events}
 use Rattle.cal_linear.specs.Fronts.{AreFronts, places_in}

@@ -1,5 +1,5 @@
 use Rattle.std.proofs.Common.{◌≡◌, ◌++◌, take, drop}
-use Rattle.cal_kthread.specs.Journals.{up_to}
+use Rattle.cal_kthread.specs.Journal.Entries.{up_to}
 use Rattle.cal_linear.specs.Steps.{events_of}
 use Rattle.cal_linear.proofs.steps.append_upto.Given as goal
 

@@ -1,5 +1,5 @@
-use Rattle.cal_policy.proofs.Fresh.{Fresh_same, Fresh_grant}
-use Rattle.cal_policy.proofs.History.{last_thread_push}
+use Rattle.cal_policy.proofs.HistoryLemmas.FreshCores.{Fresh_same, Fresh_grant}
+use Rattle.cal_policy.proofs.HistoryLemmas.OneMore.{last_thread_push}
 use Rattle.cal_policy.proofs.board.note_grant.Goals as goal
 
 pub returns-in-Grant : goal.returns-in-Grant

@@ -3,10 +3,10 @@ use Rattle.std.proofs.Common.{◌≡◌, ℕ, ◌≤◌, List, length, take, sym
 use Rattle.std.proofs.lemmas.Bool.{both_ways}
 use Rattle.std.proofs.lemmas.List.{take_all}
 use Rattle.std.proofs.lemmas.Option.{get_or_from_slice_get}
-use Rattle.cal_policy.specs.declared.pass_entry.PassEntry.{PassEntry}
+use Rattle.cal_policy.specs.declared.history.entry.PassEntry.{PassEntry}
 use Rattle.cal_policy.specs.Pass.{IsPass, IsLegal}
-use Rattle.cal_policy.proofs.Each.{each_more_item}
-use Rattle.cal_policy.proofs.Legality.{legal_upto}
+use Rattle.cal_policy.proofs.ListLemmas.Each.{each_more_item}
+use Rattle.cal_policy.proofs.PassLemmas.Legality.{legal_upto}
 use Rattle.cal_policy.proofs.verdict.audit.Goals as goal
 
 pub is_pass-requires : goal.is_pass-requires

@@ -3,12 +3,12 @@ use Rattle.std.proofs.Common.{◌≡◌, refl, arith}
 use Rattle.std.specs.Bool.{Decides}
 use Rattle.std.proofs.lemmas.Slice.Eq.{slice_eq-Decides}
 use Rattle.std.proofs.lemmas.Bool.Decides.{Decides-eqb}
-use Rattle.cal_policy.specs.declared.pass_action.Action.{Action}
-use Rattle.cal_policy.specs.declared.pass_action.Action.TheVariants.{Free, Unban, Ban, Revoke, Cap, Grant}
-use Rattle.cal_policy.specs.declared.pass_action.Cause.{Cause}
-use Rattle.cal_policy.specs.declared.pass_action.Cause.TheVariants as causes
-use Rattle.cal_policy.specs.contracts.pass_action.ActionPartialEq.TheImpl.{eq-value}
-use Rattle.cal_policy.specs.contracts.pass_action.CausePartialEq.TheImpl as cause_eq
+use Rattle.cal_policy.specs.declared.history.action.Action.{Action}
+use Rattle.cal_policy.specs.declared.history.action.Action.TheVariants.{Free, Unban, Ban, Revoke, Cap, Grant}
+use Rattle.cal_policy.specs.declared.history.action.Cause.{Cause}
+use Rattle.cal_policy.specs.declared.history.action.Cause.TheVariants as causes
+use Rattle.cal_policy.specs.contracts.history.action.ActionPartialEq.TheImpl.{eq-value}
+use Rattle.cal_policy.specs.contracts.history.action.CausePartialEq.TheImpl as cause_eq
 use Rattle.cal_policy.proofs.verdict.same_actions.Goals as goal
 
 cause_decides : (a b : Cause) → Decides (cause_eq.eq-value.it a b) (a ≡ b)

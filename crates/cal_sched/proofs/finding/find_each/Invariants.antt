@@ -1,8 +1,8 @@
 use Rattle.std.proofs.Common.{◌≡◌, List, length}
-use Rattle.cal_policy.specs.declared.open_input.FoundLook.{FoundLook}
-use Rattle.cal_policy.specs.declared.pass_entry.PassEntry.{PassEntry}
+use Rattle.cal_policy.specs.declared.judgement.open_input.FoundLook.{FoundLook}
+use Rattle.cal_policy.specs.declared.history.entry.PassEntry.{PassEntry}
 use Rattle.cal_policy.specs.Book.{AgreesWith}
-use Rattle.cal_policy.specs.Found.{IsOfFound}
+use Rattle.cal_policy.specs.Judgement.OpenInput.{IsOfFound}
 use Rattle.cal_sched.proofs.Found.{FoundBelow}
 use Rattle.cal_sched.proofs.finding.find_each.Given as goal
 

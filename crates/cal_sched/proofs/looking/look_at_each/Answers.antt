@@ -2,9 +2,9 @@ use Rattle.std.proofs.Common.{◌≡◌, ◌<◌, Some, slice_get, refl, sym, �
 use Rattle.std.proofs.lemmas.Option.{slice_get_read}
 use Rattle.cal_signal.specs.Ends.{ObserverView}
 use Rattle.cal_sched.specs.Looking.{HasLooked}
-use Rattle.cal_sched.proofs.Lists.{some_same}
 use Rattle.cal_sched.proofs.Looked.{LookedBelow-none, LookedBelow-more, LookedBelow-all}
 use Rattle.cal_sched.proofs.looking.look_at_each.Goals as goal
+use Rattle.cal_lists.proofs.Last.{some_same}
 
 pub loop-k-init : goal.loop-k-init
 loop-k-init c = record {

@@ -1,14 +1,13 @@
-use Rattle.std.proofs.Common.{◌≡◌, ℕ, ◌+◌, ◌<◌, ◌≤◌, List, [], ◌∷◌, ◌++◌, length, take, get_or, Some, None, slice_get, refl, sym, ap, subst, ◌∙◌, rules, arith}
+use Rattle.std.proofs.Common.{◌≡◌, ◌<◌, ◌≤◌, List, [], ◌∷◌, ◌++◌, length, take, get_or, Some, None, slice_get, refl, sym, ap, subst, ◌∙◌, arith}
 use Rattle.std.proofs.lemmas.Option.{slice_get-get_or, slice_get_read}
 use Rattle.cal_command.specs.Rings.{SenderView, HasRoom}
-use Rattle.cal_machine.specs.declared.command.Command.{Command}
-use Rattle.cal_policy.specs.declared.pass_action.Action.{Action}
-use Rattle.cal_policy.specs.declared.pass_action.Action.TheVariants.{Free}
-use Rattle.cal_policy.specs.declared.pass_entry.PassEntry.{PassEntry}
+use Rattle.cal_policy.specs.declared.history.action.Action.{Action}
+use Rattle.cal_policy.specs.declared.history.action.Action.TheVariants.{Free}
+use Rattle.cal_policy.specs.declared.history.entry.PassEntry.{PassEntry}
 use Rattle.cal_policy.specs.Book.{IsSentBy}
 use Rattle.cal_policy.specs.History.{actions_of}
 use Rattle.cal_policy.specs.Tasks.{threads_of_table}
-use Rattle.cal_sched.proofs.Lists.{last_is, none_last}
+use Rattle.cal_sched.proofs.Lists.{last_is}
 use Rattle.cal_sched.proofs.Sent.{SentBelow-none, SentBelow-silent, SentBelow-more, SentBelow-all, of_last, room_known, sendable}
 use Rattle.cal_sched.proofs.sending.send_last.Goals as goal
 use Rattle.cal_sched.proofs.sending.send_last.Goals.{in-Some-command_of, in_default-command_of}

@@ -1,9 +1,9 @@
-use Rattle.std.proofs.Common.{◌≡◌, [], List, true, false, refl, sym, subst, ◌∙◌}
-use Rattle.cal_policy.specs.declared.pass_entry.PassEntry.{PassEntry}
+use Rattle.std.proofs.Common.{◌≡◌, [], true, false, refl, sym, subst, ◌∙◌}
+use Rattle.cal_policy.specs.declared.history.entry.PassEntry.{PassEntry}
 use Rattle.cal_policy.specs.History.{actions_of, looks_of}
 use Rattle.cal_policy.specs.Setting.{Setting, setting}
 use Rattle.cal_policy.specs.Board.{Agrees, KeepingAgrees}
-use Rattle.cal_policy.proofs.Passing.{Stands_end}
+use Rattle.cal_policy.proofs.PassLemmas.FromParts.{Stands_end}
 use Rattle.cal_guard.specs.declared.passing.Passing.{Passing}
 use Rattle.cal_guard.proofs.Taking.{whole, whole_back}
 use Rattle.cal_guard.proofs.guard.Guard.step.Goals as goal

@@ -1,5 +1,5 @@
-use Rattle.std.proofs.Common.{[], ◌∷◌, ◌++◌, List, length, length-append, subst, append_assoc, arith, ap, ◌∙◌}
-use Rattle.cal_policy.specs.declared.pass_action.Action.{Action}
+use Rattle.std.proofs.Common.{[], ◌∷◌, length-append, subst, append_assoc, arith}
+use Rattle.cal_policy.specs.declared.history.action.Action.{Action}
 use Rattle.cal_policy.specs.History.{actions_of}
 use Rattle.cal_policy.specs.Setting.{Setting, setting, so_far}
 use Rattle.cal_guard.specs.Passing.{HeldAreLow}

@@ -1,10 +1,9 @@
-use Rattle.std.proofs.Common.{◌≡◌, ℕ, ◌+◌, ◌≤◌, List, [], ◌∷◌, ◌++◌, length, take, Some, None, true, false, refl, sym, ap, subst, ◌∙◌, arith, length-append}
-use Rattle.std.specs.List.{slice_get}
+use Rattle.std.proofs.Common.{◌≡◌, ℕ, ◌++◌, length, take, Some, None, true, false, refl, sym, ap, subst, ◌∙◌, arith, length-append}
 use Rattle.std.proofs.lemmas.List.{take_all, append-nil}
 use Rattle.std.proofs.lemmas.Option.{slice_get-get_or, slice_get_past}
-use Rattle.cal_policy.specs.declared.pass_action.Action.{Action}
+use Rattle.cal_policy.specs.declared.history.action.Action.{Action}
 use Rattle.cal_policy.specs.Setting.{Setting, setting, so_far}
-use Rattle.cal_policy.proofs.Each.{each_more, each_all, each_at, after_more}
+use Rattle.cal_policy.proofs.ListLemmas.Each.{each_more, each_all, each_at, after_more}
 use Rattle.cal_guard.specs.Permitted.{IsPermitted}
 use Rattle.cal_guard.specs.Passing.{IsInside}
 use Rattle.cal_guard.specs.Refusals.{wrong_next}

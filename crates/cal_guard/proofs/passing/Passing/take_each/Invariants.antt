@@ -1,6 +1,6 @@
 use Rattle.std.proofs.Common.{List}
-use Rattle.cal_policy.specs.declared.pass_action.Action.{Action}
-use Rattle.cal_policy.specs.declared.pass_entry.PassEntry.{PassEntry}
+use Rattle.cal_policy.specs.declared.history.action.Action.{Action}
+use Rattle.cal_policy.specs.declared.history.entry.PassEntry.{PassEntry}
 use Rattle.cal_policy.specs.Setting.{setting}
 use Rattle.cal_policy.specs.Board.{IsReady}
 use Rattle.cal_guard.specs.Passing.{IsInside}

@@ -1,4 +1,4 @@
-use Rattle.cal_kthread.proofs.Accounts.{ended}
+use Rattle.cal_kthread.proofs.EndLemmas.Account.{ended}
 use Rattle.cal_kthread.proofs.kernel_thread.KernelThread.end.Goals as goal
 
 pub returns-clause-work : goal.returns-clause-work

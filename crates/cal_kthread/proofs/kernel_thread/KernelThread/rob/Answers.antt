@@ -1,4 +1,4 @@
-use Rattle.cal_kthread.proofs.Lending.{robs-agree}
+use Rattle.cal_kthread.proofs.TeamLemmas.Lending.{robs-agree}
 use Rattle.cal_kthread.proofs.kernel_thread.KernelThread.rob.Goals as goal
 
 pub invariant_of-self-2 : goal.invariant_of-self-2

@@ -5,18 +5,18 @@ use Rattle.cal_signal.specs.Ends.{PublisherView}
 use Rattle.cal_signal.specs.Pages.{last_of}
 use Rattle.cal_signal.specs.Records.{zero_record}
 use Rattle.cal_kthread.specs.contracts.kernel_thread.KernelThread.{the_view}
-use Rattle.cal_kthread.specs.Agreement.{Agrees}
-use Rattle.cal_kthread.specs.declared.entry.Entry.{Entry}
+use Rattle.cal_kthread.specs.Turn.Agreement.{Agrees}
+use Rattle.cal_kthread.specs.declared.journal.entry.Entry.{Entry}
 use Rattle.cal_kthread.specs.Journal.{record_in, records_of}
-use Rattle.cal_kthread.specs.Teams.{place_of}
-use Rattle.cal_kthread.specs.Threads.{ThreadView, KernelView}
+use Rattle.cal_kthread.specs.Team.{place_of}
+use Rattle.cal_kthread.specs.Turn.Thread.{ThreadView, KernelView}
 use Rattle.cal_kthread.specs.Turn.{Answers, AreAnswers, noted, shown, turned}
-use Rattle.cal_kthread.proofs.Journals.{length-filter_map}
-use Rattle.cal_kthread.proofs.Publishing.{last_snoc}
-use Rattle.cal_kthread.proofs.TeamTurns.{keeps-page, keeps-place, keeps-ring}
-use Rattle.cal_kthread.proofs.Turning.{turns, agrees}
-use Rattle.cal_kthread.proofs.Turns.{one-turn}
-use Rattle.cal_kthread.specs.Turns.{IsOneTurn}
+use Rattle.cal_kthread.proofs.JournalLemmas.OneEntryMore.{length-filter_map}
+use Rattle.cal_kthread.proofs.TurnLemmas.Publishing.{last_snoc}
+use Rattle.cal_kthread.proofs.TeamLemmas.Turns.{keeps-page, keeps-place, keeps-ring}
+use Rattle.cal_kthread.proofs.TurnLemmas.Steps.{turns, agrees}
+use Rattle.cal_kthread.proofs.TurnLemmas.Turns.{one-turn}
+use Rattle.cal_kthread.specs.Turn.Turns.{IsOneTurn}
 use Rattle.cal_kthread.proofs.kernel_thread.KernelThread.turn.Goals as goal
 
 pub publish-publication-requires-clause-room : goal.publish-publication-requires-clause-room

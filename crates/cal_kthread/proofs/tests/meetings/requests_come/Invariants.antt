@@ -1,5 +1,5 @@
 use Rattle.std.proofs.Common.{◌≡◌}
-use Rattle.cal_kthread.specs.Teams.{place_of}
+use Rattle.cal_kthread.specs.Team.{place_of}
 use Rattle.cal_kthread.proofs.tests.meetings.requests_come.Given as goal
 
 abbrev pub invariant-loop-id : goal.invariant-loop-id

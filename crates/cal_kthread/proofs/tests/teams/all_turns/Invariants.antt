@@ -1,5 +1,5 @@
 use Rattle.std.proofs.Common.{◌≡◌, map, length}
-use Rattle.cal_kthread.specs.Teams.{IsTeam, place_of}
+use Rattle.cal_kthread.specs.Team.{IsTeam, place_of}
 use Rattle.cal_kthread.proofs.tests.teams.all_turns.Given as goal
 
 abbrev pub invariant-loop-k : goal.invariant-loop-k

@@ -1,6 +1,6 @@
 use Rattle.std.proofs.Common.{◌<◌, length, sym, ap, ◌∙◌, arith}
 use mathlib.Core.Option.{some}
-use Rattle.cal_kthread.proofs.Weights.{at-within}
+use Rattle.cal_kthread.proofs.ListSums.{at-within}
 use Rattle.cal_kthread.proofs.tests.teams.turn_of.Goals as goal
 
 within : (c : goal.After-eq) → c.args.k < length c.args.threads.now.items

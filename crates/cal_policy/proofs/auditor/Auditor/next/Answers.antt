@@ -1,10 +1,10 @@
-use Rattle.std.proofs.Common.{◌≡◌, ◌-◌, ◌^◌, ◌++◌, ◌∷◌, [], List, length, min, subst, sym, ap, ◌∙◌, arith, length-append}
+use Rattle.std.proofs.Common.{◌≡◌, ◌-◌, ◌^◌, ◌++◌, ◌∷◌, [], length, min, subst, arith, length-append}
 use Rattle.std.proofs.lemmas.Bool.{both_ways}
-use Rattle.cal_policy.specs.Auditing.{KeepsUp}
+use Rattle.cal_policy.specs.Auditor.{KeepsUp}
 use Rattle.cal_policy.specs.Pass.{IsPass, IsLegal}
-use Rattle.cal_policy.specs.Verdicts.{IsFirstIllegal}
-use Rattle.cal_policy.specs.declared.verdict.Verdict.TheVariants.{Legal, Illegal}
-use Rattle.cal_policy.proofs.Legality.{legal_more, illegal_stays, illegal_here}
+use Rattle.cal_policy.specs.Verdict.{IsFirstIllegal}
+use Rattle.cal_policy.specs.declared.verdict.Verdict.TheVariants.{Legal}
+use Rattle.cal_policy.proofs.PassLemmas.Legality.{legal_more, illegal_stays, illegal_here}
 use Rattle.cal_policy.proofs.auditor.Auditor.next.Goals as goal
 
 pub returns-in-Illegal-clause-audits : goal.returns-in-Illegal-clause-audits

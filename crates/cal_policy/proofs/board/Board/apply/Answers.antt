@@ -2,13 +2,13 @@
 use Rattle.std.proofs.Common.{◌∙◌, subst, arith}
 use Rattle.std.specs.Option.{IfSome}
 use Rattle.cal_policy.specs.Tasks.{threads_of_table}
-use Rattle.cal_policy.specs.declared.holding.Holder.{Holder}
+use Rattle.cal_policy.specs.declared.board.holders.Holder.{Holder}
 use Rattle.cal_policy.specs.Board.{holder_in}
-use Rattle.cal_policy.specs.Survey.{IsOneMore}
-use Rattle.cal_policy.specs.CoreSets.{IsSorted}
-use Rattle.cal_policy.proofs.StateKept.{names_fixed, names_threads}
-use Rattle.cal_policy.proofs.Surveyed.{Surveys_moved, counted_at, few_left}
-use Rattle.cal_policy.proofs.Sorted.{Sorts_moved, sorted_at}
+use Rattle.cal_policy.specs.Board.Survey.{IsOneMore}
+use Rattle.cal_policy.specs.Board.CoreSets.{IsSorted}
+use Rattle.cal_policy.proofs.BoardLemmas.StateKept.{names_fixed, names_threads}
+use Rattle.cal_policy.proofs.BoardLemmas.Surveyed.{Surveys_moved, counted_at, few_left}
+use Rattle.cal_policy.proofs.BoardLemmas.Sorted.{Sorts_moved, sorted_at}
 use Rattle.cal_policy.proofs.board.Board.apply.Goals as goal
 
 pub remove-requires-clause-counted : goal.remove-requires-clause-counted
@@ -28,7 +28,7 @@ add-requires-clause-few c =
 pub move_core-requires-clause-sorted : goal.move_core-requires-clause-sorted
 move_core-requires-clause-sorted c =
     let old = c.args.self.now in
-    rw c.holder_at-before.ensures (sorted_at c.args.config.now old.holding c.core_changed_by-core.result old.sets
+    rw c.holder_at-before.ensures (sorted_at old.holding c.core_changed_by-core.result old.sets
     (c.core_changed_by-core.ensures.below 128 128 (names_fixed c.args.config.now c.args.action c.requires.table c.requires.names)) c.requires.ready.sets)
 
 pub returns-clause-agrees : goal.returns-clause-agrees
@@ -48,7 +48,7 @@ returns-clause-ready c =
     let threads = names_threads table c.args.action c.requires.table c.requires.names in
     let Less : Holder → Type 0 = λ a. IsOneMore table a c.remove.new.self old.survey in
     let More : Holder → Type 0 = λ a. IsOneMore table a c.remove.new.self c.add.new.self in
-    let At : Holder → Type 0 = λ a. IfSome core (λ k. IsSorted table k a c.move_core.new.self) in
+    let At : Holder → Type 0 = λ a. IfSome core (λ k. IsSorted k a c.move_core.new.self) in
     record {
       sound = record { holding = c.apply.ensures.sound 128 c.requires.ready.sound.holding fixed; bans = c.apply-2.ensures.sound 128 c.requires.ready.sound.bans fixed };
       own = record {
@@ -59,8 +59,8 @@ returns-clause-ready c =
           (c.core_changed_by-core.ensures.below table.cores (threads_of_table table) c.requires.names)
           (λ k off. c.apply.ensures.others k (λ same. off (c.core_changed_by-core.ensures.changed ∙ same)))
           c.requires.ready.counts (subst Less c.holder_at-before.ensures c.remove.ensures.counted) (subst More c.holder_at-after.ensures c.add.ensures.counted);
-      sets = λ k lt. c.note_ban.ensures.others table k (holder_in c.apply.new.self k)
-          (Sorts_moved table old.holding c.apply.new.self core old.sets c.move_core.new.self
+      sets = λ k lt. c.note_ban.ensures.others k (holder_in c.apply.new.self k)
+          (Sorts_moved old.holding c.apply.new.self core old.sets c.move_core.new.self
           (λ j off. c.apply.ensures.others j (λ same. off (c.core_changed_by-core.ensures.changed ∙ same)))
           c.requires.ready.sets (subst At c.holder_at-after.ensures c.move_core.ensures.sorted) c.move_core.ensures.others k lt);
     }

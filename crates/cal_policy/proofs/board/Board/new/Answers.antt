@@ -1,10 +1,10 @@
 -- Before any action every core is free.
 use Rattle.std.proofs.Common.{subst, sym}
 use Rattle.cal_policy.specs.Tasks.{threads_of_table}
-use Rattle.cal_policy.specs.declared.holding.Holder.{Holder}
+use Rattle.cal_policy.specs.declared.board.holders.Holder.{Holder}
 use Rattle.cal_policy.specs.Board.{holder_in}
-use Rattle.cal_policy.specs.CoreSets.{IsSorted}
-use Rattle.cal_policy.proofs.Surveyed.{Surveys_free}
+use Rattle.cal_policy.specs.Board.CoreSets.{IsSorted}
+use Rattle.cal_policy.proofs.BoardLemmas.Surveyed.{Surveys_free}
 use Rattle.cal_policy.proofs.board.Board.new.Goals as goal
 
 pub returns-clause-ready : goal.returns-clause-ready
@@ -13,6 +13,6 @@ returns-clause-ready c = λ table. record {
   own = record { holding = c.new.ensures.sound (threads_of_table table); bans = c.new-4.ensures.sound (threads_of_table table) };
   counts = Surveys_free table (holder_in c.new.result) c.new-2.result c.new.ensures.free
       c.new-2.ensures.held c.new-2.ensures.booked c.new-2.ensures.placed c.new-2.ensures.awaited;
-  sets = λ k lt. let At : Holder → Type 0 = λ a. IsSorted table k a c.new-3.result in
-      subst At (sym (c.new.ensures.free k)) (c.new-3.ensures.sorted table k lt);
+  sets = λ k lt. let At : Holder → Type 0 = λ a. IsSorted k a c.new-3.result in
+      subst At (sym (c.new.ensures.free k)) (c.new-3.ensures.sorted k lt);
 }

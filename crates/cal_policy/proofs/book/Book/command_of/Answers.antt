@@ -1,6 +1,5 @@
-use Rattle.std.proofs.Common.{◌≡◌, None, Some, Option, rules, sym, ◌∙◌}
-use Rattle.cal_policy.specs.declared.holding.Placement as placements
-use Rattle.cal_policy.proofs.Commands.{grant_sends, revocation_sends}
+use Rattle.std.proofs.Common.{◌≡◌, None, Some, rules, ◌∙◌}
+use Rattle.cal_policy.proofs.PassLemmas.Commands.{grant_sends, revocation_sends}
 use Rattle.cal_policy.proofs.book.Book.command_of.Goals as goal
 
 pub returns-in-Grant : goal.returns-in-Grant

@@ -1,8 +1,8 @@
 use Rattle.std.proofs.Common.{◌≡◌, List, length, take}
 use Rattle.cal_policy.specs.Book.{AgreesWith}
-use Rattle.cal_policy.specs.Found.{IsOfFound}
+use Rattle.cal_policy.specs.Judgement.OpenInput.{IsOfFound}
 use Rattle.cal_policy.specs.Tasks.{threads_of_table}
-use Rattle.cal_policy.specs.declared.pass_entry.PassEntry.{PassEntry}
+use Rattle.cal_policy.specs.declared.history.entry.PassEntry.{PassEntry}
 use Rattle.cal_policy.proofs.book.Book.input.Given as goal
 
 abbrev pub invariant-loop-one : goal.invariant-loop-one

@@ -1,5 +1,5 @@
-use Rattle.cal_policy.proofs.Apart.{orderly_apart}
-use Rattle.cal_policy.proofs.LegalOrderly.{legal_orderly}
+use Rattle.cal_policy.proofs.PassLemmas.Apart.{orderly_apart}
+use Rattle.cal_policy.proofs.PassLemmas.LegalOrderly.{legal_orderly}
 use Rattle.cal_policy.proofs.book.Book.step.Goals as goal
 
 pub returns-clause-acts : goal.returns-clause-acts

@@ -1,12 +1,12 @@
-use Rattle.std.proofs.Common.{◌≡◌, ◌<◌, ◌≤◌, List, [], ◌∷◌, ◌++◌, length, take, drop, refl, sym, ap, subst, ◌∙◌, rules, arith}
+use Rattle.std.proofs.Common.{◌≡◌, ◌<◌, List, [], ◌∷◌, ◌++◌, length, take, drop, refl, sym, ap, subst, ◌∙◌, arith}
 use Rattle.cal_signal.specs.Ends.{ObserverView}
 use Rattle.cal_command.specs.Rings.{SenderView}
-use Rattle.cal_policy.specs.declared.pass_action.Action.{Action}
-use Rattle.cal_policy.specs.declared.pass_entry.PassEntry.{PassEntry}
-use Rattle.cal_policy.specs.declared.pass_input.Input.{Input}
+use Rattle.cal_policy.specs.declared.history.action.Action.{Action}
+use Rattle.cal_policy.specs.declared.history.entry.PassEntry.{PassEntry}
+use Rattle.cal_policy.specs.declared.history.input.Input.{Input}
 use Rattle.cal_policy.specs.Book.{AgreesWith}
-use Rattle.cal_policy.specs.Found.{judged_input}
-use Rattle.cal_policy.specs.Judging.{IsInput}
+use Rattle.cal_policy.specs.Judgement.OpenInput.{judged_input}
+use Rattle.cal_policy.specs.Judgement.Judging.{IsInput}
 use Rattle.cal_policy.specs.Pass.{pass_of}
 use Rattle.cal_policy.specs.Setting.{setting}
 use Rattle.cal_sched.specs.Passing.{HaveFound, HaveSent, IsPassed, pass_on}

@@ -1,0 +1,3 @@
+-- Journals, and parts of them.
+pub mod OneEntryMore
+pub mod Parts

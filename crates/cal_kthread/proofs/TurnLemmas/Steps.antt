@@ -1,0 +1,41 @@
+-- The steps of a turn, one after the other.
+use Rattle.std.proofs.Common.{◌≡◌, ℕ, ◌<◌, Option, Some, IfSome, List, length, sym, ap, subst, ◌∙◌}
+use Rattle.cal_machine.specs.declared.request.Request.{Request}
+use Rattle.cal_signal.specs.Pages.{last_of}
+use Rattle.cal_signal.specs.Records.{MayFollow}
+use Rattle.cal_kthread.specs.declared.journal.entry.Entry.{Entry}
+use Rattle.cal_kthread.specs.Turn.Agreement.{Agrees}
+use Rattle.cal_kthread.specs.Turn.Thread.{ThreadView, KernelView}
+use Rattle.cal_kthread.specs.Turn.{Answers, arrived, taken, provided, worked, fronted, shown, published, noted, turned}
+use Rattle.cal_kthread.proofs.TurnLemmas.Agreeing.{arrives, takes, provides, works, fronts, publishes}
+
+abbrev Stepped : Type 0
+Stepped = ThreadView × Option Entry
+
+-- a, b, c and d are what the first four steps made of the thread and put into the journal, and f
+-- what the sixth did
+module _ (now : ℕ) (request : Option Request) (answers : Answers) (k : KernelView) (a b c d : Stepped) (e : ThreadView) (f : ThreadView × Entry) (j : List Entry)
+    (arriving : a ≡ arrived now request k.thread) (taking : b ≡ taken now answers.command a.0) (providing : c ≡ provided now answers.own answers.theft b.0) (working : d ≡ worked c.0)
+    (fronting : e ≡ fronted answers.front d.0) (publishing : f ≡ published now e) (noting : j ≡ noted (noted (noted (noted (noted k.journal a.1) b.1) c.1) d.1) (Some f.1)) where
+  -- together they are a turn
+  pub turns : record { number = k.number; journal = j; thread = f.0 } ≡ turned now request answers k
+  turns = let took : b ≡ taken now answers.command (arrived now request k.thread).0 = taking ∙ ap (λ (z : Stepped). taken now answers.command z.0) arriving in
+      let provision = providing ∙ ap (λ (z : Stepped). provided now answers.own answers.theft z.0) took in
+      let work = working ∙ ap (λ (z : Stepped). worked z.0) provision in
+      let front = fronting ∙ ap (λ (z : Stepped). fronted answers.front z.0) work in
+      let publication = publishing ∙ ap (published now) front in
+      (λ i. record { number = k.number; journal = noting i; thread = f.0 })
+      ∙ (λ i. record { number = k.number; journal = noted (noted (noted (noted (noted k.journal (arriving i).1) (took i).1) (provision i).1) (work i).1) (Some (publication i).1); thread = (publication i).0 })
+
+  -- and the thread and its journal agree after them
+  pub agrees : Agrees k.journal k.thread → IfSome answers.theft (λ theft. theft.0 < length b.0.victims) → MayFollow (last_of e.publisher.published) (shown now e) → Agrees j f.0
+  agrees before within follows =
+      let one : Agrees (noted k.journal a.1) a.0 = subst (λ (z : Stepped). Agrees (noted k.journal z.1) z.0) (sym arriving) (arrives k.journal now request k.thread before) in
+      let two : Agrees (noted (noted k.journal a.1) b.1) b.0 = subst (λ (z : Stepped). Agrees (noted (noted k.journal a.1) z.1) z.0) (sym taking) (takes _ now answers.command a.0 one) in
+      let three : Agrees (noted (noted (noted k.journal a.1) b.1) c.1) c.0 =
+      subst (λ (z : Stepped). Agrees (noted (noted (noted k.journal a.1) b.1) z.1) z.0) (sym providing) (provides _ now answers.own answers.theft b.0 within two) in
+      let four : Agrees (noted (noted (noted (noted k.journal a.1) b.1) c.1) d.1) d.0 = subst (λ (z : Stepped). Agrees (noted (noted (noted (noted k.journal a.1) b.1) c.1) z.1) z.0) (sym working) (works _ c.0 three) in
+      let five : Agrees (noted (noted (noted (noted k.journal a.1) b.1) c.1) d.1) e = subst (Agrees (noted (noted (noted (noted k.journal a.1) b.1) c.1) d.1)) (sym fronting) (fronts _ answers.front d.0 four) in
+      let six : Agrees (noted (noted (noted (noted (noted k.journal a.1) b.1) c.1) d.1) (Some f.1)) f.0 =
+      subst (λ (z : ThreadView × Entry). Agrees (noted (noted (noted (noted (noted k.journal a.1) b.1) c.1) d.1) (Some z.1)) z.0) (sym publishing) (publishes _ now e follows five) in
+      subst (λ l. Agrees l f.0) (sym noting) six

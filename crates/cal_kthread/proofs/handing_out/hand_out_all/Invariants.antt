@@ -1,5 +1,0 @@
-use Rattle.cal_kthread.proofs.HandingOut.{HandedUpTo}
-use Rattle.cal_kthread.proofs.handing_out.hand_out_all.Given as goal
-
-abbrev pub invariant-loop-k : goal.invariant-loop-k
-invariant-loop-k l = HandedUpTo l.k l.initial.ends l.ends l.lefts.items

@@ -1,7 +1,0 @@
-use Rattle.std.proofs.Common.{◌≡◌, length}
-use Rattle.cal_kthread.specs.Linking.{Links}
-use Rattle.cal_kthread.proofs.Rounds.{Round}
-use Rattle.cal_kthread.proofs.linking.link_round.Given as goal
-
-abbrev pub invariant-loop-owner : goal.invariant-loop-owner
-invariant-loop-owner l = Links l.first l.count l.initial.threads l.threads × (length l.threads ≡ length l.initial.threads) × Round l.first l.count l.distance l.owner l.threads

@@ -1,6 +1,0 @@
-use Rattle.std.proofs.Common.{◌≡◌, ◌-◌, ◌≤◌, length}
-use Rattle.cal_kthread.specs.Linking.{Links, IsLinked}
-use Rattle.cal_kthread.proofs.linking.link_task.Given as goal
-
-abbrev pub invariant-loop-distance : goal.invariant-loop-distance
-invariant-loop-distance l = Links l.first l.count l.initial.threads l.threads × (length l.threads ≡ length l.initial.threads) × (1 ≤ l.distance) × (l.distance ≤ l.count) × IsLinked l.first l.count (l.distance - 1) l.threads

@@ -1,0 +1,7 @@
+use Rattle.std.proofs.Common.{◌≡◌, length}
+use Rattle.cal_kthread.specs.Team.Linking.{Links}
+use Rattle.cal_kthread.proofs.TeamLemmas.Rounds.{Round}
+use Rattle.cal_kthread.proofs.team.linking.link_round.Given as goal
+
+abbrev pub invariant-loop-owner : goal.invariant-loop-owner
+invariant-loop-owner l = Links l.first l.count l.initial.threads l.threads × (length l.threads ≡ length l.initial.threads) × Round l.first l.count l.distance l.owner l.threads

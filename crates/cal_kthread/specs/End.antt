@@ -1,0 +1,5 @@
+-- What kernel threads have left when their turns are over, and its account.
+pub mod Account
+pub mod HandingOut
+pub mod OnePlace
+pub mod Rest

@@ -1,0 +1,71 @@
+-- Who steals from whom in a new team.
+use Rattle.std.specs.Prelude.{◌≡◌, ℕ, zero, suc, ◌+◌, ◌-◌, ◌<◌, ◌≤◌, ◌≢◌, nat_lt, if◌then◌else◌}
+use Rattle.std.specs.Prelude.{List, [], ◌∷◌, ◌++◌, map, slice_index, slice_index_or}
+use Rattle.cal_kthread.specs.declared.turn.victims.Victim.{Victim}
+use Rattle.cal_kthread.specs.Places.{Each}
+use Rattle.cal_kthread.specs.Team.{IsTeam, place_of}
+use Rattle.cal_kthread.specs.Turn.Thread.{KernelView}
+
+-- the numbers of the threads from which a thread steals, in the order in which it tries
+abbrev pub thieves_of : KernelView → List ℕ
+thieves_of k = map (λ (v : Victim). v.number) k.thread.victims
+
+abbrev pub numbers_at : ℕ → List KernelView → List ℕ
+numbers_at k threads = slice_index_or (map thieves_of threads) k []
+
+-- the shares that its own end of its queue has
+abbrev pub shares_at : ℕ → List KernelView → ℕ
+shares_at k threads = slice_index (map (λ (t : KernelView). t.thread.queue.shares) threads) k
+
+-- a thread as it was before it lent a share or had a thief
+abbrev pub unlinked : KernelView → KernelView
+unlinked k = record k {
+  thread = record k.thread {
+    queue = record k.thread.queue { shares = 16 };
+    victims = [];
+  };
+}
+
+-- the thread's thieves have stolen nothing
+abbrev pub StoleNothing : KernelView → Type 0
+StoleNothing k = Each (λ (v : Victim). v.thief.had ≡ []) k.thread.victims
+
+-- One share of the owner's queue went to a thief of the robber, and nothing else changed.
+pub record Lends (robber owner : ℕ) (before after : List KernelView) : Type 0 where
+  pub team : IsTeam (map (λ k. place_of k.thread) after)
+  pub same : map unlinked after ≡ map unlinked before
+  pub robs : numbers_at robber after ≡ numbers_at robber before ++ owner ∷ []
+  pub others_rob : (k : ℕ) → k ≢ robber → numbers_at k after ≡ numbers_at k before
+  pub lends : shares_at owner after + 1 ≡ shares_at owner before
+  pub others_lend : (k : ℕ) → k ≢ owner → shares_at k after ≡ shares_at k before
+  pub thieves : Each StoleNothing before → Each StoleNothing after
+
+-- Shares went to thieves within the threads from `first` on, of which there are `count`; nothing
+-- else changed.
+pub record Links (first count : ℕ) (before after : List KernelView) : Type 0 where
+  pub team : IsTeam (map (λ k. place_of k.thread) after)
+  pub same : map unlinked after ≡ map unlinked before
+  pub outside : (k : ℕ) → (first ≤ k → first + count ≤ k) →
+      (numbers_at k after ≡ numbers_at k before) × (shares_at k after ≡ shares_at k before)
+  pub thieves : Each StoleNothing before → Each StoleNothing after
+
+-- a place in a task of this many threads, counted on past the last to the first
+abbrev pub wrapped : ℕ → ℕ → ℕ
+wrapped count place = if nat_lt place count then place else place - count
+
+-- the threads at the distances 1, 2, .. from a place in a task, wrapping round within the task
+abbrev pub next_threads : ℕ → ℕ → ℕ → ℕ → List ℕ
+next_threads first count place zero = []
+next_threads first count place (suc distance) =
+    next_threads first count place distance ++ (first + wrapped count (place + suc distance)) ∷ []
+
+-- the other threads of the task, in the order `k+1, k+2, ..`, wrapping round within the task
+abbrev pub others_of : ℕ → ℕ → ℕ → List ℕ
+others_of first count place = next_threads first count place (count - 1)
+
+-- Each thread of a task has a thief at the queue of each that is up to this distance, in that
+-- order, and has so lent as many shares itself.
+pub record IsLinked (first count distance : ℕ) (threads : List KernelView) : Type 0 where
+  pub numbers : (place : ℕ) → place < count →
+      numbers_at (first + place) threads ≡ next_threads first count place distance
+  pub shares : (place : ℕ) → place < count → shares_at (first + place) threads + distance ≡ 16

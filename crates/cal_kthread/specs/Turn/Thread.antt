@@ -1,0 +1,54 @@
+-- What a contract sees of a kernel thread.
+use Rattle.std.specs.Prelude.{◌≡◌, ℕ, ◌<◌, ◌≤◌, ◌^◌, Option, None, IfSome, List, [], length}
+use Rattle.cal_command.specs.Rings.{TakerView}
+use Rattle.cal_signal.specs.Ends.{PublisherView}
+use Rattle.cal_signal.specs.Pages.{last_of}
+use Rattle.cal_signal.specs.declared.record.Record.{Record}
+use Rattle.cal_machine.specs.declared.command.Command.{Command}
+use Rattle.cal_kthread.specs.declared.turn.current.Current.{Current}
+use Rattle.cal_kthread.specs.declared.journal.entry.Entry.{Entry}
+use Rattle.cal_kthread.specs.declared.queue.waiting.Waiting.{Waiting}
+use Rattle.cal_kthread.specs.declared.turn.victims.Victim.{Victim}
+use Rattle.cal_kthread.specs.Queue.{QueueView}
+
+-- its ends, its core, the request that it serves, the one that comes next, and its count of misses
+pub record ThreadView : Type 0 where
+  pub publisher : PublisherView
+  pub taker : TakerView
+  pub queue : QueueView
+  pub victims : List Victim
+  pub core : Option ℕ
+  pub current : Option Current
+  pub front : Option Waiting
+  pub misses : ℕ
+
+-- the same with its number and what it did so far
+pub record KernelView : Type 0 where
+  pub number : ℕ
+  pub journal : List Entry
+  pub thread : ThreadView
+
+-- what its fields keep: the count is that of the commands taken, a core is below 128, the misses
+-- stop at 2^56, and the last record has no more commands and misses than these
+pub record IsThread (count : ℕ) (commands : List Command) (core : Option ℕ) (misses : ℕ)
+    (published : List Record) : Type 0 where
+  pub taken : count ≡ length commands
+  pub number : IfSome core (λ c. c < 128)
+  pub limit : misses ≤ 2 ^ 56
+  pub shown_taken : (last_of published).taken ≤ count
+  pub shown_misses : (last_of published).misses ≤ misses
+
+-- it did nothing yet: its lists are empty, its queue has all of its shares, and it is off any core
+pub record IsFresh (k : KernelView) : Type 0 where
+  pub journal : k.journal ≡ []
+  pub published : k.thread.publisher.published ≡ []
+  pub taken : k.thread.taker.taken ≡ []
+  pub shares : k.thread.queue.shares ≡ 16
+  pub pushed : k.thread.queue.pushed ≡ []
+  pub had : k.thread.queue.had ≡ []
+  pub handed : k.thread.queue.handed ≡ []
+  pub victims : k.thread.victims ≡ []
+  pub core : k.thread.core ≡ None
+  pub current : k.thread.current ≡ None
+  pub front : k.thread.front ≡ None
+  pub misses : k.thread.misses ≡ 0

@@ -1,0 +1,7 @@
+//! What kernel threads have left when their turns are over, and how it is handed out.
+
+pub mod handing_out;
+pub mod kernel_end;
+pub mod request_list;
+pub mod rest;
+pub mod settling;

@@ -1,0 +1,119 @@
+//! A kernel thread whose turns are over.
+ghost use Rattle.std.specs.Prelude.{◌≡◌, ◌+◌, [], IfSome, MatchOption, option_map};
+ghost use Rattle.cal_kthread.specs.End.Account.{KeepsItsWork};
+ghost use Rattle.cal_kthread.specs.Turn.Agreement.{held};
+ghost use Rattle.cal_kthread.specs.Journal.{IsJournal, commands_of, records_of};
+ghost use Rattle.cal_kthread.specs.declared.turn.current.Current.{Current};
+ghost use Rattle.cal_kthread.specs.Queue.Rule.{AllTaken, TookWhatCame};
+ghost use Rattle.cal_kthread.specs.End.Rest.{HandsOut, to_hand_out};
+ghost use Rattle.cal_kthread.specs.Team.{place_of, place_of_rest};
+ghost use Rattle.cal_kthread.specs.declared.queue.waiting.Waiting.{Waiting};
+
+use crate::end::rest::Rest;
+use crate::journal::Journal;
+use crate::kernel_thread::KernelThread;
+use crate::queue::waiting::Waiting;
+use crate::turn::current::Current;
+use crate::turn::thread::Thread;
+use cal_command::Taker;
+use cal_machine::Request;
+use cal_signal::Publisher;
+
+/// A kernel thread whose turns are over: its number, what it did, its ends of its page and its
+/// ring, and the rest of its work.
+#[derive(Drop)]
+pub struct KernelEnd {
+    /// The thread's number, in thread order from 0.
+    pub number: u8,
+    /// What it did.
+    pub journal: Journal,
+    /// The end of its page that publishes.
+    pub publisher: Publisher,
+    /// The end of its ring that takes.
+    pub taker: Taker,
+    /// Its queue, its thieves, and the requests that it still has.
+    pub rest: Rest,
+}
+
+impl KernelThread {
+    /// Ends the thread after its last turn. Takes no memory.
+    pub fn end(self) -> KernelEnd
+        ensures number { result.number ≡ self.number }
+        ensures journal { result.journal ≡ self.journal }
+        ensures is_journal { IsJournal result.journal }
+        ensures page { records_of result.journal ≡ result.publisher.published }
+        ensures ring { commands_of result.journal ≡ result.taker.taken }
+        ensures ends { (result.publisher ≡ self.thread.publisher)
+            × (result.taker ≡ self.thread.taker) }
+        ensures rest { result.rest ≡ record {
+          queue = self.thread.queue;
+          victims = self.thread.victims;
+          held = held self.thread;
+          left = [];
+        } }
+        ensures place { place_of_rest result.rest ≡ place_of self.thread }
+        ensures work { KeepsItsWork result }
+    {
+        let KernelThread {
+            number,
+            journal,
+            thread,
+        } = self;
+        let Thread {
+            publisher,
+            taker,
+            queue,
+            victims,
+            current,
+            front,
+            ..
+        } = thread;
+        KernelEnd {
+            number,
+            journal: Journal::new(journal),
+            publisher,
+            taker,
+            rest: Rest::new(queue, victims, waiting_of(current), front),
+        }
+    }
+}
+
+/// The request that is served, as it arrived.
+fn waiting_of(current: Option<Current>) -> Option<Waiting>
+    ensures { result ≡ option_map (λ (c : Current). c.waiting) current }
+{
+    match current {
+        Some(current) => Some(current.waiting),
+        None => None,
+    }
+}
+
+impl KernelEnd {
+    /// Hands out the next request that was not served: the current one, the front, then one from
+    /// the queue. None where none was found.
+    ///
+    /// Once all shares of the queue are gathered, by `settle`: one from the queue had come into it,
+    /// and was neither taken nor handed out before; each Some leaves one fewer (`to_hand_out`), so
+    /// a loop up to None ends; and with None all that came into the queue was taken or handed out.
+    pub fn left(&mut self) -> Option<Request>
+        ensures handed { MatchOption result (self.new ≡ self.old)
+            (λ request. (waiting : Waiting) × (waiting.request ≡ request)
+            × HandsOut waiting self.old.rest self.new.rest
+            × (self.new ≡ record self.old { rest = self.new.rest })) }
+        ensures came { IfSome result (λ _. self.old.rest.queue.shares ≡ 16 → self.old.rest.held ≡ []
+            → TookWhatCame self.new.rest.queue.pushed self.new.rest.queue.had
+            self.new.rest.queue.handed) }
+        ensures fewer { IfSome result (λ _. self.old.rest.queue.shares ≡ 16
+            → to_hand_out self.new.rest + 1 ≡ to_hand_out self.old.rest) }
+        ensures place { place_of_rest self.new.rest ≡ place_of_rest self.old.rest }
+        ensures work { KeepsItsWork self.old → KeepsItsWork self.new }
+        ensures none { MatchOption result
+            ((self.old.rest.held ≡ []) × (self.old.rest.queue.shares ≡ 16
+            → AllTaken self.old.rest.queue.pushed self.old.rest.queue.had
+            self.old.rest.queue.handed))
+            (λ _. Unit {0}) }
+    {
+        let waiting = self.rest.hand_out()?;
+        Some(waiting.request)
+    }
+}

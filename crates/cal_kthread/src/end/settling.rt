@@ -1,0 +1,60 @@
+//! The shares of each queue are gathered at its own end.
+ghost use Rattle.std.specs.Prelude.{◌≡◌, ◌≢◌, ◌+◌, ◌<◌, ℕ, [], map, length, IsTrue, IsFalse};
+ghost use Rattle.cal_machine.specs.Tasks.{threads_in};
+ghost use Rattle.cal_kthread.specs.End.Account.{KeepsItsWork, IsSettled, Gathers, stripped, victims_at};
+ghost use Rattle.cal_kthread.specs.End.HandingOut.{HandedOutNothing, run_of};
+ghost use Rattle.cal_kthread.specs.Places.{Each};
+ghost use Rattle.cal_kthread.specs.Team.{IsTeam, place_of_rest};
+
+use crate::end::kernel_end::KernelEnd;
+use crate::turn::victims::Victim;
+use cal_machine::Config;
+
+/// Gathers all shares of each queue at its own end, with what was stolen from it. Asks for the ends
+/// of one team, in thread order, which the threads of `open_threads` have after any turns: see
+/// `laws`. Takes no memory.
+///
+/// What was handed out and what is still there stays. `hand_out_all` then gives what is left, and
+/// the account; it holds too where each `left` is called up to its None: see `laws`.
+pub fn settle(config: &Config, ends: &mut [KernelEnd])
+    requires count { length ends.old ≡ threads_in config.now.tasks }
+    requires team { IsTeam (map (λ e. place_of_rest e.rest) ends.old) }
+    requires work { Each KeepsItsWork ends.old }
+    ensures same { map stripped ends.new ≡ map stripped ends.old }
+    ensures runs { map run_of ends.new ≡ map run_of ends.old }
+    ensures untouched { Each HandedOutNothing ends.old → Each HandedOutNothing ends.new }
+    ensures settled { IsSettled ends.new }
+{
+    for k in 0..config.threads() {
+        give_all(ends, k);
+    }
+}
+
+/// The thread's thieves give their shares back, each with what it stole.
+fn give_all(ends: &mut [KernelEnd], k: usize)
+    requires thread { k < length ends.old }
+    requires team { IsTeam (map (λ e. place_of_rest e.rest) ends.old) }
+    ensures gathered { Gathers ends.old ends.new }
+    ensures own { victims_at k ends.new ≡ [] }
+    ensures others { (j : ℕ) → j ≢ k → victims_at j ends.new ≡ victims_at j ends.old }
+{
+    while give_last(ends, k) {}
+}
+
+/// The last of the thread's thieves gives its share back, with what it stole. False where there is
+/// none.
+fn give_last(ends: &mut [KernelEnd], k: usize) -> bool
+    requires thread { k < length ends.old }
+    requires team { IsTeam (map (λ e. place_of_rest e.rest) ends.old) }
+    ensures none { IsFalse result → (ends.new ≡ ends.old) × (victims_at k ends.old ≡ []) }
+    ensures gathered { IsTrue result → Gathers ends.old ends.new }
+    ensures fewer { IsTrue result →
+        length (victims_at k ends.new) + 1 ≡ length (victims_at k ends.old) }
+    ensures others { (j : ℕ) → j ≢ k → victims_at j ends.new ≡ victims_at j ends.old }
+{
+    let Some(Victim { number, thief }) = ends[k].rest.give_back() else {
+        return false;
+    };
+    ends[number as usize].rest.absorb(thief);
+    true
+}

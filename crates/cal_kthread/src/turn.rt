@@ -1,0 +1,6 @@
+//! What a kernel thread has, and the steps of its turns.
+
+pub mod current;
+pub mod steps;
+pub mod thread;
+pub mod victims;

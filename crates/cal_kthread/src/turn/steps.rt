@@ -1,0 +1,278 @@
+//! The five steps of a turn. Each answers what goes into the journal.
+ghost use Rattle.std.specs.Prelude.{◌≡◌, ℕ, ◌+◌, ◌-◌, ◌<◌, ◌≤◌, ◌^◌, min, Option};
+ghost use Rattle.std.specs.Prelude.{Some, None, length, IfSome, MatchResult};
+ghost use Rattle.cal_machine.specs.declared.command.Command.{Command};
+ghost use Rattle.cal_signal.specs.Pages.{last_of};
+ghost use Rattle.cal_signal.specs.Records.{MayFollow};
+ghost use Rattle.cal_kthread.specs.declared.queue.waiting.Waiting.{Waiting};
+ghost use Rattle.cal_kthread.specs.Journal.{core_after as core_of, running_word as word_of};
+ghost use Rattle.cal_kthread.specs.Turn as turn;
+
+use crate::journal::entry::Entry;
+use crate::queue::OwnQueue;
+use crate::queue::waiting::Waiting;
+use crate::turn::current::Current;
+use crate::turn::thread::Thread;
+use crate::turn::victims::steal_first;
+use cal_command::Command;
+use cal_machine::Request;
+use cal_signal::Record;
+use std::alloc::AllocError;
+
+/// A thread's count of misses stops here.
+const MOST_MISSES: u64 = 1 << 56;
+
+impl Thread {
+    /// 1. The request, if there is one, goes to the back of the thread's own queue. An error is
+    ///    that the queue had no room for it; then nothing has changed.
+    pub(crate) fn arrive(
+        &mut self,
+        now: u64,
+        request: Option<Request>,
+    ) -> Result<Option<Entry>, AllocError>
+        ensures arrived { MatchResult result
+            (λ entry. (self.new, entry) ≡ turn.arrived now request self.old)
+            (λ _. self.new ≡ self.old) }
+        ensures apart { (self.new.publisher ≡ self.old.publisher)
+            × (self.new.victims ≡ self.old.victims) }
+    {
+        let Some(request) = request else {
+            return Ok(None);
+        };
+        self.queue.push(Waiting {
+            request,
+            arrived: now,
+        })?;
+        Ok(Some(Entry::Arrived(request)))
+    }
+
+    /// 2. At most one command is taken. A Run puts the thread on its core, a Park takes it off.
+    pub(crate) fn take(&mut self, now: u64) -> Option<Entry>
+        ensures taken { (command : Option Command)
+            × ((self.new, result) ≡ turn.taken now command self.old) }
+        ensures apart { (self.new.publisher ≡ self.old.publisher)
+            × (self.new.victims ≡ self.old.victims) }
+    {
+        let (number, command) = self.taker.take()?;
+        let core = core_after(command);
+        self.taken = number;
+        self.current = current_after(now, core, self.core, self.current);
+        self.core = core;
+        Some(Entry::Took(number, command))
+    }
+
+    /// 3. On a core, a thread without a current request takes its front, else the first of its own
+    ///    queue, else it tries to steal one.
+    pub(crate) fn provide(&mut self, now: u64) -> Option<Entry>
+        ensures provided { (own : Option Waiting) × (theft : Option (ℕ × Waiting))
+            × IfSome theft (λ place. place.0 < length self.old.victims)
+            × ((self.new, result) ≡ turn.provided now own theft self.old) }
+        ensures apart { self.new.publisher ≡ self.old.publisher }
+    {
+        if self.core.is_none() || self.current.is_some() {
+            return None;
+        }
+        if let Some(waiting) = next(&mut self.front, &mut self.queue) {
+            self.current = Some(begin(now, waiting));
+            return None;
+        }
+        let (place, waiting) = steal_first(&mut self.victims)?;
+        self.current = Some(begin(now, waiting));
+        Some(Entry::Stole {
+            from: self.victims[place].number,
+            id: waiting.request.id,
+        })
+    }
+
+    /// 3. On a core, the current request loses one of its work; with no work left it is served. A
+    ///    thread that found none gives up its core.
+    pub(crate) fn work(&mut self) -> Option<Entry>
+        ensures worked { (self.new, result) ≡ turn.worked self.old }
+        ensures apart { self.new.publisher ≡ self.old.publisher }
+    {
+        self.core?;
+        let Some(current) = self.current else {
+            self.core = None;
+            return Some(Entry::Yielded);
+        };
+        self.misses = misses_after(self.misses, current.waiting.request.misses);
+        self.current = work_on(current);
+        served(current)
+    }
+
+    /// 4. Without a front request the thread takes the first of its own queue as its front.
+    pub(crate) fn fill_front(&mut self)
+        ensures fronted { (answer : Option Waiting) × (self.new ≡ turn.fronted answer self.old) }
+        ensures apart { self.new.publisher ≡ self.old.publisher }
+    {
+        self.front = next(&mut self.front, &mut self.queue);
+    }
+
+    /// 5. The record that shows the thread now.
+    fn record(&self, now: u64) -> Record
+        ensures { result ≡ turn.shown now self.now }
+    {
+        let suspended = suspended(self.core, self.current);
+        Record {
+            taken: self.taken,
+            running: running_word(self.core),
+            queued: count(self.front),
+            oldest: arrival(self.front),
+            started: started(self.core, self.current),
+            misses: self.misses,
+            stamp: now,
+            paused: count(suspended),
+            since: arrival(suspended),
+        }
+    }
+
+    /// 5. The record is published.
+    pub(crate) fn publish(&mut self, now: u64) -> Entry
+        requires later { (last_of self.old.publisher.published).stamp ≤ now }
+        requires room { length self.old.publisher.published < 2 ^ 62 - 1 }
+        ensures shown { (self.new, result) ≡ turn.published now self.old }
+        ensures follows { MayFollow (last_of self.old.publisher.published)
+            (turn.shown now self.old) }
+    {
+        let record = self.record(now);
+        let Ok(place) = self.publisher.publish(record) else {
+            unreachable!()
+        };
+        Entry::Published(place, record)
+    }
+}
+
+/// The core of a thread that took this command.
+fn core_after(command: Command) -> Option<u8>
+    ensures { result ≡ core_of command }
+{
+    match command {
+        Command::Run(core) => Some(core),
+        Command::Park => None,
+    }
+}
+
+/// The current request of a thread that went from one core to another, or on one or off it: one
+/// that was suspended goes on now.
+fn current_after(
+    now: u64,
+    core: Option<u8>,
+    before: Option<u8>,
+    current: Option<Current>,
+) -> Option<Current>
+    ensures { result ≡ turn.current_after now core before current }
+{
+    let current = current?;
+    if core.is_none() || before.is_some() {
+        return Some(current);
+    }
+    Some(Current {
+        started: now,
+        ..current
+    })
+}
+
+/// The request that comes next, which is taken from the front or from the queue.
+fn next(front: &mut Option<Waiting>, queue: &mut OwnQueue) -> Option<Waiting>
+    ensures { (answer : Option Waiting) × (front.new ≡ None)
+        × (queue.new ≡ turn.queue_after front.old answer queue.old)
+        × (result ≡ turn.next_of front.old answer) }
+{
+    match front.take() {
+        Some(waiting) => Some(waiting),
+        None => queue.pop(),
+    }
+}
+
+/// The request, begun now.
+fn begin(now: u64, waiting: Waiting) -> Current
+    ensures { result ≡ turn.begun now waiting }
+{
+    Current {
+        waiting,
+        remaining: waiting.request.work,
+        started: now,
+    }
+}
+
+/// The thread's misses and the request's, up to 2^56.
+fn misses_after(misses: u64, more: u64) -> u64
+    ensures { result ≡ min (misses + more) turn.most_misses }
+{
+    misses.saturating_add(more).min(MOST_MISSES)
+}
+
+/// What is left of the current request after one turn of work.
+fn work_on(current: Current) -> Option<Current>
+    ensures { result ≡ turn.current_worked current }
+{
+    if current.remaining <= 1 {
+        return None;
+    }
+    Some(Current {
+        remaining: current.remaining - 1,
+        ..current
+    })
+}
+
+/// The current request is served where this is its last turn of work.
+fn served(current: Current) -> Option<Entry>
+    ensures { result ≡ turn.served current }
+{
+    if current.remaining <= 1 {
+        return Some(Entry::Served {
+            id: current.waiting.request.id,
+        });
+    }
+    None
+}
+
+/// The word of a record that shows a core: 0 for none, else one above its number.
+fn running_word(core: Option<u8>) -> u64
+    ensures { result ≡ word_of core }
+{
+    match core {
+        Some(core) => core as u64 + 1,
+        None => 0,
+    }
+}
+
+/// 1 where there is a request, else 0.
+fn count(waiting: Option<Waiting>) -> u64
+    ensures { result ≡ turn.count_of waiting }
+{
+    match waiting {
+        Some(_) => 1,
+        None => 0,
+    }
+}
+
+/// When the request came, 0 where there is none.
+fn arrival(waiting: Option<Waiting>) -> u64
+    ensures { result ≡ turn.arrival_of waiting }
+{
+    match waiting {
+        Some(waiting) => waiting.arrived,
+        None => 0,
+    }
+}
+
+/// When the current request was begun or resumed, 0 off a core and where there is none.
+fn started(core: Option<u8>, current: Option<Current>) -> u64
+    ensures { result ≡ turn.started_of core current }
+{
+    match (core, current) {
+        (Some(_), Some(current)) => current.started,
+        _ => 0,
+    }
+}
+
+/// The suspended request: the current one of a thread that is off its core.
+fn suspended(core: Option<u8>, current: Option<Current>) -> Option<Waiting>
+    ensures { result ≡ turn.suspended_of core current }
+{
+    match (core, current) {
+        (None, Some(current)) => Some(current.waiting),
+        _ => None,
+    }
+}

@@ -1,0 +1,3 @@
+-- What kept records say.
+pub mod OnCore
+pub mod Truth

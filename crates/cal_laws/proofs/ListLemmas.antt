@@ -1,0 +1,3 @@
+-- Lists, tests, and numbers below n.
+pub mod Below
+pub mod Counted

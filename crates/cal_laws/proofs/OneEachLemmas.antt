@@ -1,0 +1,3 @@
+-- What one pass sends, and in which order.
+pub mod Sending
+pub mod Turns

@@ -1,0 +1,4 @@
+-- What holds at every point of a history.
+pub mod EachAction
+pub mod EndPoints
+pub mod PassKeeps

@@ -1,0 +1,193 @@
+-- The best core, of the free ones and of the others.
+use Rattle.std.proofs.Common.{◌≡◌, ℕ, ◌<◌, ◌≤◌, ◌&&◌, ◌⊎◌, inl, inr, zero, suc, Bool, true, false, not, cond, eqb, nat_lt, List, Option, Some, None, refl, ap, sym, ◌∙◌, subst, arith, ⊎_elim}
+use Rattle.std.proofs.lemmas.Bool.{cases_lt}
+use Rattle.std.proofs.lemmas.Bool.Decides.{nat_tests}
+use Rattle.std.specs.Option.{IfSome, option_or}
+use Rattle.cal_machine.specs.Table.{Table}
+use Rattle.cal_machine.specs.Machine.{sibling_of}
+use Rattle.cal_machine.specs.declared.core_set.CoreSet.{CoreSet}
+use Rattle.cal_machine.specs.CoreSet.{has}
+use Rattle.cal_policy.specs.declared.history.action.Action.{Action}
+use Rattle.cal_policy.specs.declared.board.holders.Holder.{Holder}
+use Rattle.cal_policy.specs.declared.board.holders.Holder.TheVariants.{Free, Held, Leaving}
+use Rattle.cal_policy.specs.declared.pass.choice.Candidate.{Candidate}
+use Rattle.cal_policy.specs.declared.board.Board.{Board}
+use Rattle.cal_policy.specs.Tasks.{owner_of, guaranteed_of, is_latency_critical}
+use Rattle.cal_policy.specs.History.{holder_of, last_thread, is_banned}
+use Rattle.cal_policy.specs.Board.Counts.{is_free, is_held_for, is_over, booked_by}
+use Rattle.cal_policy.specs.Pass.Choice.{best_below, better}
+use Rattle.cal_policy.specs.Setting.{Setting, so_far, is_held_with_room}
+use Rattle.cal_policy.specs.Pass.Grants.{class_of, class_by, burst_class, may_preempt, none_leaves_for, is_granted_in, is_thread_for}
+use Rattle.cal_policy.specs.Pass.Among.{class_among}
+use Rattle.cal_policy.specs.Board.{Stands, holder_in}
+use Rattle.cal_policy.specs.Board.CoreSets.{Sorts}
+use Rattle.cal_policy.proofs.BoardLemmas.StateKept.{free_kept}
+
+-- numbers without a rank leave the best as it is
+pub best_skip : (beats : ℕ → ℕ → Bool) (f : ℕ → Option ℕ) (m n : ℕ) → m ≤ n → ((k : ℕ) → m ≤ k → k < n → f k ≡ None) → best_below beats f m ≡ best_below beats f n
+best_skip beats f m zero le e = let same : m ≡ 0 = omega (arith, le) in rw same refl
+best_skip beats f m (suc n) le e = ⊎_elim
+    (λ l. best_skip beats f m n (omega (arith, l)) (λ k a b. e k a (omega (arith, b)))
+    ∙ sym (ap (λ r. better beats (best_below beats f n) r n) (e n (omega (arith, l)) (omega arith))))
+    (λ g. let same : m ≡ suc n = omega (arith, g, le) in rw same refl)
+    (cases_lt m (suc n))
+
+pub best_none : (beats : ℕ → ℕ → Bool) (f : ℕ → Option ℕ) (n : ℕ) → ((k : ℕ) → k < n → f k ≡ None) → best_below beats f n ≡ None
+best_none beats f n e = sym (best_skip beats f 0 n (omega arith) (λ k a b. e k b))
+
+-- a class of an idle core, if any, and one of a held core
+abbrev pub Low : Option ℕ → Type 0
+Low rank = IfSome rank (λ r. r < 4)
+
+abbrev pub High : Option ℕ → Type 0
+High rank = IfSome rank (λ r. 4 ≤ r)
+
+-- a class is that of an idle core or that of a held one
+abbrev pub Splits : Option ℕ → Option ℕ → Option ℕ → Type 0
+Splits rank low high = ((low ≡ rank) × (high ≡ None) × Low rank) ⊎ ((low ≡ None) × (high ≡ rank) × High rank)
+
+-- the best is the best of the idle ones, where there is one, else that of the others
+pub record Joins (best low high : Option Candidate) : Type 0 where
+  pub first : best ≡ option_or low high
+  pub few : IfSome low (λ b. b.rank < 4)
+  pub many : IfSome high (λ b. 4 ≤ b.rank)
+
+less : (a b : ℕ) → a < b → nat_lt a b ≡ true
+less a b lt = grind (arith, nat_tests)
+
+not_less : (a b : ℕ) → b ≤ a → nat_lt a b ≡ false
+not_less a b le = grind (arith, nat_tests)
+
+or_kept : (b : Bool) (x y : Candidate) (o : Option Candidate) → option_or (cond b (Some x) (Some y)) o ≡ cond b (Some x) (Some y)
+or_kept true x y o = refl
+or_kept false x y o = refl
+
+either : (P : Candidate → Type 0) (b : Bool) (x y : Candidate) → P x → P y → IfSome (cond b (Some x) (Some y)) P
+either P true x y p q = p
+either P false x y p q = q
+
+one_low : (low high : Option Candidate) (r : Option ℕ) (n : ℕ) → IfSome low (λ b. b.rank < 4) → IfSome high (λ b. 4 ≤ b.rank) → Low r →
+    Joins (better nat_lt (option_or low high) r n) (better nat_lt low r n) high
+one_low low high None n few many lt = record { first = refl; few = few; many = many }
+one_low None None (Some q) n few many lt = record { first = refl; few = lt; many = tt }
+one_low None (Some h) (Some q) n few many lt =
+    let new : Candidate = record { rank = q; number = n } in
+    record { first = ap (λ b. cond b (Some new) (Some h)) (less q h.rank (omega (arith, lt, many))); few = lt; many = many }
+one_low (Some l) high (Some q) n few many lt =
+    let new : Candidate = record { rank = q; number = n } in
+    record { first = sym (or_kept (nat_lt q l.rank) new l high); few = either (λ b. b.rank < 4) (nat_lt q l.rank) new l lt few; many = many }
+
+one_high : (low high : Option Candidate) (r : Option ℕ) (n : ℕ) → IfSome low (λ b. b.rank < 4) → IfSome high (λ b. 4 ≤ b.rank) → High r →
+    Joins (better nat_lt (option_or low high) r n) low (better nat_lt high r n)
+one_high low high None n few many ge = record { first = refl; few = few; many = many }
+one_high None None (Some q) n few many ge = record { first = refl; few = tt; many = ge }
+one_high None (Some h) (Some q) n few many ge =
+    let new : Candidate = record { rank = q; number = n } in
+    record { first = refl; few = tt; many = either (λ b. 4 ≤ b.rank) (nat_lt q h.rank) new h ge many }
+one_high (Some l) None (Some q) n few many ge =
+    let new : Candidate = record { rank = q; number = n } in
+    record { first = ap (λ b. cond b (Some new) (Some l)) (not_less q l.rank (omega (arith, few, ge))); few = few; many = ge }
+one_high (Some l) (Some h) (Some q) n few many ge =
+    let new : Candidate = record { rank = q; number = n } in
+    record {
+      first = ap (λ b. cond b (Some new) (Some l)) (not_less q l.rank (omega (arith, few, ge)));
+      few = few;
+      many = either (λ b. 4 ≤ b.rank) (nat_lt q h.rank) new h ge many;
+    }
+
+one_more : (n : ℕ) (best low high : Option Candidate) (r l h : Option ℕ) → Joins best low high → Splits r l h →
+    Joins (better nat_lt best r n) (better nat_lt low l n) (better nat_lt high h n)
+one_more n best low high r l h j (inl s) = rw (j.first, s.0, s.1) (one_low low high r n j.few j.many s.2)
+one_more n best low high r l h j (inr s) = rw (j.first, s.0, s.1) (one_high low high r n j.few j.many s.2)
+
+joins : (rank low high : ℕ → Option ℕ) (n : ℕ) → ((c : ℕ) → c < n → Splits (rank c) (low c) (high c)) →
+    Joins (best_below nat_lt rank n) (best_below nat_lt low n) (best_below nat_lt high n)
+joins rank low high zero e = record { first = refl; few = tt; many = tt }
+joins rank low high (suc n) e =
+    one_more n (best_below nat_lt rank n) (best_below nat_lt low n) (best_below nat_lt high n) (rank n) (low n) (high n)
+    (joins rank low high n (λ c lt. e c (omega (arith, lt)))) (e n (omega arith))
+
+-- the class of an idle core is 1 to 3
+of_three : (a b : Bool) → cond a 1 (cond b 2 3) < 4
+of_three true b = omega arith
+of_three false true = omega arith
+of_three false false = omega arith
+
+unless : (b : Bool) (n : ℕ) → n < 4 → Low (cond b None (Some n))
+unless true n lt = tt
+unless false n lt = lt
+
+-- that of a held one 4 or 5
+four_or_five : (a b : Bool) → High (cond a (Some 4) (cond b (Some 5) None))
+four_or_five true b = let e : 4 ≤ 4 = omega arith in e
+four_or_five false true = let e : 4 ≤ 5 = omega arith in e
+four_or_five false false = tt
+
+where_it_may : (b : Bool) (o : Option ℕ) → High o → High (cond b o None)
+where_it_may true o h = h
+where_it_may false o h = tt
+
+burst_high : (table : Table) (x : List Action) (t other : ℕ) → High (burst_class table x t other)
+burst_high table x t other = four_or_five (not (is_latency_critical table other))
+    (nat_lt (booked_by table x t) (guaranteed_of table t) && not (eqb other t) && is_over table x other)
+
+split_by : (s : Setting) (acts : List Action) (t c : ℕ) (h : Holder) →
+    Splits (class_by s acts t c h) (cond (is_free h) (class_by s acts t c h) None) (cond (not (is_free h)) (class_by s acts t c h) None)
+split_by s acts t c Free = inl (
+  refl,
+  refl,
+  unless (is_banned (so_far s acts) c) _
+      (of_three (is_held_for s.table t (holder_of (so_far s acts) (sibling_of c))) (is_thread_for s.table t (last_thread (so_far s acts) c))),
+)
+split_by s acts t c (Held p) = inr (
+  refl,
+  refl,
+  where_it_may (may_preempt s acts t c (Held p)) (burst_class s.table (so_far s acts) t (owner_of s.table p.thread))
+      (burst_high s.table (so_far s acts) t (owner_of s.table p.thread)),
+)
+split_by s acts t c (Leaving p cause) = inl (refl, refl, tt)
+
+split_class : (free taken : CoreSet) (s : Setting) (acts : List Action) (t c : ℕ) → has free c ≡ is_free (holder_of (so_far s acts) c) →
+    has taken c ≡ not (is_free (holder_of (so_far s acts) c)) → Splits (class_of s acts t c) (class_among free s acts t c) (class_among taken s acts t c)
+split_class free taken s acts t c e f =
+    let class : Option ℕ = class_of s acts t c in
+    let P : Bool → Type 0 = λ a. Splits class (cond a class None) (cond (has taken c) class None) in
+    let Q : Bool → Type 0 = λ b. Splits class (cond (is_free (holder_of (so_far s acts) c)) class None) (cond b class None) in
+    subst P (sym e) (subst Q (sym f) (split_by s acts t c (holder_of (so_far s acts) c)))
+
+-- the board's sets of free and of taken cores are those that the actions give
+in_free : (b : Board) (s : Setting) (acts : List Action) → Stands b s acts → Sorts (holder_in b.holding) b.sets →
+    (c : ℕ) → c < 128 → has b.sets.free c ≡ is_free (holder_of (so_far s acts) c)
+in_free b s acts st sorts c lt = let at = sorts c lt in at.free ∙ ap is_free (st.agrees.holding.holders c lt) ∙ free_kept (holder_of (so_far s acts) c)
+
+pub in_taken : (b : Board) (s : Setting) (acts : List Action) → Stands b s acts → Sorts (holder_in b.holding) b.sets →
+    (c : ℕ) → c < 128 → has b.sets.taken c ≡ not (is_free (holder_of (so_far s acts) c))
+in_taken b s acts st sorts c lt = let at = sorts c lt in at.taken ∙ ap (λ a. not (is_free a)) (st.agrees.holding.holders c lt) ∙ ap not (free_kept (holder_of (so_far s acts) c))
+
+-- the choice is that among the free cores, where there is one, else that among the others
+pub choice_joins : (b : Board) (s : Setting) (acts : List Action) (t n : ℕ) → n ≤ 128 → Stands b s acts → Sorts (holder_in b.holding) b.sets →
+    best_below nat_lt (class_of s acts t) n ≡ option_or (best_below nat_lt (class_among b.sets.free s acts t) n) (best_below nat_lt (class_among b.sets.taken s acts t) n)
+choice_joins b s acts t n few st sorts =
+    let j = joins (class_of s acts t) (class_among b.sets.free s acts t) (class_among b.sets.taken s acts t) n
+    (λ c lt. split_class b.sets.free b.sets.taken s acts t c (in_free b s acts st sorts c (omega (arith, lt, few))) (in_taken b s acts st sorts c (omega (arith, lt, few)))) in
+    j.first
+
+-- a test fails where two of its parts do
+parts_fail : (a b c d : Bool) → (a && d) ≡ false → (a && b && c && d) ≡ false
+parts_fail false b c d e = refl
+parts_fail true false c d e = refl
+parts_fail true true false d e = refl
+parts_fail true true true d e = e
+
+-- where no core may be revoked for the task at all, no held core has a class
+none_by : (s : Setting) (acts : List Action) (t c : ℕ) (h : Holder) → (is_latency_critical s.table t && none_leaves_for s (so_far s acts) t) ≡ false →
+    cond (not (is_free h)) (class_by s acts t c h) None ≡ None
+none_by s acts t c Free e = refl
+none_by s acts t c (Held p) e = ap (λ b. cond b (burst_class s.table (so_far s acts) t (owner_of s.table p.thread)) None)
+    (parts_fail (is_latency_critical s.table t) (is_held_with_room s (Held p)) (not (is_granted_in acts c)) (none_leaves_for s (so_far s acts) t) e)
+none_by s acts t c (Leaving p cause) e = refl
+
+pub none_taken : (b : Board) (s : Setting) (acts : List Action) (t n : ℕ) → n ≤ 128 → Stands b s acts → Sorts (holder_in b.holding) b.sets →
+    (is_latency_critical s.table t && none_leaves_for s (so_far s acts) t) ≡ false → best_below nat_lt (class_among b.sets.taken s acts t) n ≡ None
+none_taken b s acts t n few st sorts e = best_none nat_lt (class_among b.sets.taken s acts t) n
+    (λ c lt. ap (λ w. cond w (class_of s acts t c) None) (in_taken b s acts st sorts c (omega (arith, lt, few))) ∙ none_by s acts t c (holder_of (so_far s acts) c) e)

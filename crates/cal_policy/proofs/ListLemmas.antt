@@ -1,0 +1,7 @@
+-- Lists, tests, and counts among the numbers below n.
+pub mod Booleans
+pub mod Counted
+pub mod Each
+pub mod EachAfter
+pub mod OneMore
+pub mod OneNumberMore

@@ -1,0 +1,85 @@
+-- How counts and choices among the numbers below n go with their tests.
+use Rattle.std.proofs.Common.{◌≡◌, ℕ, ◌+◌, ◌<◌, ◌≤◌, ◌⊎◌, Bool, true, false, cond, Option, Some, None, refl, arith, inl, inr, zero, suc}
+use Rattle.std.proofs.lemmas.Bool.{cases_eq}
+use Rattle.cal_policy.specs.Pass.Choice.{count_below, best_below, better, highest_below, lowest_below, first_or}
+use Rattle.cal_policy.specs.declared.pass.choice.Candidate.{Candidate}
+
+-- where fewer pass, fewer are counted
+pub one_le : (a b : Bool) → (a ≡ true → b ≡ true) → cond a 1 0 ≤ cond b 1 0
+one_le false b e = omega arith
+one_le true b e = rw (e refl) (omega arith)
+
+pub count_le : (p q : ℕ → Bool) (n : ℕ) → ((c : ℕ) → c < n → q c ≡ true → p c ≡ true) → count_below q n ≤ count_below p n
+count_le p q zero e = omega arith
+count_le p q (suc n) e = omega (arith, count_le p q n (λ c lt. e c (omega arith)), one_le (q n) (p n) (e n (omega arith)))
+
+one_more : (a : Bool) → cond a 1 0 ≤ 1
+one_more true = omega arith
+one_more false = omega arith
+
+-- where one more may pass, at most one more is counted
+one_step : (p q : ℕ → Bool) (core n : ℕ) → ((c : ℕ) → c < suc n → (c ≡ core → ⊥) → q c ≡ true → p c ≡ true) → count_below q n ≤ count_below p n + 1 →
+    (n ≡ core) ⊎ (n ≡ core → ⊥) → count_below q (suc n) ≤ count_below p (suc n) + 1
+one_step p q core n e h (inl at) = omega (arith, count_le p q n (λ c lt. e c (omega arith) (omega arith)), one_more (q n))
+one_step p q core n e h (inr off) = omega (arith, h, one_le (q n) (p n) (e n (omega arith) off))
+
+pub count_le_one : (p q : ℕ → Bool) (core n : ℕ) → ((c : ℕ) → c < n → (c ≡ core → ⊥) → q c ≡ true → p c ≡ true) → count_below q n ≤ count_below p n + 1
+count_le_one p q core zero e = omega arith
+count_le_one p q core (suc n) e = one_step p q core n e (count_le_one p q core n (λ c lt. e c (omega arith))) (cases_eq n core)
+
+-- a number that passes, below n
+abbrev pub Passes : (ℕ → Bool) → ℕ → ℕ → Type 0
+Passes p n k = (k < n) × (p k ≡ true)
+
+passes_more : (p : ℕ → Bool) (n k : ℕ) → Passes p n k → Passes p (suc n) k
+passes_more p n k e = (omega (arith, e.0), e.1)
+
+passes_last : (p : ℕ → Bool) (n k : ℕ) → p n ≡ true → n ≡ k → Passes p (suc n) k
+passes_last p n k e same = rw (← same) (omega arith, e)
+
+highest_step : (p : ℕ → Bool) (n k : ℕ) → (highest_below p n ≡ Some k → Passes p n k) → (b : Bool) → p n ≡ b →
+    cond b (Some n) (highest_below p n) ≡ Some k → Passes p (suc n) k
+highest_step p n k h true i f = passes_last p n k i (let same : n ≡ k = cc in same)
+highest_step p n k h false i f = passes_more p n k (h f)
+
+-- the highest passes
+pub highest_passes : (p : ℕ → Bool) (n k : ℕ) → highest_below p n ≡ Some k → Passes p n k
+highest_passes p zero k e = cc
+highest_passes p (suc n) k e = highest_step p n k (highest_passes p n k) (p n) refl e
+
+lowest_step : (p : ℕ → Bool) (n k : ℕ) → (o : Option ℕ) → (o ≡ Some k → Passes p n k) → (b : Bool) → p n ≡ b → first_or o b n ≡ Some k → Passes p (suc n) k
+lowest_step p n k (Some j) h b i f = passes_more p n k (h f)
+lowest_step p n k None h true i f = passes_last p n k i (let same : n ≡ k = cc in same)
+lowest_step p n k None h false i f = cc
+
+-- the lowest passes
+pub lowest_passes : (p : ℕ → Bool) (n k : ℕ) → lowest_below p n ≡ Some k → Passes p n k
+lowest_passes p zero k e = cc
+lowest_passes p (suc n) k e = lowest_step p n k (lowest_below p n) (lowest_passes p n k) (p n) refl e
+
+-- a number below n with its rank
+abbrev pub IsRanked : (ℕ → Option ℕ) → ℕ → Candidate → Type 0
+IsRanked rank n best = (best.number < n) × (rank best.number ≡ Some best.rank)
+
+ranked_more : (rank : ℕ → Option ℕ) (n : ℕ) (best : Candidate) → IsRanked rank n best → IsRanked rank (suc n) best
+ranked_more rank n best e = (omega (arith, e.0), e.1)
+
+ranked_new : (rank : ℕ → Option ℕ) (n s : ℕ) (best : Candidate) → rank n ≡ Some s → Some (record { rank = s; number = n }) ≡ Some best → IsRanked rank (suc n) best
+ranked_new rank n s best r f = let made : Candidate = record { rank = s; number = n } in let same : made ≡ best = cc in rw (← same) (omega arith, r)
+
+ranked_duel : (rank : ℕ → Option ℕ) (n : ℕ) (o best : Candidate) (s : ℕ) → rank n ≡ Some s → (Some o ≡ Some best → IsRanked rank n best) → (w : Bool) →
+    cond w (Some (record { rank = s; number = n })) (Some o) ≡ Some best → IsRanked rank (suc n) best
+ranked_duel rank n o best s r h true f = ranked_new rank n s best r f
+ranked_duel rank n o best s r h false f = ranked_more rank n best (h f)
+
+ranked_step : (beats : ℕ → ℕ → Bool) (rank : ℕ → Option ℕ) (n : ℕ) (best : Candidate) → (o : Option Candidate) → (o ≡ Some best → IsRanked rank n best) →
+    (r : Option ℕ) → rank n ≡ r → better beats o r n ≡ Some best → IsRanked rank (suc n) best
+ranked_step beats rank n best None h None r f = cc
+ranked_step beats rank n best (Some o) h None r f = ranked_more rank n best (h f)
+ranked_step beats rank n best None h (Some s) r f = ranked_new rank n s best r f
+ranked_step beats rank n best (Some o) h (Some s) r f = ranked_duel rank n o best s r h (beats s o.rank) f
+
+-- the best has its rank
+pub best_ranked : (beats : ℕ → ℕ → Bool) (rank : ℕ → Option ℕ) (n : ℕ) (best : Candidate) → best_below beats rank n ≡ Some best → IsRanked rank n best
+best_ranked beats rank zero best e = cc
+best_ranked beats rank (suc n) best e = ranked_step beats rank n best (best_below beats rank n) (best_ranked beats rank n best) (rank n) refl e

@@ -1,0 +1,41 @@
+-- Counts and choices among the numbers below n, one number more.
+use Rattle.std.proofs.Common.{◌≡◌, ℕ, ◌+◌, ◌<◌, ◌≤◌, suc, zero, Bool, true, false, not, max, Option, refl, cond, add-one, arith, ⊎_elim}
+use Rattle.std.proofs.lemmas.Bool.{cases_lt}
+use Rattle.cal_policy.specs.Pass.Choice.{count_below, greatest_below, best_below, better}
+use Rattle.cal_policy.specs.declared.pass.choice.Candidate.{Candidate}
+
+pub count_more : (p : ℕ → Bool) (n : ℕ) → count_below p (n + 1) ≡ count_below p n + cond (p n) 1 0
+count_more p n = rw (add-one n) refl
+
+pub greatest_more : (f : ℕ → ℕ) (n most next : ℕ) → most ≡ greatest_below f n → next ≡ f n → max most next ≡ greatest_below f (n + 1)
+greatest_more f n most next e g = rw (add-one n, e, g) refl
+
+pub best_more : (beats : ℕ → ℕ → Bool) (f : ℕ → Option ℕ) (n : ℕ) (best : Option Candidate) (rank : Option ℕ) →
+    best ≡ best_below beats f n → rank ≡ f n → better beats best rank n ≡ best_below beats f (n + 1)
+best_more beats f n best rank e g = rw (add-one n, e, g) refl
+
+-- no more pass than there are
+one_at_most : (b : Bool) → cond b 1 0 ≤ 1
+one_at_most true = omega arith
+one_at_most false = omega arith
+
+pub count_at_most : (p : ℕ → Bool) (n : ℕ) → count_below p n ≤ n
+count_at_most p zero = omega arith
+count_at_most p (suc n) = omega (arith, count_at_most p n, one_at_most (p n))
+
+-- one that passes counts among all
+pub count_within : (p : ℕ → Bool) (k n : ℕ) → k < n → count_below p k + cond (p k) 1 0 ≤ count_below p n
+count_within p k zero lt = absurd (omega arith)
+count_within p k (suc n) lt = ⊎_elim
+    (λ l. omega (arith, count_within p k n l))
+    (λ g. let same : k ≡ n = omega arith in rw same (omega arith))
+    (cases_lt k n)
+
+-- those that pass and those that do not are all
+one_of_two : (b : Bool) → cond b 1 0 + cond (not b) 1 0 ≡ 1
+one_of_two true = refl
+one_of_two false = refl
+
+pub count_both : (p : ℕ → Bool) (n : ℕ) → count_below p n + count_below (λ k. not (p k)) n ≡ n
+count_both p zero = refl
+count_both p (suc n) = omega (arith, count_both p n, one_of_two (p n))

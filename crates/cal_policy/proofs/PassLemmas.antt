@@ -1,0 +1,19 @@
+-- Passes and their parts, and legal histories.
+pub mod Apart
+pub mod ApartInside
+pub mod Bandwidth
+pub mod Best
+pub mod Branches
+pub mod Commands
+pub mod Fits
+pub mod FromParts
+pub mod LegalOrderly
+pub mod Legality
+pub mod Length
+pub mod Losing
+pub mod Made
+pub mod NothingDue
+pub mod Pairs
+pub mod PartSoFar
+pub mod RevokedStay
+pub mod Steady

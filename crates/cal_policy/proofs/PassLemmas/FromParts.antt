@@ -1,0 +1,56 @@
+-- A pass from its parts, and where it begins and ends.
+use Rattle.std.proofs.Common.{◌≡◌, List, [], ◌∷◌, ◌++◌, sym, ap, ◌∙◌, subst}
+use Rattle.std.proofs.lemmas.List.{append-nil}
+use Rattle.cal_policy.specs.declared.history.action.Action.{Action}
+use Rattle.cal_policy.specs.declared.history.entry.PassEntry.{PassEntry}
+use Rattle.cal_policy.specs.declared.history.look.Seen.{Seen}
+use Rattle.cal_policy.specs.declared.board.Board.{Board}
+use Rattle.cal_policy.specs.History.{actions_of, looks_of}
+use Rattle.cal_policy.specs.Setting.{Setting, so_far}
+use Rattle.cal_policy.specs.Pass.Frees.{frees}
+use Rattle.cal_policy.specs.Pass.Bans.{unbans, bans, NoPairBanned}
+use Rattle.cal_policy.specs.Pass.Bandwidth.{bandwidth_part}
+use Rattle.cal_policy.specs.Pass.Grants.{critical_grants, best_effort_grants}
+use Rattle.cal_policy.specs.Pass.{pass_of, followed}
+use Rattle.cal_policy.specs.Board.{Agrees, IsFresh, KeepingAgrees, KeepsBefore, Stands, AgreesAfter}
+use Rattle.cal_policy.proofs.PassLemmas.Apart.{frees_apart}
+use Rattle.cal_policy.proofs.BoardLemmas.Replayed.{actions_push, looks_push}
+
+follows : (part : List Action → List Action) (acts now next : List Action) → now ≡ acts → next ≡ now ++ part now → next ≡ followed acts part
+follows part acts now next e f = f ∙ ap (λ o. o ++ part o) e
+
+-- the parts, end to end, are the pass
+pub parts_pass : (s : Setting) (o0 o1 o2 o3 o4 o5 o6 : List Action) → o0 ≡ [] → o1 ≡ o0 ++ frees s o0 → o2 ≡ o1 ++ unbans s o1 → o3 ≡ o2 ++ bans s o2 →
+    o4 ≡ o3 ++ bandwidth_part s o3 → o5 ≡ o4 ++ critical_grants s o4 → o6 ≡ o5 ++ best_effort_grants s o5 → o6 ≡ pass_of s
+parts_pass s o0 o1 o2 o3 o4 o5 o6 e0 e1 e2 e3 e4 e5 e6 =
+    follows (best_effort_grants s) _ o5 o6 (follows (critical_grants s) _ o4 o5 (follows (bandwidth_part s) _ o3 o4 (follows (bans s) _ o2 o3
+    (follows (unbans s) _ o1 o2 (follows (frees s) [] o0 o1 e0 e1) e2) e3) e4) e5) e6
+
+-- no pair is banned after the frees
+pub freed_apart : (s : Setting) (o0 o1 : List Action) → o0 ≡ [] → o1 ≡ o0 ++ frees s o0 → NoPairBanned (actions_of s.history) → NoPairBanned (so_far s o1)
+freed_apart s o0 o1 e0 e1 h =
+    let P : List Action → Type 0 = λ o. NoPairBanned (so_far s o) in
+    let start : NoPairBanned (so_far s o0) = subst P (sym e0) (rw (append-nil (actions_of s.history)) h) in
+    subst P (sym e1) (frees_apart s o0 s.table.cores start)
+
+-- where a pass begins
+pub Stands_begin : (s : Setting) (b : Board) → Agrees b (actions_of s.history) → IsFresh b.fresh [] → KeepingAgrees b.keeping (looks_of s.history ++ s.input.seen ∷ []) →
+    KeepsBefore b.keeping (looks_of s.history) → Stands b s []
+Stands_begin s b a f k p = record {
+  agrees = rw (append-nil (actions_of s.history)) a;
+  fresh = f;
+  kept = k.kept;
+  before = p.before;
+  shown = k.shown;
+}
+
+-- where it ends: the board agrees with the history followed by that pass
+pub Stands_end : (s : Setting) (b : Board) (acts : List Action) → Stands b s acts → AgreesAfter b s.history (record { input = s.input; actions = acts })
+Stands_end s b acts st =
+    let entry : PassEntry = record { input = s.input; actions = acts } in
+    let P : List Action → Type 0 = λ x. Agrees b x in
+    let Q : List (List Seen) → Type 0 = λ looks. KeepingAgrees b.keeping looks in
+    record {
+      actions = subst P (sym (actions_push s.history entry)) st.agrees;
+      looks = subst Q (sym (looks_push s.history entry)) (record { kept = st.kept; shown = st.shown });
+    }

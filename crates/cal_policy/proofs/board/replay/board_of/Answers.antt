@@ -1,0 +1,34 @@
+-- Each action of an orderly history names what the table has.
+use Rattle.std.proofs.Common.{◌≡◌, ℕ, ◌+◌, ◌-◌, List, length, take, refl, subst, arith}
+use Rattle.std.proofs.lemmas.Option.{slice_get_read}
+use Rattle.cal_policy.specs.declared.history.entry.PassEntry.{PassEntry}
+use Rattle.cal_policy.specs.History.{actions_of, looks_of}
+use Rattle.cal_policy.specs.Board.{Agrees, KeepingAgrees, KeepsBefore}
+use Rattle.cal_policy.proofs.ListLemmas.Each.{take_item}
+use Rattle.cal_policy.proofs.BoardLemmas.StateKept.{names_of_fitting}
+use Rattle.cal_policy.proofs.board.replay.board_of.Goals as goal
+
+pub replay-requires-clause-names : goal.replay-requires-clause-names
+replay-requires-clause-names c =
+    let n = c.loop-entry.entry-index in
+    let history = c.args.history.now in
+    let here = slice_get_read history (length history) n c.entry-item.result refl c.loop-entry-test.true c.entry-item.is in
+    let o = c.requires.entries n c.entry-item.result here in
+    names_of_fitting c.args.config.now (actions_of (take n history)) c.entry-item.result.actions c.limits.ensures o.actions
+
+pub loop-entry-preserved : goal.loop-entry-preserved
+loop-entry-preserved c =
+    let i = c.loop-entry.invariant in
+    let n = c.loop-entry.entry-index in
+    let history = c.args.history.now in
+    let h = take n history in
+    let longer = take_item history n c.entry-item.result c.loop-entry-test.true c.entry-item.is in
+    let A : List PassEntry → Type 0 = λ l. Agrees c.replay.new.board (actions_of l) in
+    let K : List PassEntry → Type 0 = λ l. KeepingAgrees c.replay.new.board.keeping (looks_of l) in
+    let B : ℕ → Type 0 = λ m. KeepsBefore c.replay.new.board.keeping (looks_of (take m history)) in
+    let same : n ≡ n + 1 - 1 = omega arith in record {
+      agrees = subst A longer (c.replay.ensures.agrees h i.agrees);
+      keeping = subst K longer (c.replay.ensures.keeping h i.keeping);
+      before = subst B same (c.replay.ensures.before h i.keeping);
+      ready = c.replay.ensures.ready;
+    }

@@ -1,9 +1,0 @@
-use Rattle.std.proofs.Common.{refl}
-use Rattle.cal_policy.specs.Looks.{last_shown}
-use Rattle.cal_policy.specs.Judging.{IsFitLook}
-use Rattle.cal_policy.proofs.Each.{each_all}
-use Rattle.cal_policy.proofs.judging.each_fits.Goals as goal
-
-pub returns : goal.returns
-returns c = λ looks a.
-    (λ _. each_all (λ j look. IsFitLook (last_shown looks j) look) c.args.seen.now c.loop-k.k c.loop-k-test.false (c.loop-k.invariant looks a), λ _. refl)

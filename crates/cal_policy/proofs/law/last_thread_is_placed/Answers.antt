@@ -1,5 +1,0 @@
-use Rattle.cal_policy.proofs.History.{last_thread_placement}
-use Rattle.cal_policy.proofs.law.last_thread_is_placed.Goals as goal
-
-pub returns : goal.returns
-returns c = last_thread_placement

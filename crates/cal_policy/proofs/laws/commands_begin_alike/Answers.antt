@@ -1,0 +1,16 @@
+use Rattle.std.proofs.Common.{List, take, sym, ap, ◌∙◌}
+use Rattle.std.proofs.lemmas.Grind.{flat_map-append}
+use Rattle.std.proofs.Math.Seq.{take-append_seam}
+use Rattle.cal_policy.specs.declared.history.action.Action.{Action}
+use Rattle.cal_policy.specs.declared.history.entry.PassEntry.{PassEntry}
+use Rattle.cal_policy.specs.History.{actions_of, commands_to, sent_to, sends}
+use Rattle.cal_policy.specs.History.Lists.{each_after}
+use Rattle.cal_policy.proofs.ListLemmas.OneMore.{each_of_append}
+use Rattle.cal_policy.proofs.laws.commands_begin_alike.Goals as goal
+
+pub returns : goal.returns
+returns c = λ history more k.
+    let x : List Action = actions_of history in
+    sym (ap (λ (y : List Action). take (sent_to x k) (commands_to y k)) (flat_map-append (λ (entry : PassEntry). entry.actions) history more)
+    ∙ ap (λ cs. take (sent_to x k) cs) (each_of_append (sends k) x (actions_of more))
+    ∙ take-append_seam (commands_to x k) (each_after (sends k) x (actions_of more)))

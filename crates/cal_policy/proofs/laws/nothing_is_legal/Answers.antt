@@ -1,0 +1,5 @@
+use Rattle.cal_policy.proofs.PassLemmas.Legality.{legal_none}
+use Rattle.cal_policy.proofs.laws.nothing_is_legal.Goals as goal
+
+pub returns : goal.returns
+returns c = legal_none

@@ -1,0 +1,14 @@
+use Rattle.std.proofs.Common.{◌≡◌, ◌*◌, ◌≤◌, ◌^◌, List}
+use Rattle.cal_policy.specs.declared.history.action.Action.{Action}
+use Rattle.cal_policy.specs.Tasks.{thread_of}
+use Rattle.cal_policy.specs.Pass.Choice.{sum_below}
+use Rattle.cal_policy.specs.Setting.{Setting}
+use Rattle.cal_policy.specs.Pass.Bandwidth.{new_misses}
+use Rattle.cal_policy.specs.Board.{Stands}
+use Rattle.cal_policy.proofs.pass.bandwidth.task_misses.Given as goal
+
+abbrev pub invariant-loop-j : goal.invariant-loop-j
+invariant-loop-j l = record {
+  sum : (s : Setting) (acts : List Action) → s.table ≡ l.config → Stands l.board s acts → l.misses ≡ sum_below (λ j. new_misses s (thread_of s.table l.task j)) l.j;
+  small : l.misses ≤ l.j * 2 ^ 64;
+}

@@ -1,0 +1,16 @@
+use Rattle.std.proofs.Common.{◌≡◌, ℕ, ◌<◌, List, get_or, None, nat_lt}
+use Rattle.std.specs.Option.{IfSome}
+use Rattle.cal_policy.specs.declared.history.action.Action.{Action}
+use Rattle.cal_policy.specs.Pass.Choice.{best_below}
+use Rattle.cal_policy.specs.Setting.{Setting, so_far}
+use Rattle.cal_policy.specs.Pass.Bandwidth.{core_to_lose, victim_rank}
+use Rattle.cal_policy.specs.Board.{Stands}
+use Rattle.cal_policy.proofs.pass.bandwidth.victim.Given as goal
+
+abbrev pub invariant-loop-t : goal.invariant-loop-t
+invariant-loop-t l = record {
+  victim : (s : Setting) (acts : List Action) → s.table ≡ l.config → Stands l.board s acts →
+      ((t : ℕ) → t < 16 → get_or l.highest t None ≡ core_to_lose s (so_far s acts) t) →
+      l.best ≡ best_below (λ rank best. nat_lt best rank) (victim_rank s (so_far s acts)) l.t;
+  below : IfSome l.best (λ best. best.number < l.t);
+}

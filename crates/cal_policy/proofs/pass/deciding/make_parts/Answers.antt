@@ -1,0 +1,19 @@
+-- Each part begins where the one before ended.
+use Rattle.std.proofs.Common.{List, refl, sym, subst}
+use Rattle.cal_policy.specs.declared.history.action.Action.{Action}
+use Rattle.cal_policy.specs.Setting.{Setting, setting}
+use Rattle.cal_policy.specs.Board.{Stands}
+use Rattle.cal_policy.proofs.PassLemmas.FromParts.{parts_pass, freed_apart}
+use Rattle.cal_policy.proofs.pass.deciding.make_parts.Goals as goal
+
+pub returns-clause-acts : goal.returns-clause-acts
+returns-clause-acts c = λ h apart st.
+    let s : Setting = setting c.args.config.now h c.args.input.now in
+    let P : List Action → Type 0 = λ o. Stands c.args.board.now s o in
+    let r1 = c.free_left.ensures.acts h (subst P (sym c.requires.empty) st) in
+    let r2 = c.end_bans.ensures.acts s refl (freed_apart s _ _ c.requires.empty r1.0 apart) r1.1 in
+    let r3 = c.ban_siblings.ensures.acts h r2.1 in
+    let r4 = c.keep_bandwidth.ensures.acts h r3.1 in
+    let r5 = c.critical_grants.ensures.acts h r4.1 in
+    let r6 = c.best_effort_grants.ensures.acts h r5.1 in
+    (parts_pass s _ _ _ _ _ _ _ c.requires.empty r1.0 r2.0 r3.0 r4.0 r5.0 r6.0, r6.1)

@@ -1,0 +1,160 @@
+-- The last part of a pass: each congested task gets a core, or has one revoked for it. (After
+-- Caladan's core allocator, driven by queueing delay; the formula of the delay, the classes and the
+-- order of choice are own.)
+use Rattle.std.specs.Prelude.{ℕ, ◌-◌, ◌==◌, ◌&&◌, ◌||◌, Bool, false, not, nat_lt, max}
+use Rattle.std.specs.Prelude.{List, [], ◌∷◌, length, Option, Some, None, if◌then◌else◌}
+use Rattle.std.specs.Option.{is_some}
+use Rattle.cal_signal.specs.declared.record.Record.{Record}
+use Rattle.cal_machine.specs.Table.{Table}
+use Rattle.cal_policy.specs.Tasks.{owner_of, thread_of, limit_of, guaranteed_of}
+use Rattle.cal_policy.specs.Tasks.{delay_of, is_latency_critical}
+use Rattle.cal_machine.specs.Machine.{sibling_of}
+use Rattle.cal_policy.specs.declared.history.action.Action.{Action}
+use Rattle.cal_policy.specs.declared.history.action.Action.TheVariants.{Revoke, Grant}
+use Rattle.cal_policy.specs.declared.history.action.Cause.TheVariants as causes
+use Rattle.cal_policy.specs.declared.board.holders.Holder.{Holder}
+use Rattle.cal_policy.specs.declared.board.holders.Holder.TheVariants as holders
+use Rattle.cal_policy.specs.declared.pass.choice.Candidate.{Candidate}
+use Rattle.cal_policy.specs.Pass.Choice.{count_below, greatest_below, best_below}
+use Rattle.cal_policy.specs.History.Lists.{in_turn}
+use Rattle.cal_policy.specs.History.{holder_of, last_thread, is_banned}
+use Rattle.cal_policy.specs.Board.Counts.{is_held_for, booked_by, cores_of_thread, is_over, cap_of}
+use Rattle.cal_policy.specs.Setting.{Setting, so_far, kept_now, has_room, is_held_with_room}
+
+-- how long something that came at `came` has waited, where there is something
+abbrev pub waited : ℕ → Bool → ℕ → ℕ
+waited now there came = if there && nat_lt came now then now - came else 0
+
+-- the delay that a record shows: that of its oldest queued request or that of its suspended one,
+-- the greater
+abbrev pub record_delay : ℕ → Record → ℕ
+record_delay now rec = max (waited now (nat_lt 0 rec.queued) rec.oldest)
+    (waited now (nat_lt 0 rec.paused) rec.since)
+
+-- the delay of thread k
+abbrev pub thread_delay : Setting → ℕ → ℕ
+thread_delay s k = record_delay s.input.now (kept_now s k)
+
+-- the delay of task t: the greatest of its threads'
+abbrev pub task_delay : Setting → ℕ → ℕ
+task_delay s t = greatest_below (λ j. thread_delay s (thread_of s.table t j)) (limit_of s.table t)
+
+-- congested: strictly above the task's threshold
+abbrev pub is_congested : Setting → ℕ → Bool
+is_congested s t = nat_lt (delay_of s.table t) (task_delay s t)
+
+-- task t may book one more core: its booked cores are below its limit and, of a best-effort task,
+-- below its cap
+abbrev pub may_book : Setting → List Action → ℕ → Bool
+may_book s x t =
+    nat_lt (booked_by s.table x t) (limit_of s.table t)
+    && (is_latency_critical s.table t || nat_lt (booked_by s.table x t) (cap_of s.table x t))
+
+-- a thread that may be granted a core: it holds and leaves none, and its ring has room; its rank is
+-- its delay
+abbrev pub thread_rank : Setting → List Action → ℕ → Option ℕ
+thread_rank s x k = if (cores_of_thread s.table x k == 0) && has_room s k
+    then Some (thread_delay s k) else None
+
+-- the thread of task t with the greatest delay, of those with as great a one the first; counted
+-- from the task's first
+abbrev pub thread_choice : Setting → List Action → ℕ → Option Candidate
+thread_choice s x t = best_below (λ rank best. nat_lt best rank)
+    (λ j. thread_rank s x (thread_of s.table t j)) (limit_of s.table t)
+
+-- the core is being left for task t
+abbrev pub leaves_for : ℕ → Holder → Bool
+leaves_for t holders.Free = false
+leaves_for t (holders.Held placement) = false
+leaves_for t (holders.Leaving placement (causes.Preempt task)) = task == t
+leaves_for t (holders.Leaving placement (causes.Ban by)) = false
+leaves_for t (holders.Leaving placement causes.Bandwidth) = false
+
+-- no core is being left for task t
+abbrev pub none_leaves_for : Setting → List Action → ℕ → Bool
+none_leaves_for s x t = count_below (λ c. leaves_for t (holder_of x c)) s.table.cores == 0
+
+-- among these actions is a grant of core c
+abbrev pub is_granted_in : List Action → ℕ → Bool
+is_granted_in acts c = is_some (last_thread acts c)
+
+-- some thread, and one of task t
+abbrev pub is_thread_for : Table → ℕ → Option ℕ → Bool
+is_thread_for table t None = false
+is_thread_for table t (Some thread) = owner_of table thread == t
+
+-- the class of a core that is free and not banned: 1 beside a core held by a thread of t, 2 last
+-- granted to a thread of t, else 3
+abbrev pub idle_class : Table → ℕ → Holder → Option ℕ → ℕ
+idle_class table t beside last =
+    if is_held_for table t beside then 1 else if is_thread_for table t last then 2 else 3
+
+-- the class of a core that another task holds, as far as that task goes: 4 of a best-effort task; 5
+-- of a latency-critical one that is over, where t has booked less than it is guaranteed
+abbrev pub burst_class : Table → List Action → ℕ → ℕ → Option ℕ
+burst_class table x t other =
+    if not (is_latency_critical table other) then Some 4
+    else if nat_lt (booked_by table x t)
+    (guaranteed_of table t) && not (other == t) && is_over table x other then Some 5
+    else None
+
+-- a held core may be revoked for task t: t is latency-critical, the holder's ring has room, the
+-- core was not granted in this pass, and no core is being left for t
+abbrev pub may_preempt : Setting → List Action → ℕ → ℕ → Holder → Bool
+may_preempt s acts t c holder =
+    is_latency_critical s.table t && is_held_with_room s holder && not (is_granted_in acts c)
+    && none_leaves_for s (so_far s acts) t
+
+-- the class of a core by its holder
+abbrev pub class_by : Setting → List Action → ℕ → ℕ → Holder → Option ℕ
+class_by s acts t c holders.Free =
+    if is_banned (so_far s acts) c then None
+    else Some (idle_class s.table t (holder_of (so_far s acts) (sibling_of c))
+    (last_thread (so_far s acts) c))
+class_by s acts t c (holders.Held placement) =
+    if may_preempt s acts t c (holders.Held placement)
+    then burst_class s.table (so_far s acts) t (owner_of s.table placement.thread) else None
+class_by s acts t c (holders.Leaving placement cause) = None
+
+-- the class of core c for task t: the first that applies, if any
+abbrev pub class_of : Setting → List Action → ℕ → ℕ → Option ℕ
+class_of s acts t c = class_by s acts t c (holder_of (so_far s acts) c)
+
+-- the choice for task t: the core of the least class, of those with that class the lowest
+abbrev pub choice_of : Setting → List Action → ℕ → Option Candidate
+choice_of s acts t = best_below nat_lt (class_of s acts t) s.table.cores
+
+-- what was chosen: of class 1 to 3 a grant, else a revocation
+abbrev pub grant_of : Setting → ℕ → Option Candidate → Option Candidate → List Action
+grant_of s t None core = []
+grant_of s t (Some thread) None = []
+grant_of s t (Some thread) (Some core) =
+    if nat_lt core.rank 4
+    then Grant core.number (thread_of s.table t thread.number) core.rank ∷ []
+    else Revoke core.number (causes.Preempt t) ∷ []
+
+-- a congested task that may book one more core gets what is chosen for it
+abbrev pub grant_at : Setting → List Action → ℕ → List Action
+grant_at s acts t =
+    if is_congested s t && may_book s (so_far s acts) t
+    then grant_of s t (thread_choice s (so_far s acts) t) (choice_of s acts t)
+    else []
+
+-- the same, of a latency-critical task alone, or of a best-effort one alone
+abbrev pub grant_critical_at : Setting → List Action → ℕ → List Action
+grant_critical_at s acts t = if is_latency_critical s.table t then grant_at s acts t else []
+
+abbrev pub grant_best_effort_at : Setting → List Action → ℕ → List Action
+grant_best_effort_at s acts t = if is_latency_critical s.table t then [] else grant_at s acts t
+
+-- the latency-critical tasks by number
+abbrev pub critical_grants : Setting → List Action → List Action
+critical_grants s acts = in_turn (grant_critical_at s) acts (length s.table.tasks)
+
+-- the best-effort tasks by number
+abbrev pub best_effort_grants : Setting → List Action → List Action
+best_effort_grants s acts = in_turn (grant_best_effort_at s) acts (length s.table.tasks)
+
+-- how many best-effort tasks there are: so many actions their grants have at most
+abbrev pub best_effort_tasks : Table → ℕ
+best_effort_tasks table = count_below (λ t. not (is_latency_critical table t)) (length table.tasks)

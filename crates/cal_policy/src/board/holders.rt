@@ -1,0 +1,225 @@
+//! Who has each core, and how many commands each thread was sent.
+
+ghost use Rattle.std.specs.Prelude.{◌≡◌, ◌≢◌, ℕ, ◌+◌, ◌<◌, ◌≤◌, ◌^◌, ◌++◌};
+ghost use Rattle.std.specs.Prelude.{◌∷◌, [], List, Some, min, replicate};
+ghost use Rattle.cal_policy.specs.declared.history.action.Action.{Action};
+ghost use Rattle.cal_policy.specs.declared.history.action.Action.TheVariants.{Revoke, Grant};
+ghost use Rattle.cal_policy.specs.Board.{HoldingAgrees, HoldingSound, NamesCores, granted_in};
+ghost use Rattle.cal_policy.specs.Board.{holder_in, holder_at, placement_of, core_changed};
+ghost use Rattle.cal_policy.specs.Board.Counts as counts;
+ghost use Rattle.std.specs.Option.{IfSome};
+
+use crate::history::action::{Action, Cause};
+use cal_machine::{MOST_CORES, MOST_THREADS};
+
+/// What put a thread on a core: the thread, and the number of the Run that was sent to it, among
+/// all commands to it from 1 on.
+///
+/// A number in the code is the least of the command's number and 2^64: no record acknowledges more.
+#[derive(Clone, Copy, Debug, PartialEq, Eq)]
+pub struct Placement {
+    pub thread: u8,
+    pub number: u128,
+}
+
+/// Who has a core.
+#[derive(Clone, Copy, Debug, PartialEq, Eq)]
+pub enum Holder {
+    /// Nobody.
+    Free,
+    /// A thread that was granted it.
+    Held(Placement),
+    /// A thread that was granted it and was then sent Park, for this cause.
+    Leaving(Placement, Cause),
+}
+
+impl Holder {
+    /// The thread that has the core, and the Run that put it there; of a free core none.
+    pub fn placement(self) -> Option<Placement>
+        ensures { result ≡ placement_of self }
+    {
+        match self {
+            Holder::Free => None,
+            Holder::Held(placement) | Holder::Leaving(placement, _) => Some(placement),
+        }
+    }
+
+    /// Whether nobody has the core.
+    pub fn is_free(self) -> bool
+        ensures { result ≡ counts.is_free self }
+    {
+        match self {
+            Holder::Free => true,
+            Holder::Held(_) | Holder::Leaving(..) => false,
+        }
+    }
+
+    /// Whether a thread has the core and was not told to leave it.
+    pub fn is_held(self) -> bool
+        ensures { result ≡ counts.is_held self }
+    {
+        match self {
+            Holder::Held(_) => true,
+            Holder::Free | Holder::Leaving(..) => false,
+        }
+    }
+
+    /// Whether thread `k` has the core, told to leave it or not.
+    pub fn is_with(self, k: u8) -> bool
+        ensures { result ≡ counts.is_with k self }
+    {
+        match self {
+            Holder::Free => false,
+            Holder::Held(placement) | Holder::Leaving(placement, _) => placement.thread == k,
+        }
+    }
+}
+
+/// What the actions so far have made of the cores.
+#[derive(Drop)]
+pub struct Holding {
+    /// The last grant of each core.
+    pub granted: [Option<Placement>; MOST_CORES],
+    /// Who has each core.
+    pub holders: [Holder; MOST_CORES],
+    /// How many commands each thread was sent, at most 2^64.
+    pub sent: [u128; MOST_THREADS],
+}
+
+fn none_granted() -> [Option<Placement>; MOST_CORES]
+    ensures { result ≡ replicate 128 None }
+{
+    [None; MOST_CORES]
+}
+
+fn all_free() -> [Holder; MOST_CORES]
+    ensures { result ≡ replicate 128 Holder.Free }
+{
+    [Holder::Free; MOST_CORES]
+}
+
+/// The core whose holder an action changes.
+pub fn core_changed_by(action: Action) -> Option<u8>
+    ensures changed { result ≡ core_changed action }
+    ensures below { (cores threads : ℕ) → NamesCores cores threads action →
+        IfSome result (λ core. core < cores) }
+{
+    match action {
+        Action::Free { core } => Some(core),
+        Action::Revoke { core, .. } => Some(core),
+        Action::Grant { core, .. } => Some(core),
+        Action::Unban { .. } => None,
+        Action::Ban { .. } => None,
+        Action::Cap { .. } => None,
+    }
+}
+
+/// One command more, as numbers are kept.
+fn one_more(number: u128) -> u128
+    requires { number ≤ 2 ^ 64 }
+    ensures { result ≡ min (number + 1) (2 ^ 64) }
+{
+    if number < 1 << 64 { number + 1 } else { number }
+}
+
+impl Holding {
+    /// The state before any action.
+    pub fn new() -> Holding
+        ensures agrees { HoldingAgrees result [] }
+        ensures sound { (threads : ℕ) → HoldingSound threads result }
+        ensures free { (c : ℕ) → holder_in result c ≡ Holder.Free }
+    {
+        Holding {
+            granted: none_granted(),
+            holders: all_free(),
+            sent: [0; MOST_THREADS],
+        }
+    }
+
+    /// Who has this core; of no core nobody.
+    pub fn holder_at(&self, core: Option<u8>) -> Holder
+        requires { IfSome core (λ c. c < 128) }
+        ensures { result ≡ holder_at self.now core }
+    {
+        match core {
+            None => Holder::Free,
+            Some(core) => self.holders[core as usize],
+        }
+    }
+
+    /// The last grant of this core; of no core of the state none.
+    pub fn grant_of(&self, core: u8) -> Option<Placement>
+        ensures { result ≡ granted_in self.now core }
+    {
+        if core < 128 {
+            self.granted[core as usize]
+        } else {
+            None
+        }
+    }
+
+    /// Brings the state up to one more action.
+    pub fn apply(&mut self, action: Action)
+        requires sound { HoldingSound 128 self.old }
+        requires names { NamesCores 128 128 action }
+        ensures agrees { (x : List Action) → HoldingAgrees self.old x →
+            HoldingAgrees self.new (x ++ action ∷ []) }
+        ensures sound { (threads : ℕ) → HoldingSound threads self.old →
+            NamesCores 128 threads action → HoldingSound threads self.new }
+        ensures others { (c : ℕ) → core_changed action ≢ Some c →
+            holder_in self.new c ≡ holder_in self.old c }
+    {
+        match action {
+            Action::Free { core } => self.holders[core as usize] = Holder::Free,
+            Action::Revoke { core, cause } => self.revoke(core, cause),
+            Action::Grant {
+                core,
+                thread,
+                class,
+            } => self.grant(core, thread, class),
+            Action::Unban { .. } => {}
+            Action::Ban { .. } => {}
+            Action::Cap { .. } => {}
+        }
+    }
+
+    /// A core is revoked: the thread of its last grant is sent Park and is leaving.
+    fn revoke(&mut self, core: u8, cause: Cause)
+        requires sound { HoldingSound 128 self.old }
+        requires core { core < 128 }
+        ensures agrees { (x : List Action) → HoldingAgrees self.old x →
+            HoldingAgrees self.new (x ++ Revoke core cause ∷ []) }
+        ensures sound { (threads : ℕ) → HoldingSound threads self.old →
+            HoldingSound threads self.new }
+        ensures others { (c : ℕ) → c ≢ core → holder_in self.new c ≡ holder_in self.old c }
+    {
+        match self.granted[core as usize] {
+            None => self.holders[core as usize] = Holder::Free,
+            Some(placement) => {
+                let thread = placement.thread;
+                let number = one_more(self.sent[thread as usize]);
+                self.sent[thread as usize] = number;
+                self.holders[core as usize] = Holder::Leaving(placement, cause);
+            }
+        }
+    }
+
+    /// A core is granted: the thread is sent Run and holds it.
+    fn grant(&mut self, core: u8, thread: u8, class: u8)
+        requires sound { HoldingSound 128 self.old }
+        requires core { core < 128 }
+        requires thread { thread < 128 }
+        ensures agrees { (x : List Action) → HoldingAgrees self.old x →
+            HoldingAgrees self.new (x ++ Grant core thread class ∷ []) }
+        ensures sound { (threads : ℕ) → HoldingSound threads self.old → thread < threads →
+            HoldingSound threads self.new }
+        ensures others { (c : ℕ) → c ≢ core → holder_in self.new c ≡ holder_in self.old c }
+    {
+        let _ = class;
+        let number = one_more(self.sent[thread as usize]);
+        let placement = Placement { thread, number };
+        self.sent[thread as usize] = number;
+        self.granted[core as usize] = Some(placement);
+        self.holders[core as usize] = Holder::Held(placement);
+    }
+}

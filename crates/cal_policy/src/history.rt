@@ -1,0 +1,7 @@
+//! The plain types of a history: looks, inputs, actions, entries.
+
+pub mod action;
+pub mod action_list;
+pub mod entry;
+pub mod input;
+pub mod look;

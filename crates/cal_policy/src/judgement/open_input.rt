@@ -1,0 +1,133 @@
+//! What was found of the threads, and the input that a pass makes of it.
+
+ghost use Rattle.std.specs.Prelude.{◌≡◌, ◌+◌, ◌<◌, ◌++◌, ◌∷◌, [], List, length, IfOk};
+ghost use Rattle.cal_machine.specs.Table.{Table};
+ghost use Rattle.cal_policy.specs.Tasks.{threads_of_table};
+ghost use Rattle.cal_policy.specs.declared.history.entry.PassEntry.{PassEntry};
+ghost use Rattle.cal_policy.specs.declared.judgement.open_input.FoundLook.{FoundLook};
+ghost use Rattle.cal_policy.specs.Board.{HasSizes};
+ghost use Rattle.cal_policy.specs.Book.{AgreesWith};
+ghost use Rattle.cal_policy.specs.Judgement.OpenInput.{judged_input, IsOfFound};
+
+use crate::book::Book;
+use crate::history::input::{Input, Rooms};
+use crate::history::look::{Seen, SeenList};
+use cal_machine::Config;
+use cal_signal::Look;
+use std::alloc::{AllocError, Global};
+use std::marker::Model;
+
+/// What was found of one thread: what the look at its page gave, and whether its command ring had
+/// room.
+#[derive(Clone, Copy, Debug, PartialEq, Eq)]
+pub struct FoundLook {
+    /// What the look at the thread's page gave.
+    pub look: Look,
+    /// Whether the thread's command ring had room.
+    pub room: bool,
+}
+
+/// The input of a pass while its looks come in, the one at thread 0 first. Its memory is taken
+/// before the first look, so that none is asked for between that look and the pass.
+#[derive(Drop)]
+pub struct OpenInput {
+    threads: usize,
+    seen: Vec<Seen>,
+    rooms: Vec<bool>,
+}
+
+impl Model for OpenInput {
+    ghost use Rattle.std.specs.Prelude.{◌≡◌, ◌≤◌, length};
+    ghost use Rattle.std.specs.Vec.{vec_capacity};
+    ghost use Rattle.cal_policy.specs.Judgement.OpenInput.{OpenView};
+
+    ghost Value = { OpenView };
+
+    ghost view = { λ given. record {
+      threads = given.threads;
+      seen = given.seen.items;
+      rooms = given.rooms.items;
+    } };
+
+    ghost invariant = { λ given.
+        (length given.seen.items ≤ given.threads)
+        × (length given.rooms.items ≡ length given.seen.items)
+        × (given.threads ≤ vec_capacity given.seen) × (given.threads ≤ vec_capacity given.rooms) };
+}
+
+impl OpenInput {
+    /// An input with no look yet, and with room for one look at each thread of the table. Its error
+    /// is want of memory alone.
+    pub fn reserved(alloc: Global, config: &Config) -> Result<OpenInput, AllocError>
+        ensures threads { IfOk result (λ given. given.threads ≡ threads_of_table config.now) }
+        ensures empty { IfOk result (λ given. given.seen ≡ []) }
+        ensures found { IfOk result (λ given. (h : List PassEntry) →
+            IsOfFound config.now h [] given) }
+    {
+        let threads = config.threads();
+        let seen = Vec::with_capacity(alloc, threads)?;
+        let rooms = Vec::with_capacity(alloc, threads)?;
+        Ok(OpenInput {
+            threads,
+            seen,
+            rooms,
+        })
+    }
+
+    /// An input with no look yet, in the memory of one that is used up. It takes memory only where
+    /// that has no room for one look at each thread of the table. Its error is want of memory
+    /// alone.
+    pub fn again(used: Input, config: &Config) -> Result<OpenInput, AllocError>
+        ensures threads { IfOk result (λ given. given.threads ≡ threads_of_table config.now) }
+        ensures empty { IfOk result (λ given. given.seen ≡ []) }
+        ensures found { IfOk result (λ given. (h : List PassEntry) →
+            IsOfFound config.now h [] given) }
+    {
+        let threads = config.threads();
+        let Input { seen, rooms, .. } = used;
+        let mut seen = seen.into_items();
+        let mut rooms = rooms.into_items();
+        seen.clear();
+        rooms.clear();
+        seen.reserve(threads)?;
+        rooms.reserve(threads)?;
+        Ok(OpenInput {
+            threads,
+            seen,
+            rooms,
+        })
+    }
+
+    /// Takes what was found of the next thread, with the look as the book judges it. It takes no
+    /// memory.
+    pub fn look(&mut self, config: &Config, book: &Book, found: FoundLook)
+        requires table { self.old.threads ≡ threads_of_table config.now }
+        requires next { length self.old.seen < self.old.threads }
+        ensures threads { self.new.threads ≡ self.old.threads }
+        ensures one { length self.new.seen ≡ length self.old.seen + 1 }
+        ensures found { (h : List PassEntry) (looks : List FoundLook) → AgreesWith book.now h →
+            IsOfFound config.now h looks self.old →
+            IsOfFound config.now h (looks ++ found ∷ []) self.new }
+    {
+        let seen = book.judge(config, self.seen.len(), found.look);
+        self.seen.push_reserved(seen);
+        self.rooms.push_reserved(found.room);
+    }
+
+    /// The input of these looks at this clock and bandwidth figure. It takes no memory.
+    pub fn finish(self, now: u64, bandwidth: u64) -> Input
+        requires { length self.seen ≡ self.threads }
+        ensures judged { (table : Table) (h : List PassEntry) (looks : List FoundLook) →
+            IsOfFound table h looks self → result ≡ judged_input table h now bandwidth looks }
+        ensures sizes { (table : Table) → self.threads ≡ threads_of_table table →
+            HasSizes table result }
+    {
+        let OpenInput { seen, rooms, .. } = self;
+        Input {
+            now,
+            bandwidth,
+            seen: SeenList::new(seen),
+            rooms: Rooms::new(rooms),
+        }
+    }
+}

@@ -1,0 +1,117 @@
+//! Laws over the definitions alone, each the contract of a function that does nothing.
+
+ghost use Rattle.cal_policy.specs.Laws.{LegalIsOrderly, LegalIsSteady, LegalIsSound};
+ghost use Rattle.cal_policy.specs.Laws.{LegalIsShort, LegalIsApart, ChosenHasWaitedLongest};
+ghost use Rattle.cal_policy.specs.Laws.{ChosenIsOfLeastClass, VictimHasMostMisses};
+ghost use Rattle.cal_policy.specs.Laws.{ActionIsOneMore, LastThreadIsPlaced, LookIsOneMore};
+ghost use Rattle.cal_policy.specs.Laws.{ShownIsOneMore, JudgedIsOfItsLook, WholeIsAllowed};
+ghost use Rattle.cal_policy.specs.Laws.{NothingIsLegal, PrefixesAreLegal, OnePassMoreIsLegal};
+ghost use Rattle.cal_policy.specs.Laws.{CommandsFollow, CommandsBeginAlike};
+
+/// A legal history is orderly: so what asks for an orderly history may be called on every legal
+/// one.
+pub fn legal_is_orderly()
+    ensures { LegalIsOrderly }
+{}
+
+/// The thread that is chosen for a task has waited longest, of those that may be granted a core; of
+/// those that have waited as long it is the first. None is chosen only where none may be granted
+/// one.
+pub fn chosen_has_waited_longest()
+    ensures { ChosenHasWaitedLongest }
+{}
+
+/// The core that is chosen for a task has the least class that any core has for it; of those it is
+/// the lowest. None is chosen only where no core has a class.
+pub fn chosen_is_of_least_class()
+    ensures { ChosenIsOfLeastClass }
+{}
+
+/// After each number of its passes a legal history is steady: each core is with a thread of the
+/// table by its last grant, and no task books more cores than its limit.
+pub fn legal_is_steady()
+    ensures { LegalIsSteady }
+{}
+
+/// Each action of each pass of a legal history is one that a pass makes at its place, and fits the
+/// state there.
+pub fn legal_is_sound()
+    ensures { LegalIsSound }
+{}
+
+/// What one more action makes of holders, grants, commands, bans and caps: what it says, and where
+/// it says nothing all is as it was.
+pub fn action_is_one_more()
+    ensures { ActionIsOneMore }
+{}
+
+/// The thread of a core's last grant is that of its last placement.
+pub fn last_thread_is_placed()
+    ensures { LastThreadIsPlaced }
+{}
+
+/// After one more pass's looks a kept record is the one that they let be kept, and without one it
+/// is as it was.
+pub fn look_is_one_more()
+    ensures { LookIsOneMore }
+{}
+
+/// The task that loses a core to the bandwidth limit has had the most misses since the pass before,
+/// of those that may lose one; of those with as many it is the first. None does only where none
+/// may.
+pub fn victim_has_most_misses()
+    ensures { VictimHasMostMisses }
+{}
+
+/// At each place inside each pass of a legal history no core is banned while its sibling is.
+pub fn legal_is_apart()
+    ensures { LegalIsApart }
+{}
+
+/// Each pass of a legal history has at most 338 actions.
+pub fn legal_is_short()
+    ensures { LegalIsShort }
+{}
+
+/// After one more pass's looks what was last shown of a thread is what its look carried; where that
+/// carried no record it is as it was.
+pub fn shown_is_one_more()
+    ensures { ShownIsOneMore }
+{}
+
+/// What is judged of a look is said of that very look.
+pub fn judged_is_of_its_look()
+    ensures { JudgedIsOfItsLook }
+{}
+
+/// A look that is judged Whole acknowledges no more commands than were sent, and a core that it
+/// shows is its thread's by a Run that it acknowledges.
+pub fn whole_is_allowed()
+    ensures { WholeIsAllowed }
+{}
+
+/// Nothing is a legal history.
+pub fn nothing_is_legal()
+    ensures { NothingIsLegal }
+{}
+
+/// A legal history cut off after any number of passes is legal.
+pub fn prefixes_are_legal()
+    ensures { PrefixesAreLegal }
+{}
+
+/// A history with one entry more is legal exactly where it was legal and the entry is a pass after
+/// it.
+pub fn one_pass_more_is_legal()
+    ensures { OnePassMoreIsLegal }
+{}
+
+/// What more actions send a thread comes after all that was sent to it before.
+pub fn commands_follow()
+    ensures { CommandsFollow }
+{}
+
+/// The commands that a history sent a thread are the first ones of those of each longer history.
+pub fn commands_begin_alike()
+    ensures { CommandsBeginAlike }
+{}

@@ -1,0 +1,202 @@
+//! The third part of a pass: a core is emptied while a request on its sibling runs too long.
+
+ghost use Rattle.std.specs.Prelude.{◌≡◌, ◌*◌, ◌+◌, ◌<◌, ◌≤◌, ◌++◌, ◌∷◌, []};
+ghost use Rattle.std.specs.Prelude.{List, length, option_to_list, if◌then◌else◌};
+ghost use Rattle.std.specs.Option.{IfSome};
+ghost use Rattle.cal_machine.specs.Table.{Table, IsTable};
+ghost use Rattle.cal_policy.specs.Tasks.{threads_of_table};
+ghost use Rattle.cal_policy.specs.declared.history.action.Action.{Action};
+ghost use Rattle.cal_policy.specs.declared.history.action.Action.TheVariants.{Revoke};
+ghost use Rattle.cal_policy.specs.declared.history.action.Cause.TheVariants as causes;
+ghost use Rattle.cal_policy.specs.declared.history.entry.PassEntry.{PassEntry};
+ghost use Rattle.cal_policy.specs.History.Lists.{in_pair};
+ghost use Rattle.cal_policy.specs.History.{holder_of};
+ghost use Rattle.cal_policy.specs.Board.Counts.{is_held};
+ghost use Rattle.cal_policy.specs.Setting.{Setting, setting, so_far};
+ghost use Rattle.cal_policy.specs.Pass.Bans as rules;
+ghost use Rattle.cal_policy.specs.Board.{Stands, IsReady, NamesTable};
+ghost use Rattle.cal_policy.specs.Pass.Coupled.{both_of, BothName};
+
+use crate::board::Board;
+use crate::board::counts::is_over;
+use crate::board::holders::Holder;
+use crate::history::action::{Action, Cause};
+use crate::history::action_list::Actions;
+use crate::history::input::Input;
+use crate::pass::coupled::{Coupled, make_both, neither};
+use crate::tasks::is_latency_critical;
+use cal_machine::Config;
+use cal_signal::Record;
+
+/// Whether a record shows its thread on the core, at a request begun more than `limit` ticks ago.
+fn runs_too_long(clock: u64, rec: &Record, core: u8, limit: u64) -> bool
+    ensures { result ≡ rules.runs_too_long clock rec.now core limit }
+{
+    rec.running == u64::from(core) + 1
+        && rec.started != 0
+        && rec.started < clock
+        && limit < clock - rec.started
+}
+
+/// The thread that holds the core for a latency-critical task, where its request runs too long.
+fn too_long_on(config: &Config, input: &Input, board: &Board, core: u8) -> Option<u8>
+    requires table { IsTable config.now }
+    requires ready { IsReady config.now board.now }
+    requires core { core < config.now.cores }
+    ensures due { (h : List PassEntry) (acts : List Action) →
+        let s = setting config.now h input.entry.now in
+        Stands board.now s acts →
+        result ≡ rules.too_long_on s core (holder_of (so_far s acts) core) }
+    ensures thread { IfSome result (λ thread. thread < threads_of_table config.now) }
+{
+    match board.holding.holders[core as usize] {
+        Holder::Held(placement) => {
+            let task = config.task_of(placement.thread as usize);
+            let rec = &board.keeping.kept[placement.thread as usize];
+            let limit = config.task(task).request;
+            if is_latency_critical(config, task) && runs_too_long(input.now, rec, core, limit) {
+                Some(placement.thread)
+            } else {
+                None
+            }
+        }
+        Holder::Free | Holder::Leaving(..) => None,
+    }
+}
+
+/// Whether the core may be emptied: it is free, being left, or held by a thread whose ring has room
+/// and whose task is over.
+fn may_be_emptied(config: &Config, input: &Input, board: &Board, core: u8) -> bool
+    requires table { IsTable config.now }
+    requires ready { IsReady config.now board.now }
+    requires rooms { length input.now.rooms ≡ threads_of_table config.now }
+    requires core { core < config.now.cores }
+    ensures { (h : List PassEntry) (acts : List Action) →
+        let s = setting config.now h input.entry.now in
+        Stands board.now s acts →
+        result ≡ rules.may_be_emptied s (so_far s acts) (holder_of (so_far s acts) core) }
+{
+    match board.holding.holders[core as usize] {
+        Holder::Free | Holder::Leaving(..) => true,
+        Holder::Held(placement) => {
+            let thread = placement.thread as usize;
+            input.rooms.as_slice()[thread] && is_over(config, board, config.task_of(thread))
+        }
+    }
+}
+
+/// Whether neither the core nor its sibling is banned, and the sibling may be emptied.
+fn may_ban_beside(config: &Config, input: &Input, board: &Board, core: u8) -> bool
+    requires table { IsTable config.now }
+    requires ready { IsReady config.now board.now }
+    requires rooms { length input.now.rooms ≡ threads_of_table config.now }
+    requires core { core < config.now.cores }
+    ensures { (h : List PassEntry) (acts : List Action) →
+        let s = setting config.now h input.entry.now in
+        Stands board.now s acts → result ≡ rules.may_ban_beside s (so_far s acts) core }
+{
+    let beside = config.machine().sibling(core);
+    board.bans.bans[core as usize].is_none()
+        && board.bans.bans[beside as usize].is_none()
+        && may_be_emptied(config, input, board, beside)
+}
+
+/// The thread for whose request on the core the sibling is to be banned, where a ban is due.
+fn ban_due(config: &Config, input: &Input, board: &Board, core: u8) -> Option<u8>
+    requires table { IsTable config.now }
+    requires ready { IsReady config.now board.now }
+    requires rooms { length input.now.rooms ≡ threads_of_table config.now }
+    requires core { core < config.now.cores }
+    ensures due { (h : List PassEntry) (acts : List Action) →
+        let s = setting config.now h input.entry.now in
+        Stands board.now s acts → result ≡ rules.ban_due s (so_far s acts) core }
+    ensures thread { IfSome result (λ thread. thread < threads_of_table config.now) }
+{
+    let thread = too_long_on(config, input, board, core)?;
+    if may_ban_beside(config, input, board, core) {
+        Some(thread)
+    } else {
+        None
+    }
+}
+
+/// The revocation of a core that is banned for core `by`, where it is held.
+fn revocation(board: &Board, core: u8, by: u8) -> Option<Action>
+    requires { core < 128 }
+    ensures due { (s : Setting) (acts : List Action) → Stands board.now s acts →
+        option_to_list result ≡ (if is_held (holder_of (so_far s acts) core)
+        then Revoke core (causes.Ban by) ∷ [] else []) }
+    ensures names { (table : Table) → core < table.cores → IfSome result (NamesTable table) }
+{
+    match board.holding.holders[core as usize] {
+        Holder::Held(_) => Some(Action::Revoke {
+            core,
+            cause: Cause::Ban { by },
+        }),
+        Holder::Free | Holder::Leaving(..) => None,
+    }
+}
+
+/// The ban that a core gives rise to, and where the banned core is held its revocation.
+fn ban_beside(config: &Config, input: &Input, board: &Board, core: u8) -> Coupled
+    requires table { IsTable config.now }
+    requires ready { IsReady config.now board.now }
+    requires rooms { length input.now.rooms ≡ threads_of_table config.now }
+    requires core { core < config.now.cores }
+    ensures due { (h : List PassEntry) (acts : List Action) →
+        let s = setting config.now h input.entry.now in
+        Stands board.now s acts → both_of result ≡ rules.ban_at s acts core }
+    ensures names { BothName config.now result }
+    ensures alone { result.first ≡ None → result.second ≡ None }
+{
+    let beside = config.machine().sibling(core);
+    let Some(thread) = ban_due(config, input, board, core) else {
+        return neither();
+    };
+    let ban = Action::Ban {
+        core: beside,
+        thread,
+        started: board.keeping.kept[thread as usize].started,
+    };
+    Coupled {
+        first: Some(ban),
+        second: revocation(board, beside, core),
+    }
+}
+
+/// What the cores of this pair give rise to: once the one bans the other, that one bans nothing.
+fn ban_in_pair(config: &Config, input: &Input, board: &Board, pair: u8) -> Coupled
+    requires table { IsTable config.now }
+    requires ready { IsReady config.now board.now }
+    requires rooms { length input.now.rooms ≡ threads_of_table config.now }
+    requires pair { 2 * pair + 1 < config.now.cores }
+    ensures due { (h : List PassEntry) (acts : List Action) →
+        let s = setting config.now h input.entry.now in
+        Stands board.now s acts → both_of result ≡ in_pair (rules.ban_at s) acts pair }
+    ensures names { BothName config.now result }
+{
+    let lower = ban_beside(config, input, board, 2 * pair);
+    match lower.first {
+        Some(_) => lower,
+        None => ban_beside(config, input, board, 2 * pair + 1),
+    }
+}
+
+/// Bans the sibling of each core on which a request runs too long, and revokes it where it is held.
+/// The cores are gone over upwards, pair by pair, and a pair gives at most one ban.
+pub fn ban_siblings(config: &Config, input: &Input, board: &mut Board, out: &mut Actions)
+    requires table { IsTable config.now }
+    requires ready { IsReady config.now board.old }
+    requires rooms { length input.now.rooms ≡ threads_of_table config.now }
+    requires room { length out.old + 128 ≤ 338 }
+    ensures acts { (h : List PassEntry) → let s = setting config.now h input.entry.now in
+        Stands board.old s out.old →
+        (out.new ≡ out.old ++ rules.bans s out.old) × Stands board.new s out.new }
+    ensures ready { IsReady config.now board.new }
+    ensures length { length out.new ≤ length out.old + 128 }
+{
+    for pair in 0..config.machine().cores() / 2 {
+        let both = ban_in_pair(config, input, board, pair);
+        make_both(config, board, out, both);
+    }
+}

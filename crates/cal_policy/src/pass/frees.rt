@@ -1,0 +1,87 @@
+//! The first part of a pass: each core whose thread has acknowledged its Run and left is free.
+
+ghost use Rattle.std.specs.Prelude.{◌≡◌, ℕ, ◌+◌, ◌<◌, ◌≤◌, ◌++◌, List, length, option_to_list};
+ghost use Rattle.std.specs.Option.{IfSome};
+ghost use Rattle.cal_machine.specs.Table.{IsTable};
+ghost use Rattle.cal_policy.specs.declared.history.action.Action.{Action};
+ghost use Rattle.cal_policy.specs.declared.history.entry.PassEntry.{PassEntry};
+ghost use Rattle.cal_policy.specs.Setting.{setting, so_far, kept_now};
+ghost use Rattle.cal_policy.specs.Pass.Frees.{has_left, shows_left, free_at, frees};
+ghost use Rattle.cal_policy.specs.History.{holder_of};
+ghost use Rattle.cal_policy.specs.Board.{Stands, IsReady, NamesTable, kept_number};
+
+use crate::board::Board;
+use crate::board::core_sets::next_core;
+use crate::board::holders::Holder;
+use crate::history::action::Action;
+use crate::history::action_list::Actions;
+use crate::history::input::Input;
+use crate::pass::appending::make;
+use cal_machine::Config;
+use cal_signal::Record;
+
+/// Whether a record shows that the core of this Run was left: it acknowledges the Run, and its
+/// thread is on no core.
+fn shows_run_left(rec: Record, number: u128) -> bool
+    ensures { (n : ℕ) → number ≡ kept_number n → result ≡ has_left rec n }
+{
+    number <= u128::from(rec.taken) && rec.running == 0
+}
+
+/// Whether the kept record of the core's thread shows that it left.
+pub fn is_left(config: &Config, input: &Input, board: &Board, core: u8) -> bool
+    requires ready { IsReady config.now board.now }
+    requires core { core < 128 }
+    ensures { (h : List PassEntry) (acts : List Action) →
+        Stands board.now (setting config.now h input.entry.now) acts →
+        result ≡ shows_left (kept_now (setting config.now h input.entry.now))
+        (holder_of (so_far (setting config.now h input.entry.now) acts) core) }
+{
+    let kept = &board.keeping.kept;
+    match board.holding.holders[core as usize] {
+        Holder::Free => false,
+        Holder::Held(placement) => {
+            shows_run_left(kept[placement.thread as usize], placement.number)
+        }
+        Holder::Leaving(placement, _) => {
+            shows_run_left(kept[placement.thread as usize], placement.number)
+        }
+    }
+}
+
+/// The Free of a core whose thread has left it.
+fn free_due(config: &Config, input: &Input, board: &Board, core: u8) -> Option<Action>
+    requires table { IsTable config.now }
+    requires ready { IsReady config.now board.now }
+    requires core { core < config.now.cores }
+    ensures due { (h : List PassEntry) (acts : List Action) →
+        Stands board.now (setting config.now h input.entry.now) acts →
+        option_to_list result ≡ free_at (setting config.now h input.entry.now) acts core }
+    ensures names { IfSome result (NamesTable config.now) }
+{
+    if is_left(config, input, board, core) {
+        Some(Action::Free { core })
+    } else {
+        None
+    }
+}
+
+/// Frees each core whose thread has left it, upwards. Only those that are taken are gone over.
+pub fn free_left(config: &Config, input: &Input, board: &mut Board, out: &mut Actions)
+    requires table { IsTable config.now }
+    requires ready { IsReady config.now board.old }
+    requires room { length out.old + config.now.cores ≤ 338 }
+    ensures acts { (h : List PassEntry) →
+        Stands board.old (setting config.now h input.entry.now) out.old →
+        (out.new ≡ out.old ++ frees (setting config.now h input.entry.now) out.old)
+        × Stands board.new (setting config.now h input.entry.now) out.new }
+    ensures ready { IsReady config.now board.new }
+    ensures length { length out.new ≤ length out.old + config.now.cores }
+{
+    let mut first = 0;
+    while let Some(core) = next_core(config, &board.sets.taken, first) {
+        let action = free_due(config, input, board, core);
+        make(config, board, out, action);
+        first = core + 1;
+    }
+}

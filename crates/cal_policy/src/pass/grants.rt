@@ -1,0 +1,190 @@
+//! The last part of a pass: each congested task gets a core, or has one revoked for it.
+
+ghost use Rattle.std.specs.Prelude.{◌≡◌, ◌+◌, ◌<◌, ◌≤◌, ◌++◌, not, List};
+ghost use Rattle.std.specs.Prelude.{length, option_to_list, if◌then◌else◌};
+ghost use Rattle.std.specs.Option.{IfSome};
+ghost use Rattle.cal_machine.specs.Table.{IsTable};
+ghost use Rattle.cal_policy.specs.declared.history.action.Action.{Action};
+ghost use Rattle.cal_policy.specs.declared.history.entry.PassEntry.{PassEntry};
+ghost use Rattle.cal_policy.specs.declared.history.input.Input.{Input};
+ghost use Rattle.cal_policy.specs.Tasks as tasks;
+ghost use Rattle.cal_policy.specs.Tasks.{threads_of_table, limit_of};
+ghost use Rattle.cal_policy.specs.Setting.{setting, so_far};
+ghost use Rattle.cal_policy.specs.History.{holder_of};
+ghost use Rattle.cal_policy.specs.Pass.Grants as rules;
+ghost use Rattle.cal_policy.specs.Pass.Grants.{grant_of, grant_at, grant_critical_at};
+ghost use Rattle.cal_policy.specs.Pass.Grants.{grant_best_effort_at, best_effort_tasks};
+ghost use Rattle.cal_policy.specs.Board.{Stands, IsReady, NamesTable};
+ghost use Rattle.cal_policy.specs.Board.Survey.{Surveys};
+
+use crate::board::Board;
+use crate::board::counts::cap_of;
+use crate::board::survey::{Survey, survey_of};
+use crate::history::action::{Action, Cause};
+use crate::history::action_list::Actions;
+use crate::history::input::Input;
+use crate::pass::appending::make;
+use crate::pass::choice::Candidate;
+use crate::pass::core_choice::choose_core;
+use crate::pass::delays::is_congested;
+use crate::pass::thread_choice::choose_thread;
+use crate::tasks::is_latency_critical;
+use cal_machine::Config;
+
+/// Whether the task may book one more core: it books fewer than its limit and, if it is
+/// best-effort, fewer than its cap.
+fn may_book(config: &Config, board: &Board, survey: &Survey, task: usize) -> bool
+    requires table { IsTable config.now }
+    requires task { task < length config.now.tasks }
+    ensures { (h : List PassEntry) (input : Input) (acts : List Action) →
+        let s = setting config.now h input in
+        Stands board.now s acts → Surveys config.now (holder_of (so_far s acts)) survey.now →
+        result ≡ rules.may_book s (so_far s acts) task }
+{
+    let booked = survey.booked[task];
+    let below_cap = is_latency_critical(config, task) || booked < cap_of(config, board, task);
+    booked < config.task(task).limit && below_cap
+}
+
+/// What was chosen for the task: a core of class 1 to 3 is granted, one of another class is revoked
+/// for it.
+fn chosen(
+    config: &Config,
+    task: usize,
+    thread: Option<Candidate>,
+    core: Option<Candidate>,
+) -> Option<Action>
+    requires table { IsTable config.now }
+    requires task { task < length config.now.tasks }
+    requires thread { IfSome thread (λ best. best.number < limit_of config.now task) }
+    requires core { IfSome core (λ best. (best.number < config.now.cores) × (best.rank < 256)) }
+    ensures chosen { (h : List PassEntry) (input : Input) →
+        option_to_list result ≡ grant_of (setting config.now h input) task thread core }
+    ensures names { IfSome result (NamesTable config.now) }
+{
+    let thread = thread?;
+    let core = core?;
+    if core.rank >= 4 {
+        let cause = Cause::Preempt { task: task as u8 };
+        return Some(Action::Revoke {
+            core: core.number,
+            cause,
+        });
+    }
+    let (first, _) = config.threads_of(task);
+    Some(Action::Grant {
+        core: core.number,
+        thread: first as u8 + thread.number,
+        class: core.rank as u8,
+    })
+}
+
+/// What the task gets, if it is congested and may book one more core.
+fn grant_due(config: &Config, input: &Input, board: &Board, task: usize) -> Option<Action>
+    requires table { IsTable config.now }
+    requires ready { IsReady config.now board.now }
+    requires task { task < length config.now.tasks }
+    requires rooms { length input.now.rooms ≡ threads_of_table config.now }
+    ensures due { (h : List PassEntry) (acts : List Action) →
+        Stands board.now (setting config.now h input.entry.now) acts →
+        option_to_list result ≡ grant_at (setting config.now h input.entry.now) acts task }
+    ensures names { IfSome result (NamesTable config.now) }
+{
+    if !is_congested(config, input, board, task) {
+        return None;
+    }
+    let survey = survey_of(config, board);
+    if !may_book(config, board, survey, task) {
+        return None;
+    }
+    let thread = choose_thread(config, input, board, survey, task);
+    let core = choose_core(config, input, board, survey, task);
+    chosen(config, task, thread, core)
+}
+
+/// Gives a latency-critical task what it gets, and another nothing.
+fn grant_critical(config: &Config, input: &Input, board: &mut Board, out: &mut Actions, task: usize)
+    requires table { IsTable config.now }
+    requires ready { IsReady config.now board.old }
+    requires task { task < length config.now.tasks }
+    requires rooms { length input.now.rooms ≡ threads_of_table config.now }
+    requires room { length out.old + (if tasks.is_latency_critical config.now task then 1 else 0)
+        ≤ 338 }
+    ensures acts { (h : List PassEntry) →
+        Stands board.old (setting config.now h input.entry.now) out.old →
+        (out.new ≡ out.old ++ grant_critical_at (setting config.now h input.entry.now) out.old task)
+        × Stands board.new (setting config.now h input.entry.now) out.new }
+    ensures ready { IsReady config.now board.new }
+    ensures length { length out.new
+        ≤ length out.old + (if tasks.is_latency_critical config.now task then 1 else 0) }
+{
+    if is_latency_critical(config, task) {
+        let action = grant_due(config, input, board, task);
+        make(config, board, out, action);
+    }
+}
+
+/// Gives a best-effort task what it gets, and another nothing.
+fn grant_best_effort(
+    config: &Config,
+    input: &Input,
+    board: &mut Board,
+    out: &mut Actions,
+    task: usize,
+)
+    requires table { IsTable config.now }
+    requires ready { IsReady config.now board.old }
+    requires task { task < length config.now.tasks }
+    requires rooms { length input.now.rooms ≡ threads_of_table config.now }
+    requires room { length out.old + (if not (tasks.is_latency_critical config.now task) then 1
+        else 0) ≤ 338 }
+    ensures acts { (h : List PassEntry) →
+        Stands board.old (setting config.now h input.entry.now) out.old →
+        (out.new ≡ out.old ++ grant_best_effort_at (setting config.now h input.entry.now) out.old
+        task) × Stands board.new (setting config.now h input.entry.now) out.new }
+    ensures ready { IsReady config.now board.new }
+    ensures length { length out.new
+        ≤ length out.old + (if not (tasks.is_latency_critical config.now task) then 1 else 0) }
+{
+    if !is_latency_critical(config, task) {
+        let action = grant_due(config, input, board, task);
+        make(config, board, out, action);
+    }
+}
+
+/// Gives each latency-critical task, by number, what it gets. Room is left for the best-effort
+/// ones.
+pub fn critical_grants(config: &Config, input: &Input, board: &mut Board, out: &mut Actions)
+    requires table { IsTable config.now }
+    requires ready { IsReady config.now board.old }
+    requires rooms { length input.now.rooms ≡ threads_of_table config.now }
+    requires room { length out.old + 16 ≤ 338 }
+    ensures acts { (h : List PassEntry) →
+        Stands board.old (setting config.now h input.entry.now) out.old →
+        (out.new ≡ out.old ++ rules.critical_grants (setting config.now h input.entry.now) out.old)
+        × Stands board.new (setting config.now h input.entry.now) out.new }
+    ensures ready { IsReady config.now board.new }
+    ensures length { length out.new + best_effort_tasks config.now ≤ length out.old + 16 }
+{
+    for task in 0..config.tasks() {
+        grant_critical(config, input, board, out, task);
+    }
+}
+
+/// Gives each best-effort task, by number, what it gets.
+pub fn best_effort_grants(config: &Config, input: &Input, board: &mut Board, out: &mut Actions)
+    requires table { IsTable config.now }
+    requires ready { IsReady config.now board.old }
+    requires rooms { length input.now.rooms ≡ threads_of_table config.now }
+    requires room { length out.old + best_effort_tasks config.now ≤ 338 }
+    ensures acts { (h : List PassEntry) →
+        Stands board.old (setting config.now h input.entry.now) out.old →
+        (out.new ≡ out.old ++ rules.best_effort_grants (setting config.now h input.entry.now)
+        out.old) × Stands board.new (setting config.now h input.entry.now) out.new }
+    ensures ready { IsReady config.now board.new }
+    ensures length { length out.new ≤ length out.old + best_effort_tasks config.now }
+{
+    for task in 0..config.tasks() {
+        grant_best_effort(config, input, board, out, task);
+    }
+}

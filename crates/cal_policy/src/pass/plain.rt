@@ -1,0 +1,29 @@
+//! The plain pass: decided from the whole history.
+
+ghost use Rattle.std.specs.Prelude.{◌≡◌, []};
+ghost use Rattle.cal_policy.specs.Setting.{setting};
+ghost use Rattle.cal_policy.specs.Judgement.Judging.{IsInput};
+ghost use Rattle.cal_policy.specs.Judgement.Orderly.{IsOrderly};
+ghost use Rattle.cal_policy.specs.Pass.{pass_of};
+
+use crate::board::replay::board_of;
+use crate::history::action_list::Actions;
+use crate::history::entry::PassEntry;
+use crate::history::input::Input;
+use crate::pass::deciding::decide;
+use cal_machine::Config;
+
+/// Appends the actions of the pass on this input after this history, and no others, to an empty
+/// list. It goes over the whole history once, and takes no memory.
+///
+/// The rules of a pass are after Caladan; the exact ones are this project's own.
+pub fn plain_pass(config: &Config, history: &[PassEntry], input: &Input, out: &mut Actions)
+    requires orderly { IsOrderly config.now history.now }
+    requires input { IsInput config.now history.now input.now }
+    requires empty { out.old ≡ [] }
+    ensures { out.new ≡ pass_of (setting config.now history.now input.entry.now) }
+{
+    config.limits();
+    let mut board = board_of(config, history);
+    decide(config, input, &mut board, out);
+}
