@@ -11,8 +11,6 @@ mod ring;
 mod rule;
 mod sender;
 mod taker;
-#[cfg(test)]
-mod tests;
 
 pub use cal_machine::Command;
 pub use ring::{RingEnd, close_ring, open_ring};

@@ -30,6 +30,3 @@ pub use laws::{
 };
 pub use legality::{legal_is_permitted, legal_is_right};
 pub use refusal::{Refused, Why};
-
-#[cfg(test)]
-mod tests;

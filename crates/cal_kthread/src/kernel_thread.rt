@@ -100,6 +100,14 @@ impl KernelThread {
         Ok(())
     }
 
+    /// The clock of its last turn, in ticks, or 0 before the first: no turn may have a lower one.
+    pub fn clock(&self) -> u64
+        ensures { result ≡ (last_of self.now.thread.publisher.published).stamp }
+    {
+        let (_, last) = self.thread.publisher.last();
+        last.stamp
+    }
+
     /// What it did so far, in order.
     pub fn journal(&self) -> &[Entry]
         ensures journal { result.now ≡ self.now.journal }

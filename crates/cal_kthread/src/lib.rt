@@ -18,8 +18,6 @@ mod kernel_thread;
 pub mod laws;
 mod queue;
 mod team;
-#[cfg(test)]
-mod tests;
 mod turn;
 
 pub use cal_machine::Request;

@@ -4,6 +4,3 @@
 mod listed;
 
 pub use listed::Listed;
-
-#[cfg(test)]
-mod tests;

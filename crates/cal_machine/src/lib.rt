@@ -32,6 +32,3 @@ pub use numbering::MOST_THREADS;
 pub use request::Request;
 pub use task::{Kind, Task};
 pub use task_table::MOST_TASKS;
-
-#[cfg(test)]
-mod tests;

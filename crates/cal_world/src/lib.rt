@@ -18,6 +18,3 @@ pub use schedules::{
 };
 pub use world::World;
 pub use world::replay::{Stopped, run_events};
-
-#[cfg(test)]
-mod tests;

@@ -1,3 +1,0 @@
-mod guard;
-mod histories;
-mod made;

@@ -1,0 +1,5 @@
+//! What is permitted, and the guard.
+
+mod histories;
+mod made;
+mod refusals;

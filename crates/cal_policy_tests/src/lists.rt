@@ -1,0 +1,17 @@
+use cal_lists::Listed;
+use std::alloc::{AllocError, Global};
+use std::process::Abort;
+
+fn three(alloc: Global) -> Result<Listed<u64>, AllocError> {
+    Ok(Listed::new(vec![in alloc; 3, 1, 2]?))
+}
+
+#[test]
+fn lists_give_their_members_and_their_vector(rt: HostRuntime) -> Result<(), AllocError> {
+    let list = three(rt.alloc())?;
+    assert_eq!(rt; list.as_slice(), &[3_u64, 1, 2][..]);
+    let mut items = list.into_items();
+    items.push(5)?;
+    assert_eq!(rt; items.as_slice(), &[3_u64, 1, 2, 5][..]);
+    Ok(())
+}

@@ -1,0 +1,102 @@
+// Tables, and a history for one of them.
+use cal_machine::{Config, ConfigFault};
+use cal_policy::PassEntry;
+use cal_trace::{FaultKind, read_history};
+use std::alloc::Global;
+use std::test::Fail;
+
+pub(crate) const ONE_THREAD: &[u8] = b"cores = 2
+bandwidth_limit = 1000
+
+[[task]]
+kind = \"lc\"
+guaranteed = 1
+limit = 1
+delay = 10
+request = 50
+";
+
+pub(crate) fn one_thread(alloc: Global) -> Result<Config, Fail> {
+    Ok(Config::read(alloc, ONE_THREAD)?)
+}
+
+pub(crate) const TWO_THREADS: &[u8] = b"cores = 4
+bandwidth_limit = 1000
+
+[[task]]
+kind = \"lc\"
+guaranteed = 1
+limit = 1
+delay = 10
+request = 50
+
+[[task]]
+kind = \"be\"
+guaranteed = 0
+limit = 1
+delay = 0
+request = 0
+";
+
+/// A table of two threads, where memory was there for it.
+pub(crate) fn two_threads(alloc: Global) -> Result<Option<Config>, Fail> {
+    match Config::read(alloc, TWO_THREADS) {
+        Ok(config) => Ok(Some(config)),
+        Err(ConfigFault::Memory) => Ok(None),
+        Err(fault) => Err(Fail::from(fault)),
+    }
+}
+
+/// A history with a row of every kind, for two threads.
+pub(crate) const EVERY_ROW: &[u8] = b"caladan-history,2
+pass,100,7
+whole,0,1,1,0,0,1,90,0,0,95,0,0
+ahead,1,0,2,9,4,8,7,6,5,4,3,18446744073709551615
+grant,0,0,3
+cap,1,0
+revoke,0,bandwidth
+pass,200,0
+foreign,0,1,3,1,128,2,3,4,72057594037927936,5,6,7
+busy,1,1,6,9
+free,0
+unban,3
+ban,3,1,99
+revoke,1,ban,2
+revoke,2,preempt,1
+cap,0,16
+grant,3,1,5
+end,2
+";
+
+/// Its report.
+pub(crate) const EVERY_ROW_REPORT: &[u8] = b"pass 0 now 100 bandwidth 7
+  kept 1 ahead
+  grant core 0 to thread 0 class 3
+  cap task 1 at 0
+  revoke core 0 for bandwidth
+pass 1 now 200 bandwidth 0
+  kept 0 foreign
+  kept 1 busy
+  free core 0
+  unban core 3
+  ban core 3 for thread 1 started 99
+  revoke core 1 for ban by core 2
+  revoke core 2 for task 1
+  cap task 0 at 16
+  grant core 3 to thread 1 class 5
+end 2 passes
+task 0 lc held 0 leaving 0
+task 1 be held 1 leaving 0 cap 0
+";
+
+/// The history with a row of every kind, and its table, where memory was there for them.
+pub(crate) fn every_row(alloc: Global) -> Result<Option<(Config, Vec<PassEntry>)>, Fail> {
+    let Some(config) = two_threads(alloc)? else {
+        return Ok(None);
+    };
+    match read_history(alloc, &config, EVERY_ROW) {
+        Ok(history) => Ok(Some((config, history))),
+        Err(fault) if fault.kind == FaultKind::Memory => Ok(None),
+        Err(fault) => Err(Fail::from(fault)),
+    }
+}

@@ -1,0 +1,189 @@
+//! Kernel threads open, serve, steal and end as the worked examples say, also while others do.
+ghost use Rattle.std.specs.Prelude.{◌≡◌, ◌≤◌, IfOk, IfSome, IsTrue, length, map};
+ghost use Rattle.cal_command.specs.Commands.{IsSendable};
+ghost use Rattle.cal_kthread.specs.End.Account.{IsAccounted, KeepsItsWork};
+ghost use Rattle.cal_kthread.specs.End.HandingOut.{HandedOutNothing};
+ghost use Rattle.cal_kthread.specs.Places.{Each};
+ghost use Rattle.cal_kthread.specs.Team.{IsTeam, place_of, place_of_rest};
+ghost use Rattle.cal_machine.specs.Tasks.{threads_in};
+
+mod faults;
+mod meetings;
+mod steals;
+mod teams;
+mod turns;
+
+use cal_command::{Command, Sender};
+use cal_kthread::laws::{ends_are_a_team, no_ends_yet, one_end_more, same_place_keeps_team};
+use cal_kthread::{
+    Entry, KernelEnd, KernelThread, Request, RequestList, TurnFault, hand_out_all, settle,
+};
+use cal_machine::Config;
+use cal_signal::Record;
+use std::alloc::{AllocError, Global};
+
+/// One task of one thread, of two and of three.
+const ONE_THREAD: &[u8] =
+    b"cores = 2\nbandwidth_limit = 1000\n[[task]]\nkind = \"lc\"\nguaranteed = 0\nlimit = 1\n\
+    delay = 10\nrequest = 1000\n";
+
+const TWO_THREADS: &[u8] =
+    b"cores = 2\nbandwidth_limit = 1000\n[[task]]\nkind = \"lc\"\nguaranteed = 0\nlimit = 2\n\
+    delay = 10\nrequest = 1000\n";
+
+const THREE_THREADS: &[u8] =
+    b"cores = 4\nbandwidth_limit = 1000\n[[task]]\nkind = \"lc\"\nguaranteed = 0\nlimit = 3\n\
+    delay = 10\nrequest = 1000\n";
+
+/// A request of that many turns' work.
+fn request(id: u64, work: u64) -> Request {
+    Request {
+        id,
+        work,
+        misses: 3,
+    }
+}
+
+/// A record of these words, in their order.
+fn record(words: [u64; 9]) -> Record {
+    Record::from_words(words)
+}
+
+/// Is there no request, or one with work?
+fn may_arrive(arriving: Option<Request>) -> bool
+    ensures { IsTrue result → IfSome arriving (λ request. 1 ≤ request.work) }
+{
+    match arriving {
+        Some(request) => request.work >= 1,
+        None => true,
+    }
+}
+
+/// A turn with this request or none. False where the clock falls or the request has no work: then
+/// none is made.
+pub fn turn(
+    thread: &mut KernelThread,
+    now: u64,
+    arriving: Option<Request>,
+) -> Result<bool, TurnFault>
+    ensures { place_of thread.new.thread ≡ place_of thread.old.thread }
+{
+    if now < 1 || now < thread.clock() || !may_arrive(arriving) {
+        return Ok(false);
+    }
+    thread.turn(now, arriving)?;
+    Ok(true)
+}
+
+/// A turn of one thread of a team: which one, the commands that are sent to it before, when, and
+/// what arrives.
+type Turn<'a> = (usize, &'a [Command], u64, Option<Request>);
+
+/// The turns, one after the other. False where a command was not sent, or a turn not made.
+fn all_turns(threads: &mut Vec<KernelThread>, senders: &mut Vec<Sender>, turns: &[Turn]) -> bool
+    requires { IsTeam (map (λ t. place_of t.thread) threads.old.items) }
+    ensures team { IsTeam (map (λ t. place_of t.thread) threads.new.items) }
+    ensures count { length threads.new.items ≡ length threads.old.items }
+{
+    for (k, commands, now, arriving) in turns {
+        if !sent(senders, *k, commands) || !turn_of(threads, *k, *now, *arriving) {
+            return false;
+        }
+    }
+    true
+}
+
+/// A turn of this thread of a team.
+fn turn_of(threads: &mut Vec<KernelThread>, k: usize, now: u64, arriving: Option<Request>) -> bool
+    requires { IsTeam (map (λ t. place_of t.thread) threads.old.items) }
+    ensures team { IsTeam (map (λ t. place_of t.thread) threads.new.items) }
+    ensures count { length threads.new.items ≡ length threads.old.items }
+{
+    if k >= threads.len() {
+        return false;
+    }
+    same_place_keeps_team();
+    turn(&mut threads[k], now, arriving) == Ok(true)
+}
+
+/// Sends the commands to this thread. False where there is no room for one, or no such core.
+fn sent(senders: &mut Vec<Sender>, k: usize, commands: &[Command]) -> bool {
+    if k >= senders.len() {
+        return false;
+    }
+    for command in commands {
+        if !send(&mut senders[k], *command) {
+            return false;
+        }
+    }
+    true
+}
+
+/// Sends a command, where there is room.
+fn send(sender: &mut Sender, command: Command) -> bool {
+    if !is_sendable(command) || !sender.room() {
+        return false;
+    }
+    sender.send(command);
+    true
+}
+
+/// Is it no Run for a core that no machine has?
+fn is_sendable(command: Command) -> bool
+    ensures { IsTrue result → IsSendable command }
+{
+    match command {
+        Command::Run(core) => core < 128,
+        Command::Park => true,
+    }
+}
+
+/// The ends of a team's threads, in their order.
+fn ends_of(alloc: Global, threads: Vec<KernelThread>) -> Result<Vec<KernelEnd>, AllocError>
+    requires team { IsTeam (map (λ t. place_of t.thread) threads.items) }
+    ensures team { IfOk result (λ ends. IsTeam (map (λ e. place_of_rest e.rest) ends.items)) }
+    ensures count { IfOk result (λ ends. length ends.items ≡ length threads.items) }
+    ensures work { IfOk result (λ ends. Each KeepsItsWork ends.items) }
+    ensures untouched { IfOk result (λ ends. Each HandedOutNothing ends.items) }
+{
+    let mut ends = Vec::new(alloc);
+    no_ends_yet();
+    for thread in threads {
+        one_end_more();
+        ends.push(thread.end())?;
+    }
+    ends_are_a_team();
+    Ok(ends)
+}
+
+/// What each thread of a team had left, and with it the team's account.
+fn left_of_all(
+    alloc: Global,
+    config: &Config,
+    ends: &mut [KernelEnd],
+) -> Result<Vec<RequestList>, AllocError>
+    requires count { length ends.old ≡ threads_in config.now.tasks }
+    requires team { IsTeam (map (λ e. place_of_rest e.rest) ends.old) }
+    requires work { Each KeepsItsWork ends.old }
+    requires untouched { Each HandedOutNothing ends.old }
+    ensures { IfOk result (λ lefts. IsAccounted (map (λ e. e.journal) ends.new) lefts.items) }
+{
+    settle(config, ends);
+    hand_out_all(alloc, ends)
+}
+
+/// Adds the names that arrived and those that were served, by the journal.
+fn add_names(
+    entries: &[Entry],
+    arrived: &mut Vec<u64>,
+    served: &mut Vec<u64>,
+) -> Result<(), AllocError> {
+    for entry in entries {
+        match entry {
+            Entry::Arrived(request) => arrived.push(request.id)?,
+            Entry::Served { id } => served.push(*id)?,
+            _ => {}
+        }
+    }
+    Ok(())
+}

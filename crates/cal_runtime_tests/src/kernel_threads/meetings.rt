@@ -1,0 +1,124 @@
+//! Two kernel threads of a task, each in a thread of its own, steal from a third at the same time.
+ghost use Rattle.std.specs.Prelude.{◌≡◌, [], ◌∷◌, IfOk, IfSome};
+ghost use Rattle.cal_kthread.specs.Team.{place_of};
+
+use super::{THREE_THREADS, add_names, ends_of, left_of_all, request, send, turn};
+use cal_command::{Command, Sender};
+use cal_kthread::{KernelThread, Team, open_threads};
+use cal_machine::Config;
+use std::alloc::{AllocError, Global};
+use std::test::Fail;
+use std::thread;
+
+/// How many requests there are.
+const REQUESTS: u64 = 1_000;
+
+/// The three threads, where there are three.
+fn three_of(threads: Vec<KernelThread>) -> Option<(KernelThread, KernelThread, KernelThread)>
+    ensures { IfSome result (λ three. threads.items ≡ three.0 ∷ three.1 ∷ three.2 ∷ []) }
+{
+    let mut threads = threads;
+    let third = threads.pop()?;
+    let second = threads.pop()?;
+    let first = threads.pop()?;
+    if threads.is_empty() {
+        return Some((first, second, third));
+    }
+    None
+}
+
+/// The three threads as one list.
+fn list_of(
+    alloc: Global,
+    first: KernelThread,
+    second: KernelThread,
+    third: KernelThread,
+) -> Result<Vec<KernelThread>, AllocError>
+    ensures { IfOk result (λ threads. threads.items ≡ first ∷ second ∷ third ∷ []) }
+{
+    let mut threads = Vec::new(alloc);
+    threads.push(first)?;
+    threads.push(second)?;
+    threads.push(third)?;
+    Ok(threads)
+}
+
+/// That many turns in which nothing arrives. One that is refused is left out.
+fn idle_turns(thread: KernelThread, count: u64) -> KernelThread
+    ensures { place_of result.thread ≡ place_of thread.thread }
+{
+    let mut thread = thread;
+    for now in 1..count {
+        let _ = turn(&mut thread, now, None);
+    }
+    thread
+}
+
+/// The requests come to the thread, one a turn, all of one turn's work.
+fn requests_come(thread: KernelThread) -> Option<KernelThread>
+    ensures { IfSome result (λ after. place_of after.thread ≡ place_of thread.thread) }
+{
+    let mut thread = thread;
+    for id in 1..REQUESTS + 1 {
+        if turn(&mut thread, id, Some(request(id, 1))) != Ok(true) {
+            return None;
+        }
+    }
+    Some(thread)
+}
+
+/// Sends as many Runs for the core as there is room for.
+fn runs(sender: &mut Sender, core: u8) {
+    for _ in 0..4 {
+        send(sender, Command::Run(core));
+    }
+}
+
+/// Each of the two takes a Run again after a theft that found the other in its way. What they
+/// served and what the third had left are then the requests that came, each once.
+#[test]
+fn two_threads_steal_at_once(rt: HostRuntime) -> Result<(), Fail> {
+    let config = Config::read(rt.alloc(), THREE_THREADS)?;
+    let Team {
+        threads,
+        mut senders,
+        ..
+    } = open_threads(rt.alloc(), &config)?;
+    let Some((first, second, third)) = three_of(threads) else {
+        panic!(rt; "there are not three threads")
+    };
+    assert_eq!(rt; senders.len(), 3);
+    runs(&mut senders[0], 0);
+    runs(&mut senders[1], 1);
+    let Some(third) = requests_come(third) else {
+        panic!(rt; "a turn was refused")
+    };
+    let host = &rt;
+    let (first, second) = thread::join(
+        host,
+        move || -> KernelThread
+            ensures { place_of result.thread ≡ place_of first.thread }
+        { idle_turns(first, 2 * REQUESTS) },
+        move || -> KernelThread
+            ensures { place_of result.thread ≡ place_of second.thread }
+        { idle_turns(second, 2 * REQUESTS) },
+    );
+    let threads = list_of(rt.alloc(), first, second, third)?;
+    let mut ends = ends_of(rt.alloc(), threads)?;
+    let lefts = left_of_all(rt.alloc(), &config, ends.as_mut_slice())?;
+    let mut arrived = Vec::new(rt.alloc());
+    let mut stood = Vec::new(rt.alloc());
+    for end in ends.iter() {
+        add_names(end.journal.as_slice(), &mut arrived, &mut stood)?;
+    }
+    assert!(rt; !stood.is_empty());
+    for left in lefts.iter() {
+        for request in left.as_slice() {
+            stood.push(request.id)?;
+        }
+    }
+    stood.sort()?;
+    assert_eq!(rt; arrived.len() as u64, REQUESTS);
+    assert!(rt; arrived[..] == stood[..]);
+    Ok(())
+}

@@ -1,0 +1,56 @@
+//! What no clause says: the worked rows of worlds, each refusal once, that a legal list is gone
+//! through where there is memory, and refused memory.
+
+mod long_lists;
+mod refusals;
+mod refused_memory;
+
+use cal_policy::{Action, ActionList, Input, PassEntry, Record, Rooms, Seen, SeenList};
+use cal_world::{Event, Illegal, World};
+use std::alloc::{AllocError, Global};
+
+/// Two cores and one latency-critical task of one thread, congested at a delay above 10.
+const TABLE: &[u8] =
+    b"cores = 2\nbandwidth_limit = 1000\n[[task]]\nkind = \"lc\"\nguaranteed = 1\nlimit = 1\n\
+    delay = 10\nrequest = 50\n";
+
+/// A record without requests, of a thread off every core.
+const IDLE: Record = Record::ZERO;
+
+/// Of a thread off every core, with one request that came at 100.
+const WAITING: Record = Record {
+    queued: 1,
+    oldest: 100,
+    stamp: 100,
+    ..IDLE
+};
+
+/// The whole look at that record, at place 1.
+const SEEN: Seen = Seen::Whole {
+    number: 1,
+    rec: WAITING,
+};
+
+const GRANT: Action = Action::Grant {
+    core: 0,
+    thread: 0,
+    class: 3,
+};
+
+/// What the world answers to an event.
+fn answer(world: &mut World, event: Event) -> Result<(), Illegal> {
+    world.step(&event)
+}
+
+/// The pass at 111 on that look, with room in the ring, and these actions.
+fn decide(alloc: Global, actions: &[Action]) -> Result<Event, AllocError> {
+    Ok(Event::Decide(PassEntry {
+        input: Input {
+            now: 111,
+            bandwidth: 0,
+            seen: SeenList::new([SEEN].to_vec(alloc)?),
+            rooms: Rooms::new([true].to_vec(alloc)?),
+        },
+        actions: ActionList::new(actions.to_vec(alloc)?),
+    }))
+}

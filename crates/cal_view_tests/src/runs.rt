@@ -1,0 +1,103 @@
+//! Whole runs of the program: what it writes on its two outputs, and its exit status.
+
+use crate::given::{HISTORY, TABLE};
+use cal_view::run_program;
+use serde_json::Value;
+use std::process::Abort;
+use std::test::Fail;
+
+/// What a run wrote on its two outputs, and its exit status.
+#[derive(Drop)]
+struct Ran {
+    status: u8,
+    output: Vec<u8>,
+    errors: Vec<u8>,
+}
+
+/// The program with these words over this input.
+fn run<R: Abort + AllocGlobal>(rt: &R, words: &[&str], input: &str) -> Result<Ran, Fail> {
+    let mut named = Vec::new(rt.alloc());
+    named.push(String::from_str(rt.alloc(), "caladan_view")?)?;
+    for word in words {
+        named.push(String::from_str(rt.alloc(), word)?)?;
+    }
+    let mut output = Vec::new(rt.alloc());
+    let mut errors = Vec::new(rt.alloc());
+    let status = run_program(
+        rt.alloc(),
+        named.as_slice(),
+        input.as_bytes(),
+        &mut output,
+        &mut errors,
+    );
+    Ok(Ran {
+        status,
+        output,
+        errors,
+    })
+}
+
+/// How often a word stands in a text.
+fn count(text: &[u8], word: &[u8]) -> usize {
+    let mut count = 0usize;
+    for at in 0..text.len() {
+        if text[at..].starts_with(word) {
+            count = count.saturating_add(1);
+        }
+    }
+    count
+}
+
+#[test]
+fn a_picture_tells_each_span_once(rt: HostRuntime) -> Result<(), Fail> {
+    let input = format!(in rt.alloc(); "{TABLE}---\n{HISTORY}")?;
+    let ran = run(&rt, &["picture"], input.as_str())?;
+    let text = ran.output.as_slice();
+    assert_eq!(rt; ran.status, 0);
+    assert!(rt; text.starts_with(b"<svg ") && text.ends_with(b"</svg>\n"));
+    assert_eq!(rt; count(text, b": granted in pass "), 3);
+    assert_eq!(rt; count(text, b"; freed in pass 2"), 1);
+    assert_eq!(rt; count(text, b"; still held"), 2);
+    let end = b" At the end: task 0 lc held 1 leaving 0; task 1 be held 1 leaving 0. The report ";
+    assert_eq!(rt; count(text, end), 1);
+    Ok(())
+}
+
+#[test]
+fn a_timeline_is_json(rt: HostRuntime) -> Result<(), Fail> {
+    let input = format!(in rt.alloc(); "{TABLE}---\n{HISTORY}")?;
+    let ran = run(&rt, &["timeline"], input.as_str())?;
+    assert_eq!(rt; ran.status, 0);
+    assert!(rt; Value::from_slice(rt.alloc(), ran.output.as_slice()).is_ok());
+    assert_eq!(rt; count(ran.output.as_slice(), b"\"cat\":\"span\""), 3);
+    assert_eq!(rt; count(ran.output.as_slice(), b"\"cat\":\"leaving\""), 1);
+    Ok(())
+}
+
+#[test]
+fn faults_have_the_program_in_front(rt: HostRuntime) -> Result<(), Fail> {
+    let ran = run(&rt, &["picture"], TABLE)?;
+    assert_eq!(rt; ran.status, 2);
+    assert_eq!(rt;
+        ran.errors.as_slice(),
+        b"caladan_view: no separator\n".as_slice()
+    );
+    assert_eq!(rt; ran.output.len(), 0);
+    let ran = run(&rt, &["picture", "--passes", "0"], TABLE)?;
+    assert_eq!(rt; ran.status, 2);
+    Ok(())
+}
+
+// Help and the version are answers, and no word at all is none.
+#[test]
+fn help_and_the_version(rt: HostRuntime) -> Result<(), Fail> {
+    for words in [["--version"].as_slice(), ["picture", "--help"].as_slice()] {
+        let ran = run(&rt, words, "")?;
+        assert_eq!(rt; ran.status, 0, "{words:?}");
+        assert!(rt; !ran.output.is_empty() && ran.errors.is_empty());
+    }
+    let ran = run(&rt, &[], "")?;
+    assert_eq!(rt; ran.status, 2);
+    assert!(rt; ran.output.is_empty() && !ran.errors.is_empty());
+    Ok(())
+}
