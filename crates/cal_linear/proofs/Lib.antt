@@ -12,5 +12,4 @@ pub mod Passing
 pub mod Watching
 pub mod Order
 pub mod Bridge
-pub mod WorkedRow
 pub mod Shown

@@ -10,7 +10,8 @@ use Rattle.cal_policy.specs.declared.history.look.Seen.{Seen}
 use Rattle.cal_policy.specs.declared.history.look.Seen.TheVariants.{Whole}
 use Rattle.cal_policy.specs.declared.history.entry.PassEntry.{PassEntry}
 use Rattle.cal_policy.specs.History.Looks.{look_of}
-use Rattle.cal_linear.specs.Runs.{found_by, shown_of}
+use Rattle.cal_policy.specs.History.Found.{looks_at}
+use Rattle.cal_signal.specs.Rounds.{found_by}
 use Rattle.cal_linear.specs.Law.{FittingLooksArePublications}
 use Rattle.cal_linear.specs.Steps.{journal_at}
 use Rattle.cal_kthread.specs.Journal.{records_of}
@@ -27,17 +28,17 @@ fits_past : (page : List Record) (floor : ℕ) (xs ys : List (ℕ × Record)) �
 fits_past page floor [] ys fits = fits
 fits_past page floor (x ∷ xs) ys fits = fits_past page x.0 xs ys fits.2
 
-found_there : (page : List Record) (floor : ℕ) (history : List PassEntry) (k p : ℕ) (entry : PassEntry) (number : ℕ) (rec : Record) → FitsFrom page floor (shown_of history k) → slice_get history p ≡ Some entry →
+found_there : (page : List Record) (floor : ℕ) (history : List PassEntry) (k p : ℕ) (entry : PassEntry) (number : ℕ) (rec : Record) → FitsFrom page floor (looks_at history k) → slice_get history p ≡ Some entry →
     slice_get entry.input.seen k ≡ Some (Whole number rec) → get_elem? page number ≡ some rec
 found_there page floor [] k p entry number rec fits there e = absurd (cc)
 found_there page floor (first ∷ history) k zero entry number rec fits there e =
     let same : first ≡ entry = cc in
     let at : slice_get first.input.seen k ≡ Some (Whole number rec) = ap (λ (x : PassEntry). slice_get x.input.seen k) same ∙ e in
-    let P : Option Seen → Type 0 = λ o. FitsFrom page floor (found_by (option_map look_of o) ++ shown_of history k) in
+    let P : Option Seen → Type 0 = λ o. FitsFrom page floor (found_by (option_map look_of o) ++ looks_at history k) in
     (subst P at fits).1
 found_there page floor (first ∷ history) k (suc p) entry number rec fits there e =
     let found : List (ℕ × Record) = found_by (option_map look_of (slice_get first.input.seen k)) in
-    found_there page (floor_from floor found) history k p entry number rec (fits_past page floor found (shown_of history k) fits) there e
+    found_there page (floor_from floor found) history k p entry number rec (fits_past page floor found (looks_at history k) fits) there e
 
 pub looks_are_publications : FittingLooksArePublications
 looks_are_publications history journals fits p entry there k number rec e =

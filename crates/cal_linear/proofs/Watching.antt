@@ -11,6 +11,7 @@ use Rattle.cal_signal.specs.declared.record.Record.{Record}
 use Rattle.cal_signal.specs.declared.look.Look.{Look}
 use Rattle.cal_signal.specs.declared.look.Look.TheVariants as found
 use Rattle.cal_signal.specs.Pages.{last_from, FitsFrom}
+use Rattle.cal_signal.specs.Rounds.{found_at, found_by}
 use Rattle.cal_policy.specs.declared.history.entry.PassEntry.{PassEntry}
 use Rattle.cal_policy.specs.Tasks.{threads_of_table}
 use Rattle.cal_kthread.specs.declared.journal.entry.Entry.{Entry}
@@ -25,7 +26,7 @@ use Rattle.cal_linear.proofs.LegalAlong.{IsLegalAlong}
 use Rattle.cal_kthread.specs.Journal.Entries.{steps_of}
 use Rattle.cal_linear.specs.Steps.{journal_at}
 use Rattle.cal_linear.specs.Linear.{whole_looks_from, whole_looks_of, watch_events, linear, passes_and_rests}
-use Rattle.cal_linear.specs.Runs.{found_of, AreOfOneRun, AreWatched, page_at, found_by}
+use Rattle.cal_linear.specs.Runs.{AreOfOneRun, AreWatched, page_at}
 use Rattle.cal_linear.specs.Law.{IsLinearised}
 use Rattle.cal_linear.proofs.Lists.{last_from_push}
 use Rattle.cal_linear.proofs.OneMore.{history_push, journal_push, watches_push, legal_push}
@@ -109,9 +110,9 @@ fits_same page old new looks e fits = let P : ℕ → Type 0 = λ n. FitsFrom pa
 
 -- the looks of one round, from thread k on, and then the other rounds
 round_may_come : (table : Table) (journals : List (List Entry)) (floors : ℕ → ℕ) (k : ℕ) (looks : List Look) (rounds : List (List Look)) → k + length looks ≡ threads_of_table table →
-    ((i j : ℕ) → j ≡ k + i → FitsFrom (page_at journals j) (floors j) (found_by (slice_get looks i) ++ found_of rounds j)) →
-    ((j : ℕ) → j < k → FitsFrom (page_at journals j) (floors j) (found_of rounds j)) →
-    ((floors : ℕ → ℕ) → FitsAll journals floors (found_of rounds) → AllMayCome table journals floors (whole_looks_of rounds)) →
+    ((i j : ℕ) → j ≡ k + i → FitsFrom (page_at journals j) (floors j) (found_by (slice_get looks i) ++ found_at rounds j)) →
+    ((j : ℕ) → j < k → FitsFrom (page_at journals j) (floors j) (found_at rounds j)) →
+    ((floors : ℕ → ℕ) → FitsAll journals floors (found_at rounds) → AllMayCome table journals floors (whole_looks_of rounds)) →
     AllMayCome table journals floors (whole_looks_from k looks ++ whole_looks_of rounds)
 round_may_come table journals floors k [] rounds count ahead behind then = then floors (λ j. ⊎_elim (λ lt. behind j lt) (λ le. ahead (j - k) j (omega (arith, le))) (cases_lt j k))
 round_may_come table journals floors k (found.Busy first second ∷ looks) rounds count ahead behind then =
@@ -127,21 +128,21 @@ round_may_come table journals floors k (found.Whole number rec ∷ looks) rounds
       here.0,
       omega (arith, within),
       round_may_come table journals next (k + 1) looks rounds (omega (arith, count))
-          (λ i j e. fits_same (page_at journals j) (floors j) (next j) (found_by (slice_get looks i) ++ found_of rounds j) (other j (let ne : eqb k j ≡ false = grind (arith, nat_tests) in ne)) (ahead (suc i) j (omega (arith, e))))
+          (λ i j e. fits_same (page_at journals j) (floors j) (next j) (found_by (slice_get looks i) ++ found_at rounds j) (other j (let ne : eqb k j ≡ false = grind (arith, nat_tests) in ne)) (ahead (suc i) j (omega (arith, e))))
           (λ j lt. ⊎_elim
-          (λ less. fits_same (page_at journals j) (floors j) (next j) (found_of rounds j) (other j (let ne : eqb k j ≡ false = grind (arith, nat_tests) in ne)) (behind j less))
-          (λ le. let P : ℕ → Type 0 = λ i. FitsFrom (page_at journals i) (next i) (found_of rounds i) in let at : k ≡ j = omega (arith, lt, le) in
-          subst P at (fits_same (page_at journals k) number (next k) (found_of rounds k) own here.2))
+          (λ less. fits_same (page_at journals j) (floors j) (next j) (found_at rounds j) (other j (let ne : eqb k j ≡ false = grind (arith, nat_tests) in ne)) (behind j less))
+          (λ le. let P : ℕ → Type 0 = λ i. FitsFrom (page_at journals i) (next i) (found_at rounds i) in let at : k ≡ j = omega (arith, lt, le) in
+          subst P at (fits_same (page_at journals k) number (next k) (found_at rounds k) own here.2))
           (cases_lt j k)) then,
     )
 
 pub rounds_may_come : (table : Table) (journals : List (List Entry)) (rounds : List (List Look)) → ((r : ℕ) (round : List Look) → slice_get rounds r ≡ Some round → length round ≡ threads_of_table table) →
-    (floors : ℕ → ℕ) → FitsAll journals floors (found_of rounds) → AllMayCome table journals floors (whole_looks_of rounds)
+    (floors : ℕ → ℕ) → FitsAll journals floors (found_at rounds) → AllMayCome table journals floors (whole_looks_of rounds)
 rounds_may_come table journals [] sizes floors fits = tt
 rounds_may_come table journals (round ∷ rounds) sizes floors fits =
     round_may_come table journals floors 0 round rounds (let size = sizes 0 round refl in omega (arith, size))
     (λ i j e. let same : j ≡ i = omega (arith, e) in
-    let P : ℕ → Type 0 = λ n. FitsFrom (page_at journals j) (floors j) (found_by (slice_get round n) ++ found_of rounds j) in subst P same (fits j))
+    let P : ℕ → Type 0 = λ n. FitsFrom (page_at journals j) (floors j) (found_by (slice_get round n) ++ found_at rounds j) in subst P same (fits j))
     (λ j lt. absurd (omega (arith, lt)))
     (λ floors fits. rounds_may_come table journals rounds (λ r round e. sizes (suc r) round e) floors fits)
 

@@ -12,7 +12,8 @@ use Rattle.cal_kthread.specs.Journal.Entries.{steps_of}
 use Rattle.cal_linear.specs.Steps.{journal_at}
 use Rattle.cal_world.specs.Watches.{watches_in}
 use Rattle.cal_linear.specs.Linear.{linear, whole_looks_of}
-use Rattle.cal_linear.specs.Runs.{page_at, ArePublications, AreOfOneRun, shown_of, AreWatched}
+use Rattle.cal_linear.specs.Runs.{page_at, ArePublications, AreOfOneRun, AreWatched}
+use Rattle.cal_policy.specs.History.Found.{looks_at}
 
 -- the events are a legal list, and its projections are exactly these: the passes, of each thread
 -- the steps of its journal, and the whole looks of the watched rounds
@@ -34,6 +35,6 @@ LinearIsLegal =
 -- where what the passes found of each thread fits its page, their whole looks read publications
 abbrev pub FittingLooksArePublications : Type 0
 FittingLooksArePublications = (history : List PassEntry) (journals : List (List Entry)) →
-    ((k : ℕ) → FitsPage (page_at journals k) (shown_of history k)) →
+    ((k : ℕ) → FitsPage (page_at journals k) (looks_at history k)) →
     (p : ℕ) (entry : PassEntry) → slice_get history p ≡ Some entry →
     ArePublications journals entry.input.seen

@@ -4,4 +4,3 @@ pub mod Linear
 pub mod Runs
 pub mod Law
 pub mod Fronts
-pub mod WorkedRow

@@ -1,18 +1,15 @@
 -- When a history, journals and watched rounds are those of one run.
-use Rattle.std.specs.Prelude.{◌≡◌, ℕ, List, [], length, take, Option}
-use Rattle.std.specs.Prelude.{Some, None, slice_get, option_map}
-use Rattle.std.specs.List.{flat_map}
+use Rattle.std.specs.Prelude.{◌≡◌, ℕ, List, length, take, Some, slice_get}
 use Rattle.cal_machine.specs.Table.{Table}
 use Rattle.cal_signal.specs.declared.record.Record.{Record}
 use Rattle.cal_signal.specs.declared.look.Look.{Look}
 use Rattle.cal_signal.specs.Pages.{page_of, FitsPage}
-use Rattle.cal_signal.specs.Looks.{whole_of}
+use Rattle.cal_signal.specs.Rounds.{found_at}
 use Rattle.cal_policy.specs.declared.history.look.Seen.{Seen}
 use Rattle.cal_policy.specs.declared.history.look.Seen.TheVariants.{Whole}
 use Rattle.cal_policy.specs.declared.history.entry.PassEntry.{PassEntry}
 use Rattle.cal_policy.specs.Tasks.{threads_of_table}
 use Rattle.cal_policy.specs.History.{actions_of, commands_to}
-use Rattle.cal_policy.specs.History.Looks.{look_of}
 use Rattle.cal_policy.specs.Pass.{IsLegal}
 use Rattle.cal_kthread.specs.declared.journal.entry.Entry.{Entry}
 use Rattle.cal_kthread.specs.Journal.{IsJournal, records_of, commands_of}
@@ -49,24 +46,10 @@ pub record AreOfOneRun (table : Table) (history : List PassEntry)
   pub first : (k : ℕ) → AreFirst (commands_of (journal_at journals k))
       (commands_to (actions_of history) k)
 
--- place and record of a look, where it is whole
-abbrev pub found_by : Option Look → List (ℕ × Record)
-found_by None = []
-found_by (Some look) = whole_of look
-
--- what all rounds, each with a look at each thread in order, found of thread k
-abbrev pub found_of : List (List Look) → ℕ → List (ℕ × Record)
-found_of watched k = flat_map (λ round. found_by (slice_get round k)) watched
-
--- what the passes found of thread k, whatever was judged of it
-abbrev pub shown_of : List PassEntry → ℕ → List (ℕ × Record)
-shown_of history k =
-    flat_map (λ entry. found_by (option_map look_of (slice_get entry.input.seen k))) history
-
 -- Each round has a look at each thread. What the rounds found of a thread fits its page: each whole
 -- look is its publication of that place, and places do not fall.
 pub record AreWatched (table : Table) (journals : List (List Entry))
     (watched : List (List Look)) : Type 0 where
   pub rounds : (r : ℕ) (round : List Look) → slice_get watched r ≡ Some round →
       length round ≡ threads_of_table table
-  pub fit : (k : ℕ) → FitsPage (page_at journals k) (found_of watched k)
+  pub fit : (k : ℕ) → FitsPage (page_at journals k) (found_at watched k)

@@ -13,8 +13,6 @@ mod law;
 mod linear;
 mod passes;
 mod steps;
-#[cfg(test)]
-mod tests;
 mod watches;
 
 pub use law::{fitting_looks_are_publications, linear_is_legal};

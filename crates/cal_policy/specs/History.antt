@@ -2,6 +2,7 @@
 -- pass on; nothing is carried along.
 pub mod Lists
 pub mod Looks
+pub mod Found
 use Rattle.std.specs.Prelude.{ℕ, ◌+◌, ◌==◌, Bool, List, [], ◌∷◌, length}
 use Rattle.std.specs.Prelude.{map, Option, Some, None, if◌then◌else◌}
 use Rattle.std.specs.Option.{unwrap_or, is_some}

@@ -3,11 +3,14 @@
 ghost use Rattle.std.specs.Prelude.{◌≡◌, ◌<◌, ◌^◌, ◌++◌, ◌∷◌, ◌↔◌, [], List, length, IfOk, IsTrue};
 ghost use Rattle.cal_machine.specs.Table.{Table};
 ghost use Rattle.cal_policy.specs.Auditor.{IsAuditOf, IsAuditorOf};
+ghost use Rattle.cal_policy.specs.Board.{Agrees, IsReady};
 ghost use Rattle.cal_policy.specs.Book.{AgreesWith, IsBookOf};
+ghost use Rattle.cal_policy.specs.History.{actions_of};
 ghost use Rattle.cal_policy.specs.Pass.{IsPass, IsLegal};
 ghost use Rattle.cal_policy.specs.Verdict.{IsVerdict};
 ghost use Rattle.cal_policy.specs.declared.history.entry.PassEntry.{PassEntry};
 
+use crate::board::Board;
 use crate::book::Book;
 use crate::history::action_list::Actions;
 use crate::history::entry::PassEntry;
@@ -83,6 +86,15 @@ impl Auditor {
                 }
             }
         }
+    }
+
+    /// The state that the passes so far leave, where they are legal.
+    pub fn board(&self) -> &Board
+        ensures agrees { (table : Table) (h : List PassEntry) → IsLegal table h →
+            IsAuditOf table h self.now → Agrees result.now (actions_of h) }
+        ensures ready { (table : Table) → IsAuditorOf table self.now → IsReady table result.now }
+    {
+        self.book.board()
     }
 
     /// What the audit says of the passes so far.

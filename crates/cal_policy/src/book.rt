@@ -146,6 +146,13 @@ impl Book {
         counts::cap_of(config, &self.board, task)
     }
 
+    /// The state that the history leaves.
+    pub fn board(&self) -> &Board
+        ensures { result.now ≡ self.now.board.value }
+    {
+        &self.board
+    }
+
     /// What an action of the last pass sends, and to which thread: a grant sends Run, and a
     /// revocation sends Park to the thread of the core's last grant, in this pass or before. The
     /// other actions send nothing.

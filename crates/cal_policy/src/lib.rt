@@ -37,6 +37,3 @@ pub use laws::{
 };
 pub use pass::plain::plain_pass;
 pub use verdict::{Verdict, audit, is_pass, same_actions};
-
-#[cfg(test)]
-mod tests;

@@ -1,19 +1,8 @@
 -- Lists, member by member.
-use Rattle.std.proofs.Common.{◌≡◌, ℕ, ◌<◌, zero, suc, List, [], ◌∷◌, ◌++◌, length, map, Some, refl, ap, ◌∙◌, arith}
+use Rattle.std.proofs.Common.{◌≡◌, ℕ, zero, suc, List, [], ◌∷◌, length, map, Some, refl, ap, ◌∙◌, arith}
 use Rattle.std.specs.List.{slice_get}
 use mathlib.Core.Option.{some}
 use lib.ListN.{get_elem?}
-
--- the member at a place
-pub member : {X : Type 0} (xs : List X) (k : ℕ) → k < length xs → (x : X) × (slice_get xs k ≡ Some x)
-member [] k within = absurd (omega (arith, within))
-member (x ∷ xs) zero within = (x, refl)
-member (x ∷ xs) (suc k) within = member xs k (omega (arith, within))
-
--- and at the place behind some
-pub member_behind : {X : Type 0} (xs ys : List X) (y : X) → slice_get (xs ++ y ∷ ys) (length xs) ≡ Some y
-member_behind [] ys y = refl
-member_behind (x ∷ xs) ys y = member_behind xs ys y
 
 -- the two ways to read a place of a list
 pub both_get : {X : Type 0} (xs : List X) (i : ℕ) (x : X) → slice_get xs i ≡ Some x → get_elem? xs i ≡ some x

@@ -1,7 +1,8 @@
 -- What the parts of a run come to at their ends.
 use Rattle.std.specs.Prelude.{◌≡◌, ℕ, List, length, map, Some, slice_get}
 use Rattle.std.specs.List.{AllZip}
-use Rattle.cal_command.specs.Rings.{SenderView}
+use Rattle.atomic_table.specs.Seated.{TableId}
+use Rattle.cal_command.specs.Rings.{RingId, SenderView}
 use Rattle.cal_signal.specs.Ends.{ObserverView}
 use Rattle.cal_signal.specs.Pages.{FitsPage, page_of}
 use Rattle.cal_machine.specs.declared.request.Request.{Request}
@@ -13,8 +14,8 @@ use Rattle.cal_kthread.specs.declared.end.kernel_end.KernelEnd.{KernelEnd}
 use Rattle.cal_kthread.specs.declared.journal.entry.Entry.{Entry}
 use Rattle.cal_linear.specs.Runs.{AreFirst, page_at}
 use Rattle.cal_linear.specs.Steps.{journal_at}
-use Rattle.cal_run.specs.Turning.{Seat, seat_of}
-use Rattle.cal_run.specs.declared.worker.Worker.{Worker}
+use Rattle.cal_run.specs.Workers.{Seat, seat_of}
+use Rattle.cal_run.specs.declared.workers.worker.Worker.{Worker}
 
 -- what a thread had over its turns, and has at its end
 abbrev pub seat_of_end : KernelEnd → Seat
@@ -43,14 +44,19 @@ pub record IsEndOf (worker : Worker) (e : KernelEnd) : Type 0 where
 abbrev pub AreEndsOf : List Worker → List KernelEnd → Type 0
 AreEndsOf = AllZip IsEndOf
 
--- these are, in thread order, the other ends of each thread's page and ring
-pub record AreOtherEnds (runs : List RunView) (observers watchers : List ObserverView)
-    (senders : List SenderView) : Type 0 where
-  pub observed : map (λ (o : ObserverView). o.page) observers
-      ≡ map (λ (r : RunView). r.publisher.page) runs
-  pub watched : map (λ (o : ObserverView). o.page) watchers
-      ≡ map (λ (r : RunView). r.publisher.page) runs
-  pub rings : map (λ (s : SenderView). s.ring) senders ≡ map (λ (r : RunView). r.taker.ring) runs
+-- the pages and the rings of these runs, in thread order
+abbrev pub pages_of_runs : List RunView → List TableId
+pages_of_runs = map (λ run. run.publisher.page)
+
+abbrev pub rings_of_runs : List RunView → List RingId
+rings_of_runs = map (λ run. run.taker.ring)
+
+-- these are, in the same order, the other ends of these pages and rings
+pub record AreOtherEnds (pages : List TableId) (rings : List RingId)
+    (observers watchers : List ObserverView) (senders : List SenderView) : Type 0 where
+  pub observed : map (λ (o : ObserverView). o.page) observers ≡ pages
+  pub watched : map (λ (o : ObserverView). o.page) watchers ≡ pages
+  pub sent : map (λ (s : SenderView). s.ring) senders ≡ rings
 
 -- A thread's page and ring were closed: what either observer found fits what it published, and what
 -- it took are the first of the commands that were sent to it.
@@ -68,13 +74,6 @@ AreClosed runs observers watchers senders =
     slice_get runs k ≡ Some run → slice_get observers k ≡ Some observer →
     slice_get watchers k ≡ Some watcher → slice_get senders k ≡ Some sender →
     IsClosed run observer watcher sender
-
--- they are so of threads with these seats
-pub record AreOfSeats (seats : List Seat) (observers watchers : List ObserverView)
-    (senders : List SenderView) : Type 0 where
-  pub observed : map (λ (o : ObserverView). o.page) observers ≡ map (λ (s : Seat). s.page) seats
-  pub watched : map (λ (o : ObserverView). o.page) watchers ≡ map (λ (s : Seat). s.page) seats
-  pub rings : map (λ (s : SenderView). s.ring) senders ≡ map (λ (s : Seat). s.ring) seats
 
 -- All threads ended and all pages and rings were closed. In thread order these are the journals and
 -- what was left. What either observer of a thread found fits the page of its journal; what it took

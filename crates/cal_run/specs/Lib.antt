@@ -1,8 +1,5 @@
-pub mod Given
-pub mod Turning
+pub mod Workers
 pub mod Parts
 pub mod Rounds
 pub mod Outcome
-pub mod GivenOnce
-pub mod Headline
 pub mod Closing

@@ -1,22 +1,25 @@
 -- What a run comes to: each field is promised by every run, in whichever order its threads made
 -- their steps.
+pub mod GivenOnce
+pub mod Headline
 use Rattle.std.specs.Prelude.{◌≡◌, ◌<◌, ℕ, [], length, map, min}
 use Rattle.cal_machine.specs.Table.{Table}
 use Rattle.cal_signal.specs.Pages.{FitsPage}
 use Rattle.cal_policy.specs.declared.history.entry.PassEntry.{PassEntry}
 use Rattle.cal_policy.specs.Tasks.{threads_of_table}
 use Rattle.cal_policy.specs.History.{actions_of, commands_to}
+use Rattle.cal_policy.specs.History.Found.{looks_at}
 use Rattle.cal_kthread.specs.End.Account.{IsAccounted}
 use Rattle.cal_kthread.specs.Journal.{commands_of}
 use Rattle.cal_kthread.specs.End.OnePlace.{LeftAt, Nowhere, ServedAt, StandsInOnePlace}
 use Rattle.cal_kthread.specs.Turn.Turns.{AreTurns}
 use Rattle.cal_linear.specs.Law.{IsLinearised}
 use Rattle.cal_linear.specs.Linear.{linear}
-use Rattle.cal_linear.specs.Runs.{AreFirst, AreWatched, page_at, shown_of}
+use Rattle.cal_linear.specs.Runs.{AreFirst, AreWatched, page_at}
 use Rattle.cal_linear.specs.Steps.{journal_at}
 use Rattle.cal_trace.specs.declared.arrivals.Arrivals.{Arrivals}
 use Rattle.cal_trace.specs.declared.arrivals.GivenPass.{GivenPass}
-use Rattle.cal_run.specs.Given.{IsGiven, turns_given}
+use Rattle.cal_run.specs.Workers.Given.{IsGiven, turns_given}
 use Rattle.cal_run.specs.declared.outcome.Outcome.{Outcome}
 
 -- the clock and the bandwidth figure of a pass that was made
@@ -47,7 +50,7 @@ pub record IsRun (table : Table) (arrivals : Arrivals) (outcome : Outcome) : Typ
   -- as many watched rounds as passes, 1,024 at most
   pub rounds : length outcome.watched ≡ min (length arrivals.passes) most_rounds
   -- what the passes found of a thread, refused looks too, fits the page of its journal
-  pub looks : (k : ℕ) → FitsPage (page_at outcome.journals k) (shown_of outcome.history k)
+  pub looks : (k : ℕ) → FitsPage (page_at outcome.journals k) (looks_at outcome.history k)
   -- each round has one look at each thread, and what all of them found of a thread fits its page
   pub watched : AreWatched table outcome.journals outcome.watched
   -- the commands that a thread took are the first ones of those sent to it

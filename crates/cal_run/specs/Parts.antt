@@ -1,5 +1,5 @@
--- The parts of a run: its scheduler, its kernel threads and its watch. They belong together by their pages, rings and
--- places, which no pass, turn or round changes.
+-- The parts of a run: its scheduler, its kernel threads and its watch. They belong together by
+-- their pages, rings and places, which no pass, turn or round changes.
 use Rattle.std.specs.Prelude.{◌≡◌, ℕ, List, length, map, min, take}
 use Rattle.atomic_table.specs.Seated.{TableId}
 use Rattle.cal_machine.specs.Table.{Table}
@@ -11,7 +11,7 @@ use Rattle.cal_sched.specs.Watching.{WatchView}
 use Rattle.cal_kthread.specs.Team.{IsTeam}
 use Rattle.cal_trace.specs.declared.arrivals.Arrivals.{Arrivals}
 use Rattle.cal_run.specs.Outcome.{figures_of, most_rounds}
-use Rattle.cal_run.specs.Turning.{HaveMade, Seat, seats_of}
+use Rattle.cal_run.specs.Workers.{HaveMade, Seat, pages_of_seats, rings_of_seats, seats_of}
 use Rattle.cal_run.specs.declared.parts.Parts.{Parts}
 
 -- what a scheduler keeps over its passes
@@ -40,14 +40,16 @@ watch_seat_of w = record {
   most = w.most;
 }
 
--- They are of this table and of one team: in thread order, the scheduler has the other ends of each thread's page and
--- ring, and the watch the second observer of each page, which had seen nothing when it was handed in.
-pub record AreOfOneTeam (table : Table) (scheduler : SchedulerSeat) (seats : List Seat) (watch : WatchSeat) : Type 0 where
+-- They are of this table and of one team: in thread order, the scheduler has the other ends of each
+-- thread's page and ring, and the watch the second observer of each page, which had seen nothing
+-- when it was handed in.
+pub record AreOfOneTeam (table : Table) (scheduler : SchedulerSeat) (seats : List Seat)
+    (watch : WatchSeat) : Type 0 where
   pub same_table : scheduler.table ≡ table
   pub threads : length seats ≡ threads_of_table table
-  pub pages : scheduler.pages ≡ map (λ (s : Seat). s.page) seats
-  pub rings : scheduler.rings ≡ map (λ (s : Seat). s.ring) seats
-  pub watched : watch.pages ≡ map (λ (s : Seat). s.page) seats
+  pub pages : scheduler.pages ≡ pages_of_seats seats
+  pub rings : scheduler.rings ≡ rings_of_seats seats
+  pub watched : watch.pages ≡ pages_of_seats seats
   pub unwatched : HaveSeenNothing watch.given
   pub team : IsTeam (map (λ (s : Seat). s.place) seats)
 
@@ -59,10 +61,11 @@ HasPassed arrivals p scheduler = map figures_of scheduler.history ≡ take p arr
 abbrev pub rounds_of : Arrivals → ℕ
 rounds_of arrivals = min (length arrivals.passes) most_rounds
 
--- the parts of a run on these arrivals, of which the first p passes, the first j turns of each thread and r rounds are
--- made
+-- the parts of a run on these arrivals, of which the first p passes, the first j turns of each
+-- thread and r rounds are made
 pub record AreParts (table : Table) (arrivals : Arrivals) (p j r : ℕ) (parts : Parts) : Type 0 where
-  pub together : AreOfOneTeam table (scheduler_seat_of parts.scheduler) (seats_of parts.workers.items)
+  pub together : AreOfOneTeam table (scheduler_seat_of parts.scheduler)
+      (seats_of parts.workers.items)
       (watch_seat_of parts.watch)
   pub passes : HasPassed arrivals p parts.scheduler
   pub turns : HaveMade arrivals j parts.workers.items

@@ -1,15 +1,18 @@
 //! A run comes to its outcome.
 
+mod pages_and_rings;
+mod thread_ends;
+
 ghost use Rattle.std.specs.Prelude.{◌≡◌, IfErr, IfOk, length};
 ghost use Rattle.cal_run.specs.Outcome.{IsRun};
 ghost use Rattle.cal_run.specs.Parts.{AreParts, rounds_of};
 ghost use Rattle.cal_run.specs.declared.fault.SimFault.TheVariants.{Memory};
 ghost use Rattle.cal_trace.specs.Arrivals.FitsTable.{FitsTable};
 
-use crate::closing_ends::close_threads;
+use crate::closing::pages_and_rings::close_threads;
 use crate::fault::SimFault;
-use crate::given_once::given_stand_once;
 use crate::outcome::Outcome;
+use crate::outcome::given_once::given_stand_once;
 use crate::parts::Parts;
 use cal_linear::{fitting_looks_are_publications, linearise};
 use cal_lists::Listed;

@@ -9,32 +9,22 @@
 #![tactic(auto)]
 
 mod closing;
-mod closing_ends;
-mod ending;
 mod fault;
-mod given_once;
-mod headline;
 mod one_thread;
-mod opening;
 mod outcome;
 mod parts;
-mod passing;
 mod rounds;
-#[cfg(test)]
-mod tests;
-mod watching;
-mod worker;
 mod workers;
 
 pub use closing::close_parts;
 pub use fault::SimFault;
-pub use given_once::given_stand_once;
-pub use headline::headline_of_runs;
 pub use one_thread::lockstep;
-pub use opening::open_parts;
 pub use outcome::Outcome;
+pub use outcome::given_once::given_stand_once;
+pub use outcome::headline::headline_of_runs;
 pub use parts::Parts;
-pub use passing::pass_given;
-pub use watching::round_given;
-pub use worker::Worker;
+pub use parts::opening::open_parts;
+pub use rounds::passes::pass_given;
+pub use rounds::watch::round_given;
 pub use workers::turn_each;
+pub use workers::worker::Worker;

@@ -6,12 +6,13 @@ ghost use Rattle.cal_kthread.specs.Journal.{commands_of};
 ghost use Rattle.cal_kthread.specs.Turn.Turns.{AreTurns};
 ghost use Rattle.cal_linear.specs.Law.{IsLinearised};
 ghost use Rattle.cal_linear.specs.Linear.{linear};
-ghost use Rattle.cal_linear.specs.Runs.{AreFirst, AreWatched, page_at, shown_of};
+ghost use Rattle.cal_linear.specs.Runs.{AreFirst, AreWatched, page_at};
 ghost use Rattle.cal_linear.specs.Steps.{journal_at};
 ghost use Rattle.cal_policy.specs.History.{actions_of, commands_to};
+ghost use Rattle.cal_policy.specs.History.Found.{looks_at};
 ghost use Rattle.cal_policy.specs.Tasks.{threads_of_table};
-ghost use Rattle.cal_run.specs.Given.{turns_given};
-ghost use Rattle.cal_run.specs.Headline.{Headline};
+ghost use Rattle.cal_run.specs.Workers.Given.{turns_given};
+ghost use Rattle.cal_run.specs.Outcome.Headline.{Headline};
 ghost use Rattle.cal_run.specs.Outcome.{EachStandsOnce, IsRun, figures_of, most_rounds};
 ghost use Rattle.cal_run.specs.declared.fault.SimFault.TheVariants.{Memory};
 ghost use Rattle.cal_signal.specs.Pages.{FitsPage};
@@ -19,9 +20,9 @@ ghost use Rattle.cal_trace.specs.Arrivals.FitsTable.{FitsTable};
 
 use crate::closing::close_parts;
 use crate::fault::SimFault;
-use crate::headline::headline_of_runs;
-use crate::opening::open_parts;
 use crate::outcome::Outcome;
+use crate::outcome::headline::headline_of_runs;
+use crate::parts::opening::open_parts;
 use crate::rounds::make_rounds;
 use cal_machine::Config;
 use cal_trace::Arrivals;
@@ -48,7 +49,7 @@ pub fn lockstep(alloc: Global, config: &Config, arrivals: &Arrivals) -> Result<O
     ensures rounds { IfOk result (λ outcome.
         length outcome.watched ≡ min (length arrivals.now.passes) most_rounds) }
     ensures looks { IfOk result (λ outcome. (k : ℕ) →
-        FitsPage (page_at outcome.journals k) (shown_of outcome.history k)) }
+        FitsPage (page_at outcome.journals k) (looks_at outcome.history k)) }
     ensures watched { IfOk result (λ outcome.
         AreWatched config.now outcome.journals outcome.watched) }
     ensures taken { IfOk result (λ outcome. (k : ℕ) →

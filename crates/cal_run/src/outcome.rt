@@ -1,5 +1,8 @@
 //! What a run comes to.
 
+pub mod given_once;
+pub mod headline;
+
 use cal_kthread::{Journal, RequestList};
 use cal_lists::Listed;
 use cal_policy::PassEntry;

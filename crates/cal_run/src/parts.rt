@@ -1,9 +1,12 @@
 //! The parts of a run.
 
-use crate::worker::Worker;
+pub mod opening;
+
+use crate::workers::worker::Worker;
 use cal_sched::{Scheduler, Watch};
 
-/// The parts of a run, which belong together (`AreParts`). Each may be moved to a thread of its own.
+/// The parts of a run, which belong together (`AreParts`). Each may be moved to a thread of its
+/// own.
 #[derive(Drop)]
 pub struct Parts {
     /// The scheduler.

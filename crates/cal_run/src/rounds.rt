@@ -1,17 +1,20 @@
 //! The rounds of a run on one thread.
 
+pub mod passes;
+pub mod watch;
+
 ghost use Rattle.std.specs.Prelude.{◌≡◌, ◌+◌, length, min, IfOk, IfErr};
 ghost use Rattle.cal_run.specs.declared.fault.SimFault.TheVariants.{Memory};
 ghost use Rattle.cal_run.specs.Parts.{AreParts, HasPassed, rounds_of, scheduler_seat_of};
 ghost use Rattle.cal_run.specs.Rounds.{AreAfterRounds};
-ghost use Rattle.cal_run.specs.Turning.{FitSomeTable, HaveMade, seats_of};
+ghost use Rattle.cal_run.specs.Workers.{FitSomeTable, HaveMade, seats_of};
 
 use crate::fault::SimFault;
 use crate::parts::Parts;
-use crate::passing::pass_given;
-use crate::watching::round_given;
-use crate::worker::Worker;
+use crate::rounds::passes::pass_given;
+use crate::rounds::watch::round_given;
 use crate::workers::turn_each;
+use crate::workers::worker::Worker;
 use cal_sched::Scheduler;
 use cal_trace::Arrivals;
 

@@ -1,11 +1,13 @@
 //! The kernel threads of a run, with the turns that they are given.
 
+pub mod worker;
+
 ghost use Rattle.std.specs.Prelude.{◌≡◌, ◌+◌, ◌<◌, length, IfOk, IfErr};
 ghost use Rattle.cal_run.specs.declared.fault.SimFault.TheVariants.{Memory};
-ghost use Rattle.cal_run.specs.Turning.{FitSomeTable, HaveMade, seats_of};
+ghost use Rattle.cal_run.specs.Workers.{FitSomeTable, HaveMade, seats_of};
 
 use crate::fault::SimFault;
-use crate::worker::Worker;
+use crate::workers::worker::Worker;
 use cal_trace::Arrivals;
 
 /// Turn `j` of each thread, in thread order. The error is want of memory alone.

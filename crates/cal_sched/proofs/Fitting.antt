@@ -11,6 +11,7 @@ use Rattle.cal_signal.specs.declared.look.Look.TheVariants.{Whole, Busy}
 use Rattle.cal_signal.specs.declared.shown.Shown.{Shown}
 use Rattle.cal_signal.specs.Ends.{ObserverView}
 use Rattle.cal_signal.specs.Looks.{whole_of}
+use Rattle.cal_signal.specs.Rounds.{found_by}
 use Rattle.cal_signal.specs.Shown.{IsFitShown, found_from, last_found, nothing_shown, shown_of}
 use Rattle.cal_signal.proofs.Following.{follows}
 use Rattle.cal_machine.specs.Table.{Table}
@@ -23,12 +24,12 @@ use Rattle.cal_policy.specs.Judgement.OpenInput.{judged_looks, judged_input}
 use Rattle.cal_policy.specs.History.{actions_of, looks_of, sent_to}
 use Rattle.cal_policy.specs.Judgement.Judging.{judged, is_foreign, IsFitLook, IsInput}
 use Rattle.cal_policy.specs.History.Lists.{last_after}
-use Rattle.cal_policy.specs.History.Looks.{last_shown, shown_at, shown_by}
+use Rattle.cal_policy.specs.History.Found.{looks_at}
+use Rattle.cal_policy.specs.History.Looks.{last_shown, look_of, shown_at, shown_by}
 use Rattle.cal_policy.specs.Tasks.{threads_of_table}
 use Rattle.cal_policy.proofs.JudgementLemmas.OpenInput.{length-judged_looks}
 use Rattle.cal_policy.proofs.ListLemmas.OneMore.{unwrap_or_or}
 use Rattle.cal_sched.specs.Looking.{HasLooked}
-use Rattle.cal_sched.specs.Scheduler.{carried_by, looks_at}
 use Rattle.cal_lists.proofs.Places.{slice_get_at}
 use Rattle.cal_lists.proofs.Last.{some_same}
 use Rattle.cal_policy.proofs.JudgementLemmas.Judged.{look_of-judged}
@@ -55,24 +56,24 @@ judged_at table history found k =
     let same : 0 + k ≡ k = omega arith in
     judged_from table.cores (actions_of history) 0 found k ∙ ap (λ m. option_map (λ (one : FoundLook). judged table.cores (actions_of history) m one.look) (slice_get found k)) same
 
--- one pass more: what it carried is what was found last, else what was before
-carried_then : (last : Shown) (o : Option Seen) (more : List (ℕ × Record)) (rest : Option Shown) → ((here : Shown) → found_from here more ≡ unwrap_or rest here)
-    → found_from last (carried_by o ++ more) ≡ unwrap_or (option_or rest (option_and_then shown_by o)) last
-carried_then last None more rest h = h last ∙ sym (unwrap_or_or rest None last)
-carried_then last (Some (seen.Busy first second)) more rest h = h last ∙ sym (unwrap_or_or rest None last)
-carried_then last (Some (seen.Whole number rec)) more rest h = h (record { number = number; rec = rec }) ∙ sym (unwrap_or_or rest (Some (record { number = number; rec = rec })) last)
-carried_then last (Some (seen.Ahead number rec)) more rest h = h (record { number = number; rec = rec }) ∙ sym (unwrap_or_or rest (Some (record { number = number; rec = rec })) last)
-carried_then last (Some (seen.Foreign number rec)) more rest h = h (record { number = number; rec = rec }) ∙ sym (unwrap_or_or rest (Some (record { number = number; rec = rec })) last)
+-- one pass more: what it found is what was found last, else what was before
+found_then : (last : Shown) (o : Option Seen) (more : List (ℕ × Record)) (rest : Option Shown) → ((here : Shown) → found_from here more ≡ unwrap_or rest here)
+    → found_from last (found_by (option_map look_of o) ++ more) ≡ unwrap_or (option_or rest (option_and_then shown_by o)) last
+found_then last None more rest h = h last ∙ sym (unwrap_or_or rest None last)
+found_then last (Some (seen.Busy first second)) more rest h = h last ∙ sym (unwrap_or_or rest None last)
+found_then last (Some (seen.Whole number rec)) more rest h = h (record { number = number; rec = rec }) ∙ sym (unwrap_or_or rest (Some (record { number = number; rec = rec })) last)
+found_then last (Some (seen.Ahead number rec)) more rest h = h (record { number = number; rec = rec }) ∙ sym (unwrap_or_or rest (Some (record { number = number; rec = rec })) last)
+found_then last (Some (seen.Foreign number rec)) more rest h = h (record { number = number; rec = rec }) ∙ sym (unwrap_or_or rest (Some (record { number = number; rec = rec })) last)
 
 found_is_shown : (k : ℕ) (history : List PassEntry) (before : List (List Seen)) (last : Shown)
-    → found_from last (looks_at k history) ≡ unwrap_or (last_after (λ (b : List (List Seen)) (s : List Seen). shown_at s k) before (looks_of history)) last
+    → found_from last (looks_at history k) ≡ unwrap_or (last_after (λ (b : List (List Seen)) (s : List Seen). shown_at s k) before (looks_of history)) last
 found_is_shown k [] before last = refl
 found_is_shown k (e ∷ es) before last =
-    carried_then last (slice_get e.input.seen k) (looks_at k es) (last_after (λ (b : List (List Seen)) (s : List Seen). shown_at s k) (before ++ e.input.seen ∷ []) (looks_of es))
+    found_then last (slice_get e.input.seen k) (looks_at es k) (last_after (λ (b : List (List Seen)) (s : List Seen). shown_at s k) (before ++ e.input.seen ∷ []) (looks_of es))
     (λ here. found_is_shown k es (before ++ e.input.seen ∷ []) here)
 
 -- what was found last at a thread is what it showed last
-pub found_last : (k : ℕ) (history : List PassEntry) → last_found (looks_at k history) ≡ last_shown (looks_of history) k
+pub found_last : (k : ℕ) (history : List PassEntry) → last_found (looks_at history k) ≡ last_shown (looks_of history) k
 found_last k history = found_is_shown k history [] nothing_shown
 
 -- a look, as judged, fits what was found before it
@@ -88,7 +89,7 @@ some_mapped f o x y is e = some_same (f x) y (sym (ap (option_map f) is) ∙ e)
 
 pub found_is_input : (table : Table) (history : List PassEntry) (now bandwidth : ℕ) (observers looked : List ObserverView) (found : List FoundLook)
     → length observers ≡ threads_of_table table → length looked ≡ length observers → length found ≡ length observers
-    → ((k : ℕ) (was : ObserverView) → slice_get observers k ≡ Some was → was.looks ≡ looks_at k history)
+    → ((k : ℕ) (was : ObserverView) → slice_get observers k ≡ Some was → was.looks ≡ looks_at history k)
     → ((k : ℕ) (was is : ObserverView) (one : FoundLook) → slice_get observers k ≡ Some was → slice_get looked k ≡ Some is → slice_get found k ≡ Some one → HasLooked was is one.look)
     → IsInput table history (judged_input table history now bandwidth found)
 found_is_input table history now bandwidth observers looked found pages same one_each looks each = record {
@@ -124,15 +125,15 @@ found_is_input table history now bandwidth observers looked found pages same one
           some_mapped (λ (f : FoundLook). judged table.cores (actions_of history) k f.look) (slice_get found k) one.0 seen one.1 (sym (judged_at table history found k) ∙ e),
         )
 
--- what a pass's look carried is the whole look that was judged
-pub carried_at : (table : Table) (history : List PassEntry) (found : List FoundLook) (k : ℕ) (one : FoundLook) → slice_get found k ≡ Some one
-    → carried_by (slice_get (judged_looks table history found) k) ≡ whole_of one.look
-carried_at table history found k one at =
-    ap carried_by (judged_at table history found k ∙ ap (option_map (λ (f : FoundLook). judged table.cores (actions_of history) k f.look)) at)
+-- what a pass's look found is the whole look that was judged
+pub found_in : (table : Table) (history : List PassEntry) (found : List FoundLook) (k : ℕ) (one : FoundLook) → slice_get found k ≡ Some one
+    → found_by (option_map look_of (slice_get (judged_looks table history found) k)) ≡ whole_of one.look
+found_in table history found k one at =
+    ap (λ (o : Option Seen). found_by (option_map look_of o)) (judged_at table history found k ∙ ap (option_map (λ (f : FoundLook). judged table.cores (actions_of history) k f.look)) at)
     ∙ ap whole_of (look_of-judged table.cores (actions_of history) k one.look)
 
--- one pass more: each thread's looks gain what it carried
-pub looks_at-append : (k : ℕ) (history : List PassEntry) (entry : PassEntry) → looks_at k (history ++ entry ∷ []) ≡ looks_at k history ++ carried_by (slice_get entry.input.seen k)
+-- one pass more: each thread's looks gain what it found
+pub looks_at-append : (k : ℕ) (history : List PassEntry) (entry : PassEntry) → looks_at (history ++ entry ∷ []) k ≡ looks_at history k ++ found_by (option_map look_of (slice_get entry.input.seen k))
 looks_at-append k history entry =
-    flat_map-append (λ (e : PassEntry). carried_by (slice_get e.input.seen k)) history (entry ∷ [])
-    ∙ ap (λ (ls : List (ℕ × Record)). looks_at k history ++ ls) (append-nil (carried_by (slice_get entry.input.seen k)))
+    flat_map-append (λ (e : PassEntry). found_by (option_map look_of (slice_get e.input.seen k))) history (entry ∷ [])
+    ∙ ap (λ (ls : List (ℕ × Record)). looks_at history k ++ ls) (append-nil (found_by (option_map look_of (slice_get entry.input.seen k))))

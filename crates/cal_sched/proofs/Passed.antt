@@ -13,6 +13,7 @@ use Rattle.cal_policy.specs.declared.history.action.Action.{Action}
 use Rattle.cal_policy.specs.declared.history.entry.PassEntry.{PassEntry}
 use Rattle.cal_policy.specs.declared.history.input.Input.{Input}
 use Rattle.cal_policy.specs.Book.{AgreesWith}
+use Rattle.cal_policy.specs.History.Found.{looks_at}
 use Rattle.cal_policy.specs.Judgement.OpenInput.{judged_input, rooms_found}
 use Rattle.cal_policy.specs.Judgement.Judging.{IsInput}
 use Rattle.cal_policy.specs.Pass.{IsLegal, pass_of}
@@ -20,9 +21,9 @@ use Rattle.cal_policy.specs.Setting.{setting}
 use Rattle.cal_policy.proofs.PassLemmas.Legality.{legal_more}
 use Rattle.cal_sched.specs.Looking.{HasLooked}
 use Rattle.cal_sched.specs.Passing.{HasAsked, HaveFound, HaveSent, pass_on}
-use Rattle.cal_sched.specs.Scheduler.{SchedulerView, IsKept, looks_at}
+use Rattle.cal_sched.specs.Scheduler.{SchedulerView, IsKept}
 use Rattle.cal_sched.specs.Sending.{MaySend}
-use Rattle.cal_sched.proofs.Fitting.{found_is_input, carried_at, looks_at-append}
+use Rattle.cal_sched.proofs.Fitting.{found_is_input, found_in, looks_at-append}
 use Rattle.cal_lists.proofs.Places.{slice_get_at}
 
 module _ (s : SchedulerView) (now bandwidth : ℕ) (looked : List ObserverView) (asked : List SenderView) (found : List FoundLook) where
@@ -97,7 +98,7 @@ module _ (s : SchedulerView) (now bandwidth : ℕ) (looked : List ObserverView) 
         let one = slice_get_at found k (omega arith) in
         let looks : HasLooked was.0 is one.0.look = finds.looks k was.0 is one.0 was.1 at one.1 in
         looks.looks ∙ ap (λ (ls : List (ℕ × Record)). ls ++ whole_of one.0.look) (kept.looks k was.0 was.1)
-        ∙ ap (λ (ls : List (ℕ × Record)). looks_at k s.history ++ ls) (sym (carried_at s.table s.history found k one.0 one.1))
+        ∙ ap (λ (ls : List (ℕ × Record)). looks_at s.history k ++ ls) (sym (found_in s.table s.history found k one.0 one.1))
         ∙ sym (looks_at-append k s.history pass_found);
     sent = sends.sent;
   }

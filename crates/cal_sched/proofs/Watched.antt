@@ -6,19 +6,20 @@ use Rattle.std.proofs.lemmas.Option.{slice_get_within}
 use Rattle.cal_signal.specs.declared.record.Record.{Record}
 use Rattle.cal_signal.specs.declared.look.Look.{Look}
 use Rattle.cal_signal.specs.Looks.{whole_of}
+use Rattle.cal_signal.specs.Rounds.{found_at, found_by}
 use Rattle.cal_signal.specs.Ends.{ObserverView}
 use Rattle.cal_sched.specs.Looking.{HasLooked, HaveLooked}
-use Rattle.cal_sched.specs.Watching.{AreWatched, whole_looks_at, whole_of_some}
+use Rattle.cal_sched.specs.Watching.{AreWatched}
 use Rattle.cal_lists.proofs.Places.{slice_get_at}
 use Rattle.cal_lists.proofs.Last.{some_same, last_or_before}
 
 -- one round more gives each page's looks one look more
-whole_looks_at-append : (k : ℕ) (rounds : List (List Look)) (round : List Look) (look : Look) → slice_get round k ≡ Some look
-    → whole_looks_at k (rounds ++ round ∷ []) ≡ whole_looks_at k rounds ++ whole_of look
-whole_looks_at-append k rounds round look at =
-    flat_map-append (λ (r : List Look). whole_of_some (slice_get r k)) rounds (round ∷ [])
-    ∙ ap (λ (o : Option Look). whole_looks_at k rounds ++ (whole_of_some o ++ [])) at
-    ∙ ap (λ (ls : List (ℕ × Record)). whole_looks_at k rounds ++ ls) (append-nil (whole_of look))
+found_at-append : (k : ℕ) (rounds : List (List Look)) (round : List Look) (look : Look) → slice_get round k ≡ Some look
+    → found_at (rounds ++ round ∷ []) k ≡ found_at rounds k ++ whole_of look
+found_at-append k rounds round look at =
+    flat_map-append (λ (r : List Look). found_by (slice_get r k)) rounds (round ∷ [])
+    ∙ ap (λ (o : Option Look). found_at rounds k ++ (found_by o ++ [])) at
+    ∙ ap (λ (ls : List (ℕ × Record)). found_at rounds k ++ ls) (append-nil (whole_of look))
 
 pub AreWatched-none : (observers : List ObserverView) → AreWatched observers observers []
 AreWatched-none observers = record {
@@ -47,7 +48,7 @@ AreWatched-more given before after rounds round watched looked = record {
       let step : HasLooked mid.0 is found.0 = looked.each k mid.0 is found.0 mid.1 f found.1 in (
         step.page ∙ so_far.0,
         step.looks ∙ ap (λ (ls : List (ℕ × Record)). ls ++ whole_of found.0) so_far.1
-            ∙ append_assoc was.looks (whole_looks_at k rounds) (whole_of found.0)
-            ∙ ap (λ (ls : List (ℕ × Record)). was.looks ++ ls) (sym (whole_looks_at-append k rounds round found.0 found.1)),
+            ∙ append_assoc was.looks (found_at rounds k) (whole_of found.0)
+            ∙ ap (λ (ls : List (ℕ × Record)). was.looks ++ ls) (sym (found_at-append k rounds round found.0 found.1)),
       );
 }

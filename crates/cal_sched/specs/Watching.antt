@@ -1,9 +1,7 @@
 -- What a contract sees of a watch, and what its rounds are to its observers.
-use Rattle.std.specs.Prelude.{◌≡◌, ℕ, ◌++◌, List, [], ◌∷◌, length, Option, Some, None, slice_get}
-use Rattle.std.specs.List.{flat_map}
-use Rattle.cal_signal.specs.declared.record.Record.{Record}
+use Rattle.std.specs.Prelude.{◌≡◌, ℕ, ◌++◌, List, [], ◌∷◌, length, Some, slice_get}
 use Rattle.cal_signal.specs.declared.look.Look.{Look}
-use Rattle.cal_signal.specs.Looks.{whole_of}
+use Rattle.cal_signal.specs.Rounds.{found_at}
 use Rattle.cal_signal.specs.Ends.{ObserverView}
 use Rattle.cal_sched.specs.Looking.{HaveLooked}
 
@@ -24,15 +22,6 @@ new_watch observers most = record {
   most = most;
 }
 
--- the place and the record of a whole look, where there is one
-abbrev pub whole_of_some : Option Look → List (ℕ × Record)
-whole_of_some None = []
-whole_of_some (Some look) = whole_of look
-
--- the whole looks at page k in these rounds, in order
-abbrev pub whole_looks_at : ℕ → List (List Look) → List (ℕ × Record)
-whole_looks_at k rounds = flat_map (λ round. whole_of_some (slice_get round k)) rounds
-
 -- one round more: one look at each page, in order
 pub record IsRoundMore (before after : WatchView) : Type 0 where
   pub round : List Look
@@ -41,8 +30,8 @@ pub record IsRoundMore (before after : WatchView) : Type 0 where
   pub given : after.given ≡ before.given
   pub most : after.most ≡ before.most
 
--- each round has a look at each page; each observer stays at its page, and its whole looks since it
--- was handed in are, in order, those of the rounds
+-- each round has a look at each page; each observer stays at its page, and what it found since
+-- it was handed in is, in order, what the rounds found
 pub record AreWatched (given observers : List ObserverView)
     (rounds : List (List Look)) : Type 0 where
   pub same_many : length observers ≡ length given
@@ -50,4 +39,4 @@ pub record AreWatched (given observers : List ObserverView)
       length round ≡ length given
   pub each : (k : ℕ) (was is : ObserverView) → slice_get given k ≡ Some was →
       slice_get observers k ≡ Some is
-      → (is.page ≡ was.page) × (is.looks ≡ was.looks ++ whole_looks_at k rounds)
+      → (is.page ≡ was.page) × (is.looks ≡ was.looks ++ found_at rounds k)

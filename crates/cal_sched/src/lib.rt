@@ -17,8 +17,6 @@ mod finding;
 mod looking;
 mod scheduler;
 mod sending;
-#[cfg(test)]
-mod tests;
 mod watch;
 
 pub use fault::PassFault;

@@ -1,6 +1,7 @@
 pub mod Records
 pub mod Pages
 pub mod Looks
+pub mod Rounds
 pub mod Shown
 pub mod Tests
 pub mod Laws

@@ -22,8 +22,6 @@ mod publisher;
 mod record;
 mod rule;
 mod shown;
-#[cfg(test)]
-mod tests;
 mod view;
 mod words;
 

@@ -6,8 +6,8 @@ use Rattle.cal_machine.specs.Table.{Table}
 use Rattle.cal_sched.specs.Scheduler.{SchedulerView}
 use Rattle.cal_trace.specs.declared.arrivals.Arrivals.{Arrivals}
 use Rattle.cal_run.specs.Parts.{AreOfOneTeam, AreParts, SchedulerSeat, WatchSeat, rounds_of, scheduler_seat_of, watch_seat_of}
-use Rattle.cal_run.specs.Turning.{HaveMade, Seat, seat_of, seats_of}
-use Rattle.cal_run.specs.declared.worker.Worker.{Worker}
+use Rattle.cal_run.specs.Workers.{HaveMade, Seat, seat_of, seats_of}
+use Rattle.cal_run.specs.declared.workers.worker.Worker.{Worker}
 use Rattle.cal_policy.specs.Tasks.{threads_of_table}
 use Rattle.cal_run.specs.declared.parts.Parts.{Parts}
 use Rattle.cal_threads.specs.Promises.{HasMadePasses, HasMadeRounds}

@@ -1,9 +1,9 @@
 -- The kernel threads of a run, before and after their turns.
-use Rattle.std.proofs.Common.{◌≡◌, ℕ, ◌+◌, zero, suc, List, [], ◌∷◌, Some, length, arith, subst, sym, ap, ◌∙◌}
+use Rattle.std.proofs.Common.{◌≡◌, ℕ, ◌+◌, suc, List, ◌∷◌, Some, length, arith, subst, sym, ap, ◌∙◌}
 use Rattle.std.specs.List.{AllZip, slice_get}
 use Rattle.cal_trace.specs.declared.arrivals.Arrivals.{Arrivals}
-use Rattle.cal_run.specs.Turning.{HasMade, HaveMade, seat_of, seats_of}
-use Rattle.cal_run.specs.declared.worker.Worker.{Worker}
+use Rattle.cal_run.specs.Workers.{HasMade, HaveMade, seat_of, seats_of}
+use Rattle.cal_run.specs.declared.workers.worker.Worker.{Worker}
 use Rattle.cal_threads.specs.Promises.{HasMadeTurns, IsKept, IsOf}
 use Rattle.cal_threads.specs.declared.kernel_threads.Turned.{Turned}
 use Rattle.cal_threads.proofs.Pairs.{pairs_map, pairs_place}

@@ -4,8 +4,8 @@ use Rattle.cal_sched.specs.Scheduler.{SchedulerView}
 use Rattle.cal_sched.specs.Watching.{WatchView}
 use Rattle.cal_trace.specs.declared.arrivals.Arrivals.{Arrivals}
 use Rattle.cal_run.specs.Parts.{HasPassed, scheduler_seat_of, watch_seat_of}
-use Rattle.cal_run.specs.Turning.{HasMade, seat_of}
-use Rattle.cal_run.specs.declared.worker.Worker.{Worker}
+use Rattle.cal_run.specs.Workers.{HasMade, seat_of}
+use Rattle.cal_run.specs.declared.workers.worker.Worker.{Worker}
 use Rattle.cal_threads.specs.Gates.{MayRefuse}
 use Rattle.cal_threads.specs.declared.kernel_threads.Turned.{Turned}
 

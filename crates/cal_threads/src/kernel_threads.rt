@@ -1,8 +1,9 @@
 //! The threads of the kernel threads: what each promises, and how all are started and joined.
 
-ghost use Rattle.std.specs.Prelude.{◌≡◌, ◌≤◌, [], length, IfOk, IfErr, OnOk, MatchResult, vec_len, vec_capacity};
+ghost use Rattle.std.specs.Prelude.{◌≡◌, ◌≤◌, [], length, IfOk, IfErr, OnOk, MatchResult, vec_len};
+ghost use Rattle.std.specs.Prelude.{vec_capacity};
 ghost use Rattle.std.specs.List.{AllZip, Contains};
-ghost use Rattle.cal_run.specs.Turning.{FitSomeTable, HaveMade, seats_of};
+ghost use Rattle.cal_run.specs.Workers.{FitSomeTable, HaveMade, seats_of};
 ghost use Rattle.cal_run.specs.declared.fault.SimFault.TheVariants.{Gate as GateFault, Spawn};
 ghost use Rattle.cal_threads.specs.Gates.{EndedBy, MayRefuseOne};
 ghost use Rattle.cal_threads.specs.Promises.{IsKept, IsOf, MayEnd};

@@ -12,8 +12,6 @@ mod gate;
 mod kernel_threads;
 mod running;
 mod simulation;
-#[cfg(test)]
-mod tests;
 mod working;
 
 pub use gate::{FreeGate, Gate};

@@ -2,7 +2,7 @@
 
 ghost use Rattle.std.specs.Prelude.{◌≡◌, ◌⊎◌, IfOk, IfErr, MatchResult, length, vec_len};
 ghost use Rattle.cal_run.specs.Parts.{AreParts, HasPassed, rounds_of};
-ghost use Rattle.cal_run.specs.Turning.{FitSomeTable, HaveMade, seats_of};
+ghost use Rattle.cal_run.specs.Workers.{FitSomeTable, HaveMade, seats_of};
 ghost use Rattle.cal_run.specs.declared.fault.SimFault.TheVariants.{Gate as GateFault, Spawn};
 ghost use Rattle.cal_threads.specs.Gates.{EndedBy, MayRefuse, MayRefuseOne};
 ghost use Rattle.cal_threads.specs.Promises.{HasMadePasses, HasMadeRounds};
@@ -49,8 +49,8 @@ impl Promise<Watch> for Watched {
 }
 
 /// Runs the scheduler, each kernel thread and the watch at the same time, each in a thread of its
-/// own, and gives them back once each has come to its end. They share their pages, rings and queues,
-/// the arrivals, which are only read, and the gate. Only the joins wait.
+/// own, and gives them back once each has come to its end. They share their pages, rings and
+/// queues, the arrivals, which are only read, and the gate. Only the joins wait.
 ///
 /// `Memory` where memory was refused to a worker or for the threads, `Spawn` where a thread could
 /// not be started, and `Gate` where the gate ended a worker, which comes only where it may answer

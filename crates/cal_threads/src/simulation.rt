@@ -6,12 +6,13 @@ ghost use Rattle.cal_kthread.specs.Journal.{commands_of};
 ghost use Rattle.cal_kthread.specs.Turn.Turns.{AreTurns};
 ghost use Rattle.cal_linear.specs.Law.{IsLinearised};
 ghost use Rattle.cal_linear.specs.Linear.{linear};
-ghost use Rattle.cal_linear.specs.Runs.{AreFirst, AreWatched, page_at, shown_of};
+ghost use Rattle.cal_linear.specs.Runs.{AreFirst, AreWatched, page_at};
 ghost use Rattle.cal_linear.specs.Steps.{journal_at};
 ghost use Rattle.cal_policy.specs.History.{actions_of, commands_to};
+ghost use Rattle.cal_policy.specs.History.Found.{looks_at};
 ghost use Rattle.cal_policy.specs.Tasks.{threads_of_table};
-ghost use Rattle.cal_run.specs.Given.{turns_given};
-ghost use Rattle.cal_run.specs.Headline.{Headline};
+ghost use Rattle.cal_run.specs.Workers.Given.{turns_given};
+ghost use Rattle.cal_run.specs.Outcome.Headline.{Headline};
 ghost use Rattle.cal_run.specs.Outcome.{EachStandsOnce, IsRun, figures_of, most_rounds};
 ghost use Rattle.cal_run.specs.declared.fault.SimFault.TheVariants.{Gate as GateFault};
 ghost use Rattle.cal_signal.specs.Pages.{FitsPage};
@@ -56,7 +57,7 @@ pub fn simulate<R: Threads + Wait + Sync, G: Gate + Sync>(
     ensures rounds { IfOk result (λ outcome.
         length outcome.watched ≡ min (length arrivals.now.passes) most_rounds) }
     ensures looks { IfOk result (λ outcome. (k : ℕ) →
-        FitsPage (page_at outcome.journals k) (shown_of outcome.history k)) }
+        FitsPage (page_at outcome.journals k) (looks_at outcome.history k)) }
     ensures watched { IfOk result (λ outcome.
         AreWatched config.now outcome.journals outcome.watched) }
     ensures taken { IfOk result (λ outcome. (k : ℕ) →

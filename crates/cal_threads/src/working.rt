@@ -3,7 +3,7 @@
 
 ghost use Rattle.std.specs.Prelude.{◌≡◌, IfOk, IfErr, length, min};
 ghost use Rattle.cal_run.specs.Parts.{HasPassed, scheduler_seat_of, watch_seat_of};
-ghost use Rattle.cal_run.specs.Turning.{FitSomeTable, HasMade, seat_of};
+ghost use Rattle.cal_run.specs.Workers.{FitSomeTable, HasMade, seat_of};
 ghost use Rattle.cal_threads.specs.Gates.{EndedBy, MayRefuse};
 
 use crate::gate::Gate;

@@ -3,6 +3,7 @@ use Rattle.std.proofs.Common.{◌≡◌, ℕ, ◌<◌, ◌≤◌, Bool, true, fa
 use Rattle.std.proofs.lemmas.List.{length-take-le, get_or-take, take-take, take-append-le, take_all}
 use Rattle.std.proofs.lemmas.Option.{slice_get_within, slice_get_read, get_or_from_slice_get}
 use Rattle.std.proofs.Math.Seq.{take-append_seam}
+use Rattle.cal_lists.proofs.Places.{slice_get_at}
 use Rattle.cal_lists.proofs.Last.{some_same, slice_get-last, slice_get-other, last_or_before}
 use Rattle.cal_machine.specs.Table.{Table}
 use Rattle.cal_policy.specs.declared.history.entry.PassEntry.{PassEntry}
@@ -86,3 +87,9 @@ illegal_here table history entry legal none = record {
       let P : List PassEntry → PassEntry → Type 0 = λ h one. IsPass table h one in
       none (subst (λ (h : List PassEntry). P h entry) (take-append_seam history (entry ∷ [])) (subst (λ (one : PassEntry). P (take (length history) (history ++ entry ∷ [])) one) (sym same) pass));
 }
+
+-- a legal history has no first illegal pass
+pub never_illegal : (table : Table) (history : List PassEntry) (p : ℕ) → IsLegal table history → IsFirstIllegal table history p → ⊥
+never_illegal table history p legal first =
+    let at = slice_get_at history p first.within in
+    first.illegal at.0 at.1 (legal.passes p at.0 at.1)

@@ -2,7 +2,7 @@ use Rattle.std.specs.Prelude.{◌≡◌}
 use Rattle.cal_linear.specs.Law.{IsLinearised}
 use Rattle.cal_linear.specs.Linear.{linear}
 use Rattle.cal_run.specs.Closing.{HaveClosed}
-use Rattle.cal_run.proofs.Runs.{are_of_one_run, are_watched, is_run}
+use Rattle.cal_run.proofs.OutcomeLemmas.Runs.{are_of_one_run, are_watched, is_run}
 use Rattle.cal_run.proofs.closing.close_parts.Goals as goal
 
 pub linearise-requires-clause-run : goal.linearise-requires-clause-run

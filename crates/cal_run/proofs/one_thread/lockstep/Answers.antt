@@ -1,5 +1,5 @@
 use Rattle.std.proofs.lemmas.Result.{IfOk-weaker}
-use Rattle.cal_run.specs.Headline.{Headline}
+use Rattle.cal_run.specs.Outcome.Headline.{Headline}
 use Rattle.cal_run.specs.Outcome.{IsRun}
 use Rattle.cal_run.proofs.one_thread.lockstep.Goals as goal
 

@@ -1,10 +1,10 @@
 use Rattle.std.proofs.Common.{◌≡◌, ◌+◌, List, sym, ap, subst, ◌∙◌, length, min, arith}
 use Rattle.std.specs.Vec.{with_items}
 use Rattle.std.proofs.lemmas.List.{length-map, with_items_is}
-use Rattle.cal_run.specs.Turning.{HaveMade, Seat, seat_of, seats_of}
+use Rattle.cal_run.specs.Workers.{HaveMade, Seat, seat_of, seats_of}
 use Rattle.cal_run.specs.declared.parts.Parts.{Parts}
-use Rattle.cal_run.specs.declared.worker.Worker.{Worker}
-use Rattle.cal_run.proofs.RunRounds.{round_more}
+use Rattle.cal_run.specs.declared.workers.worker.Worker.{Worker}
+use Rattle.cal_run.proofs.RoundsLemmas.Rounds.{round_more}
 use Rattle.cal_run.proofs.rounds.make_round.Goals as goal
 
 pub turns_of_round-requires-clause-made : goal.turns_of_round-requires-clause-made

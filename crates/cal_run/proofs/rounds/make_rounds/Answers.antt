@@ -1,5 +1,5 @@
 use Rattle.std.proofs.Common.{sym}
-use Rattle.cal_run.proofs.RunRounds.{before_rounds, with_table}
+use Rattle.cal_run.proofs.RoundsLemmas.Rounds.{before_rounds, with_table}
 use Rattle.cal_run.proofs.rounds.make_rounds.Goals as goal
 
 pub loop-r-init : goal.loop-r-init

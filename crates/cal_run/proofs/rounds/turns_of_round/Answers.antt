@@ -1,5 +1,5 @@
 use Rattle.std.proofs.Common.{ℕ, ◌+◌, length, min, List, ap, arith}
-use Rattle.cal_run.proofs.RunRounds.{turns_counted, all_counted}
+use Rattle.cal_run.proofs.RoundsLemmas.Rounds.{turns_counted, all_counted}
 use Rattle.cal_run.proofs.rounds.turns_of_round.Goals as goal
 
 pub returns-then-r-as_slice-clause-made : goal.returns-then-r-as_slice-clause-made

@@ -1,6 +1,6 @@
 use Rattle.std.proofs.Common.{arith}
 use Rattle.std.proofs.lemmas.Option.{slice_get-get_or}
-use Rattle.cal_run.proofs.Threads.{all_turned, may_turn, none_turned, one_turned}
+use Rattle.cal_run.proofs.WorkersLemmas.Turns.{all_turned, may_turn, none_turned, one_turned}
 use Rattle.cal_run.proofs.workers.turn_each.Goals as goal
 
 pub loop-k-init : goal.loop-k-init

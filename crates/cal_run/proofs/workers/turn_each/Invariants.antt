@@ -1,4 +1,4 @@
-use Rattle.cal_run.proofs.Threads.{TurnedUpTo}
+use Rattle.cal_run.proofs.WorkersLemmas.Turns.{TurnedUpTo}
 use Rattle.cal_run.proofs.workers.turn_each.Given as goal
 
 abbrev pub invariant-loop-k : goal.invariant-loop-k

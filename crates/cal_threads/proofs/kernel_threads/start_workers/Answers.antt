@@ -1,7 +1,7 @@
-use Rattle.std.proofs.Common.{◌≡◌, ℕ, ◌+◌, List, [], ◌∷◌, ◌++◌, rules, arith, ap, subst, sym, ◌∙◌, length}
+use Rattle.std.proofs.Common.{◌≡◌, ◌+◌, List, [], ◌∷◌, ◌++◌, rules, ap, subst, sym, ◌∙◌, length}
 use Rattle.std.specs.Prelude.{vec_len}
 use Rattle.std.proofs.iter.Serving.{serving}
-use Rattle.cal_run.specs.declared.worker.Worker.{Worker}
+use Rattle.cal_run.specs.declared.workers.worker.Worker.{Worker}
 use Rattle.cal_threads.specs.Promises.{IsOf}
 use Rattle.cal_threads.proofs.Pairs.{pairs_pushed}
 use Rattle.cal_threads.proofs.Workers.{HaveMadeFrom, first_of_rest, from_the_first, rest_of_rest}

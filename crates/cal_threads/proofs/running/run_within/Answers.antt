@@ -1,5 +1,3 @@
-use Rattle.std.proofs.Common.{◌≡◌}
-use Rattle.cal_threads.proofs.Ends.{gate_of_both}
 use Rattle.cal_threads.proofs.Together.{kept_passes, ran}
 use Rattle.cal_threads.proofs.running.run_within.Goals as goal
 

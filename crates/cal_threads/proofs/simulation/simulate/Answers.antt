@@ -1,5 +1,5 @@
 use Rattle.std.proofs.lemmas.Result.{IfOk-weaker}
-use Rattle.cal_run.specs.Headline.{Headline}
+use Rattle.cal_run.specs.Outcome.Headline.{Headline}
 use Rattle.cal_run.specs.Outcome.{IsRun}
 use Rattle.cal_threads.proofs.Together.{threads_of_parts}
 use Rattle.cal_threads.proofs.simulation.simulate.Goals as goal

@@ -1,5 +1,5 @@
 use Rattle.std.proofs.Common.{◌≡◌, ℕ, List, length, ap, subst, arith}
-use Rattle.cal_run.specs.Turning.{HasMade}
+use Rattle.cal_run.specs.Workers.{HasMade}
 use Rattle.cal_threads.proofs.working.make_turns.Goals as goal
 
 -- All turns are made.

@@ -1,5 +1,5 @@
 use Rattle.std.proofs.Common.{◌≡◌}
-use Rattle.cal_run.specs.Turning.{HasMade, seat_of}
+use Rattle.cal_run.specs.Workers.{HasMade, seat_of}
 use Rattle.cal_threads.proofs.working.make_turns.Given as goal
 
 abbrev pub invariant-loop-j : goal.invariant-loop-j

@@ -1,0 +1,3 @@
+-- Threads that end, and pages and rings that are closed.
+pub mod Closed
+pub mod Ends

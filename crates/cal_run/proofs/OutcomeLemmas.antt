@@ -1,0 +1,4 @@
+-- What a run comes to.
+pub mod Fitting
+pub mod GivenOnce
+pub mod Runs

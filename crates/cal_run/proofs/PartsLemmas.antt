@@ -1,0 +1,2 @@
+-- The parts of a run.
+pub mod Opened

@@ -1,0 +1,138 @@
+-- The parts of a run that was just opened.
+use Rattle.std.proofs.Common.{◌≡◌, ◌<◌, List, [], ◌∷◌, ◌++◌, length, map, refl, sym, ap, subst, ◌∙◌, arith, length-append, append_assoc}
+use Rattle.std.specs.List.{slice_get}
+use Rattle.std.proofs.lemmas.List.{length-map, map-append}
+use Rattle.cal_command.specs.Rings.{SenderView}
+use Rattle.cal_kthread.specs.Team.Opening.{AreOpened}
+use Rattle.cal_kthread.specs.Team.{IsTeam, Place, place_of}
+use Rattle.cal_kthread.specs.Turn.Thread.{KernelView}
+use Rattle.cal_machine.specs.Table.{Table}
+use Rattle.cal_policy.specs.Tasks.{threads_of_table}
+use Rattle.cal_sched.specs.Scheduler.{HaveSeenNothing, HaveSentNothing, SchedulerView}
+use Rattle.cal_sched.specs.Watching.{WatchView, new_watch}
+use Rattle.cal_signal.specs.Ends.{ObserverView}
+use Rattle.cal_trace.specs.declared.arrivals.Arrivals.{Arrivals}
+use Rattle.cal_run.specs.Outcome.{figures_of}
+use Rattle.cal_run.specs.Parts.{AreParts, rounds_of}
+use Rattle.cal_run.specs.Workers.{HasMade, HaveMade, HaveMadeNoTurn, MadeNoTurn, Seat, seat_of, seats_of}
+use Rattle.cal_run.specs.declared.parts.Parts.{Parts}
+use Rattle.cal_run.specs.declared.workers.worker.Worker.{Worker}
+use Rattle.cal_lists.proofs.Places.{slice_get_seam}
+use Rattle.cal_run.proofs.Members.{both_get}
+use Rattle.cal_run.proofs.WorkersLemmas.Turns.{one_more}
+
+-- the first of these threads have workers, and the rest are still to come
+pub record HaveWorkers (arrivals : Arrivals) (threads rest : List KernelView) (workers : List Worker) : Type 0 where
+  pub split : map (λ (w : Worker). w.thread) workers ++ rest ≡ threads
+  pub made : HaveMade arrivals 0 workers
+
+pub no_workers : (arrivals : Arrivals) (threads : List KernelView) → HaveWorkers arrivals threads threads []
+no_workers arrivals threads = record { split = refl; made = λ k worker e. absurd (cc) }
+
+-- the next thread made no turn
+pub next_is_fresh : (arrivals : Arrivals) (threads rest : List KernelView) (thread : KernelView) (workers : List Worker) →
+    HaveWorkers arrivals threads (thread ∷ rest) workers → HaveMadeNoTurn threads → MadeNoTurn thread
+next_is_fresh arrivals threads rest thread workers so_far fresh =
+    let own : List KernelView = map (λ (w : Worker). w.thread) workers in
+    fresh (length own) thread (ap (λ (l : List KernelView). slice_get l (length own)) (sym so_far.split) ∙ slice_get_seam own thread rest)
+
+-- there are fewer workers than threads
+pub fewer_workers : (arrivals : Arrivals) (threads rest : List KernelView) (thread : KernelView) (workers : List Worker) →
+    HaveWorkers arrivals threads (thread ∷ rest) workers → length workers < length threads
+fewer_workers arrivals threads rest thread workers so_far =
+    let own : List KernelView = map (λ (w : Worker). w.thread) workers in
+    let all = ap (λ (l : List KernelView). length l) (sym so_far.split) ∙ length-append own (thread ∷ rest) in
+    let many = length-map workers (λ (w : Worker). w.thread) in
+    omega (arith, all, many)
+
+-- one worker more
+pub worker_more : (arrivals : Arrivals) (threads rest : List KernelView) (thread : KernelView) (workers : List Worker) (worker : Worker) →
+    HaveWorkers arrivals threads (thread ∷ rest) workers → worker.thread ≡ thread → HasMade arrivals (length workers) 0 worker →
+    HaveWorkers arrivals threads rest (workers ++ worker ∷ [])
+worker_more arrivals threads rest thread workers worker so_far its made = record {
+  split =
+      let own : List KernelView = map (λ (w : Worker). w.thread) workers in
+      ap (λ (l : List KernelView). l ++ rest) (map-append (λ (w : Worker). w.thread) workers (worker ∷ []))
+      ∙ append_assoc own (worker.thread ∷ []) rest
+      ∙ ap (λ (t : KernelView). own ++ t ∷ rest) its
+      ∙ so_far.split;
+  made = one_more arrivals 0 workers worker so_far.made made;
+}
+
+-- all have workers
+pub all_workers : (arrivals : Arrivals) (threads : List KernelView) (workers : List Worker) → HaveWorkers arrivals threads [] workers →
+    map (λ (w : Worker). w.thread) workers ≡ threads
+all_workers arrivals threads workers so_far =
+    let own : List KernelView = map (λ (w : Worker). w.thread) workers in
+    sym (append_nil own) ∙ so_far.split
+  where
+    append_nil : (l : List KernelView) → l ++ [] ≡ l
+    append_nil [] = refl
+    append_nil (x ∷ xs) = ap (λ (ys : List KernelView). x ∷ ys) (append_nil xs)
+
+-- opened threads made no turn
+pub opened_are_fresh : (threads : List KernelView) (observers : List ObserverView) (senders : List SenderView) (watchers : List ObserverView) →
+    AreOpened threads observers senders watchers → HaveMadeNoTurn threads
+opened_are_fresh threads observers senders watchers opened k thread at =
+    let fresh = opened.fresh k thread (both_get threads k thread at) in (fresh.journal, fresh.published)
+
+-- as many ends as threads, of which nothing was seen or sent
+pub as_many_observers : (threads : List KernelView) (observers : List ObserverView) (senders : List SenderView) (watchers : List ObserverView) →
+    AreOpened threads observers senders watchers → length observers ≡ length threads
+as_many_observers threads observers senders watchers opened =
+    sym (length-map observers (λ (o : ObserverView). o.page)) ∙ ap (λ l. length l) opened.observed ∙ length-map threads (λ (t : KernelView). t.thread.publisher.page)
+
+pub as_many_senders : (threads : List KernelView) (observers : List ObserverView) (senders : List SenderView) (watchers : List ObserverView) →
+    AreOpened threads observers senders watchers → length senders ≡ length threads
+as_many_senders threads observers senders watchers opened =
+    sym (length-map senders (λ (s : SenderView). s.ring)) ∙ ap (λ l. length l) opened.rings ∙ length-map threads (λ (t : KernelView). t.thread.taker.ring)
+
+pub saw_nothing : (threads : List KernelView) (observers : List ObserverView) (senders : List SenderView) (watchers : List ObserverView) →
+    AreOpened threads observers senders watchers → HaveSeenNothing observers
+saw_nothing threads observers senders watchers opened k observer at = (opened.unseen k observer (both_get observers k observer at)).1
+
+pub watched_nothing : (threads : List KernelView) (observers : List ObserverView) (senders : List SenderView) (watchers : List ObserverView) →
+    AreOpened threads observers senders watchers → HaveSeenNothing watchers
+watched_nothing threads observers senders watchers opened k observer at = (opened.unwatched k observer (both_get watchers k observer at)).1
+
+pub sent_nothing : (threads : List KernelView) (observers : List ObserverView) (senders : List SenderView) (watchers : List ObserverView) →
+    AreOpened threads observers senders watchers → HaveSentNothing senders
+sent_nothing threads observers senders watchers opened k sender at = opened.unsent k sender (both_get senders k sender at)
+
+-- what the seats of workers give is what their threads give
+of_seats : {Y : Type 0} (f : Seat → Y) (workers : List Worker) →
+    map (λ (t : KernelView). f (seat_of t)) (map (λ (w : Worker). w.thread) workers) ≡ map f (seats_of workers)
+of_seats f [] = refl
+of_seats {Y} f (w ∷ ws) = ap (λ (ys : List Y). f (seat_of w.thread) ∷ ys) (of_seats f ws)
+
+pub seats_give : {Y : Type 0} (f : Seat → Y) (threads : List KernelView) (workers : List Worker) → map (λ (w : Worker). w.thread) workers ≡ threads →
+    map (λ (t : KernelView). f (seat_of t)) threads ≡ map f (seats_of workers)
+seats_give f threads workers same = ap (λ (l : List KernelView). map (λ (t : KernelView). f (seat_of t)) l) (sym same) ∙ of_seats f workers
+
+-- the parts belong together, and did nothing yet
+pub are_opened : (table : Table) (arrivals : Arrivals) (parts : Parts) (threads : List KernelView) (observers : List ObserverView) (senders : List SenderView) (watchers : List ObserverView) →
+    length threads ≡ threads_of_table table → AreOpened threads observers senders watchers → IsTeam (map (λ (k : KernelView). place_of k.thread) threads) →
+    map (λ (w : Worker). w.thread) parts.workers.items ≡ threads → HaveMade arrivals 0 parts.workers.items →
+    parts.scheduler ≡ record { table = table; history = []; observers = observers; senders = senders } →
+    parts.watch ≡ new_watch watchers (rounds_of arrivals) → AreParts table arrivals 0 0 0 parts
+are_opened table arrivals parts threads observers senders watchers count opened team same made scheduler watch = record {
+  together = record {
+    same_table = ap (λ (s : SchedulerView). s.table) scheduler;
+    threads = length-map parts.workers.items (λ (w : Worker). seat_of w.thread)
+        ∙ sym (length-map parts.workers.items (λ (w : Worker). w.thread)) ∙ ap (λ (l : List KernelView). length l) same ∙ count;
+    pages = ap (λ (s : SchedulerView). map (λ (o : ObserverView). o.page) s.observers) scheduler ∙ opened.observed
+        ∙ seats_give (λ (s : Seat). s.page) threads parts.workers.items same;
+    rings = ap (λ (s : SchedulerView). map (λ (r : SenderView). r.ring) s.senders) scheduler ∙ opened.rings
+        ∙ seats_give (λ (s : Seat). s.ring) threads parts.workers.items same;
+    watched = ap (λ (w : WatchView). map (λ (o : ObserverView). o.page) w.observers) watch ∙ opened.watched
+        ∙ seats_give (λ (s : Seat). s.page) threads parts.workers.items same;
+    unwatched = let P : WatchView → Type 0 = λ w. HaveSeenNothing w.given in
+        subst P (sym watch) (watched_nothing threads observers senders watchers opened);
+    team = let P : List Place → Type 0 = λ l. IsTeam l in
+        subst P (seats_give (λ (s : Seat). s.place) threads parts.workers.items same) team;
+  };
+  passes = ap (λ (s : SchedulerView). map figures_of s.history) scheduler;
+  turns = made;
+  rounds = ap (λ (w : WatchView). length w.rounds) watch;
+  most = ap (λ (w : WatchView). w.most) watch;
+}

@@ -1,0 +1,62 @@
+-- The rounds of a run on one thread, one after the other.
+use Rattle.std.proofs.Common.{◌≡◌, ℕ, ◌+◌, ◌≤◌, List, length, sym, ap, subst, ◌∙◌, arith}
+use Rattle.std.specs.Prelude.{min, Result, IfOk}
+use Rattle.cal_machine.specs.Table.{Table}
+use Rattle.cal_trace.specs.declared.arrivals.Arrivals.{Arrivals}
+use Rattle.cal_run.specs.Parts.{AreOfOneTeam, AreParts, HasPassed, SchedulerSeat, WatchSeat, rounds_of, scheduler_seat_of, watch_seat_of}
+use Rattle.cal_run.specs.Rounds.{AreAfterRounds}
+use Rattle.cal_run.specs.Workers.{HaveMade, Seat, seats_of}
+use Rattle.cal_run.specs.declared.parts.Parts.{Parts}
+use Rattle.cal_run.specs.declared.workers.worker.Worker.{Worker}
+
+-- the same counts, written in another way
+with_counts : (table : Table) (arrivals : Arrivals) (parts : Parts) (p q j k r s : ℕ) → p ≡ q → j ≡ k → r ≡ s → AreParts table arrivals p j r parts →
+    AreParts table arrivals q k s parts
+with_counts table arrivals parts p q j k r s pq jk rs are =
+    let P : ℕ → Type 0 = λ n. AreParts table arrivals n j r parts in
+    let J : ℕ → Type 0 = λ n. AreParts table arrivals q n r parts in
+    let R : ℕ → Type 0 = λ n. AreParts table arrivals q k n parts in
+    subst R rs (subst J jk (subst P pq are))
+
+pub turns_counted : (arrivals : Arrivals) (workers : List Worker) (j k : ℕ) → j ≡ k → HaveMade arrivals j workers → HaveMade arrivals k workers
+turns_counted arrivals workers j k same made = let P : ℕ → Type 0 = λ n. HaveMade arrivals n workers in subst P same made
+
+pub all_counted : {T E : Type 0} (arrivals : Arrivals) (result : Result T E) (workers : List Worker) (j k : ℕ) → j ≡ k → IfOk result (λ x. HaveMade arrivals j workers) →
+    IfOk result (λ x. HaveMade arrivals k workers)
+all_counted {T} {E} arrivals result workers j k same made = let P : ℕ → Type 0 = λ n. IfOk result (λ (x : T). HaveMade arrivals n workers) in subst P same made
+
+pub before_rounds : (table : Table) (arrivals : Arrivals) (parts : Parts) → AreParts table arrivals 0 0 0 parts → AreAfterRounds table arrivals 0 parts
+before_rounds table arrivals parts are = with_counts table arrivals parts 0 (min 0 (length arrivals.passes)) 0 (min 0 (length arrivals.turns)) 0 (min 0 (rounds_of arrivals))
+    (omega arith) (omega arith) (omega arith) are
+
+pub after_rounds : (table : Table) (arrivals : Arrivals) (parts : Parts) (n : ℕ) → length arrivals.passes ≤ n → length arrivals.turns ≤ n → AreAfterRounds table arrivals n parts →
+    AreParts table arrivals (length arrivals.passes) (length arrivals.turns) (rounds_of arrivals) parts
+after_rounds table arrivals parts n passes turns are =
+    with_counts table arrivals parts (min n (length arrivals.passes)) (length arrivals.passes) (min n (length arrivals.turns)) (length arrivals.turns) (min n (rounds_of arrivals)) (rounds_of arrivals)
+    (omega (arith, passes)) (omega (arith, turns)) (omega (arith, passes)) are
+
+-- the watch may make its round
+pub few_rounds : (table : Table) (arrivals : Arrivals) (parts : Parts) (r : ℕ) → AreAfterRounds table arrivals r parts → length parts.watch.rounds ≤ parts.watch.most
+few_rounds table arrivals parts r are = let rounds = are.rounds in let most = are.most in omega (arith, rounds, most)
+
+-- one round more
+pub round_more : (table : Table) (arrivals : Arrivals) (r : ℕ) (before after : Parts) → AreAfterRounds table arrivals r before →
+    scheduler_seat_of after.scheduler ≡ scheduler_seat_of before.scheduler → seats_of after.workers.items ≡ seats_of before.workers.items →
+    watch_seat_of after.watch ≡ watch_seat_of before.watch →
+    HasPassed arrivals (min (r + 1) (length arrivals.passes)) after.scheduler → HaveMade arrivals (min (r + 1) (length arrivals.turns)) after.workers.items →
+    length after.watch.rounds ≡ min (length before.watch.rounds + 1) before.watch.most → AreAfterRounds table arrivals (r + 1) after
+round_more table arrivals r before after are scheduler seats watch passed made rounds = record {
+  together =
+      let P : SchedulerSeat → Type 0 = λ s. AreOfOneTeam table s (seats_of after.workers.items) (watch_seat_of after.watch) in
+      let Q : List Seat → Type 0 = λ l. AreOfOneTeam table (scheduler_seat_of before.scheduler) l (watch_seat_of after.watch) in
+      let R : WatchSeat → Type 0 = λ w. AreOfOneTeam table (scheduler_seat_of before.scheduler) (seats_of before.workers.items) w in
+      subst P (sym scheduler) (subst Q (sym seats) (subst R (sym watch) are.together));
+  passes = passed;
+  turns = made;
+  rounds = let was = are.rounds in let most = are.most in omega (arith, rounds, was, most);
+  most = ap (λ (w : WatchSeat). w.most) watch ∙ are.most;
+}
+
+-- the table of the scheduler is that of the parts
+pub with_table : (table other : Table) (arrivals : Arrivals) (n : ℕ) (parts : Parts) → table ≡ other → AreAfterRounds table arrivals n parts → AreAfterRounds other arrivals n parts
+with_table table other arrivals n parts same are = let P : Table → Type 0 = λ t. AreAfterRounds t arrivals n parts in subst P same are

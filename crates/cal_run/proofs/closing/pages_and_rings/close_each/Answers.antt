@@ -1,0 +1,12 @@
+use Rattle.std.proofs.Common.{◌≡◌, [], map, ap, sym, ◌∙◌}
+use Rattle.std.specs.Vec.Iter.{into_iter_items}
+use Rattle.cal_kthread.specs.End.HandingOut.{run_of}
+use Rattle.cal_run.proofs.ClosingLemmas.Ends.{all_closed, nothing_left}
+use Rattle.cal_run.proofs.closing.pages_and_rings.close_each.Goals as goal
+
+pub returns-clause-closed : goal.returns-clause-closed
+returns-clause-closed c =
+    let at = c.loop-end in
+    let none : into_iter_items at.end-iterator ≡ [] = nothing_left _ (sym at.invariant.ends ∙ c.in-None.ensures.steps.0) in
+    let all = all_closed _ _ _ _ at.invariant.so_far (ap (map run_of) none) in
+    rw (← c.into_iter-end-iterator.ensures.into_iter_gives.0, ← c.into_iter-observers.ensures.rest, ← c.into_iter-watchers.ensures.rest, ← c.into_iter-senders.ensures.rest) all

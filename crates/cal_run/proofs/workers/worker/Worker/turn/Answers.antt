@@ -1,0 +1,32 @@
+use Rattle.std.proofs.Common.{◌≡◌, ◌≤◌, ℕ, ◌+◌, [], List, take, sym, ap, subst, ◌∙◌, refl, slice_index_or, Some, arith}
+use Rattle.std.specs.List.{slice_get}
+use Rattle.std.proofs.lemmas.Option.{slice_get-get_or}
+use Rattle.cal_kthread.specs.Turn.Turns.{AreTurns, Given}
+use Rattle.cal_run.specs.Workers.Given.{request_at, turns_given}
+use Rattle.cal_run.specs.Workers.{IsNext}
+use Rattle.cal_run.proofs.WorkersLemmas.Given.{given_at, take_next}
+use Rattle.cal_run.proofs.workers.worker.Worker.turn.Goals as goal
+
+pub returns-in-Ok-clause-made : goal.returns-in-Ok-clause-made
+returns-in-Ok-clause-made c =
+    let arrivals = c.args.arrivals.now in
+    let k = c.args.self.now.number in
+    let j = c.args.j in
+    let now = slice_index_or c.as_slice.result.now j 0 in
+    let at : slice_get arrivals.turns j ≡ Some now = slice_get-get_or arrivals.turns j 0 c.requires.given ∙ ap (λ (l : List ℕ). Some (slice_index_or l j 0)) (sym c.as_slice.ensures) in
+    let request = c.coming-request.result.0 in
+    let given = turns_given arrivals.requests arrivals.turns k in
+    let same = c.as_slice-requests.ensures in
+    let came : request ≡ request_at arrivals.requests k j = c.coming-request.ensures.request ∙ ap (λ l. request_at l k j) same in
+    let zero_on : 0 + j ≡ j = omega arith in
+    let this : slice_get given j ≡ Some (now, request) =
+    given_at arrivals.requests k 0 j now arrivals.turns at ∙ ap (λ n. Some (now, request_at arrivals.requests k n)) zero_on ∙ ap (λ r. Some (now, r)) (sym came) in
+    let P : List Given → Type 0 = λ turns. AreTurns turns [] c.turn.new.self.journal in
+    record {
+      number = refl;
+      turns = subst P (sym (take_next given j (now, request) this)) (c.one_turn_more.ensures (take j given) now request [] c.args.self.now.thread.journal c.turn.new.self.journal c.requires.made.turns c.in-Ok.ensures.added);
+      next = subst (λ l. IsNext l k (j + 1) c.coming-request.result.1) same c.coming-request.ensures.next;
+      stamp = λ i clock le e.
+          let P : ℕ → Type 0 = λ n. n ≤ clock in
+          subst P (sym c.in-Ok.ensures.stamped) (c.requires.fits.1.never_fall.at j i now clock (omega (arith, le)) at e);
+    }

@@ -1,0 +1,73 @@
+//! The parts of a run are opened.
+
+ghost use Rattle.std.specs.Prelude.{◌≡◌, ◌≤◌, length, map, IfOk, IfErr};
+ghost use Rattle.cal_kthread.specs.Turn.Thread.{KernelView};
+ghost use Rattle.cal_trace.specs.Arrivals.FitsTable.{FitsTable};
+ghost use Rattle.cal_run.specs.declared.fault.SimFault.TheVariants.{Memory};
+ghost use Rattle.cal_run.specs.declared.workers.worker.Worker.{Worker};
+ghost use Rattle.cal_run.specs.Parts.{AreParts};
+ghost use Rattle.cal_run.specs.Workers.{FitSomeTable, HaveMade, HaveMadeNoTurn};
+
+use crate::fault::SimFault;
+use crate::parts::Parts;
+use crate::workers::worker::Worker;
+use cal_kthread::{KernelThread, Team, open_threads};
+use cal_machine::Config;
+use cal_sched::{Scheduler, Watch};
+use cal_trace::Arrivals;
+use std::alloc::{AllocError, Global};
+
+/// The most rounds that a watch makes (this project's own limit).
+const MOST_ROUNDS: usize = 1024;
+
+/// The parts of a run on these arrivals: a scheduler, a worker for each kernel thread of the table,
+/// and a watch for as many rounds as passes, 1,024 at most. None of them did anything yet. The
+/// error is want of memory alone.
+pub fn open_parts(alloc: Global, config: &Config, arrivals: &Arrivals) -> Result<Parts, SimFault>
+    requires fits { FitsTable config.now arrivals.now }
+    ensures parts { IfOk result (λ parts. AreParts config.now arrivals.now 0 0 0 parts) }
+    ensures memory { IfErr result (λ fault. fault ≡ Memory) }
+{
+    config.limits();
+    let Team {
+        threads,
+        observers,
+        senders,
+        watchers,
+    } = open_threads(alloc, config)?;
+    let workers = open_workers(alloc, threads, arrivals)?;
+    let config = config.copy(alloc)?;
+    let Ok(scheduler) = Scheduler::new(alloc, config, observers, senders) else {
+        return Err(SimFault::Memory);
+    };
+    let rounds = arrivals.passes.as_slice().len().min(MOST_ROUNDS);
+    let Ok(watch) = Watch::new(alloc, watchers, rounds as u64) else {
+        return Err(SimFault::Memory);
+    };
+    Ok(Parts {
+        scheduler,
+        workers,
+        watch,
+    })
+}
+
+/// A worker for each of these kernel threads, in the same order. An error is want of memory.
+fn open_workers(
+    alloc: Global,
+    threads: Vec<KernelThread>,
+    arrivals: &Arrivals,
+) -> Result<Vec<Worker>, AllocError>
+    requires fits { FitSomeTable arrivals.now }
+    requires few { length threads.items ≤ 128 }
+    requires fresh { HaveMadeNoTurn threads.items }
+    ensures threads { IfOk result (λ workers.
+        map (λ (w : Worker). w.thread) workers.items ≡ threads.items) }
+    ensures made { IfOk result (λ workers. HaveMade arrivals.now 0 workers.items) }
+{
+    let mut workers = Vec::new(alloc);
+    for thread in threads {
+        let number = workers.len() as u8;
+        workers.push(Worker::new(thread, number, arrivals))?;
+    }
+    Ok(workers)
+}
