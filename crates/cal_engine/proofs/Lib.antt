@@ -4,3 +4,4 @@ pub mod Reading
 pub mod InThreads
 pub mod CommandWords
 pub mod Reporting
+pub mod Audited

@@ -1,5 +1,6 @@
 -- What the words of a command line ask for.
-use Rattle.std.specs.Prelude.{◌≡◌, ◌⊎◌, ℕ, Bool, true, false, List, [], ◌∷◌, codes, Option, Some, None, Result, Ok, Err}
+use Rattle.std.specs.Prelude.{◌≡◌, ◌⊎◌, ℕ, Bool, true, false, List, [], ◌∷◌, codes, Option, Some}
+use Rattle.std.specs.Prelude.{None, Result, Ok, Err}
 use Rattle.clap.specs.Simple.{App, new_app, new_rule, on_top, with_rule, with_subcommand}
 use Rattle.clap.specs.Values.{bool_text, kind_of}
 use Rattle.clap.specs.Walk.{Row, Rule, Text, one_of}
@@ -12,11 +13,13 @@ use Rattle.cal_engine.specs.declared.command_line.Job.TheVariants as job
 -- the program before it has its subcommands: it has a version, and the first of its words is no
 -- program's name
 abbrev pub bare_program : App
-bare_program = on_top (λ s. record s { has_version = true; no_binary_name = true }) (new_app (codes "caladan_sim"))
+bare_program = on_top (λ s. record s { has_version = true; no_binary_name = true })
+    (new_app (codes "caladan_sim"))
 
 -- the flag that asks for the summary of a run
 abbrev pub summary_flag : Rule
-summary_flag = record (new_rule (codes "summary")) { long = Some (codes "summary"); action = Some SetTrue }
+summary_flag =
+    record (new_rule (codes "summary")) { long = Some (codes "summary"); action = Some SetTrue }
 
 -- a word for a run, after which the flag may stand
 abbrev pub run_word : Text → App

@@ -22,7 +22,8 @@ decided_pass table history pass = record {
 -- this history, and then these passes, each decided after all before it
 unfoldable pub decided_after : Table → List PassEntry → List SignalPass → List PassEntry
 decided_after table history [] = history
-decided_after table history (pass ∷ passes) = decided_after table (history ++ decided_pass table history pass ∷ []) passes
+decided_after table history (pass ∷ passes) =
+    decided_after table (history ++ decided_pass table history pass ∷ []) passes
 
 -- the history that signals lead to
 abbrev pub decided : Table → List SignalPass → List PassEntry

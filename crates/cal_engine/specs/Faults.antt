@@ -43,7 +43,8 @@ trace_number_of kind.Repeated = 9
 -- what is wrong with the row of a trace
 abbrev pub trace_reason_of : FaultKind → ℕ → List ℕ
 trace_reason_of kind.Memory row = codes "memory"
-trace_reason_of k row = codes "trace row " ++ decimal row ++ codes " fault " ++ decimal (trace_number_of k)
+trace_reason_of k row =
+    codes "trace row " ++ decimal row ++ codes " fault " ++ decimal (trace_number_of k)
 
 -- the reason as the program names it (this project's own words)
 abbrev pub reason_of : RunFault → List ℕ

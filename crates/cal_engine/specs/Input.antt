@@ -1,5 +1,6 @@
 -- What an input is made of: a task table, a separator line, a trace.
-use Rattle.std.specs.Prelude.{◌==◌, ◌||◌, bytes_eq, ℕ, List, [], ◌∷◌, ◌++◌, Bool, codes, Option, Some, None, option_map, if◌then◌else◌, ⊤}
+use Rattle.std.specs.Prelude.{◌==◌, ◌||◌, bytes_eq, ℕ, List, [], ◌∷◌, ◌++◌, Bool, codes, Option}
+use Rattle.std.specs.Prelude.{Some, None, option_map, if◌then◌else◌, ⊤}
 use Rattle.std.specs.List.{concat}
 use Rattle.cal_engine.specs.declared.fault.RunFault.{RunFault}
 use Rattle.cal_engine.specs.declared.fault.RunFault.TheVariants as fault
@@ -16,12 +17,14 @@ abbrev pub before_line : ℕ → List (List ℕ) → List (List ℕ)
 before_line b [] = (b ∷ []) ∷ []
 before_line b (line ∷ lines) = (b ∷ line) ∷ lines
 
--- the lines of a text, each with the line feed that ends it; what stands after the last line feed is a line too
+-- the lines of a text, each with the line feed that ends it; what stands after the last line feed
+-- is a line too
 unfoldable pub lines_of : List ℕ → List (List ℕ)
 lines_of [] = []
 lines_of (b ∷ text) = if b == 10 then (b ∷ []) ∷ lines_of text else before_line b (lines_of text)
 
--- a separator line: exactly three dashes and a line feed, with a carriage return before it or without
+-- a separator line: exactly three dashes and a line feed, with a carriage return before it or
+-- without
 abbrev pub is_separator : List ℕ → Bool
 is_separator line = bytes_eq line (codes "---\n") || bytes_eq line (codes "---\r\n")
 

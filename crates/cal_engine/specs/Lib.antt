@@ -3,6 +3,7 @@ pub mod Faults
 pub mod Deciding
 pub mod Runs
 pub mod Outcome
+pub mod Recorded
 pub mod Running
 pub mod CommandWords
 pub mod Program

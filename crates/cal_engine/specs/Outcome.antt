@@ -1,5 +1,6 @@
 -- What an engine answers and writes, against what its input asks for.
-use Rattle.std.specs.Prelude.{◌≡◌, ◌++◌, ℕ, List, [], ◌∷◌, codes, decimal, Option, Result, Ok, Err, IsOk, ⊤}
+use Rattle.std.specs.Prelude.{◌≡◌, ◌++◌, ℕ, List, [], ◌∷◌, codes, decimal, Option, Result, Ok, Err}
+use Rattle.std.specs.Prelude.{IsOk, ⊤}
 use Rattle.std.specs.Io.KnownBytes.{Appends}
 use Rattle.std.specs.List.{concat}
 use Rattle.cal_machine.specs.declared.fault.ConfigFault.{ConfigFault}
@@ -18,7 +19,8 @@ abbrev pub ConfigDecided : ConfigFault → Type 0 → Type 0
 ConfigDecided config.Memory P = ⊤
 ConfigDecided _ P = P
 
--- P, but for want of memory, which no input decides; no fault of a reader, a writer or a thread, which no input has
+-- P, but for want of memory, which no input decides; no fault of a reader, a writer or a thread,
+-- which no input has
 abbrev pub Decided : RunFault → Type 0 → Type 0
 Decided fault.Length P = P
 Decided fault.Separator P = P
@@ -30,8 +32,8 @@ Decided fault.Write P = ⊥
 Decided fault.Spawn P = ⊥
 Decided fault.Gate P = ⊥
 
--- What a fault says of the input: nothing where the reader failed; that there is a run where the writer did, since
--- writing comes last; else that it is the input's first, want of memory aside.
+-- What a fault says of the input: nothing where the reader failed; that there is a run where the
+-- writer did, since writing comes last; else that it is the input's first, want of memory aside.
 abbrev pub Failed : {X : Type 0} → RunFault → Result X RunFault → Type 0
 Failed fault.Read outcome = ⊤
 Failed fault.Write outcome = IsOk outcome
@@ -66,7 +68,8 @@ Reported (Err f) old new = ⊥
 Reported (Ok run) old new = Appends old new (run_report run)
 
 -- the report of the run was written and nothing else, or the fault says what it must of the input
-abbrev pub Reports : {T : Type 0} → Result T RunFault → Result Run RunFault → Option (List ℕ) → Option (List ℕ) → Type 0
+abbrev pub Reports : {T : Type 0} → Result T RunFault → Result Run RunFault → Option (List ℕ) →
+    Option (List ℕ) → Type 0
 Reports (Ok _) outcome old new = Reported outcome old new
 Reports (Err f) outcome old new = Failed f outcome
 
@@ -81,6 +84,7 @@ Audited verdict (Err f) old new = ⊥
 Audited verdict (Ok run) old new = IsAudit run verdict old new
 
 -- the run was audited, or the fault says what it must of the input
-abbrev pub Audits : Result Verdict RunFault → Result Run RunFault → Option (List ℕ) → Option (List ℕ) → Type 0
+abbrev pub Audits : Result Verdict RunFault → Result Run RunFault → Option (List ℕ) →
+    Option (List ℕ) → Type 0
 Audits (Ok verdict) outcome old new = Audited verdict outcome old new
 Audits (Err f) outcome old new = Failed f outcome

@@ -17,19 +17,25 @@ verdict_status (Illegal pass) = 1
 -- there is a run, it was audited, and the status is that of its verdict
 abbrev pub AuditedBy : ℕ → Result Run RunFault → Option (List ℕ) → Option (List ℕ) → Type 0
 AuditedBy status (Err f) old new = ⊥
-AuditedBy status (Ok run) old new = (verdict : Verdict) × (status ≡ verdict_status verdict) × IsAudit run verdict old new
+AuditedBy status (Ok run) old new =
+    (verdict : Verdict) × (status ≡ verdict_status verdict) × IsAudit run verdict old new
 
 -- the run was audited, or the fault says what it must of the input
-abbrev pub AuditsBy : Result ℕ RunFault → Result Run RunFault → Option (List ℕ) → Option (List ℕ) → Type 0
+abbrev pub AuditsBy : Result ℕ RunFault → Result Run RunFault → Option (List ℕ) → Option (List ℕ) →
+    Type 0
 AuditsBy (Ok status) outcome old new = AuditedBy status outcome old new
 AuditsBy (Err f) outcome old new = Failed f outcome
 
--- the job was done on this input, and the status is 0, but 1 after the audit of an illegal history; or the fault says what
--- it must of the input
+-- the job was done on this input, and the status is 0, but 1 after the audit of an illegal history;
+-- or the fault says what it must of the input
 abbrev pub DoesJob : Job → Result ℕ RunFault → List ℕ → Option (List ℕ) → Option (List ℕ) → Type 0
-DoesJob job.Decide answer input old new = Reports answer (within_limit input (decided_run_of input)) old new × IfOk answer (λ status. status ≡ 0)
+DoesJob job.Decide answer input old new = Reports answer (within_limit input (decided_run_of input))
+    old new × IfOk answer (λ status. status ≡ 0)
 DoesJob (job.Lockstep summary) answer input old new =
-    Runs summary answer (within_limit input (run_input_of input)) old new × IfOk answer (λ status. status ≡ 0)
+    Runs summary answer (within_limit input (run_input_of input)) old new ×
+    IfOk answer (λ status. status ≡ 0)
 DoesJob (job.Sim summary) answer input old new =
-    RunsInThreads summary answer (within_limit input (run_input_of input)) old new × IfOk answer (λ status. status ≡ 0)
-DoesJob job.Audit answer input old new = AuditsBy answer (within_limit input (recorded_run_of input)) old new
+    RunsInThreads summary answer (within_limit input (run_input_of input)) old new ×
+    IfOk answer (λ status. status ≡ 0)
+DoesJob job.Audit answer input old new =
+    AuditsBy answer (within_limit input (recorded_run_of input)) old new

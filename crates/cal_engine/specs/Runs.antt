@@ -1,5 +1,6 @@
 -- The run that an input asks for.
-use Rattle.std.specs.Prelude.{ℕ, List, length, nat_lt, Option, Some, None, Result, Ok, Err, if◌then◌else◌}
+use Rattle.std.specs.Prelude.{ℕ, List, length, nat_lt, Option, Some, None, Result, Ok, Err}
+use Rattle.std.specs.Prelude.{if◌then◌else◌}
 use Rattle.cal_machine.specs.Reading.{table_in}
 use Rattle.cal_machine.specs.Table.{Table}
 use Rattle.cal_machine.specs.Tasks.{threads_in}
@@ -46,7 +47,8 @@ decided_on table (Ok passes) = Ok (record { table = table; history = decided tab
 
 abbrev pub decided_run : Result Parts RunFault → Result Run RunFault
 decided_run (Err f) = Err f
-decided_run (Ok parts) = decided_on parts.table (signals_of (threads_in parts.table.tasks) (rows_of parts.trace))
+decided_run (Ok parts) =
+    decided_on parts.table (signals_of (threads_in parts.table.tasks) (rows_of parts.trace))
 
 -- the run that an input of signals asks for, or its first fault
 abbrev pub decided_run_of : List ℕ → Result Run RunFault
@@ -59,7 +61,8 @@ recorded_on table (Ok history) = Ok (record { table = table; history = history }
 
 abbrev pub recorded_run : Result Parts RunFault → Result Run RunFault
 recorded_run (Err f) = Err f
-recorded_run (Ok parts) = recorded_on parts.table (history_of (extent_of parts.table) (rows_of parts.trace))
+recorded_run (Ok parts) = recorded_on parts.table
+    (history_of (extent_of parts.table) (rows_of parts.trace))
 
 -- the run that an input of a history tells of, or its first fault
 abbrev pub recorded_run_of : List ℕ → Result Run RunFault

@@ -1,18 +1,19 @@
 //! Auditing a history against the policy.
 
-ghost use Rattle.std.specs.Prelude.{◌≡◌, ◌≢◌, IfOk, IfErr, IfSome};
-ghost use Rattle.cal_policy.specs.Verdict.{IsVerdict};
-ghost use Rattle.cal_engine.specs.Outcome.{audit_text, illegal_line, Audits, Gives};
-ghost use Rattle.cal_engine.specs.Runs.{recorded_run_of, within_limit};
+ghost use Rattle.std.specs.Prelude.{◌≡◌, ◌≢◌, [], Ok, Err, IfOk, IfErr, IfSome};
+ghost use Rattle.cal_trace.specs.History.Reading.{IsOpen};
+ghost use Rattle.cal_engine.specs.Outcome.{audit_text, illegal_line, report_of, Audits, Decided, Gives};
+ghost use Rattle.cal_engine.specs.Recorded.{recorded_in, HasGivenOf, IsAnswerTo, Judges};
+ghost use Rattle.cal_engine.specs.Runs.{recorded_run_of, within_limit, Run};
 
-use crate::answer::{report_text, write_answer};
+use crate::answer::write_answer;
 use crate::fault::RunFault;
 use crate::input::read_input;
 use crate::parts::read_parts;
 use cal_machine::Config;
 use cal_policy::{Auditor, PassEntry, Verdict};
-use cal_trace::read_history;
-use std::alloc::{AllocError, Global};
+use cal_trace::{HistoryRows, Report, read_history};
+use std::alloc::Global;
 use std::io::{Read, Write};
 
 /// Reads an input of a task table and a history to its end, audits the history, and writes what the audit says and
@@ -33,9 +34,7 @@ pub fn run_audit<R: Read + Drop, W: Write>(
     ensures untouched { IfErr result (λ fault. fault ≢ RunFault.Write → writer.new ≡ writer.old) }
 {
     let input = read_input(alloc, &mut reader)?;
-    let (config, history) = recorded_run(alloc, input.as_slice())?;
-    let verdict = audit_in_turn(alloc, &config, history.as_slice())?;
-    let answer = audit_text(alloc, &config, history.as_slice(), verdict)?;
+    let (verdict, answer) = audited(alloc, input.as_slice())?;
     write_answer(answer.as_slice(), writer)?;
     Ok(verdict)
 }
@@ -50,38 +49,81 @@ pub fn recorded_run(alloc: Global, input: &[u8]) -> Result<(Config, Vec<PassEntr
     Ok((config, history))
 }
 
-/// What an auditor says of a history, which is handed to it one pass after the other.
-fn audit_in_turn(
-    alloc: Global,
-    config: &Config,
-    history: &[PassEntry],
-) -> Result<Verdict, AllocError>
-    ensures { IfOk result (λ verdict. IsVerdict config.now history.now verdict) }
+/// The task table of an input, and its history as it stands there, before its first pass. The
+/// faults come in this order: `Separator`, `Config`, `Trace` where the history has not its header;
+/// `Memory` may come at any place.
+pub fn recorded_passes(alloc: Global, input: &[u8]) -> Result<(Config, HistoryRows<'_>), RunFault>
+    ensures ready { IfOk result (λ r. IsOpen r.1) }
+    ensures given { IfOk result (λ r. HasGivenOf input.now r.0 [] r.1) }
+    ensures fault { IfErr result (λ fault. Decided fault (recorded_run_of input.now ≡ Err fault)) }
 {
+    let (config, trace) = read_parts(alloc, input)?;
+    let rows = HistoryRows::open(alloc, &config, trace)?;
+    Ok((config, rows))
+}
+
+/// The verdict on the history of an input, and what the program writes of it. The text is gone over
+/// pass by pass, first for the verdict and then for the report, and no pass is kept.
+fn audited(alloc: Global, input: &[u8]) -> Result<(Verdict, Vec<u8>), RunFault>
+    ensures answer { IfOk result (λ r. IsAnswerTo r.0 r.1.items (recorded_run_of input.now)) }
+    ensures fault { IfErr result (λ fault. Decided fault (recorded_run_of input.now ≡ Err fault)) }
+{
+    let (config, trace) = read_parts(alloc, input)?;
+    let verdict = audit_in_turn(alloc, &config, trace)?;
+    let text = audit_text(alloc, &config, trace, verdict)?;
+    Ok((verdict, text))
+}
+
+/// What an auditor says of a history, which is handed to it one pass after the other as its rows are
+/// read.
+fn audit_in_turn(alloc: Global, config: &Config, trace: &[u8]) -> Result<Verdict, RunFault>
+    ensures { Judges result (recorded_in config.now trace.now) }
+{
+    let mut rows = HistoryRows::open(alloc, config, trace)?;
     let mut auditor = Auditor::open(alloc, config)?;
-    for entry in history {
-        auditor.next(config, entry);
+    while let Some(entry) = rows.next()? {
+        auditor.next(config, &entry);
     }
     Ok(auditor.verdict())
 }
 
-/// What the program writes of a verdict. Its fault is `Memory`.
+/// What the program writes of a verdict.
 fn audit_text(
     alloc: Global,
     config: &Config,
-    history: &[PassEntry],
+    trace: &[u8],
     verdict: Verdict,
 ) -> Result<Vec<u8>, RunFault>
-    ensures text { IfOk result (λ text. text.items ≡ audit_text (record { table = config.now; history = history.now }) verdict) }
-    ensures kind { IfErr result (λ fault. fault ≡ RunFault.Memory) }
+    ensures text { (run : Run) → recorded_in config.now trace.now ≡ Ok run → IfOk result (λ text. text.items ≡ audit_text run verdict) }
+    ensures fault { IfErr result (λ fault. Decided fault (recorded_in config.now trace.now ≡ Err fault)) }
 {
     match verdict {
         Verdict::Legal => {
-            let mut text = report_text(alloc, config, history)?;
+            let mut text = report_history(alloc, config, trace)?;
             text.extend_from_slice(b"legal\n")?;
             Ok(text)
         }
         Verdict::Illegal { pass } => illegal_line(alloc, pass),
+    }
+}
+
+/// The report of a history, in memory. The lines of each pass are made as soon as its rows were
+/// read, and nothing else is kept of it.
+fn report_history(alloc: Global, config: &Config, trace: &[u8]) -> Result<Vec<u8>, RunFault>
+    ensures { Gives (λ report. report.items) result (report_of (recorded_in config.now trace.now)) }
+{
+    let mut rows = HistoryRows::open(alloc, config, trace)?;
+    let mut report = Report::new();
+    let mut text = Vec::new(alloc);
+    while let Some(entry) = rows.next()? {
+        // A list in memory refuses nothing but memory.
+        let Ok(()) = report.write_pass(&entry, &mut text) else {
+            return Err(RunFault::Memory);
+        };
+    }
+    match report.write_end(config, &mut text) {
+        Ok(()) => Ok(text),
+        Err(_) => Err(RunFault::Memory),
     }
 }
 

@@ -30,8 +30,8 @@ pub enum Job {
 /// What the words after the program's name ask for; no words are `Job::Decide`.
 ///
 /// The error is clap's own. A word that is not in the table is refused; a request for help is an
-/// error of the kind `DisplayHelp`, one for the version of the kind `DisplayVersion`, whose texts go
-/// to the standard output; want of memory has the kind `OutOfMemory`.
+/// error of the kind `DisplayHelp`, one for the version of the kind `DisplayVersion`, whose texts
+/// go to the standard output; want of memory has the kind `OutOfMemory`.
 pub fn words<'a>(alloc: Global, words: &'a [&'a str]) -> Result<Job, Error>
     ensures { (job : Job) → Asks (map (λ word. word.now) words.now) job → IsJob job result }
 {

@@ -1,6 +1,7 @@
 //! Deciding the passes of a signal trace.
 
-ghost use Rattle.std.specs.Prelude.{◌≡◌, ◌≢◌, ◌++◌, ◌∷◌, [], List, length, IfOk, OnOk, IfErr, IfSome};
+ghost use Rattle.std.specs.Prelude.{◌≡◌, ◌≢◌, ◌++◌, ◌∷◌, [], List, length, IfOk, OnOk, IfErr};
+ghost use Rattle.std.specs.Prelude.{IfSome};
 ghost use Rattle.cal_machine.specs.Tasks.{threads_in};
 ghost use Rattle.cal_policy.specs.Book.{AgreesWith, IsBookOf};
 ghost use Rattle.cal_policy.specs.Judgement.Judging.{IsInput};
@@ -24,18 +25,22 @@ use cal_trace::{Report, SignalPass, SignalRows, read_signals};
 use std::alloc::{AllocError, Global};
 use std::io::{Read, Write};
 
-/// Reads an input of a task table and a signal trace to its end, decides each of its passes, and writes the report and
-/// nothing else. Nothing is written before the whole input was read and accepted and the report is made.
+/// Reads an input of a task table and a signal trace to its end, decides each of its passes, and
+/// writes the report and nothing else. Nothing is written before the whole input was read and
+/// accepted and the report is made.
 ///
-/// The faults come in this order: `Read` or `Length` as met, `Separator`, `Config`, `Trace`, `Write`. `Memory` may come
-/// at any place, and only where memory was refused.
+/// The faults come in this order: `Read` or `Length` as met, `Separator`, `Config`, `Trace`,
+/// `Write`. `Memory` may come at any place, and only where memory was refused.
 pub fn decide<R: Read + Drop, W: Write>(
     alloc: Global,
     mut reader: R,
     writer: &mut W,
 ) -> Result<(), RunFault>
-    // The report that the input asks for was written and nothing else, or the fault is the input's first.
-    ensures exact { IfSome (R.remaining reader) (λ input. Reports result (within_limit input (decided_run_of input)) (W.contents writer.old) (W.contents writer.new)) }
+    // The report that the input asks for was written and nothing else, or the fault is the input's
+    // first.
+    ensures exact { IfSome (R.remaining reader) (λ input.
+        Reports result (within_limit input (decided_run_of input)) (W.contents writer.old)
+        (W.contents writer.new)) }
     // Nothing is written before the input was accepted.
     ensures untouched { IfErr result (λ fault. fault ≢ RunFault.Write → writer.new ≡ writer.old) }
 {
@@ -55,7 +60,9 @@ fn decided_report(alloc: Global, input: &[u8]) -> Result<Vec<u8>, RunFault>
 /// The report of the history that these signals lead to, in memory. Each pass is decided and its
 /// lines are made as soon as its rows were read, and nothing else is kept of it.
 fn report_signals(alloc: Global, config: &Config, trace: &[u8]) -> Result<Vec<u8>, RunFault>
-    ensures { Gives (λ report. report.items) result (report_of (decided_on config.now (signals_of (threads_in config.now.tasks) (rows_of trace.now)))) }
+    ensures { Gives (λ report. report.items) result
+        (report_of (decided_on config.now (signals_of (threads_in config.now.tasks)
+        (rows_of trace.now)))) }
 {
     let mut signals = SignalRows::open(alloc, config, trace)?;
     let mut book = Book::open(alloc, config)?;
@@ -77,7 +84,8 @@ fn report_signals(alloc: Global, config: &Config, trace: &[u8]) -> Result<Vec<u8
 
 /// The task table of an input, and the history that its signals lead to.
 pub fn decided_run(alloc: Global, input: &[u8]) -> Result<(Config, Vec<PassEntry>), RunFault>
-    ensures exact { Gives (λ r. record { table = r.0; history = r.1.items }) result (decided_run_of input.now) }
+    ensures exact { Gives (λ r. record { table = r.0; history = r.1.items }) result
+        (decided_run_of input.now) }
     ensures legal { IfOk result (λ r. IsLegal r.0 r.1.items) }
 {
     let (config, trace) = read_parts(alloc, input)?;
@@ -86,7 +94,8 @@ pub fn decided_run(alloc: Global, input: &[u8]) -> Result<(Config, Vec<PassEntry
     Ok((config, history))
 }
 
-/// The history that signals lead to: each pass is decided after all before it, and let go of once it is decided.
+/// The history that signals lead to: each pass is decided after all before it, and let go of once
+/// it is decided.
 fn decide_passes(
     alloc: Global,
     config: &Config,
@@ -116,10 +125,12 @@ fn decide_pass(
 ) -> Result<PassEntry, AllocError>
     requires of { IsBookOf config.now book.old }
     requires looks { length pass.now.looks ≡ threads_of_table config.now }
-    ensures decided { IfOk result (λ entry. (h : List PassEntry) → IsLegal config.now h → AgreesWith book.old h →
-        IsInput config.now h (input_of config.now h pass.entry.now) → entry ≡ decided_pass config.now h pass.entry.now) }
-    ensures agrees { IfOk result (λ entry. (h : List PassEntry) → IsLegal config.now h → AgreesWith book.old h →
-        IsInput config.now h (input_of config.now h pass.entry.now) → AgreesWith book.new (h ++ entry ∷ [])) }
+    ensures decided { IfOk result (λ entry. (h : List PassEntry) → IsLegal config.now h →
+        AgreesWith book.old h → IsInput config.now h (input_of config.now h pass.entry.now) →
+        entry ≡ decided_pass config.now h pass.entry.now) }
+    ensures agrees { IfOk result (λ entry. (h : List PassEntry) → IsLegal config.now h →
+        AgreesWith book.old h → IsInput config.now h (input_of config.now h pass.entry.now) →
+        AgreesWith book.new (h ++ entry ∷ [])) }
     ensures of { OnOk result (IsBookOf config.now book.new) }
 {
     let input = book.input(

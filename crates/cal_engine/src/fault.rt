@@ -12,7 +12,8 @@ use std::error::Error;
 use std::fmt;
 use std::io::Write;
 
-/// Why a run gave no answer (this project's own faults; docs/FORMATS.md has their lines and statuses).
+/// Why a run gave no answer (this project's own faults; docs/FORMATS.md has their lines and
+/// statuses).
 #[derive(Clone, Copy, Debug, PartialEq, Eq)]
 pub enum RunFault {
     /// The reader answered an error.
@@ -147,7 +148,8 @@ impl From<WriteFault> for RunFault {
 ///
 /// `WriteFault::Write` comes where the writer answers an error. It takes no memory.
 pub fn fault_line<W: Write>(fault: &RunFault, writer: &mut W) -> Result<(), WriteFault>
-    ensures { OnOk result (Appends (W.contents writer.old) (W.contents writer.new) (fault_line_of fault.now)) }
+    ensures { OnOk result (Appends (W.contents writer.old) (W.contents writer.new)
+        (fault_line_of fault.now)) }
 {
     match writeln!(writer, "caladan_sim: {fault}") {
         Ok(()) => Ok(()),
@@ -155,8 +157,8 @@ pub fn fault_line<W: Write>(fault: &RunFault, writer: &mut W) -> Result<(), Writ
     }
 }
 
-/// The exit status after a fault: 3 for memory, for the writer and for a thread that could not be started, and 2 for
-/// an input that was refused.
+/// The exit status after a fault: 3 for memory, for the writer and for a thread that could not be
+/// started, and 2 for an input that was refused.
 pub fn status(fault: &RunFault) -> u8
     ensures { result ≡ status_of fault.now }
 {

@@ -6,8 +6,8 @@ use crate::fault::RunFault;
 use std::env::{self, Env};
 use std::io;
 
-/// The name of the program and the words after it, as they were given. Where one of them is not text
-/// they are `name` and a replacement character, which is in no table. The fault is `Memory`.
+/// The name of the program and the words after it, as they were given. Where one of them is not
+/// text they are `name` and a replacement character, which is in no table. The fault is `Memory`.
 pub fn given_words<R: Env + AllocGlobal>(rt: &R, name: &str) -> Result<Vec<String>, RunFault>
     ensures { IfErr result (λ fault. fault ≡ RunFault.Memory) }
 {

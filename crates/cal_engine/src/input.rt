@@ -16,14 +16,16 @@ const CHUNK: usize = 65_536;
 
 /// All the bytes that a reader gives, read to its end.
 ///
-/// `RunFault::Read` comes where the reader answers an error, whichever it is. `RunFault::Length` comes after
-/// `INPUT_LIMIT` bytes and one more, whatever the reader does, so a reader that never ends meets it.
-/// `RunFault::Memory` comes where memory was refused.
+/// `RunFault::Read` comes where the reader answers an error, whichever it is. `RunFault::Length`
+/// comes after `INPUT_LIMIT` bytes and one more, whatever the reader does, so a reader that never
+/// ends meets it. `RunFault::Memory` comes where memory was refused.
 pub fn read_input<R: Read>(alloc: Global, reader: &mut R) -> Result<Vec<u8>, RunFault>
     ensures short { IfOk result (λ text. length text.items ≤ INPUT_LIMIT) }
-    ensures all { IfOk result (λ text. Consumes (R.remaining reader.old) (R.remaining reader.new) text.items) }
+    ensures all { IfOk result (λ text. Consumes (R.remaining reader.old) (R.remaining reader.new)
+        text.items) }
     ensures end { IfOk result (λ _. IsAtEnd (R.remaining reader.new)) }
-    ensures long { IsErrOf result RunFault.Length → IfSome (R.remaining reader.old) (λ bytes. INPUT_LIMIT < length bytes) }
+    ensures long { IsErrOf result RunFault.Length → IfSome (R.remaining reader.old) (λ bytes.
+        INPUT_LIMIT < length bytes) }
     ensures kinds { IfErr result IsOfReading }
 {
     let mut text = Vec::new(alloc);

@@ -12,7 +12,8 @@ use std::alloc::Global;
 ///
 /// The fault is `Separator` where no line is the separator, else the table's.
 pub fn read_parts(alloc: Global, input: &[u8]) -> Result<(Config, &[u8]), RunFault>
-    ensures { Gives (λ parts. record { table = parts.0; trace = parts.1.now }) result (parts_of input.now) }
+    ensures { Gives (λ parts. record { table = parts.0; trace = parts.1.now }) result
+        (parts_of input.now) }
 {
     let Some((table, trace)) = split_input(input) else {
         return Err(RunFault::Separator);

@@ -1,4 +1,5 @@
-//! A whole run of the program: words and an input in; an answer, an error line and an exit status out.
+//! A whole run of the program: words and an input in; an answer, an error line and an exit status
+//! out.
 
 ghost use Rattle.std.specs.Prelude.{◌≡◌, ◌⊎◌, IfErr, IfOk, IfSome};
 ghost use Rattle.cal_engine.specs.Faults.{status_of};
@@ -17,12 +18,13 @@ use std::io::{Read, Write};
 use std::sync::Wait;
 use std::thread::Threads;
 
-/// Runs the program on its name and the words after it and on an input, and answers its exit status: 0 is done (help
-/// too), 1 is an illegal history, 2 is bad words or a refused input, 3 is memory or the writer. The words are read before
-/// the input. Only a run in threads, of the word `sim`, uses `rt`, and waits, at its joins.
+/// Runs the program on its name and the words after it and on an input, and answers its exit
+/// status: 0 is done (help too), 1 is an illegal history, 2 is bad words or a refused input, 3 is
+/// memory or the writer. The words are read before the input. Only a run in threads, of the word
+/// `sim`, uses `rt`, and waits, at its joins.
 ///
-/// The answer goes to `output`, and help too; what is wrong with the words (`clap`'s text) or the one line of a fault
-/// goes to `errors`. All of it is this project's own, but for `clap`'s texts.
+/// The answer goes to `output`, and help too; what is wrong with the words (`clap`'s text) or the
+/// one line of a fault goes to `errors`. All of it is this project's own, but for `clap`'s texts.
 pub fn run_program<H: Threads + Wait + Sync, R: Read + Drop, W: Write, E: Write>(
     rt: &H,
     alloc: Global,
@@ -37,7 +39,8 @@ pub fn run_program<H: Threads + Wait + Sync, R: Read + Drop, W: Write, E: Write>
     }
 }
 
-/// Does what the words after the first one ask for, and answers the exit status where there is no fault.
+/// Does what the words after the first one ask for, and answers the exit status where there is no
+/// fault.
 fn answer_words<H: Threads + Wait + Sync, R: Read + Drop, W: Write, E: Write>(
     rt: &H,
     alloc: Global,
@@ -56,8 +59,8 @@ fn answer_words<H: Threads + Wait + Sync, R: Read + Drop, W: Write, E: Write>(
     }
 }
 
-/// Writes the line of a fault, and answers the exit status after it. Where the writer answers an error the status is
-/// the same. Takes no memory.
+/// Writes the line of a fault, and answers the exit status after it. Where the writer answers an
+/// error the status is the same. Takes no memory.
 pub fn end_with<E: Write>(fault: &RunFault, errors: &mut E) -> u8
     ensures { result ≡ status_of fault.now }
 {
@@ -73,7 +76,8 @@ fn do_job<H: Threads + Wait + Sync, R: Read + Drop, W: Write>(
     reader: R,
     output: &mut W,
 ) -> Result<u8, RunFault>
-    ensures { IfSome (R.remaining reader) (λ input. DoesJob job result input (W.contents output.old) (W.contents output.new)) }
+    ensures { IfSome (R.remaining reader) (λ input.
+        DoesJob job result input (W.contents output.old) (W.contents output.new)) }
 {
     match job {
         Job::Decide => {
@@ -105,8 +109,8 @@ fn verdict_status(verdict: Verdict) -> u8
     }
 }
 
-/// Writes what `clap` says of the words, and answers the exit status: 0 for help, 2 for bad words. The faults are
-/// `Memory`, where the words were refused for want of it, and `Write`.
+/// Writes what `clap` says of the words, and answers the exit status: 0 for help, 2 for bad words.
+/// The faults are `Memory`, where the words were refused for want of it, and `Write`.
 pub fn refuse_words<W: Write, E: Write>(
     error: &Error,
     output: &mut W,

@@ -28,8 +28,11 @@ pub fn run_lockstep<R: Read + Drop, W: Write>(
     summary: bool,
     writer: &mut W,
 ) -> Result<(), RunFault>
-    // The text of a run on the input was written and nothing else, or the fault is the input's first.
-    ensures exact { IfSome (R.remaining reader) (λ input. Runs summary result (within_limit input (run_input_of input)) (W.contents writer.old) (W.contents writer.new)) }
+    // The text of a run on the input was written and nothing else, or the fault is the input's
+    // first.
+    ensures exact { IfSome (R.remaining reader) (λ input.
+        Runs summary result (within_limit input (run_input_of input)) (W.contents writer.old)
+        (W.contents writer.new)) }
     // Nothing is written before the run was made.
     ensures untouched { IfErr result (λ fault. fault ≢ RunFault.Write → writer.new ≡ writer.old) }
     // No thread is started, and no gate asked.
@@ -44,7 +47,8 @@ pub fn run_lockstep<R: Read + Drop, W: Write>(
 
 /// The task table of an input, and the arrivals for its threads.
 pub fn run_input(alloc: Global, input: &[u8]) -> Result<(Config, Arrivals), RunFault>
-    ensures exact { Gives (λ r. record { table = r.0; arrivals = r.1 }) result (run_input_of input.now) }
+    ensures exact { Gives (λ r. record { table = r.0; arrivals = r.1 }) result
+        (run_input_of input.now) }
     ensures fits { IfOk result (λ r. FitsTable r.0 r.1) }
 {
     let (config, trace) = read_parts(alloc, input)?;

@@ -3,8 +3,8 @@
 ghost use Rattle.std.specs.Prelude.{◌≡◌, option_map};
 ghost use Rattle.cal_engine.specs.Input.{input_parts, is_separator};
 
-/// The task table and the trace of an input: what stands before its first separator line, and what stands after it.
-/// None where there is no such line. (This project's own form.)
+/// The task table and the trace of an input: what stands before its first separator line, and what
+/// stands after it. None where there is no such line. (This project's own form.)
 pub fn split_input(text: &[u8]) -> Option<(&[u8], &[u8])>
     ensures { option_map (λ parts. (parts.0.now, parts.1.now)) result ≡ input_parts text.now }
 {
@@ -21,7 +21,8 @@ pub fn split_input(text: &[u8]) -> Option<(&[u8], &[u8])>
     None
 }
 
-/// Whether a line is exactly `---` and ends in a line feed, with a carriage return before it or without.
+/// Whether a line is exactly `---` and ends in a line feed, with a carriage return before it or
+/// without.
 fn is_separator(line: &[u8]) -> bool
     ensures { result ≡ is_separator line.now }
 {

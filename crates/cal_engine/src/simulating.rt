@@ -34,8 +34,11 @@ pub fn run_sim<H: Threads + Wait + Sync, R: Read + Drop, W: Write>(
     summary: bool,
     writer: &mut W,
 ) -> Result<(), RunFault>
-    // The text of a run on the input was written and nothing else, or the fault is the input's first.
-    ensures exact { IfSome (R.remaining reader) (λ input. RunsInThreads summary result (within_limit input (run_input_of input)) (W.contents writer.old) (W.contents writer.new)) }
+    // The text of a run on the input was written and nothing else, or the fault is the input's
+    // first.
+    ensures exact { IfSome (R.remaining reader) (λ input.
+        RunsInThreads summary result (within_limit input (run_input_of input))
+        (W.contents writer.old) (W.contents writer.new)) }
     // Nothing is written before the run was made.
     ensures untouched { IfErr result (λ fault. fault ≢ RunFault.Write → writer.new ≡ writer.old) }
     // No gate ends a worker.

@@ -1,5 +1,6 @@
 -- Files of histories: read, written, and read back.
 pub mod Extents
+pub mod GivenPasses
 pub mod LegalInRange
 pub mod Lines
 pub mod PlainRows

@@ -3,6 +3,7 @@ pub mod Answers
 pub mod Header
 pub mod LookRows
 pub mod Number
+pub mod Passes
 pub mod Reading
 pub mod RowFields
 pub mod Shown

@@ -4,6 +4,7 @@ pub mod fields;
 pub mod header;
 pub mod look_rows;
 pub mod number;
+pub mod passes;
 pub mod reading;
 pub mod shown;
 pub mod version;

@@ -1,17 +1,19 @@
-//! Files of histories.
+//! Files of histories, pass by pass or whole.
 
-ghost use Rattle.std.specs.Prelude.{◌≡◌, codes};
-ghost use Rattle.cal_trace.specs.Rows.Answers.{Gives};
+ghost use Rattle.std.specs.Prelude.{◌≡◌, ◌<◌, [], List, ℕ, IfOk, IfErr, IfSome};
+ghost use Rattle.cal_policy.specs.declared.history.entry.PassEntry.{PassEntry};
+ghost use Rattle.cal_trace.specs.Rows.Answers.{Decided, Gives};
 ghost use Rattle.cal_trace.specs.Rows.{rows_of};
-ghost use Rattle.cal_trace.specs.History.Reading.{extent_of};
+ghost use Rattle.cal_trace.specs.History.Reading.{extent_of, rows_left, GivesNext, HasGiven, IsOpen};
 ghost use Rattle.cal_trace.specs.History.{history_of};
+ghost use Rattle.cal_trace.specs.declared.history.action_rows.Extent.{Extent};
 
-use crate::fault::TraceFault;
+use crate::fault::{FaultKind, TraceFault};
 use crate::history::action_rows::Extent;
 use crate::history::reading::HistoryReading;
 use crate::rows::Rows;
 use crate::rows::header::take_header;
-use crate::rows::reading::take_rows;
+use crate::rows::passes::next_pass;
 use cal_machine::Config;
 use cal_policy::PassEntry;
 use std::alloc::Global;
@@ -23,6 +25,50 @@ fn extent_of(config: &Config) -> Extent
         cores: config.machine().cores(),
         threads: config.threads() as u8,
         tasks: config.tasks() as u8,
+    }
+}
+
+/// The passes of a history, of version 1 or 2, one after the other as their rows are read (this
+/// project's own format). It keeps nothing of a pass that it has given but how many there were.
+///
+/// A pass is given before the rows after it were read, so the file may still be refused: what is
+/// made of its passes counts only once the end has come.
+#[derive(Drop)]
+pub struct HistoryRows<'a> {
+    rows: Rows<'a>,
+    reading: HistoryReading,
+}
+
+impl<'a> HistoryRows<'a> {
+    /// The history of a text for a table, before the first pass. The error is the header's, or
+    /// `Memory`.
+    pub fn open(
+        alloc: Global,
+        config: &Config,
+        text: &'a [u8],
+    ) -> Result<HistoryRows<'a>, TraceFault>
+        ensures ready { IfOk result IsOpen }
+        ensures given { IfOk result (HasGiven (extent_of config.now) text.now []) }
+        ensures fault { IfErr result (λ fault. Decided fault.kind (history_of (extent_of config.now) (rows_of text.now) ≡ Err fault)) }
+    {
+        let mut rows = Rows::open(alloc, text);
+        let version = take_header(&mut rows, b"caladan-history".as_slice())?;
+        let reading = HistoryReading::new(alloc, version, extent_of(config));
+        Ok(HistoryRows { rows, reading })
+    }
+
+    /// The next pass, or `None` where the file ended as it must. The error is the first check that
+    /// fails, in the order of the rows and of the checks of a row: `Memory` and `Read` come as
+    /// `read_history` says. It is not called again after `None` or an error.
+    pub fn next(&mut self) -> Result<Option<PassEntry>, TraceFault>
+        requires { IsOpen self.old }
+        // The passes given so far and those still to come are those of the text, or its fault is the one.
+        ensures gives { (extent : Extent) (text : List ℕ) (given : List PassEntry) → HasGiven extent text given self.old →
+            GivesNext extent text given result self.new }
+        ensures ready { IfOk result (λ pass. IfSome pass (λ _. IsOpen self.new)) }
+        ensures fewer { IfOk result (λ pass. IfSome pass (λ _. rows_left self.new < rows_left self.old)) }
+    {
+        next_pass(&mut self.rows, &mut self.reading)
     }
 }
 
@@ -39,11 +85,15 @@ pub fn read_history(
 ) -> Result<Vec<PassEntry>, TraceFault>
     ensures { Gives (λ history. history.items) result (history_of (extent_of config.now) (rows_of text.now)) }
 {
-    let mut rows = Rows::open(alloc, text);
-    let version = take_header(&mut rows, b"caladan-history".as_slice())?;
-    let history = take_rows(
-        &mut rows,
-        HistoryReading::new(alloc, version, extent_of(config)),
-    )?;
-    Ok(history.into_items())
+    let mut rows = HistoryRows::open(alloc, config, text)?;
+    let mut history = Vec::new(alloc);
+    while let Some(entry) = rows.next()? {
+        let Ok(()) = history.push(entry) else {
+            return Err(TraceFault {
+                row: rows.rows.number(),
+                kind: FaultKind::Memory,
+            });
+        };
+    }
+    Ok(history)
 }

@@ -8,9 +8,8 @@ use crate::fault::FaultKind;
 use crate::history::action_rows::{ActionForm, Extent, action_form, action_row};
 use crate::rows::fields::is_row;
 use crate::rows::look_rows::{busy_row, end_row, pass_row, whole_row};
-use crate::rows::reading::Reading;
+use crate::rows::passes::PassReading;
 use crate::rows::version::Version;
-use cal_lists::Listed;
 use cal_policy::{Action, ActionList, Input, MOST_ACTIONS, PassEntry, Rooms, Seen, SeenList};
 use csv::ByteRecord;
 use std::alloc::Global;
@@ -153,55 +152,48 @@ impl OpenEntry {
     }
 }
 
-/// What the rows so far have given.
+/// What the rows so far have given, but for the passes that were handed out.
 #[derive(Drop)]
 pub(crate) struct HistoryReading {
     alloc: Global,
     version: Version,
     extent: Extent,
-    before: Vec<PassEntry>,
+    // How many passes there are, the one at hand with them.
+    passes: usize,
     at_hand: Option<OpenEntry>,
     ended: bool,
 }
 
 impl HistoryReading {
-    ghost use Rattle.std.specs.Prelude.{◌≡◌, ◌++◌, ◌∷◌, [], length, Ok, Some, None, OnOk, IfErr, option_map, if◌then◌else◌};
+    ghost use Rattle.std.specs.Prelude.{◌≡◌, [], List, OnOk, IfOk, IfErr, Some, None, option_map};
     ghost use Rattle.csv.specs.Records.{fields_of};
+    ghost use Rattle.cal_policy.specs.declared.history.entry.PassEntry.{PassEntry};
     ghost use Rattle.cal_trace.specs.Rows.Answers.{Takes};
-    ghost use Rattle.cal_trace.specs.History.{at_start, entries_of, is_between, next_thread, take_row, take_form, one_more_look, one_more_action};
-    ghost use Rattle.cal_trace.specs.History.Reading.{so_far, IsSameFile};
+    ghost use Rattle.cal_trace.specs.Rows.Passes.{with_closed};
+    ghost use Rattle.cal_trace.specs.History.{at_start, is_between, next_thread, take_form, one_more_look};
+    ghost use Rattle.cal_trace.specs.History.Reading.{entry_at_hand, file_of, so_far, IsKept};
     ghost use Rattle.cal_trace.specs.declared.fault.FaultKind.TheVariants as kind;
     ghost use Rattle.cal_trace.specs.declared.history.reading.Form.TheVariants as form;
 
     /// Before the first row after the header of a file for a table of this extent.
     pub(crate) fn new(alloc: Global, version: Version, extent: Extent) -> HistoryReading
-        ensures start { so_far result ≡ at_start }
-        ensures version { result.version ≡ version }
-        ensures extent { result.extent ≡ extent }
+        ensures start { so_far [] result ≡ at_start }
+        ensures kept { IsKept [] result }
+        ensures file { file_of result ≡ (extent, version) }
     {
         HistoryReading {
             alloc,
             version,
             extent,
-            before: Vec::new(alloc),
+            passes: 0,
             at_hand: None,
             ended: false,
         }
     }
 
-    // How many passes there are, the one at hand with them.
-    fn passes(&self) -> usize
-        ensures { result ≡ length (entries_of (so_far self.now)) }
-    {
-        match &self.at_hand {
-            Some(_) => self.before.len() + 1,
-            None => self.before.len(),
-        }
-    }
-
     // Whether a pass row or the end row can stand here.
     fn is_between(&self) -> bool
-        ensures { result ≡ is_between self.now.extent (so_far self.now) }
+        ensures { result ≡ is_between self.now.extent (so_far [] self.now) }
     {
         match &self.at_hand {
             Some(entry) => !self.ended && entry.seen.len() == self.extent.threads as usize,
@@ -211,7 +203,7 @@ impl HistoryReading {
 
     // The thread whose look comes next, where a look can stand here.
     fn next_thread(&self) -> Result<usize, FaultKind>
-        ensures { result ≡ next_thread self.now.extent (so_far self.now).at_hand }
+        ensures { result ≡ next_thread self.now.extent (so_far [] self.now).at_hand }
     {
         match &self.at_hand {
             Some(entry) if entry.seen.len() < self.extent.threads as usize => Ok(entry.seen.len()),
@@ -219,54 +211,60 @@ impl HistoryReading {
         }
     }
 
-    // Puts the pass at hand with those before it.
-    fn close(&mut self) -> Result<(), FaultKind>
-        ensures closed { OnOk result (so_far self.new ≡ record { before = entries_of (so_far self.old); at_hand = None; ended = self.old.ended }) }
-        ensures file { IsSameFile self.old self.new }
-        ensures memory { IfErr result (λ k. k ≡ kind.Memory) }
+    // Hands out the pass at hand.
+    fn close(&mut self) -> Option<PassEntry>
+        ensures closed { result ≡ option_map entry_at_hand self.old.at_hand }
+        ensures left { self.new ≡ record self.old { at_hand = None } }
     {
-        if let Some(entry) = self.at_hand.take() {
-            self.before.push(entry.close())?;
+        match self.at_hand.take() {
+            Some(entry) => Some(entry.close()),
+            None => None,
         }
-        Ok(())
     }
 
-    fn take_pass(&mut self, row: &ByteRecord) -> Result<(), FaultKind>
-        ensures takes { Takes (λ _. so_far self.new) result (take_form self.old.extent (so_far self.old) (Some form.Pass) (fields_of row.now)) }
-        ensures file { IsSameFile self.old self.new }
+    fn take_pass(&mut self, row: &ByteRecord) -> Result<Option<PassEntry>, FaultKind>
+        ensures takes { (given : List PassEntry) → IsKept given self.old →
+            Takes (λ closed. so_far (with_closed given closed) self.new) result (take_form self.old.extent (so_far given self.old) (Some form.Pass) (fields_of row.now)) }
+        ensures kept { (given : List PassEntry) → IsKept given self.old → IfOk result (λ closed. IsKept (with_closed given closed) self.new) }
+        ensures file { file_of self.new ≡ file_of self.old }
     {
         if !self.is_between() {
             return Err(FaultKind::Order);
         }
-        let pass = pass_row(row, self.passes())?;
-        self.close()?;
+        let pass = pass_row(row, self.passes)?;
         let threads = self.extent.threads as usize;
+        let seen = Vec::with_capacity(self.alloc, threads)?;
+        let rooms = Vec::with_capacity(self.alloc, threads)?;
+        let closed = self.close();
         self.at_hand = Some(OpenEntry {
             now: pass.now,
             bandwidth: pass.bandwidth,
-            seen: Vec::with_capacity(self.alloc, threads)?,
-            rooms: Vec::with_capacity(self.alloc, threads)?,
+            seen,
+            rooms,
             actions: Vec::new(self.alloc),
         });
-        Ok(())
+        self.passes += 1;
+        Ok(closed)
     }
 
-    fn take_end(&mut self, row: &ByteRecord) -> Result<(), FaultKind>
-        ensures takes { Takes (λ _. so_far self.new) result (take_form self.old.extent (so_far self.old) (Some form.End) (fields_of row.now)) }
-        ensures file { IsSameFile self.old self.new }
+    fn take_end(&mut self, row: &ByteRecord) -> Result<Option<PassEntry>, FaultKind>
+        ensures takes { (given : List PassEntry) → IsKept given self.old →
+            Takes (λ closed. so_far (with_closed given closed) self.new) result (take_form self.old.extent (so_far given self.old) (Some form.End) (fields_of row.now)) }
+        ensures kept { (given : List PassEntry) → IsKept given self.old → IfOk result (λ closed. IsKept (with_closed given closed) self.new) }
+        ensures file { file_of self.new ≡ file_of self.old }
     {
         if !self.is_between() {
             return Err(FaultKind::Order);
         }
-        end_row(row, self.passes())?;
-        self.close()?;
+        end_row(row, self.passes)?;
         self.ended = true;
-        Ok(())
+        Ok(self.close())
     }
 
     fn take_look(&mut self, row: &ByteRecord, look: LookForm) -> Result<(), FaultKind>
-        ensures takes { Takes (λ _. so_far self.new) result (take_form self.old.extent (so_far self.old) (Some (form.Look look)) (fields_of row.now)) }
-        ensures file { IsSameFile self.old self.new }
+        ensures takes { (given : List PassEntry) → Takes (λ _. so_far given self.new) result (take_form self.old.extent (so_far given self.old) (Some (form.Look look)) (fields_of row.now)) }
+        ensures kept { (given : List PassEntry) → IsKept given self.old → OnOk result (IsKept given self.new) }
+        ensures file { file_of self.new ≡ file_of self.old }
     {
         let thread = self.next_thread()?;
         let looked = seen_row(row, look, thread)?;
@@ -278,8 +276,9 @@ impl HistoryReading {
     }
 
     fn take_action(&mut self, row: &ByteRecord, action: ActionForm) -> Result<(), FaultKind>
-        ensures takes { Takes (λ _. so_far self.new) result (take_form self.old.extent (so_far self.old) (Some (form.Act action)) (fields_of row.now)) }
-        ensures file { IsSameFile self.old self.new }
+        ensures takes { (given : List PassEntry) → Takes (λ _. so_far given self.new) result (take_form self.old.extent (so_far given self.old) (Some (form.Act action)) (fields_of row.now)) }
+        ensures kept { (given : List PassEntry) → IsKept given self.old → OnOk result (IsKept given self.new) }
+        ensures file { file_of self.new ≡ file_of self.old }
     {
         match &mut self.at_hand {
             Some(entry) if entry.seen.len() == self.extent.threads as usize => {
@@ -295,40 +294,50 @@ impl HistoryReading {
     }
 }
 
-impl Reading for HistoryReading {
+impl PassReading for HistoryReading {
     ghost use Rattle.std.specs.Prelude.{⊤};
     ghost use Rattle.cal_trace.specs.History.{SoFar, take_row, whole};
-    ghost use Rattle.cal_trace.specs.History.Reading.{so_far};
+    ghost use Rattle.cal_trace.specs.History.Reading.{file_of, so_far, IsKept};
+    ghost use Rattle.cal_trace.specs.declared.history.action_rows.Extent.{Extent};
+    ghost use Rattle.cal_trace.specs.declared.rows.version.Version.{Version};
 
-    type Value = Listed<PassEntry>;
+    type Pass = PassEntry;
 
     ghost SoFar = { SoFar };
 
     ghost so_far = { so_far };
 
-    ghost take = { λ reading. take_row reading.extent reading.version };
+    ghost File = { Extent × Version };
+
+    ghost file = { file_of };
+
+    ghost take = { λ file. take_row file.0 file.1 };
 
     ghost whole = { whole };
 
-    // Nothing is kept beside.
-    ghost IsKept = { λ reading. ⊤ };
+    // Rows can be taken in each state.
+    ghost IsReady = { λ reading. ⊤ };
 
-    fn take_row(&mut self, row: &ByteRecord) -> Result<(), FaultKind> {
+    ghost IsKept = { IsKept };
+
+    fn take_row(&mut self, row: &ByteRecord) -> Result<Option<PassEntry>, FaultKind> {
         match form_of(row, self.version) {
             None => Err(FaultKind::Fields),
             Some(Form::Header) => Err(FaultKind::Order),
             Some(Form::Pass) => self.take_pass(row),
             Some(Form::End) => self.take_end(row),
-            Some(Form::Look(look)) => self.take_look(row, look),
-            Some(Form::Act(action)) => self.take_action(row, action),
+            Some(Form::Look(look)) => {
+                self.take_look(row, look)?;
+                Ok(None)
+            }
+            Some(Form::Act(action)) => {
+                self.take_action(row, action)?;
+                Ok(None)
+            }
         }
     }
 
-    fn end(self) -> Option<Listed<PassEntry>> {
-        if self.ended {
-            Some(Listed::new(self.before))
-        } else {
-            None
-        }
+    fn has_ended(&self) -> bool {
+        self.ended
     }
 }

@@ -1,25 +1,45 @@
-use Rattle.std.proofs.Common.{◌≤◌, ◌<◌, ◌^◌, List, length, take, subst, arith}
-use Rattle.std.proofs.lemmas.List.{length-take-le, take_all}
-use Rattle.cal_policy.specs.Auditor.{IsAuditOf}
-use Rattle.cal_policy.specs.Verdict.{IsVerdict}
-use Rattle.cal_policy.specs.declared.history.entry.PassEntry.{PassEntry}
-use Rattle.cal_policy.proofs.ListLemmas.Each.{take_item}
+use Rattle.std.proofs.Common.{◌≡◌, ◌<◌, ◌^◌, [], ◌∷◌, ◌++◌, Err, length, arith, rules}
+use Rattle.cal_trace.specs.History.{history_of}
+use Rattle.cal_trace.specs.History.Reading.{extent_of}
+use Rattle.cal_trace.specs.Rows.{rows_of}
+use Rattle.cal_trace.proofs.HistoryLemmas.GivenPasses.{few_given}
+use Rattle.cal_engine.specs.declared.fault.RunFault.TheVariants as fault
+use Rattle.cal_engine.proofs.Audited.{refused_history, judged}
 use Rattle.cal_engine.proofs.auditing.audit_in_turn.Goals as goal
 
-pub loop-entry-preserved : goal.loop-entry-preserved
-loop-entry-preserved c =
-    let history = c.args.history.now in
-    let n = c.loop-entry.entry-index in
-    let le : n ≤ length history = omega (arith, c.loop-entry-test.true) in
-    let few : length (take n history) < 2 ^ 64 = omega (arith, length-take-le n history le) in
-    let longer = take_item history n c.entry-item.result c.loop-entry-test.true c.entry-item.is in
+pub loop-auditor-init : goal.loop-auditor-init
+loop-auditor-init c = record {
+  ready = c.in_ok-rows.ensures.ready;
+  of = c.in_ok-auditor.ensures.of;
+  auditing = record { given = []; has = c.in_ok-rows.ensures.given; audits = c.in_ok-auditor.ensures.audits };
+}
+
+pub loop-auditor-preserved : goal.loop-auditor-preserved
+loop-auditor-preserved c =
+    let extent = extent_of c.args.config.now in
+    let before = c.loop-auditor.invariant.auditing in
+    let few : length before.given < 2 ^ 64 = omega (arith, few_given extent c.args.trace.now before.given c.loop-auditor.rows before.has) in
     record {
-      of = c.next.ensures.of;
-      audits = subst (λ (h : List PassEntry). IsAuditOf c.args.config.now h c.next.new.self) longer (c.next.ensures.audits (take n history) few c.loop-entry.invariant.audits);
+      ready = rw c.in-Some.is at c.in_ok-entry.ensures.ready;
+      of = c.next-in-Some.ensures.of;
+      auditing = record {
+        given = before.given ++ c.in-Some.entry ∷ [];
+        has = rw c.in-Some.is at (c.in_ok-entry.ensures.gives extent c.args.trace.now before.given before.has);
+        audits = c.next-in-Some.ensures.audits before.given few before.audits;
+      };
     }
+
+pub returns-in_err-entry : goal.returns-in_err-entry
+returns-in_err-entry c =
+    let extent = extent_of c.args.config.now in
+    let before = c.loop-auditor.invariant.auditing in
+    let same : c.from_residual-in_err-entry.result ≡ Err (fault.Trace c.in_err-entry.field-0.0) = search rules in
+    rw same (refused_history c.args.config.now (history_of extent (rows_of c.args.trace.now)) c.in_err-entry.field-0.0
+    (c.in_err-entry.ensures.gives extent c.args.trace.now before.given before.has))
 
 pub returns : goal.returns
 returns c =
-    let history = c.args.history.now in
-    subst (λ (h : List PassEntry). IsVerdict c.args.config.now h c.verdict.result) (take_all c.loop-entry.entry-index history c.loop-entry-test.false)
-    (c.verdict.ensures c.args.config.now (take c.loop-entry.entry-index history) c.loop-entry.invariant.audits)
+    let table = c.args.config.now in
+    let before = c.loop-auditor.invariant.auditing in
+    let gives = rw c.in_default.is at (c.in_ok-entry.ensures.gives (extent_of table) c.args.trace.now before.given before.has) in
+    judged table (history_of (extent_of table) (rows_of c.args.trace.now)) before.given c.verdict.result gives (c.verdict.ensures table before.given before.audits)

@@ -1,0 +1,43 @@
+-- An input of a table and a history, whose passes are given one by one.
+use Rattle.std.specs.Prelude.{◌≡◌, ℕ, List, Result, Ok, Err}
+use Rattle.cal_machine.specs.Table.{Table}
+use Rattle.cal_policy.specs.Verdict.{IsVerdict}
+use Rattle.cal_policy.specs.declared.history.entry.PassEntry.{PassEntry}
+use Rattle.cal_policy.specs.declared.verdict.Verdict.{Verdict}
+use Rattle.cal_trace.specs.History.{history_of}
+use Rattle.cal_trace.specs.History.Reading.{extent_of, HasGiven}
+use Rattle.cal_trace.specs.Rows.{rows_of}
+use Rattle.cal_trace.specs.declared.history.file.HistoryRows.{HistoryRows}
+use Rattle.cal_engine.specs.Outcome.{audit_text, Decided}
+use Rattle.cal_engine.specs.Runs.{Run, parts_of, recorded_on}
+use Rattle.cal_engine.specs.declared.fault.RunFault.{RunFault}
+
+-- These passes of an input's history were given, by its table: its trace is a text of which they were.
+pub record HasGivenOf (input : List ℕ) (table : Table) (given : List PassEntry) (history : HistoryRows) : Type 0 where
+  pub trace : List ℕ
+  pub parts : parts_of input ≡ Ok (record { table = table; trace = trace })
+  pub has : HasGiven (extent_of table) trace given history
+
+-- the run that a table and the text of a history tell of, or the text's first fault
+abbrev pub recorded_in : Table → List ℕ → Result Run RunFault
+recorded_in table trace = recorded_on table (history_of (extent_of table) (rows_of trace))
+
+-- there is a run, and its history has this verdict
+abbrev pub IsJudged : Verdict → Result Run RunFault → Type 0
+IsJudged verdict (Err f) = ⊥
+IsJudged verdict (Ok run) = IsVerdict run.table run.history verdict
+
+-- the verdict is that of the run, or the fault is the first
+abbrev pub Judges : Result Verdict RunFault → Result Run RunFault → Type 0
+Judges (Ok verdict) outcome = IsJudged verdict outcome
+Judges (Err f) outcome = Decided f (outcome ≡ Err f)
+
+-- the verdict on a run, and the text that the audit writes of it
+pub record IsAnswer (verdict : Verdict) (text : List ℕ) (run : Run) : Type 0 where
+  pub right : IsVerdict run.table run.history verdict
+  pub made : text ≡ audit_text run verdict
+
+-- there is a run, and they are the answer to it
+abbrev pub IsAnswerTo : Verdict → List ℕ → Result Run RunFault → Type 0
+IsAnswerTo verdict text (Err f) = ⊥
+IsAnswerTo verdict text (Ok run) = IsAnswer verdict text run

@@ -1,0 +1,13 @@
+use Rattle.std.proofs.Common.{◌<◌, ◌+◌, refl, ap, sym}
+use Rattle.csv.specs.Records.{fields_of}
+use Rattle.cal_trace.specs.Rows.LookRows.{most_passes}
+use Rattle.cal_trace.specs.declared.history.reading.HistoryReading.{HistoryReading}
+use Rattle.cal_trace.proofs.HistoryLemmas.GivenPasses.{IsKept-begun}
+use Rattle.cal_trace.proofs.SignalLemmas.Accepted.{pass_below}
+use Rattle.cal_trace.proofs.history.reading.HistoryReading.take_pass.Goals as goal
+
+pub returns-clause-kept : goal.returns-clause-kept
+returns-clause-kept c = λ given kept.
+    let old = c.args.self.now in
+    let below : old.passes < most_passes = pass_below old.passes (fields_of c.args.row.now) c.in_ok-pass.pass (sym c.in_ok-pass.ensures) in
+    IsKept-begun given c.close-closed.result old _ _ kept below c.close-closed.ensures.closed refl (ap (λ (r : HistoryReading). r.passes + 1) c.close-closed.ensures.left)

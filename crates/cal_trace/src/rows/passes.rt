@@ -1,0 +1,95 @@
+//! Reading a file of passes row by row, whatever its rows are: each pass is handed out when its
+//! rows have come.
+
+ghost use Rattle.std.specs.Prelude.{◌≡◌, ◌<◌, List, length, Option, Some, None, Result, OnOk, IfOk, IfSome, if◌then◌else◌};
+ghost use Rattle.csv.specs.Records.{fields_of};
+ghost use Rattle.cal_trace.specs.Rows.Answers.{Takes};
+ghost use Rattle.cal_trace.specs.Rows.Passes.{GivesNext, with_closed};
+ghost use Rattle.cal_trace.specs.Rows.Reading.{read_from};
+ghost use Rattle.cal_trace.specs.Rows.{Fields, IsReading, rest_of};
+ghost use Rattle.cal_trace.specs.declared.fault.FaultKind.{FaultKind};
+
+use crate::fault::{FaultKind, TraceFault};
+use crate::rows::Rows;
+use csv::ByteRecord;
+
+/// What the rows of a file of passes so far have given, but for the passes that were handed out.
+pub(crate) trait PassReading: Sized + Drop {
+    /// A pass of the file.
+    type Pass;
+
+    // What the rows so far have given, as the file's definition has it.
+    ghost SoFar: { Type 0 };
+
+    // The same, where these passes were handed out.
+    ghost so_far: { List Self.Pass → Self → SoFar };
+
+    // What the rows are read by, which stays the same.
+    ghost File: { Type 0 };
+
+    ghost file: { Self → File };
+
+    // One more row.
+    ghost take: { File → SoFar → Fields → Result SoFar FaultKind };
+
+    // What the file gives after its last row: nothing without its end row.
+    ghost whole: { SoFar → Option (List Self.Pass) };
+
+    // More rows can be taken.
+    ghost IsReady: { Self → Type 0 };
+
+    // What the reader keeps of the passes that were handed out is as they have it.
+    ghost IsKept: { List Self.Pass → Self → Type 0 };
+
+    /// Takes one more row, and hands out the pass that it ends, if it ends one.
+    fn take_row(&mut self, row: &ByteRecord) -> Result<Option<Self::Pass>, FaultKind>
+        requires { IsReady self.old }
+        ensures takes { (given : List Self.Pass) → IsKept given self.old →
+            Takes (λ closed. so_far (with_closed given closed) self.new) result (take (file self.old) (so_far given self.old) (fields_of row.now)) }
+        ensures kept { (given : List Self.Pass) → IsKept given self.old → IfOk result (λ closed. IsKept (with_closed given closed) self.new) }
+        ensures ready { OnOk result (IsReady self.new) }
+        ensures file { file self.new ≡ file self.old };
+
+    /// Whether the end row came.
+    fn has_ended(&self) -> bool
+        ensures { (given : List Self.Pass) → whole (so_far given self.now) ≡ if result then Some given else None };
+}
+
+/// The next pass, or `None` where the file ended as it must. The error is the first check that
+/// fails. It is not called again after `None` or an error.
+pub(crate) fn next_pass<R: PassReading>(
+    rows: &mut Rows,
+    reading: &mut R,
+) -> Result<Option<R::Pass>, TraceFault>
+    requires rows { IsReading rows.old }
+    requires ready { R.IsReady reading.old }
+    // The passes handed out so far and those still to come are those of the rows, or their fault is the one.
+    ensures gives { (given : List R.Pass) → R.IsKept given reading.old →
+        let file = read_from (R.take (R.file reading.old)) R.whole (R.so_far given reading.old) rows.old.number (rest_of rows.old) in
+        GivesNext (λ all. R.IsKept all reading.new × (read_from (R.take (R.file reading.new)) R.whole (R.so_far all reading.new) rows.new.number (rest_of rows.new) ≡ file)) file given result }
+    ensures file { R.file reading.new ≡ R.file reading.old }
+    ensures rows { IfOk result (λ pass. IfSome pass (λ _. IsReading rows.new)) }
+    ensures ready { IfOk result (λ pass. IfSome pass (λ _. R.IsReady reading.new)) }
+    ensures fewer { IfOk result (λ pass. IfSome pass (λ _. length (rest_of rows.new) < length (rest_of rows.old))) }
+{
+    while rows.step()? {
+        match reading.take_row(rows.row()) {
+            Ok(Some(pass)) => return Ok(Some(pass)),
+            Ok(None) => {}
+            Err(kind) => {
+                return Err(TraceFault {
+                    row: rows.number(),
+                    kind,
+                });
+            }
+        }
+    }
+    if reading.has_ended() {
+        Ok(None)
+    } else {
+        Err(TraceFault {
+            row: rows.number() + 1,
+            kind: FaultKind::Order,
+        })
+    }
+}

@@ -1,7 +1,0 @@
-mod arrivals;
-mod histories;
-mod memory;
-mod reports;
-mod signals;
-mod summaries;
-mod tables;
