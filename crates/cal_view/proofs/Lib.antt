@@ -1,5 +1,1 @@
-pub mod StaysKept
-pub mod BansKept
-pub mod Showing
-pub mod HoldersKept
 pub mod RecordedRuns

@@ -1,5 +1,1 @@
-pub mod Spans
-pub mod BanSpans
-pub mod Tracking
 pub mod Recording
-pub mod Laws

@@ -1,11 +1,10 @@
 //! The lane of the bandwidth figure.
 
 use crate::layout::BAND;
+use crate::page::Page;
 use crate::sheet::Sheet;
 use crate::telling::draw_box;
 use crate::window::{LEFT, scaled};
-use std::io;
-use std::io::Write;
 
 fn figure_of(sheet: &Sheet<'_>, pass: usize) -> u64 {
     match sheet.history.get(pass) {
@@ -33,7 +32,7 @@ fn height(figure: u64, most: u64) -> u64 {
 }
 
 /// Writes a bar for each pass, black above the limit.
-pub fn draw_bandwidth<W: Write>(sheet: &Sheet<'_>, w: &mut W) -> io::Result<()> {
+pub fn draw_bandwidth(sheet: &Sheet<'_>, page: &mut Page) {
     let y = sheet.layout.bandwidth;
     let limit = sheet.config.bandwidth_limit();
     let most = highest(sheet);
@@ -41,56 +40,55 @@ pub fn draw_bandwidth<W: Write>(sheet: &Sheet<'_>, w: &mut W) -> io::Result<()> 
     let base = y.saturating_add(BAND);
     let line = base.saturating_sub(height(limit, whole));
     let right = sheet.columns.right;
-    draw_names(y, most, w)?;
-    write!(
-        w,
-        "<path class='g2' d='M{LEFT} {base}H{right}'/><path class='o2' d='"
-    )?;
-    draw_bars(sheet, base, whole, false, w)?;
-    w.write_all(b"'/><path class='i' d='")?;
-    draw_bars(sheet, base, whole, true, w)?;
-    write!(w, "'/><path class='gu' d='M{LEFT} {line}H{right}'/>")?;
+    draw_names(y, most, page);
+    page.fill(
+        "<path class='g2' d='M{} {}H{}'/><path class='o2' d='",
+        &[LEFT, base, right],
+    );
+    draw_bars(sheet, base, whole, false, page);
+    page.put("'/><path class='i' d='");
+    draw_bars(sheet, base, whole, true, page);
+    page.fill("'/><path class='gu' d='M{} {}H{}'/>", &[LEFT, line, right]);
     let x = right.saturating_add(6);
     let foot = line.saturating_add(4);
-    writeln!(w, "<text class='q' x='{x}' y='{foot}'>limit {limit}</text>")
+    page.fill(
+        "<text class='q' x='{}' y='{}'>limit {}</text>\n",
+        &[x, foot, limit],
+    );
 }
 
-fn draw_names<W: Write>(y: u64, most: u64, w: &mut W) -> io::Result<()> {
+fn draw_names(y: u64, most: u64, page: &mut Page) {
     let first = y.saturating_add(12);
     let second = y.saturating_add(25);
     let third = y.saturating_add(38);
-    write!(w, "<text class='b' x='16' y='{first}'>Bandwidth</text>")?;
-    write!(w, "<text class='q' x='16' y='{second}'>highest</text>")?;
-    write!(w, "<text class='q' x='16' y='{third}'>{most}</text>")
+    page.fill("<text class='b' x='16' y='{}'>Bandwidth</text>", &[first]);
+    page.fill("<text class='q' x='16' y='{}'>highest</text>", &[second]);
+    page.fill("<text class='q' x='16' y='{}'>{}</text>", &[third, most]);
 }
 
-/// The parts of the bars that are over the limit, or those up to it. What is over is at least a
-/// pixel.
-fn draw_bars<W: Write>(
-    sheet: &Sheet<'_>,
-    base: u64,
-    whole: u64,
-    over: bool,
-    w: &mut W,
-) -> io::Result<()> {
-    let limit = sheet.config.bandwidth_limit();
-    let below = height(limit, whole);
+/// The parts of the bars that are over the limit, or those up to it.
+fn draw_bars(sheet: &Sheet<'_>, base: u64, whole: u64, over: bool, page: &mut Page) {
     for pass in sheet.window.first..sheet.window.end() {
-        let figure = figure_of(sheet, pass);
-        let high = height(figure, whole);
-        let under = if figure > limit {
-            below.min(high.saturating_sub(1))
-        } else {
-            high
-        };
         let x = sheet.columns.at(pass);
         let wide = sheet.columns.width_of(pass).saturating_sub(1);
+        let figure = figure_of(sheet, pass);
+        let high = height(figure, whole);
+        let under = under_limit(sheet.config.bandwidth_limit(), figure, whole);
         if over && high > under {
             let y = base.saturating_sub(high);
-            draw_box(x, y, wide, high.saturating_sub(under), w)?;
+            draw_box(x, y, wide, high.saturating_sub(under), page);
         } else if !over && under > 0 {
-            draw_box(x, base.saturating_sub(under), wide, under, w)?;
+            draw_box(x, base.saturating_sub(under), wide, under, page);
         }
     }
-    Ok(())
+}
+
+/// How high the part of a bar is that is within the limit. What is over is at least a pixel.
+fn under_limit(limit: u64, figure: u64, whole: u64) -> u64 {
+    let high = height(figure, whole);
+    if figure > limit {
+        height(limit, whole).min(high.saturating_sub(1))
+    } else {
+        high
+    }
 }

@@ -1,120 +1,134 @@
 //! The lanes of the cores: their spans, and the bans that keep them empty.
 
-use crate::bans::BanSpan;
-use crate::layout::{Ground, digits};
+use crate::layout::{Ground, Sizes, digits};
+use crate::page::Page;
 use crate::sheet::Sheet;
-use crate::span::{Left, Span};
 use crate::telling::{draw_box, tell_ban, tell_span};
 use crate::walk::task_of;
 use crate::window::LEFT;
 use cal_policy::Cause;
-use std::io;
-use std::io::Write;
+use cal_spans::{BanSpan, Left, Span};
 
 /// Writes the lanes of all cores.
-pub fn draw_cores<W: Write>(sheet: &Sheet<'_>, w: &mut W) -> io::Result<()> {
+pub fn draw_cores(sheet: &Sheet<'_>, page: &mut Page) {
     let y = sheet.layout.cores_top.saturating_add(10);
-    write!(w, "<text class='b' x='16' y='{y}'>Cores</text>")?;
-    writeln!(w, "<text class='q' x='58' y='{y}'>in sibling pairs</text>")?;
+    page.fill(
+        "<text class='b' x='16' y='{}'>Cores</text>\
+<text class='q' x='58' y='{}'>in sibling pairs</text>\n",
+        &[y, y],
+    );
     for ground in sheet.layout.grounds.as_slice() {
-        draw_ground(sheet, *ground, w)?;
+        draw_ground(sheet, *ground, page);
     }
-    w.write_all(b"<g transform='translate(.5 .5)'>\n")?;
+    page.put("<g transform='translate(.5 .5)'>\n");
     for ban in sheet.story.bans.as_slice() {
-        draw_ban(sheet, ban, w)?;
+        draw_ban(sheet, ban, page);
     }
-    w.write_all(b"<g class='c st'>\n")?;
+    draw_spans(sheet, page);
+    page.put("</g>\n<g>");
+    for ban in sheet.story.bans.as_slice() {
+        draw_ban_sign(sheet, ban, page);
+    }
+    page.put("</g>\n");
+}
+
+/// The spans, and bars where they begin and end.
+fn draw_spans(sheet: &Sheet<'_>, page: &mut Page) {
+    page.put("<g class='c st'>\n");
     for span in sheet.story.spans.as_slice() {
-        draw_span(sheet, span, w)?;
+        draw_span(sheet, span, page);
     }
-    w.write_all(b"</g><path class='G' d='")?;
-    draw_grants(sheet, w)?;
-    w.write_all(b"'/><path class='F' d='")?;
-    draw_frees(sheet, w)?;
-    w.write_all(b"'/></g>\n<g>")?;
-    for ban in sheet.story.bans.as_slice() {
-        draw_ban_sign(sheet, ban, w)?;
-    }
-    w.write_all(b"</g>\n")
+    page.put("</g><path class='G' d='");
+    draw_grants(sheet, page);
+    page.put("'/><path class='F' d='");
+    draw_frees(sheet, page);
+    page.put("'/>");
 }
 
 /// The ground that spans lie on, with the names of its cores.
-fn draw_ground<W: Write>(sheet: &Sheet<'_>, ground: Ground, w: &mut W) -> io::Result<()> {
+fn draw_ground(sheet: &Sheet<'_>, ground: Ground, page: &mut Page) {
     match ground {
-        Ground::Pair { core, top } => draw_pair(sheet, core, top, w),
-        Ground::Idle { from, to, top } => draw_idle(sheet, from, to, top, w),
+        Ground::Pair { core, top } => draw_pair(sheet, core, top, page),
+        Ground::Idle { from, to, top } => draw_idle(sheet, from, to, top, page),
     }
 }
 
-fn draw_idle<W: Write>(sheet: &Sheet<'_>, from: u8, to: u8, top: u64, w: &mut W) -> io::Result<()> {
+fn draw_idle(sheet: &Sheet<'_>, from: u8, to: u8, top: u64, page: &mut Page) {
     let last = to.saturating_sub(1);
     let count = to.saturating_sub(from);
     let y = top.saturating_add(11);
     let x = LEFT.saturating_add(6);
-    w.write_all(b"<path class='n' d='")?;
-    draw_box(LEFT, top, sheet.columns.width(), 14, w)?;
-    write!(
-        w,
-        "'/><text class='e' x='162' y='{y}'>{from} to {last}</text>"
-    )?;
-    write!(
-        w,
-        "<text class='q' x='{x}' y='{y}'>{count} cores, free in all passes shown"
-    )?;
-    w.write_all(b"</text>\n")
+    page.put("<path class='n' d='");
+    draw_box(LEFT, top, sheet.columns.width(), 14, page);
+    page.fill(
+        "'/><text class='e' x='162' y='{}'>{} to {}</text>",
+        &[y, from as u64, last as u64],
+    );
+    page.fill(
+        "<text class='q' x='{}' y='{}'>{} cores, free in all passes shown",
+        &[x, y, count as u64],
+    );
+    page.put("</text>\n");
 }
 
-fn draw_pair<W: Write>(sheet: &Sheet<'_>, core: u8, top: u64, w: &mut W) -> io::Result<()> {
+fn draw_pair(sheet: &Sheet<'_>, core: u8, top: u64, page: &mut Page) {
     let sizes = sheet.layout.sizes;
     let width = sheet.columns.width();
     let below = top.saturating_add(sizes.lane).saturating_add(sizes.inner);
-    let end = below.saturating_add(sizes.lane);
-    let sibling = core.saturating_add(1);
-    w.write_all(b"<path class='n' d='")?;
-    draw_box(LEFT, top, width, sizes.lane, w)?;
-    draw_box(LEFT, below, width, sizes.lane, w)?;
-    write!(w, "'/><path class='br' d='M171 {top}h-4V{end}h4'/>")?;
+    page.put("<path class='n' d='");
+    draw_box(LEFT, top, width, sizes.lane, page);
+    draw_box(LEFT, below, width, sizes.lane, page);
+    page.fill(
+        "'/><path class='br' d='M171 {}h-4V{}h4'/>",
+        &[top, below.saturating_add(sizes.lane)],
+    );
+    draw_pair_name(sizes, core, top, below, page);
+}
+
+/// The names of two siblings, each beside its lane where the lanes are high enough.
+fn draw_pair_name(sizes: Sizes, core: u8, top: u64, below: u64, page: &mut Page) {
+    let sibling = core.saturating_add(1) as u64;
     if sizes.numbers {
         let half = (sizes.lane / 2).saturating_add(4);
-        let y = top.saturating_add(half);
-        let z = below.saturating_add(half);
-        write!(w, "<text class='e' x='162' y='{y}'>core {core}</text>")?;
-        writeln!(w, "<text class='e' x='162' y='{z}'>core {sibling}</text>")
+        let (y, z) = (top.saturating_add(half), below.saturating_add(half));
+        page.fill(
+            "<text class='e' x='162' y='{}'>core {}</text>\
+<text class='e' x='162' y='{}'>core {}</text>\n",
+            &[y, core as u64, z, sibling],
+        );
     } else {
         let y = top.saturating_add(sizes.lane).saturating_add(4);
-        writeln!(
-            w,
-            "<text class='e w' x='162' y='{y}'>{core}, {sibling}</text>"
-        )
+        page.fill(
+            "<text class='e w' x='162' y='{}'>{}, {}</text>\n",
+            &[y, core as u64, sibling],
+        );
     }
 }
 
 /// A thick bar where each span begins.
-fn draw_grants<W: Write>(sheet: &Sheet<'_>, w: &mut W) -> io::Result<()> {
+fn draw_grants(sheet: &Sheet<'_>, page: &mut Page) {
     let tall = sheet.layout.sizes.tall;
     for span in sheet.story.spans.as_slice() {
         if sheet.window.has(span.from) {
             let x = sheet.columns.at(span.from);
             let top = sheet.layout.top(span.core);
-            write!(w, "M{x} {top}v{tall}")?;
+            page.fill("M{} {}v{}", &[x, top, tall]);
         }
     }
-    Ok(())
 }
 
 /// A thin bar where each span ends.
-fn draw_frees<W: Write>(sheet: &Sheet<'_>, w: &mut W) -> io::Result<()> {
+fn draw_frees(sheet: &Sheet<'_>, page: &mut Page) {
     let tall = sheet.layout.sizes.tall;
     for span in sheet.story.spans.as_slice() {
         if let Some(to) = span.to {
             if sheet.window.has(to) {
                 let x = sheet.columns.at(to).saturating_sub(1);
                 let top = sheet.layout.top(span.core);
-                write!(w, "M{x} {top}v{tall}")?;
+                page.fill("M{} {}v{}", &[x, top, tall]);
             }
         }
     }
-    Ok(())
 }
 
 /// Where a span's last pixel is: a free leaves room for its bar.
@@ -127,103 +141,122 @@ fn end_of(sheet: &Sheet<'_>, to: Option<usize>) -> u64 {
 }
 
 /// A span: full where it is held, hatched where it is being left, with its thread's number.
-fn draw_span<W: Write>(sheet: &Sheet<'_>, span: &Span, w: &mut W) -> io::Result<()> {
-    let sizes = sheet.layout.sizes;
-    let top = sheet.layout.top(span.core);
-    let thread = span.thread;
+fn draw_span(sheet: &Sheet<'_>, span: &Span, page: &mut Page) {
     let x = sheet.columns.at(span.from);
     let end = end_of(sheet, span.to);
     let middle = match span.left {
         Some(left) => sheet.columns.at(left.pass).min(end),
         None => end,
     };
-    let high = sizes.tall.saturating_sub(1);
-    match task_of(sheet.config, thread) {
-        Some(task) => write!(w, "<g class='t{task}'><title>")?,
-        None => write!(w, "<g><title>")?,
+    match task_of(sheet.config, span.thread) {
+        Some(task) => page.fill("<g class='t{}'><title>", &[task as u64]),
+        None => page.put("<g><title>"),
     }
-    tell_span(sheet.config, sheet.history, span, w)?;
-    w.write_all(b"</title>")?;
+    tell_span(sheet.config, sheet.history, span, page);
+    page.put("</title>");
+    draw_bars(sheet, span, x, middle, end, page);
+    draw_thread(sheet, span, x, middle, page);
+    if let Some(left) = span.left {
+        draw_revocation(sheet, left, middle, end, sheet.layout.top(span.core), page);
+    }
+    page.put("</g>\n");
+}
+
+/// The full and the hatched part of a span, where there are such.
+fn draw_bars(sheet: &Sheet<'_>, span: &Span, x: u64, middle: u64, end: u64, page: &mut Page) {
+    let top = sheet.layout.top(span.core);
+    let high = sheet.layout.sizes.tall.saturating_sub(1);
     if middle > x {
-        w.write_all(b"<path d='")?;
-        draw_box(x, top, middle.saturating_sub(x), high, w)?;
-        w.write_all(b"'/>")?;
+        page.put("<path d='");
+        draw_box(x, top, middle.saturating_sub(x), high, page);
+        page.put("'/>");
     }
     if middle < end {
-        w.write_all(b"<path class='l' d='")?;
-        draw_box(middle, top, end.saturating_sub(middle), high, w)?;
-        w.write_all(b"'/>")?;
+        page.put("<path class='l' d='");
+        draw_box(middle, top, end.saturating_sub(middle), high, page);
+        page.put("'/>");
     }
-    let need = digits(u64::from(thread))
+}
+
+/// How much room a thread's number needs.
+fn room_of(thread: u8, around: u64) -> u64 {
+    digits(u64::from(thread))
         .saturating_mul(7)
-        .saturating_add(8);
+        .saturating_add(around)
+}
+
+/// The number of a span's thread, if there is room.
+fn draw_thread(sheet: &Sheet<'_>, span: &Span, x: u64, middle: u64, page: &mut Page) {
+    let sizes = sheet.layout.sizes;
+    let need = room_of(span.thread, 8);
     if sizes.numbers && middle.saturating_sub(x) >= need {
-        let left = x.saturating_add(5);
-        let y = top.saturating_add(sizes.foot);
-        write!(w, "<text x='{left}' y='{y}'>{thread}</text>")?;
+        let y = sheet.layout.top(span.core).saturating_add(sizes.foot);
+        page.fill(
+            "<text x='{}' y='{}'>{}</text>",
+            &[x.saturating_add(5), y, span.thread as u64],
+        );
     }
-    if let Some(left) = span.left {
-        draw_revocation(sheet, left, middle, end, top, w)?;
-    }
-    w.write_all(b"</g>\n")
 }
 
 /// The mark of a revocation, if it stands in the window, and a word if there is room.
-fn draw_revocation<W: Write>(
-    sheet: &Sheet<'_>,
-    left: Left,
-    x: u64,
-    end: u64,
-    top: u64,
-    w: &mut W,
-) -> io::Result<()> {
+fn draw_revocation(sheet: &Sheet<'_>, left: Left, x: u64, end: u64, top: u64, page: &mut Page) {
     if !sheet.window.has(left.pass) {
-        return Ok(());
+        return;
     }
     let sizes = sheet.layout.sizes;
-    let place = x.saturating_add(2);
     let y = top.saturating_add(sizes.tall / 2);
-    let words = x
+    let word = x
         .saturating_add(sizes.mark.saturating_mul(2))
         .saturating_add(6);
     let foot = top.saturating_add(sizes.foot);
-    let room = end.saturating_sub(words);
+    let room = if sizes.numbers {
+        end.saturating_sub(word)
+    } else {
+        0
+    };
     match left.cause {
         // The sign of a ban stands with the ban.
-        Cause::Ban { .. } => Ok(()),
+        Cause::Ban { .. } => {}
         Cause::Bandwidth => {
-            write!(w, "<use href='#qb' x='{place}' y='{y}'/>")?;
-            if sizes.numbers && room >= 60 {
-                write!(w, "<text class='v' x='{words}' y='{foot}'>bandwidth</text>")?;
+            page.fill("<use href='#qb' x='{}' y='{}'/>", &[x.saturating_add(2), y]);
+            if room >= 60 {
+                page.fill(
+                    "<text class='v' x='{}' y='{}'>bandwidth</text>",
+                    &[word, foot],
+                );
             }
-            Ok(())
         }
-        Cause::Preempt { task } => {
-            write!(w, "<use href='#q{task}' x='{place}' y='{y}'/>")?;
-            if sizes.numbers && room >= 48 {
-                write!(
-                    w,
-                    "<text class='v' x='{words}' y='{foot}'>task {task}</text>"
-                )?;
-            }
-            Ok(())
-        }
+        Cause::Preempt { task } => draw_preemption(task as u64, x, y, word, foot, room, page),
+    }
+}
+
+/// The diamond of the task that a core is left for, and its number if there is room.
+fn draw_preemption(task: u64, x: u64, y: u64, word: u64, foot: u64, room: u64, page: &mut Page) {
+    page.fill(
+        "<use href='#q{}' x='{}' y='{}'/>",
+        &[task, x.saturating_add(2), y],
+    );
+    if room >= 48 {
+        page.fill(
+            "<text class='v' x='{}' y='{}'>task {}</text>",
+            &[word, foot, task],
+        );
     }
 }
 
 /// A ban lies behind the spans; its rail is under them.
-fn draw_ban<W: Write>(sheet: &Sheet<'_>, ban: &BanSpan, w: &mut W) -> io::Result<()> {
+fn draw_ban(sheet: &Sheet<'_>, ban: &BanSpan, page: &mut Page) {
     let sizes = sheet.layout.sizes;
     let x = sheet.columns.at(ban.from);
     let wide = sheet.columns.end_of(ban.to).saturating_sub(x);
     let top = sheet.layout.top(ban.core);
-    w.write_all(b"<g class='ban'><title>")?;
-    tell_ban(sheet.config, sheet.history, ban, w)?;
-    w.write_all(b"</title><path class='d' d='")?;
-    draw_box(x, top, wide, sizes.tall, w)?;
-    w.write_all(b"'/><path d='")?;
-    draw_box(x, top.saturating_add(sizes.tall), wide, sizes.rail, w)?;
-    w.write_all(b"'/></g>\n")
+    page.put("<g class='ban'><title>");
+    tell_ban(sheet.config, sheet.history, ban, page);
+    page.put("</title><path class='d' d='");
+    draw_box(x, top, wide, sizes.tall, page);
+    page.put("'/><path d='");
+    draw_box(x, top.saturating_add(sizes.tall), wide, sizes.rail, page);
+    page.put("'/></g>\n");
 }
 
 /// Where a core is empty in a ban: after the span that the ban met, if any.
@@ -239,40 +272,35 @@ fn empty_from(sheet: &Sheet<'_>, ban: &BanSpan) -> u64 {
 }
 
 /// The sign of a ban, and for whom it is, as much of it as there is room for.
-fn draw_ban_sign<W: Write>(sheet: &Sheet<'_>, ban: &BanSpan, w: &mut W) -> io::Result<()> {
+fn draw_ban_sign(sheet: &Sheet<'_>, ban: &BanSpan, page: &mut Page) {
     let sizes = sheet.layout.sizes;
     let top = sheet.layout.top(ban.core);
-    let thread = ban.thread;
     let mut x = empty_from(sheet, ban);
     if sheet.window.has(ban.from) {
         let left = sheet.columns.at(ban.from).saturating_add(2);
         let y = top.saturating_add(sizes.tall / 2);
-        write!(w, "<use href='#qn' x='{left}' y='{y}'/>")?;
-        x = x.max(
-            left.saturating_add(sizes.mark.saturating_mul(2))
-                .saturating_add(2),
-        );
+        page.fill("<use href='#qn' x='{}' y='{}'/>", &[left, y]);
+        let sign = sizes.mark.saturating_mul(2).saturating_add(2);
+        x = x.max(left.saturating_add(sign));
     }
     let room = sheet.columns.end_of(ban.to).saturating_sub(x);
-    let place = x.saturating_add(5);
-    let y = top.saturating_add(sizes.foot);
-    let width = digits(u64::from(thread))
-        .saturating_mul(7)
-        .saturating_add(10);
-    if !sizes.numbers || room < width {
-        return Ok(());
+    if sizes.numbers && room >= room_of(ban.thread, 10) {
+        let y = top.saturating_add(sizes.foot);
+        page.fill("<text class='v' x='{}' y='{}'>", &[x.saturating_add(5), y]);
+        page.put(ban_words(room.saturating_sub(room_of(ban.thread, 10))));
+        page.fill("{}</text>\n", &[ban.thread as u64]);
     }
-    let words = if room >= width.saturating_add(120) {
+}
+
+/// The words before the thread of a ban, where there is so much room for them.
+fn ban_words(room: u64) -> &'static str {
+    if room >= 120 {
         "banned for thread "
-    } else if room >= width.saturating_add(72) {
+    } else if room >= 72 {
         "banned for "
-    } else if room >= width.saturating_add(26) {
+    } else if room >= 26 {
         "for "
     } else {
         ""
-    };
-    writeln!(
-        w,
-        "<text class='v' x='{place}' y='{y}'>{words}{thread}</text>"
-    )
+    }
 }

@@ -1,10 +1,9 @@
 //! Where on the paper everything stands, in whole pixels.
 
-use crate::bans::BanSpan;
-use crate::span::Span;
 use crate::story::Story;
 use crate::window::{Columns, Window};
 use cal_machine::Config;
+use cal_spans::{BanSpan, Span};
 use std::alloc::{AllocError, Global};
 
 /// The height of the bandwidth lane and of the overview.

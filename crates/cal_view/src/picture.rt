@@ -8,6 +8,7 @@ use crate::heading::{
 };
 use crate::layout::Layout;
 use crate::legend::draw_legend;
+use crate::page::Page;
 use crate::sheet::Sheet;
 use crate::story::Story;
 use crate::style::{draw_signs, draw_style};
@@ -17,7 +18,6 @@ use cal_engine::RunFault;
 use cal_machine::Config;
 use cal_policy::PassEntry;
 use std::alloc::Global;
-use std::io;
 use std::io::Write;
 
 /// Draws the passes of a history that a window shows, as one SVG that stands alone. It takes any
@@ -30,7 +30,7 @@ pub fn draw_picture<W: Write>(
     config: &Config,
     history: &[PassEntry],
     window: Window,
-    w: &mut W,
+    writer: &mut W,
 ) -> Result<(), RunFault> {
     let story = Story::of(alloc, config, history, window)?;
     let columns = Columns::new(alloc, history, window)?;
@@ -43,61 +43,101 @@ pub fn draw_picture<W: Write>(
         columns: &columns,
         layout: &layout,
     };
-    match draw_sheet(&sheet, w) {
+    for part in PARTS {
+        let mut page = Page::new(alloc);
+        draw_part(&sheet, part, &mut page);
+        send(&page, writer)?;
+    }
+    Ok(())
+}
+
+/// Writes what stands on a page. The faults are `Memory`, where memory was refused while it was
+/// drawn, and `Write`.
+fn send<W: Write>(page: &Page, writer: &mut W) -> Result<(), RunFault> {
+    let text = page.whole()?;
+    match writer.write_all(text.as_bytes()) {
         Ok(()) => Ok(()),
         Err(_) => Err(RunFault::Write),
     }
 }
 
-fn draw_sheet<W: Write>(sheet: &Sheet<'_>, w: &mut W) -> io::Result<()> {
-    draw_frame(sheet, w)?;
-    draw_style(sheet, w)?;
-    draw_signs(sheet, w)?;
-    draw_heading(sheet, w)?;
-    if sheet.window.count > 0 {
-        draw_body(sheet, w)?;
+/// The parts of a picture, each drawn on a page of its own.
+#[derive(Clone, Copy, Debug, PartialEq, Eq)]
+enum Part {
+    Front,
+    Passes,
+    Tasks,
+    Cores,
+    End,
+}
+
+const PARTS: [Part; 5] = [
+    Part::Front,
+    Part::Passes,
+    Part::Tasks,
+    Part::Cores,
+    Part::End,
+];
+
+fn draw_part(sheet: &Sheet<'_>, part: Part, page: &mut Page) {
+    let empty = sheet.window.count == 0;
+    match part {
+        Part::Front => draw_front(sheet, page),
+        Part::Passes if !empty => draw_passes(sheet, page),
+        Part::Tasks if !empty => draw_tasks(sheet, page),
+        Part::Cores if !empty => draw_below(sheet, page),
+        Part::End => page.put("</svg>\n"),
+        _ => {}
     }
-    w.write_all(b"</svg>\n")
+}
+
+fn draw_front(sheet: &Sheet<'_>, page: &mut Page) {
+    draw_frame(sheet, page);
+    draw_style(sheet, page);
+    draw_signs(sheet, page);
+    draw_heading(sheet, page);
 }
 
 /// The size of the paper, and what the picture is in words.
-fn draw_frame<W: Write>(sheet: &Sheet<'_>, w: &mut W) -> io::Result<()> {
+fn draw_frame(sheet: &Sheet<'_>, page: &mut Page) {
     let wide = sheet.layout.canvas;
     let high = if sheet.window.count > 0 {
         sheet.layout.height
     } else {
         84
     };
-    write!(
-        w,
-        "<svg xmlns='http://www.w3.org/2000/svg' width='{wide}' height='{high}' "
-    )?;
-    write!(
-        w,
-        "viewBox='0 0 {wide} {high}' lang='en' role='img' aria-labelledby='a b'>"
-    )?;
-    w.write_all(b"\n<title id='a'>")?;
-    tell_machine(sheet, w)?;
-    w.write_all(b", ")?;
-    tell_tasks(sheet, w)?;
-    w.write_all(b"</title>\n<desc id='b'>")?;
-    tell_window(sheet, w)?;
-    w.write_all(b" ")?;
-    tell_sums(sheet, w)?;
-    w.write_all(b".")?;
-    tell_end(sheet, w)?;
-    w.write_all(b" The report has the same in words.</desc>\n")
+    page.fill(
+        "<svg xmlns='http://www.w3.org/2000/svg' width='{}' height='{}' \
+viewBox='0 0 {} {}' lang='en' role='img' aria-labelledby='a b'>\n<title id='a'>",
+        &[wide, high, wide, high],
+    );
+    tell_machine(sheet, page);
+    page.put(", ");
+    tell_tasks(sheet, page);
+    page.put("</title>\n<desc id='b'>");
+    tell_picture(sheet, page);
+    page.put(" The report has the same in words.</desc>\n");
 }
 
-fn draw_body<W: Write>(sheet: &Sheet<'_>, w: &mut W) -> io::Result<()> {
-    draw_overview(sheet, w)?;
-    draw_axis(sheet, sheet.layout.axis, w)?;
-    draw_grid(sheet, w)?;
-    draw_tasks(sheet, w)?;
-    draw_bandwidth(sheet, w)?;
-    draw_cores(sheet, w)?;
+fn tell_picture(sheet: &Sheet<'_>, page: &mut Page) {
+    tell_window(sheet, page);
+    page.put(" ");
+    tell_sums(sheet, page);
+    page.put(".");
+    tell_end(sheet, page);
+}
+
+fn draw_passes(sheet: &Sheet<'_>, page: &mut Page) {
+    draw_overview(sheet, page);
+    draw_axis(sheet, sheet.layout.axis, page);
+    draw_grid(sheet, page);
+}
+
+fn draw_below(sheet: &Sheet<'_>, page: &mut Page) {
+    draw_bandwidth(sheet, page);
+    draw_cores(sheet, page);
     if let Some(y) = sheet.layout.second_axis {
-        draw_axis(sheet, y, w)?;
+        draw_axis(sheet, y, page);
     }
-    draw_legend(sheet, w)
+    draw_legend(sheet, page);
 }

@@ -1,11 +1,10 @@
 //! All that is drawn, from one walk over a history.
 
-use crate::bans::BanSpan;
-use crate::span::Span;
 use crate::walk::{Over, Row, Walk, is_critical};
 use crate::window::{Window, plot_width};
 use cal_machine::Config;
 use cal_policy::{Action, Cause, PassEntry};
+use cal_spans::{BanSpan, Span};
 use std::alloc::{AllocError, Global};
 
 /// How many actions of each kind there are.

@@ -1,12 +1,11 @@
 //! The lanes of the tasks: what each holds and leaves, its limit, guarantee and cap.
 
 use crate::layout::TaskLane;
+use crate::page::Page;
 use crate::sheet::Sheet;
 use crate::telling::{draw_box, ending, kind_word};
 use crate::walk::{Row, is_critical};
 use crate::window::LEFT;
-use std::io;
-use std::io::Write;
 
 /// What is drawn of a task as steps.
 #[derive(Clone, Copy, Debug, PartialEq, Eq)]
@@ -61,158 +60,169 @@ fn x_of(sheet: &Sheet<'_>, place: usize) -> u64 {
 }
 
 /// Writes the lanes of all tasks.
-pub fn draw_tasks<W: Write>(sheet: &Sheet<'_>, w: &mut W) -> io::Result<()> {
+pub fn draw_tasks(sheet: &Sheet<'_>, page: &mut Page) {
     let y = sheet.layout.tasks_top.saturating_add(10);
-    write!(w, "<text class='b' x='16' y='{y}'>Tasks</text>")?;
-    write!(w, "<text class='q' x='56' y='{y}'>cores held</text>")?;
+    page.fill("<text class='b' x='16' y='{}'>Tasks</text>", &[y]);
+    page.fill("<text class='q' x='56' y='{}'>cores held</text>", &[y]);
     if !sheet.layout.few {
-        write!(w, "<text class='q e' x='171' y='{y}'>threads</text>")?;
+        page.fill("<text class='q e' x='171' y='{}'>threads</text>", &[y]);
     }
     let lanes = sheet.layout.tasks.as_slice();
     for task in 0..lanes.len() {
-        draw_name(sheet, task, &lanes[task], w)?;
+        draw_name(sheet, task, &lanes[task], page);
     }
-    w.write_all(b"<g class='c'>\n")?;
+    page.put("<g class='c'>\n");
     for task in 0..lanes.len() {
-        draw_steps(sheet, task, &lanes[task], w)?;
+        draw_steps(sheet, task, &lanes[task], page);
     }
-    w.write_all(b"</g>\n")?;
+    page.put("</g>\n");
     for task in 0..lanes.len() {
-        draw_lines(sheet, task, &lanes[task], w)?;
+        draw_lines(sheet, task, &lanes[task], page);
     }
-    Ok(())
 }
 
 /// So many numbers from the first one on.
-fn tell_range<W: Write>(first: usize, count: usize, to: &str, w: &mut W) -> io::Result<()> {
+fn tell_range(first: usize, count: usize, to: &str, page: &mut Page) {
     let last = first.saturating_add(count).saturating_sub(1);
-    write!(w, "{first}")?;
+    page.fill("{}", &[first as u64]);
     if count > 1 {
-        write!(w, "{to}{last}")?;
+        page.put(to);
+        page.fill("{}", &[last as u64]);
     }
-    Ok(())
 }
 
 /// So many threads from the first one on.
-fn tell_threads<W: Write>(first: usize, count: usize, to: &str, w: &mut W) -> io::Result<()> {
+fn tell_threads(first: usize, count: usize, to: &str, page: &mut Page) {
     let more = ending(count as u64, "s");
-    write!(w, "thread{more} ")?;
-    tell_range(first, count, to, w)
+    page.join("thread{} ", &[more]);
+    tell_range(first, count, to, page)
 }
 
 /// The name of a task, with its colour and its threads. Pointing at it fades all other tasks.
-fn draw_name<W: Write>(
-    sheet: &Sheet<'_>,
-    task: usize,
-    lane: &TaskLane,
-    w: &mut W,
-) -> io::Result<()> {
+fn draw_name(sheet: &Sheet<'_>, task: usize, lane: &TaskLane, page: &mut Page) {
     if task >= sheet.config.tasks() {
-        return Ok(());
+        return;
     }
-    let middle = lane.top.saturating_add(lane.base) / 2;
-    let kind = kind_word(sheet.config, task);
+    let number = task as u64;
+    page.fill("<g class='k t{}'><title>task {} (", &[number, number]);
+    page.put(kind_word(sheet.config, task));
+    page.put("), ");
+    tell_table_row(sheet, task, page);
+    page.put("</title><path d='");
+    draw_label(sheet, task, lane, page);
+    page.put("</text></g>\n");
+}
+
+/// What the table says of a task.
+fn tell_table_row(sheet: &Sheet<'_>, task: usize, page: &mut Page) {
+    if task >= sheet.config.tasks() {
+        return;
+    }
     let (first, count) = sheet.config.threads_of(task);
     let row = sheet.config.task(task);
-    let (guaranteed, limit) = (row.guaranteed, row.limit);
-    let (delay, request) = (row.delay, row.request);
-    write!(w, "<g class='k t{task}'><title>task {task} ({kind}), ")?;
-    tell_threads(first, count, " to ", w)?;
-    w.write_all(b": ")?;
-    write!(
-        w,
-        "guaranteed {guaranteed}, limit {limit}, delay {delay}, request {request}</title>"
-    )?;
-    // Where there is room the threads stand in a line of their own below the name.
+    tell_threads(first, count, " to ", page);
+    page.fill(
+        ": guaranteed {}, limit {}, delay {}, request {}",
+        &[
+            row.guaranteed as u64,
+            row.limit as u64,
+            row.delay,
+            row.request,
+        ],
+    );
+}
+
+/// The square of a task and its name; where there is room its threads stand in a line of their own
+/// below the name.
+fn draw_label(sheet: &Sheet<'_>, task: usize, lane: &TaskLane, page: &mut Page) {
+    if task >= sheet.config.tasks() {
+        return;
+    }
     let few = sheet.layout.few;
+    let middle = lane.top.saturating_add(lane.base) / 2;
     let square = middle.saturating_sub(if few { 11 } else { 6 });
     let foot = square.saturating_add(if few { 9 } else { 10 });
-    w.write_all(b"<path d='")?;
-    draw_box(16, square, 11, 11, w)?;
-    write!(
-        w,
-        "'/><text class='b' x='34' y='{foot}'>task {task} {kind}</text>"
-    )?;
+    let (first, count) = sheet.config.threads_of(task);
+    draw_box(16, square, 11, 11, page);
+    page.fill(
+        "'/><text class='b' x='34' y='{}'>task {} ",
+        &[foot, task as u64],
+    );
+    page.join("{}</text>", &[kind_word(sheet.config, task)]);
     if few {
-        let below = middle.saturating_add(11);
-        write!(w, "<text class='q' x='34' y='{below}'>")?;
-        tell_threads(first, count, "-", w)?;
+        page.fill(
+            "<text class='q' x='34' y='{}'>",
+            &[middle.saturating_add(11)],
+        );
+        tell_threads(first, count, "-", page);
     } else {
-        write!(w, "<text class='q e' x='171' y='{foot}'>")?;
-        tell_range(first, count, "-", w)?;
+        page.fill("<text class='q e' x='171' y='{}'>", &[foot]);
+        tell_range(first, count, "-", page);
     }
-    w.write_all(b"</text></g>\n")
 }
 
 /// Cores held, and over them cores being left, as steps; and the line over the held ones.
-fn draw_steps<W: Write>(
-    sheet: &Sheet<'_>,
-    task: usize,
-    lane: &TaskLane,
-    w: &mut W,
-) -> io::Result<()> {
-    write!(w, "<g class='a t{task}'>")?;
+fn draw_steps(sheet: &Sheet<'_>, task: usize, lane: &TaskLane, page: &mut Page) {
+    page.fill("<g class='a t{}'>", &[task as u64]);
     for from in 0..sheet.story.rows.len() {
         if begins(sheet, from, task, Figure::Held) || begins(sheet, from, task, Figure::Booked) {
             let held = same_until(sheet, from, task, Figure::Held);
             let to = same_until(sheet, from, task, Figure::Booked).min(held);
-            draw_step(sheet, task, lane, from, to, w)?;
+            draw_step(sheet, task, lane, from, to, page);
         }
     }
-    w.write_all(b"<path class='e0' d='")?;
-    draw_stairs(sheet, task, lane, Figure::Held, w)?;
-    w.write_all(b"'/></g>\n")
+    page.put("<path class='e0' d='");
+    draw_stairs(sheet, task, lane, Figure::Held, page);
+    page.put("'/></g>\n");
 }
 
 /// One step: from a place of the window to before another.
-fn draw_step<W: Write>(
+fn draw_step(
     sheet: &Sheet<'_>,
     task: usize,
     lane: &TaskLane,
     from: usize,
     to: usize,
-    w: &mut W,
-) -> io::Result<()> {
+    page: &mut Page,
+) {
     let held = figure_at(sheet, from, task, Figure::Held);
     let booked = figure_at(sheet, from, task, Figure::Booked);
     let leaving = booked.saturating_sub(held);
     if booked == 0 {
-        return Ok(());
+        return;
     }
-    let x = x_of(sheet, from);
-    let wide = x_of(sheet, to).saturating_sub(x);
-    let kind = kind_word(sheet.config, task);
     let first = sheet.window.first.saturating_add(from);
     let last = sheet.window.first.saturating_add(to).saturating_sub(1);
-    write!(
-        w,
-        "<g><title>task {task} ({kind}), passes {first} to {last}: "
-    )?;
-    write!(w, "held {held}, leaving {leaving}</title>")?;
-    let full = lane.unit.saturating_mul(held);
-    let pale = lane.unit.saturating_mul(leaving);
+    page.fill("<g><title>task {} (", &[task as u64]);
+    page.put(kind_word(sheet.config, task));
+    page.fill(
+        "), passes {} to {}: held {}, leaving {}</title>",
+        &[first as u64, last as u64, held, leaving],
+    );
+    let x = x_of(sheet, from);
+    let wide = x_of(sheet, to).saturating_sub(x);
+    draw_heap(x, wide, lane, held, leaving, page);
+    page.put("</g>");
+}
+
+/// The boxes of a step: cores held, and over them cores being left.
+fn draw_heap(x: u64, wide: u64, lane: &TaskLane, held: u64, leaving: u64, page: &mut Page) {
     let top = lane.at(held);
     if held > 0 {
-        w.write_all(b"<path d='")?;
-        draw_box(x, top, wide, full, w)?;
-        w.write_all(b"'/>")?;
+        page.put("<path d='");
+        draw_box(x, top, wide, lane.unit.saturating_mul(held), page);
+        page.put("'/>");
     }
     if leaving > 0 {
-        w.write_all(b"<path class='l' d='")?;
-        draw_box(x, top.saturating_sub(pale), wide, pale, w)?;
-        w.write_all(b"'/>")?;
+        let pale = lane.unit.saturating_mul(leaving);
+        page.put("<path class='l' d='");
+        draw_box(x, top.saturating_sub(pale), wide, pale, page);
+        page.put("'/>");
     }
-    w.write_all(b"</g>")
 }
 
 /// A line in steps over a figure.
-fn draw_stairs<W: Write>(
-    sheet: &Sheet<'_>,
-    task: usize,
-    lane: &TaskLane,
-    figure: Figure,
-    w: &mut W,
-) -> io::Result<()> {
+fn draw_stairs(sheet: &Sheet<'_>, task: usize, lane: &TaskLane, figure: Figure, page: &mut Page) {
     let right = sheet.columns.right;
     let count = sheet.story.rows.len();
     for from in 0..count {
@@ -220,121 +230,90 @@ fn draw_stairs<W: Write>(
             let y = lane.at(figure_at(sheet, from, task, figure));
             let x = x_of(sheet, from);
             if from == 0 {
-                write!(w, "M{x} {y}")?;
+                page.fill("M{} {}", &[x, y]);
             } else {
-                write!(w, "H{x}V{y}")?;
+                page.fill("H{}V{}", &[x, y]);
             }
         }
     }
     if count > 0 {
-        write!(w, "H{right}")?;
+        page.fill("H{}", &[right]);
     }
-    Ok(())
 }
 
 /// Words at the right of a lane.
-fn draw_word<W: Write>(
-    sheet: &Sheet<'_>,
-    y: u64,
-    word: &str,
-    figure: u64,
-    w: &mut W,
-) -> io::Result<()> {
+fn draw_word(sheet: &Sheet<'_>, y: u64, word: &str, figure: u64, page: &mut Page) {
     let x = sheet.columns.right.saturating_add(6);
-    let foot = y.saturating_add(4);
-    write!(
-        w,
-        "<text class='q' x='{x}' y='{foot}'>{word} {figure}</text>"
-    )
+    page.fill("<text class='q' x='{}' y='{}'>", &[x, y.saturating_add(4)]);
+    page.put(word);
+    page.fill(" {}</text>", &[figure]);
 }
 
 /// The lines of limit, guarantee and cap with their words, and the bar of delay.
-fn draw_lines<W: Write>(
-    sheet: &Sheet<'_>,
-    task: usize,
-    lane: &TaskLane,
-    w: &mut W,
-) -> io::Result<()> {
+fn draw_lines(sheet: &Sheet<'_>, task: usize, lane: &TaskLane, page: &mut Page) {
     if task >= sheet.config.tasks() {
-        return Ok(());
+        return;
     }
-    let right = sheet.columns.right;
     let row = sheet.config.task(task);
-    let (guaranteed, limit) = (row.guaranteed, row.limit);
-    let (top, base) = (lane.top, lane.base);
-    write!(w, "<path class='g2' d='M{LEFT} {base}H{right}'/>")?;
-    write!(w, "<path class='lim' d='M{LEFT} {top}H{right}'/>")?;
-    let word = if guaranteed == limit {
+    let right = sheet.columns.right;
+    page.fill(
+        "<path class='g2' d='M{} {}H{}'/><path class='lim' d='M{} {}H{}'/>",
+        &[LEFT, lane.base, right, LEFT, lane.top, right],
+    );
+    let word = if row.guaranteed == row.limit {
         "limit, guar."
     } else {
         "limit"
     };
-    draw_word(sheet, top, word, u64::from(limit), w)?;
-    if guaranteed > 0 {
-        draw_guarantee(sheet, lane, guaranteed, w)?;
+    draw_word(sheet, lane.top, word, row.limit as u64, page);
+    if row.guaranteed > 0 {
+        draw_guarantee(sheet, lane, row.guaranteed as u64, page);
     }
     if !is_critical(sheet.config, task) {
-        draw_cap(sheet, task, lane, w)?;
+        draw_cap(sheet, task, lane, page);
     }
-    draw_delay(sheet, task, lane, w)
+    draw_delay(sheet, task, lane, row.delay, page)
 }
 
 /// The line of a guarantee; it has words of its own where they do not stand on those of the limit.
-fn draw_guarantee<W: Write>(
-    sheet: &Sheet<'_>,
-    lane: &TaskLane,
-    guaranteed: u8,
-    w: &mut W,
-) -> io::Result<()> {
-    let right = sheet.columns.right;
-    let y = lane.at(u64::from(guaranteed));
-    write!(w, "<path class='gu' d='M{LEFT} {y}H{right}'/>")?;
+fn draw_guarantee(sheet: &Sheet<'_>, lane: &TaskLane, guaranteed: u64, page: &mut Page) {
+    let y = lane.at(guaranteed);
+    page.fill(
+        "<path class='gu' d='M{} {}H{}'/>",
+        &[LEFT, y, sheet.columns.right],
+    );
     if y.saturating_sub(lane.top) >= 10 {
-        draw_word(sheet, y, "guar.", u64::from(guaranteed), w)?;
+        draw_word(sheet, y, "guar.", guaranteed, page);
     }
-    Ok(())
 }
 
 /// The line of a cap, and what it is at the end of the window.
-fn draw_cap<W: Write>(
-    sheet: &Sheet<'_>,
-    task: usize,
-    lane: &TaskLane,
-    w: &mut W,
-) -> io::Result<()> {
-    w.write_all(b"<path class='cap' d='")?;
-    draw_stairs(sheet, task, lane, Figure::Cap, w)?;
-    w.write_all(b"'/>")?;
+fn draw_cap(sheet: &Sheet<'_>, task: usize, lane: &TaskLane, page: &mut Page) {
+    page.put("<path class='cap' d='");
+    draw_stairs(sheet, task, lane, Figure::Cap, page);
+    page.put("'/>");
     let last = sheet.story.rows.len().saturating_sub(1);
     let cap = figure_at(sheet, last, task, Figure::Cap);
     let y = lane.at(cap);
     if y.saturating_sub(lane.top) >= 10 {
-        draw_word(sheet, y, "cap", cap, w)?;
+        draw_word(sheet, y, "cap", cap, page);
     }
-    Ok(())
 }
 
 /// A bar below the lane while the delay of the task is over its threshold.
-fn draw_delay<W: Write>(
-    sheet: &Sheet<'_>,
-    task: usize,
-    lane: &TaskLane,
-    w: &mut W,
-) -> io::Result<()> {
-    let delay = if task < sheet.config.tasks() {
-        sheet.config.task(task).delay
-    } else {
-        0
-    };
-    write!(w, "<path class='wt' d='")?;
+fn draw_delay(sheet: &Sheet<'_>, task: usize, lane: &TaskLane, delay: u64, page: &mut Page) {
+    page.put("<path class='wt' d='");
     let y = lane.base.saturating_add(2);
     for from in 0..sheet.story.rows.len() {
         let late = figure_at(sheet, from, task, Figure::Late) > 0;
         if late && begins(sheet, from, task, Figure::Late) {
             let to = same_until(sheet, from, task, Figure::Late);
             let x = x_of(sheet, from);
-            draw_box(x, y, x_of(sheet, to).saturating_sub(x), 3, w)?;
+            draw_box(x, y, x_of(sheet, to).saturating_sub(x), 3, page);
         }
     }
-    writeln!(w, "'><title>task {task}: delay over {delay}</title></path>")
+    page.fill(
+        "'><title>task {}: delay over {}</title></path>\n",
+        &[task as u64, delay],
+    );
 }

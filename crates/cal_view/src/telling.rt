@@ -1,13 +1,11 @@
 //! The words of a picture: what its tooltips tell, and the small marks of its paths.
 
-use crate::bans::BanSpan;
+use crate::page::Page;
 use crate::sheet::Sheet;
-use crate::span::Span;
 use crate::walk::{is_critical, task_of};
 use cal_machine::Config;
 use cal_policy::{Action, Cause, PassEntry, Seen};
-use std::io;
-use std::io::Write;
+use cal_spans::{BanSpan, Span};
 
 /// `lc` or `be`.
 pub fn kind_word(config: &Config, task: usize) -> &'static str {
@@ -24,18 +22,20 @@ pub fn ending(count: u64, many: &'static str) -> &'static str {
 }
 
 /// A rectangle, as a piece of a path.
-pub fn draw_box<W: Write>(x: u64, y: u64, wide: u64, high: u64, w: &mut W) -> io::Result<()> {
-    write!(w, "M{x} {y}h{wide}v{high}h-{wide}z")
+pub fn draw_box(x: u64, y: u64, wide: u64, high: u64, page: &mut Page) {
+    page.fill("M{} {}h{}v{}h-{}z", &[x, y, wide, high, wide]);
 }
 
 /// A thread with its task and kind.
-fn tell_thread<W: Write>(config: &Config, thread: u8, w: &mut W) -> io::Result<()> {
+fn tell_thread(config: &Config, thread: u8, page: &mut Page) {
     match task_of(config, thread) {
         Some(task) => {
             let kind = kind_word(config, task);
-            write!(w, "thread {thread} of task {task} ({kind})")
+            page.fill("thread {} of task {} (", &[thread as u64, task as u64]);
+            page.put(kind);
+            page.put(")");
         }
-        None => write!(w, "thread {thread}"),
+        None => page.fill("thread {}", &[thread as u64]),
     }
 }
 
@@ -47,111 +47,114 @@ pub fn clock_of(history: &[PassEntry], pass: usize) -> u64 {
     }
 }
 
-fn tell_cause<W: Write>(cause: Cause, w: &mut W) -> io::Result<()> {
+fn tell_cause(cause: Cause, page: &mut Page) {
     match cause {
-        Cause::Ban { by } => write!(w, "for ban by core {by}"),
-        Cause::Bandwidth => w.write_all(b"for bandwidth"),
-        Cause::Preempt { task } => write!(w, "for task {task}"),
+        Cause::Ban { by } => page.fill("for ban by core {}", &[by as u64]),
+        Cause::Bandwidth => page.put("for bandwidth"),
+        Cause::Preempt { task } => page.fill("for task {}", &[task as u64]),
     }
 }
 
 /// What the report says of a span.
-pub fn tell_span<W: Write>(
-    config: &Config,
-    history: &[PassEntry],
-    span: &Span,
-    w: &mut W,
-) -> io::Result<()> {
+pub fn tell_span(config: &Config, history: &[PassEntry], span: &Span, page: &mut Page) {
     let from = span.from;
     let core = span.core;
     let class = span.class;
     let clock = clock_of(history, from);
-    write!(w, "core {core}, ")?;
-    tell_thread(config, span.thread, w)?;
-    write!(w, ": granted in pass {from} at {clock}, class {class}")?;
+    page.fill("core {}, ", &[core as u64]);
+    tell_thread(config, span.thread, page);
+    page.fill(
+        ": granted in pass {} at {}, class {}",
+        &[from as u64, clock, class as u64],
+    );
     if let Some(left) = span.left {
         let pass = left.pass;
         let clock = clock_of(history, pass);
-        write!(w, "; revoked in pass {pass} at {clock} ")?;
-        tell_cause(left.cause, w)?;
+        page.fill("; revoked in pass {} at {} ", &[pass as u64, clock]);
+        tell_cause(left.cause, page);
     }
     match span.to {
-        Some(pass) => write!(w, "; freed in pass {pass}"),
-        None if span.left.is_some() => w.write_all(b"; not freed"),
-        None => w.write_all(b"; still held"),
+        Some(pass) => page.fill("; freed in pass {}", &[pass as u64]),
+        None if span.left.is_some() => page.put("; not freed"),
+        None => page.put("; still held"),
     }
 }
 
 /// What the report says of a ban.
-pub fn tell_ban<W: Write>(
-    config: &Config,
-    history: &[PassEntry],
-    ban: &BanSpan,
-    w: &mut W,
-) -> io::Result<()> {
+pub fn tell_ban(config: &Config, history: &[PassEntry], ban: &BanSpan, page: &mut Page) {
     let core = ban.core;
     let from = ban.from;
     let started = ban.started;
     let clock = clock_of(history, from);
-    write!(w, "core {core}: banned for ")?;
-    tell_thread(config, ban.thread, w)?;
-    write!(w, " in pass {from} at {clock}, started {started}")?;
+    page.fill("core {}: banned for ", &[core as u64]);
+    tell_thread(config, ban.thread, page);
+    page.fill(
+        " in pass {} at {}, started {}",
+        &[from as u64, clock, started],
+    );
     match ban.to {
-        Some(pass) => write!(w, "; unbanned in pass {pass}"),
-        None => w.write_all(b"; still banned"),
+        Some(pass) => page.fill("; unbanned in pass {}", &[pass as u64]),
+        None => page.put("; still banned"),
     }
 }
 
 /// The lines of the report of a pass.
-pub fn tell_pass<W: Write>(sheet: &Sheet<'_>, pass: usize, w: &mut W) -> io::Result<()> {
+pub fn tell_pass(sheet: &Sheet<'_>, pass: usize, page: &mut Page) {
     let Some(entry) = sheet.history.get(pass) else {
-        return Ok(());
+        return;
     };
     let now = entry.input.now;
     let bandwidth = entry.input.bandwidth;
-    write!(w, "pass {pass} now {now} bandwidth {bandwidth}")?;
-    tell_looks(entry.input.seen.as_slice(), w)?;
-    tell_actions(entry.actions.as_slice(), w)
+    page.fill(
+        "pass {} now {} bandwidth {}",
+        &[pass as u64, now, bandwidth],
+    );
+    tell_looks(entry.input.seen.as_slice(), page);
+    tell_actions(entry.actions.as_slice(), page)
 }
 
-fn tell_looks<W: Write>(looks: &[Seen], w: &mut W) -> io::Result<()> {
+fn tell_looks(looks: &[Seen], page: &mut Page) {
     for thread in 0..looks.len() {
         match looks[thread] {
             Seen::Whole { .. } => {}
-            Seen::Busy { .. } => write!(w, "\nkept {thread} busy")?,
-            Seen::Ahead { .. } => write!(w, "\nkept {thread} ahead")?,
-            Seen::Foreign { .. } => write!(w, "\nkept {thread} foreign")?,
+            Seen::Busy { .. } => page.fill("\nkept {} busy", &[thread as u64]),
+            Seen::Ahead { .. } => page.fill("\nkept {} ahead", &[thread as u64]),
+            Seen::Foreign { .. } => page.fill("\nkept {} foreign", &[thread as u64]),
         }
     }
-    Ok(())
 }
 
-fn tell_actions<W: Write>(actions: &[Action], w: &mut W) -> io::Result<()> {
+fn tell_actions(actions: &[Action], page: &mut Page) {
     for action in actions {
-        tell_action(*action, w)?;
+        tell_action(*action, page);
     }
-    Ok(())
 }
 
 /// The line of the report of an action, after a line feed.
-fn tell_action<W: Write>(action: Action, w: &mut W) -> io::Result<()> {
+fn tell_action(action: Action, page: &mut Page) {
     match action {
-        Action::Free { core } => write!(w, "\nfree core {core}"),
-        Action::Unban { core } => write!(w, "\nunban core {core}"),
+        Action::Free { core } => page.fill("\nfree core {}", &[core as u64]),
+        Action::Unban { core } => page.fill("\nunban core {}", &[core as u64]),
         Action::Ban {
             core,
             thread,
             started,
-        } => write!(w, "\nban core {core} for thread {thread} started {started}"),
+        } => page.fill(
+            "\nban core {} for thread {} started {}",
+            &[core as u64, thread as u64, started],
+        ),
         Action::Revoke { core, cause } => {
-            write!(w, "\nrevoke core {core} ")?;
-            tell_cause(cause, w)
+            page.fill("\nrevoke core {} ", &[core as u64]);
+            tell_cause(cause, page)
         }
-        Action::Cap { task, cap } => write!(w, "\ncap task {task} at {cap}"),
+        Action::Cap { task, cap } => page.fill("\ncap task {} at {}", &[task as u64, cap as u64]),
         Action::Grant {
             core,
             thread,
             class,
-        } => write!(w, "\ngrant core {core} to thread {thread} class {class}"),
+        } => page.fill(
+            "\ngrant core {} to thread {} class {}",
+            &[core as u64, thread as u64, class as u64],
+        ),
     }
 }

@@ -3,13 +3,13 @@
 //! Clocks stand as microseconds, since the format knows no ticks. Cores are the tracks of one
 //! group, bans those of a second; the counters of tasks and of bandwidth are a third.
 
-use crate::bans::BanSpan;
-use crate::span::Span;
+use crate::page::Page;
 use crate::telling::{clock_of, kind_word, tell_ban, tell_span};
 use crate::walk::{Over, Row, Walk, is_critical, task_of};
 use cal_engine::RunFault;
 use cal_machine::Config;
 use cal_policy::{Cause, PassEntry};
+use cal_spans::{BanSpan, Span};
 use serde::Serialize;
 use std::alloc::Global;
 use std::io::Write;
@@ -355,10 +355,8 @@ fn put_span<W: Write>(
     span: &Span,
     events: &mut Events<'_, W>,
 ) -> Result<(), RunFault> {
-    let mut told = Vec::new(events.alloc);
-    if tell_span(config, history, span, &mut told).is_err() {
-        return Err(RunFault::Memory);
-    }
+    let mut told = Page::new(events.alloc);
+    tell_span(config, history, span, &mut told);
     let thread = span.thread;
     let name = match task_of(config, thread) {
         Some(task) => format!(in events.alloc; "thread {thread} of task {task}")?,
@@ -372,14 +370,8 @@ fn put_span<W: Write>(
         from: span.from,
         to: span.to,
     };
-    let told = text_of(told.as_slice());
-    put_slice(history, place, name.as_str(), told, events)?;
+    put_slice(history, place, name.as_str(), told.whole()?, events)?;
     put_leaving(history, span, events)
-}
-
-/// A text that is ASCII.
-fn text_of(bytes: &[u8]) -> &str {
-    std::str::from_utf8(bytes).unwrap_or("")
 }
 
 /// The time in which a span's core is being left, by its cause.
@@ -414,10 +406,8 @@ fn put_ban<W: Write>(
     ban: &BanSpan,
     events: &mut Events<'_, W>,
 ) -> Result<(), RunFault> {
-    let mut told = Vec::new(events.alloc);
-    if tell_ban(config, history, ban, &mut told).is_err() {
-        return Err(RunFault::Memory);
-    }
+    let mut told = Page::new(events.alloc);
+    tell_ban(config, history, ban, &mut told);
     let thread = ban.thread;
     let name = format!(in events.alloc; "banned for thread {thread}")?;
     let place = Place {
@@ -428,6 +418,5 @@ fn put_ban<W: Write>(
         from: ban.from,
         to: ban.to,
     };
-    let told = text_of(told.as_slice());
-    put_slice(history, place, name.as_str(), told, events)
+    put_slice(history, place, name.as_str(), told.whole()?, events)
 }

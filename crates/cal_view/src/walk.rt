@@ -1,11 +1,9 @@
 //! What is known after the passes so far, while a history is walked: who has which core, which
 //! cores are banned, and what the tasks have. It does not grow.
 
-use crate::bans::{BanSpan, BanTracker};
-use crate::span::Span;
-use crate::tracking::Tracker;
 use cal_machine::{Config, Kind};
 use cal_policy::{Action, Record, Seen};
+use cal_spans::{BanSpan, BanTracker, Span, Tracker};
 
 /// What each task has after a pass, in task order.
 #[derive(Clone, Copy, Debug, PartialEq, Eq)]

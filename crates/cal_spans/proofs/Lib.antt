@@ -1,0 +1,4 @@
+pub mod StaysKept
+pub mod BansKept
+pub mod Showing
+pub mod HoldersKept

@@ -1,0 +1,4 @@
+pub mod Spans
+pub mod BanSpans
+pub mod Tracking
+pub mod Laws
