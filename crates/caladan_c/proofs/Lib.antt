@@ -1,7 +1,5 @@
-mod AsBox
+pub mod HandleLemmas
 mod Passed
 mod Gating
-mod AsAuditBox
-mod AsGateBox
 mod OneMore
 mod NoneSuch

@@ -1,5 +1,5 @@
 -- One more of what was recorded.
-use Rattle.std.proofs.Common.{◌≡◌, ℕ, ◌++◌, ◌∷◌, [], List, Bool, map}
+use Rattle.std.proofs.Common.{◌≡◌, ◌++◌, ◌∷◌, [], List, map}
 use Rattle.std.proofs.lemmas.List.{map-append}
 use Rattle.cal_policy.specs.History.Looks.{look_of}
 use Rattle.cal_policy.specs.declared.history.look.Seen.{Seen}
@@ -8,8 +8,6 @@ use Rattle.caladan_c.specs.Found.{look_in}
 use Rattle.caladan_c.specs.Recorded.{room_in}
 use Rattle.caladan_c.specs.Told.{judgement_of, told_of}
 use Rattle.caladan_c.specs.declared.found.Found.{Found}
-use Rattle.cal_signal.specs.declared.look.Look.{Look}
-use Rattle.caladan_c.specs.declared.told.Told.{Told}
 
 pub looks_more : (seen : List Seen) (one : Seen) → map look_of (seen ++ one ∷ []) ≡ map look_of seen ++ look_of one ∷ []
 looks_more seen one = map-append look_of seen (one ∷ [])

@@ -1,5 +1,6 @@
 -- An audit, as contracts see it, and what C learns of opening one and of handing it a pass.
-use Rattle.std.specs.Prelude.{◌≡◌, ℕ, ◌<◌, ◌^◌, [], List, ◌∷◌, ◌++◌, length, Option, Result, Ok, Err}
+use Rattle.std.specs.Prelude.{◌≡◌, ℕ, ◌<◌, ◌^◌, [], List, ◌∷◌, ◌++◌, length, Option, Result, Ok}
+use Rattle.std.specs.Prelude.{Err}
 use Rattle.std.specs.Option.{IsSomeAnd}
 use Rattle.cal_machine.specs.Table.{Table}
 use Rattle.cal_machine.specs.declared.fault.ConfigFault.{ConfigFault}
@@ -33,10 +34,12 @@ SaysAudit (Err fault) number kept = number ≡ number_of fault
 -- the audit took this entry as the next pass of its history
 pub record HasTaken (old : Audited) (entry : PassEntry) (new : Audited) : Type 0 where
   pub table : new.table ≡ old.table
-  pub audits : (h : List PassEntry) → length h < 2 ^ 64 → Audits old h → Audits new (h ++ entry ∷ [])
+  pub audits : (h : List PassEntry) → length h < 2 ^ 64 → Audits old h →
+      Audits new (h ++ entry ∷ [])
 
 -- what was recorded is a pass, and the audit took it as the next one of its history
-pub record TookRecorded (old : Audited) (now bandwidth : ℕ) (looks : List Found) (judged : List ℕ) (actions : List Told) (new : Audited) : Type 0 where
+pub record TookRecorded (old : Audited) (now bandwidth : ℕ) (looks : List Found) (judged : List ℕ)
+    (actions : List Told) (new : Audited) : Type 0 where
   pub entry : PassEntry
   pub recorded : IsRecorded now bandwidth looks judged actions entry
   pub taken : HasTaken old entry new

@@ -11,17 +11,18 @@ use Rattle.caladan_c.specs.declared.found.Found.{Found}
 
 -- the look: busy where `busy` is not 0, else of the nine words
 abbrev pub look_in : Found → Look
-look_in found = if not (found.busy == 0) then Busy found.number found.second else Whole found.number (record {
-  taken = found.taken;
-  running = found.running;
-  queued = found.queued;
-  oldest = found.oldest;
-  started = found.started;
-  misses = found.misses;
-  stamp = found.stamp;
-  paused = found.paused;
-  since = found.since;
-})
+look_in found =
+    if not (found.busy == 0) then Busy found.number found.second else Whole found.number (record {
+      taken = found.taken;
+      running = found.running;
+      queued = found.queued;
+      oldest = found.oldest;
+      started = found.started;
+      misses = found.misses;
+      stamp = found.stamp;
+      paused = found.paused;
+      since = found.since;
+    })
 
 -- the look, and whether there is room
 abbrev pub found_of : Found → FoundLook
@@ -29,4 +30,5 @@ found_of found = record { look = look_in found; room = not (found.room == 0) }
 
 -- the input of a pass after this history, of what was found of each thread
 abbrev pub input_of : Table → List PassEntry → ℕ → ℕ → List Found → Input
-input_of table history now bandwidth looks = judged_input table history now bandwidth (map found_of looks)
+input_of table history now bandwidth looks =
+    judged_input table history now bandwidth (map found_of looks)

@@ -10,7 +10,9 @@ use Rattle.cal_policy.specs.Judgement.Judging.{IsInput}
 use Rattle.cal_policy.specs.Setting.{setting}
 use Rattle.cal_guard.specs.declared.guard.Guard.{Guard}
 use Rattle.cal_guard.specs.declared.refusal.Why.{Why}
-use Rattle.cal_guard.specs.declared.refusal.Why.TheVariants.{TooMany, DoesNotFit, NotLeft, Banned, AtLimit, AtCap, AtGuarantee, NoRoom, SecondCommand, BannedHeld, OverCap}
+use Rattle.cal_guard.specs.declared.refusal.Why.TheVariants.{TooMany, DoesNotFit, NotLeft, Banned}
+use Rattle.cal_guard.specs.declared.refusal.Why.TheVariants.{AtLimit, AtCap, AtGuarantee, NoRoom}
+use Rattle.cal_guard.specs.declared.refusal.Why.TheVariants.{SecondCommand, BannedHeld, OverCap}
 use Rattle.cal_guard.specs.declared.refusal.Refused.{Refused}
 use Rattle.cal_guard.specs.Guarded.{Keeps, and_then}
 use Rattle.cal_guard.specs.Permitted.{ArePermitted, IsPermittedHistory}
@@ -18,7 +20,7 @@ use Rattle.cal_guard.specs.Refusals.{IsFirstWrong}
 use Rattle.caladan_c.specs.Opening.{number_of}
 use Rattle.caladan_c.specs.Told.{told_of}
 use Rattle.caladan_c.specs.declared.told.Told.{Told}
-use Rattle.caladan_c.specs.declared.told_refused.ToldRefused.{ToldRefused}
+use Rattle.caladan_c.specs.declared.told.refused.ToldRefused.{ToldRefused}
 
 -- its table, and the guard of the passes so far
 pub record Gated : Type 0 where
@@ -40,9 +42,10 @@ abbrev pub SaysGate : Result Table ConfigFault → ℕ → Option Gated → Type
 SaysGate (Ok table) number kept = (number ≡ 0) × IsSomeAnd kept (IsNewGate table)
 SaysGate (Err fault) number kept = number ≡ number_of fault
 
--- the pass went through: these actions are the ones that C told, each is permitted at its place, and
--- the gate stands after the pass
-pub record WentThrough (old : Gated) (history : List PassEntry) (given : Input) (told : List Told) (new : Gated) : Type 0 where
+-- the pass went through: these actions are the ones that C told, each is permitted at its place,
+-- and the gate stands after the pass
+pub record WentThrough (old : Gated) (history : List PassEntry) (given : Input) (told : List Told)
+    (new : Gated) : Type 0 where
   pub chosen : List Action
   pub actions : map told_of chosen ≡ told
   pub input : IsInput old.table history given
@@ -51,7 +54,8 @@ pub record WentThrough (old : Gated) (history : List PassEntry) (given : Input) 
   pub after : GuardsAfter new (and_then history given chosen)
 
 -- the pass was stopped: of the actions that C told this is the first that is not permitted, and why
-pub record WasStopped (old : Gated) (history : List PassEntry) (given : Input) (told : List Told) (refused : Refused) : Type 0 where
+pub record WasStopped (old : Gated) (history : List PassEntry) (given : Input) (told : List Told)
+    (refused : Refused) : Type 0 where
   pub chosen : List Action
   pub actions : map told_of chosen ≡ told
   pub input : IsInput old.table history given
@@ -87,10 +91,12 @@ why_names (OverCap task) = task
 
 -- the place and the reason, in numbers
 abbrev pub told_refused_of : Refused → ToldRefused
-told_refused_of refused = record { place = refused.place; why = why_number refused.why; names = why_names refused.why }
+told_refused_of refused =
+    record { place = refused.place; why = why_number refused.why; names = why_names refused.why }
 
 -- the pass was stopped, and C was told where and why
-pub record WasStoppedAt (old : Gated) (history : List PassEntry) (given : Input) (told : List Told) (out : ToldRefused) : Type 0 where
+pub record WasStoppedAt (old : Gated) (history : List PassEntry) (given : Input) (told : List Told)
+    (out : ToldRefused) : Type 0 where
   pub refused : Refused
   pub stopped : WasStopped old history given told refused
   pub said : out ≡ told_refused_of refused

@@ -6,6 +6,4 @@ pub mod Passing
 pub mod Opening
 pub mod Recorded
 pub mod Audited
-pub mod AuditHandles
 pub mod Gated
-pub mod GateHandles

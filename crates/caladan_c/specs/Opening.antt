@@ -3,7 +3,12 @@ use Rattle.std.specs.Prelude.{◌≡◌, ℕ, [], Option, Result, Ok, Err}
 use Rattle.std.specs.Option.{IsSomeAnd}
 use Rattle.cal_machine.specs.Table.{Table}
 use Rattle.cal_machine.specs.declared.fault.ConfigFault.{ConfigFault}
-use Rattle.cal_machine.specs.declared.fault.ConfigFault.TheVariants.{NotToml, UnknownKey, MissingKey, WrongType, OutOfRange, BestEffortGuarantee, GuaranteesExceedCores, TooManyThreads, Memory}
+use Rattle.cal_machine.specs.declared.fault.ConfigFault.TheVariants.{NotToml, UnknownKey}
+use Rattle.cal_machine.specs.declared.fault.ConfigFault.TheVariants.{MissingKey, WrongType}
+use Rattle.cal_machine.specs.declared.fault.ConfigFault.TheVariants.{OutOfRange}
+use Rattle.cal_machine.specs.declared.fault.ConfigFault.TheVariants.{BestEffortGuarantee}
+use Rattle.cal_machine.specs.declared.fault.ConfigFault.TheVariants.{GuaranteesExceedCores}
+use Rattle.cal_machine.specs.declared.fault.ConfigFault.TheVariants.{TooManyThreads, Memory}
 use Rattle.caladan_c.specs.Passing.{StandsAfter}
 use Rattle.caladan_c.specs.Standing.{Standing}
 

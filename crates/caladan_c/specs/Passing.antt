@@ -17,10 +17,13 @@ pub record StandsAfter (scheduler : Standing) (history : List PassEntry) : Type 
 
 -- the pass itself: what the policy does on this input after this history
 abbrev pub passed : Table → List PassEntry → Input → PassEntry
-passed table history input = record { input = input; actions = pass_of (setting table history input) }
+passed table history input =
+    record { input = input; actions = pass_of (setting table history input) }
 
--- the input was one that the pass may be given; its actions are the policy's, and the scheduler stands after the pass
-pub record IsPassed (old : Standing) (history : List PassEntry) (given : Input) (new : Standing) : Type 0 where
+-- the input was one that the pass may be given; its actions are the policy's, and the scheduler
+-- stands after the pass
+pub record IsPassed (old : Standing) (history : List PassEntry) (given : Input) (new : Standing)
+    : Type 0 where
   pub input : IsInput old.table history given
   pub actions : new.made ≡ pass_of (setting old.table history given)
   pub short : length new.made ≤ 338

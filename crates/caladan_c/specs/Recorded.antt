@@ -14,7 +14,8 @@ abbrev pub room_in : Found → Bool
 room_in found = (found_of found).room
 
 -- C would be told exactly this of the entry: its looks, its judgements and its actions, in numbers
-pub record IsRecorded (now bandwidth : ℕ) (looks : List Found) (judged : List ℕ) (actions : List Told) (entry : PassEntry) : Type 0 where
+pub record IsRecorded (now bandwidth : ℕ) (looks : List Found) (judged : List ℕ)
+    (actions : List Told) (entry : PassEntry) : Type 0 where
   pub clock : entry.input.now ≡ now
   pub figure : entry.input.bandwidth ≡ bandwidth
   pub seen : map look_of entry.input.seen ≡ map look_in looks
@@ -24,7 +25,8 @@ pub record IsRecorded (now bandwidth : ℕ) (looks : List Found) (judged : List 
 
 -- no judged looks are told so
 abbrev pub AreNoJudgements : List Found → List ℕ → Type 0
-AreNoJudgements looks judged = (seen : List Seen) → map look_of seen ≡ map look_in looks → map judgement_of seen ≡ judged → ⊥
+AreNoJudgements looks judged =
+    (seen : List Seen) → map look_of seen ≡ map look_in looks → map judgement_of seen ≡ judged → ⊥
 
 -- no actions are told so
 abbrev pub AreNoActions : List Told → Type 0

@@ -3,27 +3,45 @@ use Rattle.std.specs.Prelude.{◌≡◌, ℕ, List, length, Some, slice_get}
 use Rattle.cal_policy.specs.declared.history.look.Seen.{Seen}
 use Rattle.cal_policy.specs.declared.history.look.Seen.TheVariants.{Whole, Busy, Ahead, Foreign}
 use Rattle.cal_policy.specs.declared.history.action.Action.{Action}
-use Rattle.cal_policy.specs.declared.history.action.Action.TheVariants.{Free, Unban, Ban, Revoke, Cap, Grant}
+use Rattle.cal_policy.specs.declared.history.action.Action.TheVariants.{Free, Unban, Ban, Revoke}
+use Rattle.cal_policy.specs.declared.history.action.Action.TheVariants.{Cap, Grant}
 use Rattle.cal_policy.specs.declared.history.action.Cause.TheVariants as causes
 use Rattle.cal_policy.specs.declared.history.action.Cause.{Cause}
 use Rattle.cal_policy.specs.declared.board.holders.Holder.{Holder}
 use Rattle.cal_policy.specs.declared.board.holders.Holder.TheVariants as holders
 use Rattle.cal_policy.specs.Board.Counts.{held_by, booked_by, cap_of}
 use Rattle.cal_machine.specs.Table.{Table}
-use Rattle.caladan_c.specs.declared.counts.Counts.{Counts}
-use Rattle.caladan_c.specs.declared.told_holder.ToldHolder.{ToldHolder}
+use Rattle.caladan_c.specs.declared.told.counts.Counts.{Counts}
+use Rattle.caladan_c.specs.declared.told.holder.ToldHolder.{ToldHolder}
 use Rattle.caladan_c.specs.declared.told.Told.{Told}
+
+-- an action of this kind, of nothing yet
+abbrev pub of_kind : ℕ → Told
+of_kind kind = record {
+  kind = kind;
+  core = 0;
+  thread = 0;
+  class = 0;
+  cause = 0;
+  by = 0;
+  task = 0;
+  cap = 0;
+  started = 0;
+}
 
 -- the action in numbers; what its kind does not name is 0
 abbrev pub told_of : Action → Told
-told_of (Free core) = record { kind = 1; core = core; thread = 0; class = 0; cause = 0; by = 0; task = 0; cap = 0; started = 0 }
-told_of (Unban core) = record { kind = 2; core = core; thread = 0; class = 0; cause = 0; by = 0; task = 0; cap = 0; started = 0 }
-told_of (Ban core thread started) = record { kind = 3; core = core; thread = thread; class = 0; cause = 0; by = 0; task = 0; cap = 0; started = started }
-told_of (Revoke core (causes.Ban by)) = record { kind = 4; core = core; thread = 0; class = 0; cause = 1; by = by; task = 0; cap = 0; started = 0 }
-told_of (Revoke core causes.Bandwidth) = record { kind = 4; core = core; thread = 0; class = 0; cause = 2; by = 0; task = 0; cap = 0; started = 0 }
-told_of (Revoke core (causes.Preempt task)) = record { kind = 4; core = core; thread = 0; class = 0; cause = 3; by = 0; task = task; cap = 0; started = 0 }
-told_of (Cap task cap) = record { kind = 5; core = 0; thread = 0; class = 0; cause = 0; by = 0; task = task; cap = cap; started = 0 }
-told_of (Grant core thread class) = record { kind = 6; core = core; thread = thread; class = class; cause = 0; by = 0; task = 0; cap = 0; started = 0 }
+told_of (Free core) = record (of_kind 1) { core = core }
+told_of (Unban core) = record (of_kind 2) { core = core }
+told_of (Ban core thread started) =
+    record (of_kind 3) { core = core; thread = thread; started = started }
+told_of (Revoke core (causes.Ban by)) = record (of_kind 4) { core = core; cause = 1; by = by }
+told_of (Revoke core causes.Bandwidth) = record (of_kind 4) { core = core; cause = 2 }
+told_of (Revoke core (causes.Preempt task)) =
+    record (of_kind 4) { core = core; cause = 3; task = task }
+told_of (Cap task cap) = record (of_kind 5) { task = task; cap = cap }
+told_of (Grant core thread class) =
+    record (of_kind 6) { core = core; thread = thread; class = class }
 
 -- what was judged of a look, as a number
 abbrev pub judgement_of : Seen → ℕ
@@ -34,12 +52,14 @@ judgement_of (Foreign number rec) = 4
 
 -- of each look C was told what was judged of it
 abbrev pub AreJudgements : List Seen → List ℕ → Type 0
-AreJudgements looks out = (k : ℕ) (seen : Seen) → slice_get looks k ≡ Some seen → slice_get out k ≡ Some (judgement_of seen)
+AreJudgements looks out = (k : ℕ) (seen : Seen) → slice_get looks k ≡ Some seen →
+    slice_get out k ≡ Some (judgement_of seen)
 
 -- C was told exactly these actions, in order
 pub record AreTold (actions : List Action) (made : ℕ) (out : List Told) : Type 0 where
   pub count : made ≡ length actions
-  pub each : (k : ℕ) (action : Action) → slice_get actions k ≡ Some action → slice_get out k ≡ Some (told_of action)
+  pub each : (k : ℕ) (action : Action) → slice_get actions k ≡ Some action →
+      slice_get out k ≡ Some (told_of action)
 
 -- a cause as two numbers: its kind, and what it names
 abbrev pub cause_of : Cause → ℕ × ℕ
@@ -50,9 +70,19 @@ cause_of (causes.Preempt task) = (3, task)
 -- who has a core, in numbers
 abbrev pub told_holder_of : Holder → ToldHolder
 told_holder_of holders.Free = record { state = 0; thread = 0; cause = 0; cause_of = 0 }
-told_holder_of (holders.Held placement) = record { state = 1; thread = placement.thread; cause = 0; cause_of = 0 }
-told_holder_of (holders.Leaving placement cause) = record { state = 2; thread = placement.thread; cause = (cause_of cause).0; cause_of = (cause_of cause).1 }
+told_holder_of (holders.Held placement) =
+    record { state = 1; thread = placement.thread; cause = 0; cause_of = 0 }
+told_holder_of (holders.Leaving placement cause) = record {
+  state = 2;
+  thread = placement.thread;
+  cause = (cause_of cause).0;
+  cause_of = (cause_of cause).1;
+}
 
 -- what a task has after these actions
 abbrev pub counts_of : Table → List Action → ℕ → Counts
-counts_of table x task = record { held = held_by table x task; booked = booked_by table x task; cap = cap_of table x task }
+counts_of table x task = record {
+  held = held_by table x task;
+  booked = booked_by table x task;
+  cap = cap_of table x task;
+}

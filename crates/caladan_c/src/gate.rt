@@ -1,7 +1,8 @@
-//! A gate: its table, and the guard of the passes so far. It lets a pass through whose actions somebody
-//! else chose, or says which of them is not permitted.
+//! A gate: its table, and the guard of the passes so far. It lets a pass through whose actions
+//! somebody else chose, or says which of them is not permitted.
 
-ghost use Rattle.std.specs.Prelude.{◌≡◌, ◌⊎◌, ◌≤◌, Err, IfOk, IfErr, IfNone, OnErr, List, [], length, nat_lt, map};
+ghost use Rattle.std.specs.Prelude.{◌≡◌, ◌⊎◌, ◌≤◌, Err, IfOk, IfErr, IfNone, OnErr, List, []};
+ghost use Rattle.std.specs.Prelude.{length, nat_lt, map};
 ghost use Rattle.cal_machine.specs.Outcome.{Gives};
 ghost use Rattle.cal_machine.specs.Reading.{table_in};
 ghost use Rattle.cal_policy.specs.declared.history.entry.PassEntry.{PassEntry};
@@ -16,12 +17,12 @@ ghost use Rattle.caladan_c.specs.Told.{AreJudgements, counts_of, told_of};
 ghost use Rattle.std.specs.Option.{is_some, IfSome};
 
 use crate::answer::Refusal;
-use crate::counts::Counts;
 use crate::found::{Found, found_look};
-use crate::judgement::tell_judgements;
 use crate::recorded::read_actions;
 use crate::scheduler::nothing;
 use crate::told::Told;
+use crate::told::counts::Counts;
+use crate::told::judgement::tell_judgements;
 use cal_guard::{Guard, Refused};
 use cal_machine::{Config, ConfigFault};
 use cal_policy::{Action, Holder, Input, MOST_ACTIONS, Rooms, SeenList};
@@ -61,7 +62,8 @@ fn judge_looks(
     looks: &[Found],
 ) -> Result<Input, AllocError>
     requires { length looks.now ≡ threads_of_table config.now }
-    ensures { IfOk result (λ input. (h : List PassEntry) → Keeps guard.now h → input ≡ input_of config.now h now bandwidth looks.now) }
+    ensures { IfOk result (λ input. (h : List PassEntry) → Keeps guard.now h →
+        input ≡ input_of config.now h now bandwidth looks.now) }
 {
     let Input { seen, rooms, .. } = used;
     let mut seen = seen.into_items();
@@ -85,8 +87,8 @@ ghost use Rattle.caladan_c.specs.Gated.{GuardsAfter, WentThrough, WasStopped};
 ghost use Rattle.caladan_c.specs.declared.answer.Refusal.TheVariants.{Memory, Unfit, NoAction};
 
 impl Gate {
-    /// A gate of this table that was handed no pass, or the table's fault. It takes all the memory that
-    /// passes of at most 338 actions need.
+    /// A gate of this table that was handed no pass, or the table's fault. It takes all the memory
+    /// that passes of at most 338 actions need.
     pub fn open(alloc: Global, table: &[u8]) -> Result<Gate, ConfigFault>
         ensures table { Gives (λ gate. gate.table) result (table_in table.now) }
         ensures new { IfOk result (λ gate. GuardsAfter gate []) }
@@ -148,9 +150,9 @@ impl Gate {
         }
     }
 
-    /// Lets the next pass through with the actions that C chose, where each is permitted at its place,
-    /// and tells what was judged of each look: None; or names the first that is not. It takes memory
-    /// only for more than 338 actions.
+    /// Lets the next pass through with the actions that C chose, where each is permitted at its
+    /// place, and tells what was judged of each look: None; or names the first that is not. It
+    /// takes memory only for more than 338 actions.
     pub fn pass(
         &mut self,
         alloc: Global,
@@ -162,17 +164,23 @@ impl Gate {
     ) -> Result<Option<Refused>, Refusal>
         requires count { length looks.now ≡ threads_of_table self.old.table }
         requires room { threads_of_table self.old.table ≤ length judged.old }
-        ensures through { IfOk result (λ said. IfNone said ((h : List PassEntry) → GuardsAfter self.old h →
-            WentThrough self.old h (input_of self.old.table h now bandwidth looks.now) told.now self.new)) }
-        ensures judged { IfOk result (λ said. IfNone said ((h : List PassEntry) → GuardsAfter self.old h →
+        ensures through { IfOk result (λ said.
+            IfNone said ((h : List PassEntry) → GuardsAfter self.old h →
+            WentThrough self.old h (input_of self.old.table h now bandwidth looks.now) told.now
+            self.new)) }
+        ensures judged { IfOk result (λ said.
+            IfNone said ((h : List PassEntry) → GuardsAfter self.old h →
             AreJudgements (input_of self.old.table h now bandwidth looks.now).seen judged.new)) }
-        ensures stopped { IfOk result (λ said. IfSome said (λ refused. (h : List PassEntry) → GuardsAfter self.old h →
-            WasStopped self.old h (input_of self.old.table h now bandwidth looks.now) told.now refused)) }
+        ensures stopped { IfOk result (λ said. IfSome said (λ refused. (h : List PassEntry) →
+            GuardsAfter self.old h → WasStopped self.old h (input_of self.old.table h now bandwidth
+            looks.now) told.now refused)) }
         ensures unfit { result ≡ Err Unfit → (h : List PassEntry) → GuardsAfter self.old h →
             IsInput self.old.table h (input_of self.old.table h now bandwidth looks.now) → ⊥ }
-        ensures no_action { result ≡ Err NoAction → (actions : List Action) → map told_of actions ≡ told.now → ⊥ }
+        ensures no_action { result ≡ Err NoAction → (actions : List Action) →
+            map told_of actions ≡ told.now → ⊥ }
         ensures why { IfErr result (λ why. (why ≡ Unfit) ⊎ (why ≡ NoAction) ⊎ (why ≡ Memory)) }
-        ensures stands { IfOk result (λ said. IfSome said (λ _. (self.new ≡ self.old) × (judged.new ≡ judged.old))) }
+        ensures stands { IfOk result (λ said. IfSome said (λ _. (self.new ≡ self.old) ×
+            (judged.new ≡ judged.old))) }
         ensures refused { OnErr result ((self.new ≡ self.old) × (judged.new ≡ judged.old)) }
     {
         read_actions(&mut self.chosen, told)?;

@@ -1,22 +1,19 @@
-//! The decision core behind a C interface: a task table is opened, each pass is given what was found of
-//! the threads and answers its actions, and the handle is closed. An audit takes recorded passes and says
-//! whether all are legal. A guard lets passes through whose actions somebody else chose.
+//! The decision core behind a C interface: a task table is opened, each pass is given what was
+//! found of the threads and answers its actions, and the handle is closed. An audit takes recorded
+//! passes and says whether all are legal. A guard lets passes through whose actions somebody else
+//! chose.
 //!
 //! `include/caladan.h` says the same to C. A call answers 0, or why it did nothing, as a number.
 #![tactic(auto)]
 
 mod answer;
 mod audit;
-mod counts;
 mod found;
 mod gate;
 mod handle;
-mod judgement;
 mod recorded;
 mod scheduler;
 mod told;
-mod told_holder;
-mod told_refused;
 
 ghost use Rattle.std.specs.Prelude.{◌≡◌, ◌≢◌, ◌⊎◌, ◌<◌, ◌≤◌, List, None, length, map, true, false};
 ghost use Rattle.std.specs.Option.{is_some, ForSome, IfSome, IsSomeAnd};
@@ -28,16 +25,19 @@ ghost use Rattle.cal_policy.specs.Judgement.Judging.{IsInput};
 ghost use Rattle.cal_policy.specs.Tasks.{threads_of_table};
 ghost use Rattle.cal_policy.specs.declared.history.entry.PassEntry.{PassEntry};
 ghost use Rattle.caladan_c.specs.Found.{input_of};
-ghost use Rattle.caladan_c.specs.Opening.{Says, IsNew};
+ghost use Rattle.caladan_c.specs.Opening.{Says};
 ghost use Rattle.caladan_c.specs.Passing.{StandsAfter, IsPassed, HasRoom, IsShort};
 ghost use Rattle.caladan_c.specs.Told.{AreTold, AreJudgements, counts_of, told_of, told_holder_of};
-ghost use Rattle.caladan_c.specs.Gated.{GuardsAfter, SaysGate, WentThrough, WasStopped, WasStoppedAt};
+ghost use Rattle.caladan_c.specs.Gated.{GuardsAfter, SaysGate, WentThrough, WasStopped};
+ghost use Rattle.caladan_c.specs.Gated.{WasStoppedAt};
 ghost use Rattle.cal_policy.specs.declared.history.action.Action.{Action};
 ghost use Rattle.caladan_c.specs.Audited.{Audits, SaysAudit, TookRecorded};
 ghost use Rattle.cal_policy.specs.Verdict.{IsVerdict};
 ghost use Rattle.cal_policy.specs.declared.verdict.Verdict.TheVariants.{Legal, Illegal};
 ghost use Rattle.std.specs.Prelude.{IfOk, IfErr, IfNone, OnErr, Err, []};
-ghost use Rattle.caladan_c.specs.declared.answer.Refusal.TheVariants.{Memory, NoAction, NoJudgement, NoRoom, Unfit, WrongCount};
+ghost use Rattle.caladan_c.specs.declared.answer.Refusal.TheVariants.{Memory, NoAction};
+ghost use Rattle.caladan_c.specs.declared.answer.Refusal.TheVariants.{NoJudgement, NoRoom, Unfit};
+ghost use Rattle.caladan_c.specs.declared.answer.Refusal.TheVariants.{WrongCount};
 ghost use Rattle.caladan_c.specs.Recorded.{AreNoJudgements, AreNoActions};
 
 use answer::Refusal;
@@ -45,7 +45,6 @@ use audit::Audit;
 use cal_guard::Refused;
 use cal_machine::ConfigFault;
 use cal_policy::{MOST_ACTIONS, Verdict};
-use counts::Counts;
 use found::Found;
 use gate::Gate;
 use handle::Handle;
@@ -54,9 +53,10 @@ use handle::gate::GateHandle;
 use recorded::entry_of;
 use scheduler::Scheduler;
 use std::alloc::Global;
+use told::counts::Counts;
+use told::holder::{ToldHolder, tell_holder};
+use told::refused::{ToldRefused, tell_refused};
 use told::{Told, tell_all};
-use told_holder::{ToldHolder, tell_holder};
-use told_refused::{ToldRefused, tell_refused};
 
 /// The version of this interface.
 #[unsafe(no_mangle)]
@@ -75,8 +75,8 @@ fn open(alloc: Global, table: &[u8]) -> Result<Box<Scheduler>, ConfigFault>
     Ok(Box::new(alloc, scheduler)?)
 }
 
-/// Opens the table that a text spells, in a closed handle: 0, or the table's fault, 1 to 9. It takes all
-/// the memory that the passes need.
+/// Opens the table that a text spells, in a closed handle: 0, or the table's fault, 1 to 9. It
+/// takes all the memory that the passes need.
 #[unsafe(no_mangle)]
 pub extern "C" fn caladan_open(alloc: Global, table: &[u8], handle: &mut Handle) -> u8
     ensures already { is_some handle.old.pointer.kept ≡ true → result ≡ 11 }
@@ -130,11 +130,11 @@ pub extern "C" fn caladan_bandwidth_limit(alloc: Global, handle: &mut Handle) ->
     }
 }
 
-/// Makes the next pass on what was found of each thread, in thread order, and writes its actions and what
-/// was judged of each look: 0; 10 the handle is closed; 13 there is not one look for each thread; 14 there
-/// is not room for 338 actions and a judgement of each look; 15 a look does not fit what its thread
-/// showed before, or has not the right shape; 9 no memory. After another number than 0 nothing has
-/// changed, but that `made` is 0.
+/// Makes the next pass on what was found of each thread, in thread order, and writes its actions
+/// and what was judged of each look: 0; 10 the handle is closed; 13 there is not one look for each
+/// thread; 14 there is not room for 338 actions and a judgement of each look; 15 a look does not
+/// fit what its thread showed before, or has not the right shape; 9 no memory. After another number
+/// than 0 nothing has changed, but that `made` is 0.
 #[unsafe(no_mangle)]
 pub extern "C" fn caladan_pass(
     alloc: Global,
@@ -147,18 +147,24 @@ pub extern "C" fn caladan_pass(
     made: &mut usize,
 ) -> u8
     ensures closed { is_some handle.old.pointer.kept ≡ false → result ≡ 10 }
-    ensures passed { result ≡ 0 → ForSome handle.old.pointer.kept (λ s. (h : List PassEntry) → StandsAfter s h →
-        IsSomeAnd handle.new.pointer.kept (λ after. IsPassed s h (input_of s.table h now bandwidth looks.now) after
-        × AreTold after.made made.new actions.new)) }
-    ensures judged { result ≡ 0 → ForSome handle.old.pointer.kept (λ s. (h : List PassEntry) → StandsAfter s h →
-        AreJudgements (input_of s.table h now bandwidth looks.now).seen judged.new) }
-    ensures unfit { result ≡ 15 → ForSome handle.old.pointer.kept (λ s. (h : List PassEntry) → StandsAfter s h →
-        IsInput s.table h (input_of s.table h now bandwidth looks.now) → ⊥) }
-    ensures wrong_count { ForSome handle.old.pointer.kept (λ s. length looks.now ≢ threads_of_table s.table → result ≡ 13) }
-    ensures no_room { ForSome handle.old.pointer.kept (λ s. length looks.now ≡ threads_of_table s.table →
+    ensures passed { result ≡ 0 → ForSome handle.old.pointer.kept (λ s. (h : List PassEntry) →
+        StandsAfter s h → IsSomeAnd handle.new.pointer.kept (λ after.
+        IsPassed s h (input_of s.table h now bandwidth looks.now) after ×
+        AreTold after.made made.new actions.new)) }
+    ensures judged { result ≡ 0 → ForSome handle.old.pointer.kept (λ s. (h : List PassEntry) →
+        StandsAfter s h → AreJudgements (input_of s.table h now bandwidth looks.now).seen
+        judged.new) }
+    ensures unfit { result ≡ 15 → ForSome handle.old.pointer.kept (λ s. (h : List PassEntry) →
+        StandsAfter s h → IsInput s.table h (input_of s.table h now bandwidth looks.now) → ⊥) }
+    ensures wrong_count { ForSome handle.old.pointer.kept (λ s.
+        length looks.now ≢ threads_of_table s.table → result ≡ 13) }
+    ensures no_room { ForSome handle.old.pointer.kept (λ s.
+        length looks.now ≡ threads_of_table s.table →
         IsShort (threads_of_table s.table) judged.old actions.old → result ≡ 14) }
-    ensures answers { ForSome handle.old.pointer.kept (λ s. length looks.now ≡ threads_of_table s.table →
-        HasRoom (threads_of_table s.table) judged.old actions.old → (result ≡ 0) ⊎ (result ≡ 15) ⊎ (result ≡ 9)) }
+    ensures answers { ForSome handle.old.pointer.kept (λ s.
+        length looks.now ≡ threads_of_table s.table →
+        HasRoom (threads_of_table s.table) judged.old actions.old → (result ≡ 0) ⊎ (result ≡ 15) ⊎
+        (result ≡ 9)) }
     ensures refused { result ≢ 0 → (handle.new.pointer.kept ≡ handle.old.pointer.kept)
         × (actions.new ≡ actions.old) × (judged.new ≡ judged.old) × (made.new ≡ 0) }
 {
@@ -197,7 +203,8 @@ fn pass(
         AreJudgements (input_of kept.old.table h now bandwidth looks.now).seen judged.new) }
     ensures unfit { result ≡ Err Unfit → (h : List PassEntry) → StandsAfter kept.old h →
         IsInput kept.old.table h (input_of kept.old.table h now bandwidth looks.now) → ⊥ }
-    ensures wrong_count { length looks.now ≢ threads_of_table kept.old.table → result ≡ Err WrongCount }
+    ensures wrong_count { length looks.now ≢ threads_of_table kept.old.table →
+        result ≡ Err WrongCount }
     ensures no_room { length looks.now ≡ threads_of_table kept.old.table →
         IsShort (threads_of_table kept.old.table) judged.old actions.old → result ≡ Err NoRoom }
     ensures answers { length looks.now ≡ threads_of_table kept.old.table →
@@ -218,7 +225,8 @@ fn pass(
     Ok(())
 }
 
-/// Who has a core after the passes so far: 0; 10 the handle is closed; 16 the table has no such core.
+/// Who has a core after the passes so far: 0; 10 the handle is closed; 16 the table has no such
+/// core.
 #[unsafe(no_mangle)]
 pub extern "C" fn caladan_holder(
     alloc: Global,
@@ -227,8 +235,9 @@ pub extern "C" fn caladan_holder(
     holder: &mut ToldHolder,
 ) -> u8
     ensures closed { is_some handle.old.pointer.kept ≡ false → result ≡ 10 }
-    ensures told { result ≡ 0 → ForSome handle.old.pointer.kept (λ s. (h : List PassEntry) → StandsAfter s h →
-        holder.new ≡ told_holder_of (kept_holder (holder_of (actions_of h) core))) }
+    ensures told { result ≡ 0 → ForSome handle.old.pointer.kept (λ s. (h : List PassEntry) →
+        StandsAfter s h → holder.new ≡ told_holder_of
+        (kept_holder (holder_of (actions_of h) core))) }
     ensures there { ForSome handle.old.pointer.kept (λ s. core < s.table.cores → result ≡ 0) }
     ensures no_core { ForSome handle.old.pointer.kept (λ s. s.table.cores ≤ core → result ≡ 16) }
     ensures refused { result ≢ 0 → holder.new ≡ holder.old }
@@ -250,7 +259,8 @@ pub extern "C" fn caladan_holder(
     }
 }
 
-/// What a task has after the passes so far: 0; 10 the handle is closed; 16 the table has no such task.
+/// What a task has after the passes so far: 0; 10 the handle is closed; 16 the table has no such
+/// task.
 #[unsafe(no_mangle)]
 pub extern "C" fn caladan_task(
     alloc: Global,
@@ -259,10 +269,12 @@ pub extern "C" fn caladan_task(
     counts: &mut Counts,
 ) -> u8
     ensures closed { is_some handle.old.pointer.kept ≡ false → result ≡ 10 }
-    ensures told { result ≡ 0 → ForSome handle.old.pointer.kept (λ s. (h : List PassEntry) → StandsAfter s h →
-        counts.new ≡ counts_of s.table (actions_of h) task) }
-    ensures there { ForSome handle.old.pointer.kept (λ s. task < length s.table.tasks → result ≡ 0) }
-    ensures no_task { ForSome handle.old.pointer.kept (λ s. length s.table.tasks ≤ task → result ≡ 16) }
+    ensures told { result ≡ 0 → ForSome handle.old.pointer.kept (λ s. (h : List PassEntry) →
+        StandsAfter s h → counts.new ≡ counts_of s.table (actions_of h) task) }
+    ensures there { ForSome handle.old.pointer.kept (λ s. task < length s.table.tasks →
+        result ≡ 0) }
+    ensures no_task { ForSome handle.old.pointer.kept (λ s. length s.table.tasks ≤ task →
+        result ≡ 16) }
     ensures refused { result ≢ 0 → counts.new ≡ counts.old }
     ensures same { handle.new.pointer.kept ≡ handle.old.pointer.kept }
 {
@@ -307,7 +319,8 @@ fn open_audit(alloc: Global, table: &[u8]) -> Result<Box<Audit>, ConfigFault>
     Ok(Box::new(alloc, audit)?)
 }
 
-/// Opens an audit of the table that a text spells, in a closed handle: 0, or the table's fault, 1 to 9.
+/// Opens an audit of the table that a text spells, in a closed handle: 0, or the table's fault, 1
+/// to 9.
 #[unsafe(no_mangle)]
 pub extern "C" fn caladan_audit_open(alloc: Global, table: &[u8], handle: &mut AuditHandle) -> u8
     ensures already { is_some handle.old.pointer.kept ≡ true → result ≡ 11 }
@@ -327,10 +340,10 @@ pub extern "C" fn caladan_audit_open(alloc: Global, table: &[u8], handle: &mut A
     }
 }
 
-/// Hands the audit the next recorded pass: what was found of the threads, what was judged of each look,
-/// and the actions. 0, whether or not the pass is legal; 10 the handle is closed; 13 there is not one
-/// judgement for each look; 17 an action is none; 19 a number is no judgement of its look; 9 no memory.
-/// After another number than 0 nothing has changed.
+/// Hands the audit the next recorded pass: what was found of the threads, what was judged of each
+/// look, and the actions. 0, whether or not the pass is legal; 10 the handle is closed; 13 there is
+/// not one judgement for each look; 17 an action is none; 19 a number is no judgement of its look;
+/// 9 no memory. After another number than 0 nothing has changed.
 #[unsafe(no_mangle)]
 pub extern "C" fn caladan_audit_pass(
     alloc: Global,
@@ -342,11 +355,13 @@ pub extern "C" fn caladan_audit_pass(
     actions: &[Told],
 ) -> u8
     ensures closed { is_some handle.old.pointer.kept ≡ false → result ≡ 10 }
-    ensures taken { result ≡ 0 → ForSome handle.old.pointer.kept (λ a. IsSomeAnd handle.new.pointer.kept
-        (TookRecorded a now bandwidth looks.now judged.now actions.now)) }
+    ensures taken { result ≡ 0 → ForSome handle.old.pointer.kept (λ a.
+        IsSomeAnd handle.new.pointer.kept (TookRecorded a now bandwidth looks.now judged.now
+        actions.now)) }
     ensures no_judgement { result ≡ 19 → AreNoJudgements looks.now judged.now }
     ensures no_action { result ≡ 17 → AreNoActions actions.now }
-    ensures wrong_count { ForSome handle.old.pointer.kept (λ _. length looks.now ≢ length judged.now → result ≡ 13) }
+    ensures wrong_count { ForSome handle.old.pointer.kept (λ _.
+        length looks.now ≢ length judged.now → result ≡ 13) }
     ensures answers { ForSome handle.old.pointer.kept (λ _. length looks.now ≡ length judged.now →
         (result ≡ 0) ⊎ (result ≡ 19) ⊎ (result ≡ 17) ⊎ (result ≡ 9)) }
     ensures refused { result ≢ 0 → handle.new.pointer.kept ≡ handle.old.pointer.kept }
@@ -388,8 +403,8 @@ fn take_recorded(
     Ok(())
 }
 
-/// What the audit says of the passes so far: 0 each is legal; 20 one is not, and `pass` is the first that
-/// is not, counted from 0; 10 the handle is closed.
+/// What the audit says of the passes so far: 0 each is legal; 20 one is not, and `pass` is the
+/// first that is not, counted from 0; 10 the handle is closed.
 #[unsafe(no_mangle)]
 pub extern "C" fn caladan_audit_verdict(
     alloc: Global,
@@ -446,7 +461,8 @@ fn open_gate(alloc: Global, table: &[u8]) -> Result<Box<Gate>, ConfigFault>
     Ok(Box::new(alloc, gate)?)
 }
 
-/// Opens a guard of the table that a text spells, in a closed handle: 0, or the table's fault, 1 to 9.
+/// Opens a guard of the table that a text spells, in a closed handle: 0, or the table's fault, 1 to
+/// 9.
 #[unsafe(no_mangle)]
 pub extern "C" fn caladan_guard_open(alloc: Global, table: &[u8], handle: &mut GateHandle) -> u8
     ensures already { is_some handle.old.pointer.kept ≡ true → result ≡ 11 }
@@ -466,12 +482,13 @@ pub extern "C" fn caladan_guard_open(alloc: Global, table: &[u8], handle: &mut G
     }
 }
 
-/// Hands the guard the next pass: what was found of each thread, in thread order, and the actions that
-/// somebody chose. 0: each is permitted at its place, the pass went through, and what was judged of each
-/// look is written; 18: one is not, and `refused` says which and why; 10 the handle is closed; 13 there
-/// is not one look for each thread; 14 there is not room for a judgement of each; 15 a look does not fit
-/// what its thread showed before, or has not the right shape; 17 an action is none; 9 no memory. After
-/// another number than 0 nothing has changed, but that 18 writes `refused`.
+/// Hands the guard the next pass: what was found of each thread, in thread order, and the actions
+/// that somebody chose. 0: each is permitted at its place, the pass went through, and what was
+/// judged of each look is written; 18: one is not, and `refused` says which and why; 10 the handle
+/// is closed; 13 there is not one look for each thread; 14 there is not room for a judgement of
+/// each; 15 a look does not fit what its thread showed before, or has not the right shape; 17 an
+/// action is none; 9 no memory. After another number than 0 nothing has changed, but that 18 writes
+/// `refused`.
 #[unsafe(no_mangle)]
 pub extern "C" fn caladan_guard_pass(
     alloc: Global,
@@ -484,22 +501,29 @@ pub extern "C" fn caladan_guard_pass(
     refused: &mut ToldRefused,
 ) -> u8
     ensures closed { is_some handle.old.pointer.kept ≡ false → result ≡ 10 }
-    ensures through { result ≡ 0 → ForSome handle.old.pointer.kept (λ g. (h : List PassEntry) → GuardsAfter g h →
-        IsSomeAnd handle.new.pointer.kept (WentThrough g h (input_of g.table h now bandwidth looks.now) actions.now)) }
-    ensures judged { result ≡ 0 → ForSome handle.old.pointer.kept (λ g. (h : List PassEntry) → GuardsAfter g h →
-        AreJudgements (input_of g.table h now bandwidth looks.now).seen judged.new) }
-    ensures stopped { result ≡ 18 → ForSome handle.old.pointer.kept (λ g. (h : List PassEntry) → GuardsAfter g h →
-        WasStoppedAt g h (input_of g.table h now bandwidth looks.now) actions.now refused.new) }
-    ensures unfit { result ≡ 15 → ForSome handle.old.pointer.kept (λ g. (h : List PassEntry) → GuardsAfter g h →
-        IsInput g.table h (input_of g.table h now bandwidth looks.now) → ⊥) }
-    ensures no_action { result ≡ 17 → (chosen : List Action) → map told_of chosen ≡ actions.now → ⊥ }
-    ensures wrong_count { ForSome handle.old.pointer.kept (λ g. length looks.now ≢ threads_of_table g.table → result ≡ 13) }
-    ensures no_room { ForSome handle.old.pointer.kept (λ g. length looks.now ≡ threads_of_table g.table →
-        length judged.old < threads_of_table g.table → result ≡ 14) }
-    ensures answers { ForSome handle.old.pointer.kept (λ g. length looks.now ≡ threads_of_table g.table →
-        threads_of_table g.table ≤ length judged.old →
+    ensures through { result ≡ 0 → ForSome handle.old.pointer.kept (λ g. (h : List PassEntry) →
+        GuardsAfter g h → IsSomeAnd handle.new.pointer.kept
+        (WentThrough g h (input_of g.table h now bandwidth looks.now) actions.now)) }
+    ensures judged { result ≡ 0 → ForSome handle.old.pointer.kept (λ g. (h : List PassEntry) →
+        GuardsAfter g h → AreJudgements (input_of g.table h now bandwidth looks.now).seen
+        judged.new) }
+    ensures stopped { result ≡ 18 → ForSome handle.old.pointer.kept (λ g. (h : List PassEntry) →
+        GuardsAfter g h → WasStoppedAt g h (input_of g.table h now bandwidth looks.now) actions.now
+        refused.new) }
+    ensures unfit { result ≡ 15 → ForSome handle.old.pointer.kept (λ g. (h : List PassEntry) →
+        GuardsAfter g h → IsInput g.table h (input_of g.table h now bandwidth looks.now) → ⊥) }
+    ensures no_action { result ≡ 17 → (chosen : List Action) →
+        map told_of chosen ≡ actions.now → ⊥ }
+    ensures wrong_count { ForSome handle.old.pointer.kept (λ g.
+        length looks.now ≢ threads_of_table g.table → result ≡ 13) }
+    ensures no_room { ForSome handle.old.pointer.kept (λ g.
+        length looks.now ≡ threads_of_table g.table → length judged.old < threads_of_table g.table →
+        result ≡ 14) }
+    ensures answers { ForSome handle.old.pointer.kept (λ g.
+        length looks.now ≡ threads_of_table g.table → threads_of_table g.table ≤ length judged.old →
         (result ≡ 0) ⊎ (result ≡ 18) ⊎ (result ≡ 15) ⊎ (result ≡ 17) ⊎ (result ≡ 9)) }
-    ensures unchanged { result ≢ 0 → (handle.new.pointer.kept ≡ handle.old.pointer.kept) × (judged.new ≡ judged.old) }
+    ensures unchanged { result ≢ 0 → (handle.new.pointer.kept ≡ handle.old.pointer.kept) ×
+        (judged.new ≡ judged.old) }
     ensures told { result ≢ 18 → refused.new ≡ refused.old }
 {
     match handle.take(alloc) {
@@ -529,21 +553,29 @@ fn guarded_pass(
     judged: &mut [u8],
     actions: &[Told],
 ) -> Result<Option<Refused>, Refusal>
-    ensures through { IfOk result (λ said. IfNone said ((h : List PassEntry) → GuardsAfter kept.old h →
-        WentThrough kept.old h (input_of kept.old.table h now bandwidth looks.now) actions.now kept.new)) }
-    ensures judged { IfOk result (λ said. IfNone said ((h : List PassEntry) → GuardsAfter kept.old h →
+    ensures through { IfOk result (λ said.
+        IfNone said ((h : List PassEntry) → GuardsAfter kept.old h →
+        WentThrough kept.old h (input_of kept.old.table h now bandwidth looks.now) actions.now
+        kept.new)) }
+    ensures judged { IfOk result (λ said.
+        IfNone said ((h : List PassEntry) → GuardsAfter kept.old h →
         AreJudgements (input_of kept.old.table h now bandwidth looks.now).seen judged.new)) }
-    ensures stopped { IfOk result (λ said. IfSome said (λ first. (h : List PassEntry) → GuardsAfter kept.old h →
-        WasStopped kept.old h (input_of kept.old.table h now bandwidth looks.now) actions.now first)) }
+    ensures stopped { IfOk result (λ said. IfSome said (λ first. (h : List PassEntry) →
+        GuardsAfter kept.old h → WasStopped kept.old h (input_of kept.old.table h now bandwidth
+        looks.now) actions.now first)) }
     ensures unfit { result ≡ Err Unfit → (h : List PassEntry) → GuardsAfter kept.old h →
         IsInput kept.old.table h (input_of kept.old.table h now bandwidth looks.now) → ⊥ }
-    ensures no_action { result ≡ Err NoAction → (chosen : List Action) → map told_of chosen ≡ actions.now → ⊥ }
-    ensures wrong_count { length looks.now ≢ threads_of_table kept.old.table → result ≡ Err WrongCount }
+    ensures no_action { result ≡ Err NoAction → (chosen : List Action) →
+        map told_of chosen ≡ actions.now → ⊥ }
+    ensures wrong_count { length looks.now ≢ threads_of_table kept.old.table →
+        result ≡ Err WrongCount }
     ensures no_room { length looks.now ≡ threads_of_table kept.old.table →
         length judged.old < threads_of_table kept.old.table → result ≡ Err NoRoom }
-    ensures answers { length looks.now ≡ threads_of_table kept.old.table → threads_of_table kept.old.table ≤ length judged.old →
+    ensures answers { length looks.now ≡ threads_of_table kept.old.table →
+        threads_of_table kept.old.table ≤ length judged.old →
         IfErr result (λ why. (why ≡ Unfit) ⊎ (why ≡ NoAction) ⊎ (why ≡ Memory)) }
-    ensures stands { IfOk result (λ said. IfSome said (λ _. (kept.new ≡ kept.old) × (judged.new ≡ judged.old))) }
+    ensures stands { IfOk result (λ said. IfSome said (λ _. (kept.new ≡ kept.old) ×
+        (judged.new ≡ judged.old))) }
     ensures refused { OnErr result ((kept.new ≡ kept.old) × (judged.new ≡ judged.old)) }
 {
     let threads = kept.threads();
@@ -556,8 +588,8 @@ fn guarded_pass(
     kept.pass(alloc, now, bandwidth, looks, judged, actions)
 }
 
-/// Who has a core after the passes that went through: 0; 10 the handle is closed; 16 the table has no
-/// such core.
+/// Who has a core after the passes that went through: 0; 10 the handle is closed; 16 the table has
+/// no such core.
 #[unsafe(no_mangle)]
 pub extern "C" fn caladan_guard_holder(
     alloc: Global,
@@ -566,8 +598,9 @@ pub extern "C" fn caladan_guard_holder(
     holder: &mut ToldHolder,
 ) -> u8
     ensures closed { is_some handle.old.pointer.kept ≡ false → result ≡ 10 }
-    ensures told { result ≡ 0 → ForSome handle.old.pointer.kept (λ g. (h : List PassEntry) → GuardsAfter g h →
-        holder.new ≡ told_holder_of (kept_holder (holder_of (actions_of h) core))) }
+    ensures told { result ≡ 0 → ForSome handle.old.pointer.kept (λ g. (h : List PassEntry) →
+        GuardsAfter g h → holder.new ≡ told_holder_of
+        (kept_holder (holder_of (actions_of h) core))) }
     ensures there { ForSome handle.old.pointer.kept (λ g. core < g.table.cores → result ≡ 0) }
     ensures no_core { ForSome handle.old.pointer.kept (λ g. g.table.cores ≤ core → result ≡ 16) }
     ensures refused { result ≢ 0 → holder.new ≡ holder.old }
@@ -589,8 +622,8 @@ pub extern "C" fn caladan_guard_holder(
     }
 }
 
-/// What a task has after the passes that went through: 0; 10 the handle is closed; 16 the table has no
-/// such task.
+/// What a task has after the passes that went through: 0; 10 the handle is closed; 16 the table has
+/// no such task.
 #[unsafe(no_mangle)]
 pub extern "C" fn caladan_guard_task(
     alloc: Global,
@@ -599,10 +632,12 @@ pub extern "C" fn caladan_guard_task(
     counts: &mut Counts,
 ) -> u8
     ensures closed { is_some handle.old.pointer.kept ≡ false → result ≡ 10 }
-    ensures told { result ≡ 0 → ForSome handle.old.pointer.kept (λ g. (h : List PassEntry) → GuardsAfter g h →
-        counts.new ≡ counts_of g.table (actions_of h) task) }
-    ensures there { ForSome handle.old.pointer.kept (λ g. task < length g.table.tasks → result ≡ 0) }
-    ensures no_task { ForSome handle.old.pointer.kept (λ g. length g.table.tasks ≤ task → result ≡ 16) }
+    ensures told { result ≡ 0 → ForSome handle.old.pointer.kept (λ g. (h : List PassEntry) →
+        GuardsAfter g h → counts.new ≡ counts_of g.table (actions_of h) task) }
+    ensures there { ForSome handle.old.pointer.kept (λ g. task < length g.table.tasks →
+        result ≡ 0) }
+    ensures no_task { ForSome handle.old.pointer.kept (λ g. length g.table.tasks ≤ task →
+        result ≡ 16) }
     ensures refused { result ≢ 0 → counts.new ≡ counts.old }
     ensures same { handle.new.pointer.kept ≡ handle.old.pointer.kept }
 {
@@ -637,6 +672,3 @@ pub extern "C" fn caladan_guard_close(alloc: Global, handle: &mut GateHandle) ->
         }
     }
 }
-
-#[cfg(test)]
-mod tests;

@@ -1,16 +1,18 @@
 //! A pass that C recorded, read back.
 
-ghost use Rattle.std.specs.Prelude.{◌≡◌, ◌≢◌, ◌⊎◌, ℕ, IfOk, IfErr, length, map, List, Err, Some, None};
+ghost use Rattle.std.specs.Prelude.{◌≡◌, ◌≢◌, ◌⊎◌, ℕ, IfOk, IfErr, length, map, List, Err, Some};
+ghost use Rattle.std.specs.Prelude.{None};
 ghost use Rattle.std.specs.Option.{IfSome};
 ghost use Rattle.cal_policy.specs.History.Looks.{look_of};
 ghost use Rattle.cal_policy.specs.declared.history.look.Seen.{Seen};
 ghost use Rattle.cal_policy.specs.declared.history.action.Action.{Action};
 ghost use Rattle.cal_policy.specs.declared.history.action.Action.TheVariants.{Revoke};
 ghost use Rattle.cal_policy.specs.declared.history.action.Cause.{Cause};
-ghost use Rattle.caladan_c.specs.declared.answer.Refusal.TheVariants.{Memory, NoAction, NoJudgement, WrongCount};
+ghost use Rattle.caladan_c.specs.declared.answer.Refusal.TheVariants.{Memory, NoAction};
+ghost use Rattle.caladan_c.specs.declared.answer.Refusal.TheVariants.{NoJudgement, WrongCount};
 ghost use Rattle.caladan_c.specs.Found.{look_in};
 ghost use Rattle.caladan_c.specs.Recorded.{IsRecorded, AreNoJudgements, AreNoActions, room_in};
-ghost use Rattle.caladan_c.specs.Told.{judgement_of, told_of, cause_of};
+ghost use Rattle.caladan_c.specs.Told.{judgement_of, told_of};
 
 use crate::answer::Refusal;
 use crate::found::{Found, found_look};
@@ -21,8 +23,10 @@ use std::alloc::{AllocError, Global};
 
 /// The look with what was judged of it, where that number is a judgement of such a look.
 fn seen_of(found: &Found, judged: u8) -> Option<Seen>
-    ensures some { IfSome result (λ seen. (look_of seen ≡ look_in found.now) × (judgement_of seen ≡ judged)) }
-    ensures none { result ≡ None → (seen : Seen) → look_of seen ≡ look_in found.now → judgement_of seen ≡ judged → ⊥ }
+    ensures some { IfSome result (λ seen. (look_of seen ≡ look_in found.now) ×
+        (judgement_of seen ≡ judged)) }
+    ensures none { result ≡ None → (seen : Seen) → look_of seen ≡ look_in found.now →
+        judgement_of seen ≡ judged → ⊥ }
 {
     match found_look(found).look {
         Look::Busy { first, second } => match judged {
@@ -75,7 +79,8 @@ fn rooms_in(alloc: Global, looks: &[Found]) -> Result<Rooms, AllocError>
 
 /// The cause of a revocation.
 fn cause_in(told: &Told) -> Option<Cause>
-    ensures { (cause : Cause) (core : ℕ) → told_of (Revoke core cause) ≡ told.now → result ≡ Some cause }
+    ensures { (cause : Cause) (core : ℕ) → told_of (Revoke core cause) ≡ told.now →
+        result ≡ Some cause }
 {
     match told.cause {
         1 => Some(Cause::Ban { by: told.by }),
@@ -139,7 +144,8 @@ fn action_in(told: &Told) -> Option<Action>
 #[tactic(auto, using(crate::proofs::OneMore::actions_more))]
 pub fn read_actions(actions: &mut Vec<Action>, told: &[Told]) -> Result<(), Refusal>
     ensures actions { IfOk result (λ _. map told_of actions.new.items ≡ told.now) }
-    ensures none { result ≡ Err NoAction → (actions : List Action) → map told_of actions ≡ told.now → ⊥ }
+    ensures none { result ≡ Err NoAction → (actions : List Action) →
+        map told_of actions ≡ told.now → ⊥ }
     ensures why { IfErr result (λ why. (why ≡ NoAction) ⊎ (why ≡ Memory)) }
 {
     actions.clear();
@@ -159,7 +165,8 @@ pub fn read_actions(actions: &mut Vec<Action>, told: &[Told]) -> Result<(), Refu
 /// The actions.
 fn actions_in(alloc: Global, told: &[Told]) -> Result<ActionList, Refusal>
     ensures actions { IfOk result (λ actions. map told_of actions ≡ told.now) }
-    ensures none { result ≡ Err NoAction → (actions : List Action) → map told_of actions ≡ told.now → ⊥ }
+    ensures none { result ≡ Err NoAction → (actions : List Action) →
+        map told_of actions ≡ told.now → ⊥ }
     ensures why { IfErr result (λ why. (why ≡ NoAction) ⊎ (why ≡ Memory)) }
 {
     let mut actions = Vec::with_capacity(alloc, told.len())?;

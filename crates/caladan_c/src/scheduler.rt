@@ -1,6 +1,7 @@
 //! A scheduler: its table, and the book of its passes.
 
-ghost use Rattle.std.specs.Prelude.{◌≡◌, ◌⊎◌, ◌≤◌, Err, IfOk, IfErr, OnErr, List, [], length, nat_lt};
+ghost use Rattle.std.specs.Prelude.{◌≡◌, ◌⊎◌, ◌≤◌, Err, IfOk, IfErr, OnErr, List, [], length};
+ghost use Rattle.std.specs.Prelude.{nat_lt};
 ghost use Rattle.cal_machine.specs.Outcome.{Gives};
 ghost use Rattle.cal_machine.specs.Reading.{table_in};
 ghost use Rattle.cal_policy.specs.declared.history.entry.PassEntry.{PassEntry};
@@ -15,9 +16,9 @@ ghost use Rattle.caladan_c.specs.Told.{counts_of};
 ghost use Rattle.std.specs.Option.{is_some, IfSome};
 
 use crate::answer::Refusal;
-use crate::counts::Counts;
 use crate::found::{Found, found_look};
-use crate::judgement::tell_judgements;
+use crate::told::counts::Counts;
+use crate::told::judgement::tell_judgements;
 use cal_machine::{Config, ConfigFault};
 use cal_policy::{
     Action, Actions, Book, Holder, Input, OpenInput, Rooms, SeenList, legal_is_short,
@@ -69,7 +70,8 @@ fn judge_looks(
     looks: &[Found],
 ) -> Result<Input, AllocError>
     requires { length looks.now ≡ threads_of_table config.now }
-    ensures judged { IfOk result (λ input. (h : List PassEntry) → AgreesWith book.now h → input ≡ input_of config.now h now bandwidth looks.now) }
+    ensures judged { IfOk result (λ input. (h : List PassEntry) → AgreesWith book.now h →
+        input ≡ input_of config.now h now bandwidth looks.now) }
     ensures sizes { IfOk result (HasSizes config.now) }
 {
     let mut open = OpenInput::again(used, config)?;
@@ -84,8 +86,8 @@ ghost use Rattle.caladan_c.specs.Told.{AreJudgements};
 ghost use Rattle.caladan_c.specs.declared.answer.Refusal.TheVariants.{Memory, Unfit};
 
 impl Scheduler {
-    /// A scheduler of this table that has made no pass, or the table's fault. It takes all the memory
-    /// that its passes need.
+    /// A scheduler of this table that has made no pass, or the table's fault. It takes all the
+    /// memory that its passes need.
     pub fn open(alloc: Global, table: &[u8]) -> Result<Scheduler, ConfigFault>
         ensures table { Gives (λ scheduler. scheduler.table) result (table_in table.now) }
         ensures new { IfOk result (λ scheduler. StandsAfter scheduler []) }
@@ -161,8 +163,8 @@ impl Scheduler {
         }
     }
 
-    /// Makes the next pass, whose actions are then in `made`, and tells what was judged of each look; or
-    /// says why it may not be given these looks.
+    /// Makes the next pass, whose actions are then in `made`, and tells what was judged of each
+    /// look; or says why it may not be given these looks.
     pub fn pass(
         &mut self,
         alloc: Global,

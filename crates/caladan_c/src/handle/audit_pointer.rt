@@ -3,7 +3,7 @@
 ghost use Rattle.std.specs.Prelude.{◌≡◌, true, Option, Some, None};
 ghost use Rattle.std.specs.Option.{is_some};
 ghost use Rattle.caladan_c.specs.Audited.{Audited};
-ghost use Rattle.caladan_c.specs.AuditHandles.{maybe_kept_coded};
+ghost use Rattle.caladan_c.specs.Handles.Audit.{maybe_kept_coded};
 
 use super::loose::Loose;
 use crate::audit::Audit;
@@ -20,7 +20,7 @@ pub struct AuditPointer {
 }
 
 impl Model for AuditPointer {
-    ghost use Rattle.caladan_c.specs.AuditHandles.{pointer_owns};
+    ghost use Rattle.caladan_c.specs.Handles.Audit.{pointer_owns};
 
     ghost also_owns = { λ p. pointer_owns p.kept p.alloc p.at };
 }

@@ -3,7 +3,7 @@
 ghost use Rattle.std.specs.Prelude.{◌≡◌, true, Option, Some, None};
 ghost use Rattle.std.specs.Option.{is_some};
 ghost use Rattle.caladan_c.specs.Gated.{Gated};
-ghost use Rattle.caladan_c.specs.GateHandles.{maybe_kept_coded};
+ghost use Rattle.caladan_c.specs.Handles.Gate.{maybe_kept_coded};
 
 use super::loose::Loose;
 use crate::gate::Gate;
@@ -20,7 +20,7 @@ pub struct GatePointer {
 }
 
 impl Model for GatePointer {
-    ghost use Rattle.caladan_c.specs.GateHandles.{pointer_owns};
+    ghost use Rattle.caladan_c.specs.Handles.Gate.{pointer_owns};
 
     ghost also_owns = { λ p. pointer_owns p.kept p.alloc p.at };
 }

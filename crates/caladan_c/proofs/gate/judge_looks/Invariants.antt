@@ -1,4 +1,4 @@
-use Rattle.std.proofs.Common.{◌≡◌, List, take, map, length}
+use Rattle.std.proofs.Common.{◌≡◌, List, take, map}
 use Rattle.cal_guard.specs.Guarded.{Keeps}
 use Rattle.cal_policy.specs.Judgement.OpenInput.{judged_looks, rooms_found}
 use Rattle.cal_policy.specs.declared.history.entry.PassEntry.{PassEntry}

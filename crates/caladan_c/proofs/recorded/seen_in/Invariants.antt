@@ -1,4 +1,4 @@
-use Rattle.std.proofs.Common.{◌≡◌, length, take, map}
+use Rattle.std.proofs.Common.{◌≡◌, take, map}
 use Rattle.cal_policy.specs.History.Looks.{look_of}
 use Rattle.caladan_c.specs.Found.{look_in}
 use Rattle.caladan_c.specs.Told.{judgement_of}

@@ -1,11 +1,8 @@
-use Rattle.std.proofs.Common.{◌≡◌, ◌++◌, ◌∷◌, [], true, List, map, sym, subst, ◌∙◌}
+use Rattle.std.proofs.Common.{◌≡◌, true, List, map, sym, subst, ◌∙◌}
 use mathlib.Core.Bool.{true≢false}
-use Rattle.cal_machine.specs.Table.{IsTable}
 use Rattle.cal_policy.specs.declared.history.entry.PassEntry.{PassEntry}
 use Rattle.cal_policy.specs.declared.history.input.Input.{Input}
 use Rattle.cal_policy.specs.Judgement.Judging.{IsInput}
-use Rattle.cal_policy.specs.Pass.{pass_of}
-use Rattle.cal_policy.specs.Setting.{setting}
 use Rattle.caladan_c.specs.Found.{found_of, input_of}
 use Rattle.caladan_c.specs.Passing.{StandsAfter, IsPassed}
 use Rattle.caladan_c.specs.Standing.{Standing}

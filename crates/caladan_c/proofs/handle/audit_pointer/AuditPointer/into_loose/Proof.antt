@@ -28,8 +28,8 @@ use denote.Triple.Walked.{says, Stays, stay_dropped, walk_of, ends_at, Goes-drop
 use Rattle.std.proofs.BoxSteps.Form.{D, B, word, box_typed}
 use Rattle.std.proofs.BoxSteps.Steps.{box_out, box_in}
 use Rattle.caladan_c.specs.contracts.handle.audit_pointer.AuditPointer as Pointer
-use Rattle.caladan_c.proofs.AsAuditBox.{E, FromPointer as From}
-use Rattle.caladan_c.proofs.AsBox.{kept_of}
+use Rattle.caladan_c.proofs.HandleLemmas.AsAuditBox.{E, FromPointer as From}
+use Rattle.caladan_c.proofs.HandleLemmas.AsBox.{kept_of}
 use Rattle.caladan_c.specs.contracts.handle.audit_pointer.AuditPointer.into_loose as F
 use Rattle.caladan_c.specs.contracts.handle.audit_pointer.AuditPointer.into_loose.Key.{name as #self}
 use Rattle.caladan_c.proofs.handle.audit_pointer.AuditPointer.into_loose.Statement as stated

@@ -35,7 +35,7 @@ use Rattle.std.proofs.ResultValues.{and_tt}
 use Rattle.std.proofs.BoxSteps.Form.{P}
 use Rattle.std.specs.contracts.alloc.Global as Heap
 use Rattle.caladan_c.specs.contracts.handle.audit_pointer.AuditPointer as Pointer
-use Rattle.caladan_c.proofs.AsAuditBox.{E, FromAlloc as From}
+use Rattle.caladan_c.proofs.HandleLemmas.AsAuditBox.{E, FromAlloc as From}
 use Rattle.caladan_c.specs.contracts.handle.audit_pointer.AuditPointer.to_nothing as F
 use Rattle.caladan_c.specs.contracts.handle.audit_pointer.AuditPointer.to_nothing.Key.{name as #self}
 use Rattle.caladan_c.proofs.handle.audit_pointer.AuditPointer.to_nothing.Statement as stated

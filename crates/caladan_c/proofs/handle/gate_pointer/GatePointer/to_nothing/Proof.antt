@@ -35,7 +35,7 @@ use Rattle.std.proofs.ResultValues.{and_tt}
 use Rattle.std.proofs.BoxSteps.Form.{P}
 use Rattle.std.specs.contracts.alloc.Global as Heap
 use Rattle.caladan_c.specs.contracts.handle.gate_pointer.GatePointer as Pointer
-use Rattle.caladan_c.proofs.AsGateBox.{E, FromAlloc as From}
+use Rattle.caladan_c.proofs.HandleLemmas.AsGateBox.{E, FromAlloc as From}
 use Rattle.caladan_c.specs.contracts.handle.gate_pointer.GatePointer.to_nothing as F
 use Rattle.caladan_c.specs.contracts.handle.gate_pointer.GatePointer.to_nothing.Key.{name as #self}
 use Rattle.caladan_c.proofs.handle.gate_pointer.GatePointer.to_nothing.Statement as stated

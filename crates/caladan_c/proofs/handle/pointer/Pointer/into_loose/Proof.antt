@@ -28,7 +28,7 @@ use denote.Triple.Walked.{says, Stays, stay_dropped, walk_of, ends_at, Goes-drop
 use Rattle.std.proofs.BoxSteps.Form.{D, B, word, box_typed}
 use Rattle.std.proofs.BoxSteps.Steps.{box_out, box_in}
 use Rattle.caladan_c.specs.contracts.handle.pointer.Pointer as Pointer
-use Rattle.caladan_c.proofs.AsBox.{E, FromPointer as From, kept_of}
+use Rattle.caladan_c.proofs.HandleLemmas.AsBox.{E, FromPointer as From, kept_of}
 use Rattle.caladan_c.specs.contracts.handle.pointer.Pointer.into_loose as F
 use Rattle.caladan_c.specs.contracts.handle.pointer.Pointer.into_loose.Key.{name as #self}
 use Rattle.caladan_c.proofs.handle.pointer.Pointer.into_loose.Statement as stated

@@ -25,7 +25,7 @@ use denote.Triple.Table.{entered}
 use denote.Triple.Walked.{says, Stays, stay_dropped, walk_of, ends_at, Goes-dropped, walk_Meets}
 use Rattle.std.proofs.BoxSteps.Form.{D, B, word, box_typed}
 use Rattle.std.proofs.BoxSteps.Steps.{box_out, box_in}
-use Rattle.caladan_c.proofs.AsBox.{E, FromLoose as From}
+use Rattle.caladan_c.proofs.HandleLemmas.AsBox.{E, FromLoose as From}
 use Rattle.caladan_c.specs.contracts.handle.pointer.Pointer.of_loose as F
 use Rattle.caladan_c.specs.contracts.handle.pointer.Pointer.of_loose.Key.{name as #self}
 use Rattle.caladan_c.proofs.handle.pointer.Pointer.of_loose.Statement as stated

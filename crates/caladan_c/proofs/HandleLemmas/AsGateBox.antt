@@ -1,11 +1,6 @@
 -- The same of a pointer that keeps a gate.
 use mir.Syntax.{impl, tnil, dnil}
 use mathlib.Core.List.{[]}
-use mathlib.Core.Path.{sym}
-use mathlib.Core.Bool.{true≢false}
-use Rattle.std.specs.Prelude.{◌≡◌, true, false, Option, Some, None}
-use Rattle.std.specs.Option.{is_some}
-use mathlib.Core.Path.{refl}
 use denote.Signature.{Slot, plain}
 use Rattle.std.proofs.BoxSteps.Form.{Bx}
 use Rattle.std.specs.contracts.alloc.Global as Heap

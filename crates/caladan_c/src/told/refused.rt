@@ -9,8 +9,8 @@ use cal_guard::{Refused, Why};
 #[repr(C)]
 #[derive(Clone, Copy)]
 pub struct ToldRefused {
-    /// The action's number among those that were given, from 0 on; their count, where each is permitted
-    /// and the pass may not end after them.
+    /// The action's number among those that were given, from 0 on; their count, where each is
+    /// permitted and the pass may not end after them.
     pub place: usize,
     /// Why, 1 to 11, in the order of the guard's reasons.
     pub why: u8,
