@@ -1,0 +1,140 @@
+//! Tries of a call.
+
+use cal_kthread::TurnFault;
+use cal_machine::ConfigFault;
+use cal_run::SimFault;
+use cal_sched::PassFault;
+use cal_trace::{FaultKind, TraceFault};
+use cal_world::{Illegal, Stopped};
+use std::alloc::{AllocError, AllocFailed};
+use std::io;
+use std::io::Write;
+
+/// Why a call came to nothing.
+#[derive(Clone, Copy)]
+pub enum Fault {
+    /// Memory was refused.
+    Memory,
+    /// A thread could not be started.
+    Spawn,
+    /// Anything else.
+    Other,
+}
+
+impl From<AllocError> for Fault {
+    fn from(_e: AllocError) -> Fault {
+        Fault::Memory
+    }
+}
+
+impl<T: Drop> From<AllocFailed<T>> for Fault {
+    fn from(_e: AllocFailed<T>) -> Fault {
+        Fault::Memory
+    }
+}
+
+impl From<ConfigFault> for Fault {
+    fn from(fault: ConfigFault) -> Fault {
+        match fault {
+            ConfigFault::Memory => Fault::Memory,
+            _ => Fault::Other,
+        }
+    }
+}
+
+impl From<TraceFault> for Fault {
+    fn from(fault: TraceFault) -> Fault {
+        match fault.kind {
+            FaultKind::Memory => Fault::Memory,
+            _ => Fault::Other,
+        }
+    }
+}
+
+impl From<PassFault> for Fault {
+    fn from(fault: PassFault) -> Fault {
+        match fault {
+            PassFault::Memory => Fault::Memory,
+            PassFault::HistoryFull => Fault::Other,
+        }
+    }
+}
+
+impl From<TurnFault> for Fault {
+    fn from(fault: TurnFault) -> Fault {
+        match fault {
+            TurnFault::Memory => Fault::Memory,
+            TurnFault::JournalFull => Fault::Other,
+        }
+    }
+}
+
+impl From<Illegal> for Fault {
+    fn from(why: Illegal) -> Fault {
+        match why {
+            Illegal::Memory => Fault::Memory,
+            _ => Fault::Other,
+        }
+    }
+}
+
+impl From<Stopped> for Fault {
+    fn from(stopped: Stopped) -> Fault {
+        Fault::from(stopped.why)
+    }
+}
+
+impl From<SimFault> for Fault {
+    fn from(fault: SimFault) -> Fault {
+        match fault {
+            SimFault::Memory => Fault::Memory,
+            SimFault::Spawn => Fault::Spawn,
+            SimFault::Gate => Fault::Other,
+        }
+    }
+}
+
+/// The error of a program whose words or input are not as they must be, or of a call that answered
+/// what it must not.
+pub fn wrong() -> io::Error {
+    io::Error::from(io::ErrorKind::InvalidInput)
+}
+
+/// What a call answers at its first try, or where it was refused, at its second one.
+pub fn ample<T: Drop, E: Into<Fault> + Drop, F: FnMut() -> Result<T, E>>(
+    rt: &HostRuntime,
+    mut call: F,
+) -> io::Result<T>
+    requires { F.IsAlwaysCallable call }
+{
+    for _ in 0..2 {
+        begin(rt)?;
+        let answer = call();
+        end(rt)?;
+        match answer {
+            Ok(answer) => return Ok(answer),
+            Err(fault) => tell(rt, fault.into())?,
+        }
+    }
+    Err(wrong())
+}
+
+/// Marks the beginning of a try.
+pub fn begin(rt: &HostRuntime) -> io::Result<()> {
+    rt.stderr().write_all(b"(")
+}
+
+/// Marks the end of a try.
+pub fn end(rt: &HostRuntime) -> io::Result<()> {
+    rt.stderr().write_all(b")")
+}
+
+/// Writes the line of a fault.
+pub fn tell(rt: &HostRuntime, fault: Fault) -> io::Result<()> {
+    let line = match fault {
+        Fault::Memory => b"memory\n".as_slice(),
+        Fault::Spawn => b"spawn\n".as_slice(),
+        Fault::Other => b"another fault\n".as_slice(),
+    };
+    rt.stdout().write_all(line)
+}

@@ -1,0 +1,88 @@
+//! Calls that take memory, each made again where memory was refused to it.
+//!
+//! Its words name calls, which are made in their order on the input: a task table, the line `---`
+//! and a trace. Before each try of a call it writes `(` to the standard error, and `)` after it, so
+//! that whoever refuses memory can refuse it there alone. Where a call is refused, the line of its
+//! fault is written and the same call is made again. Then its answer is written. tools/refusals
+//! runs it with each allocation of each call refused.
+#![tactic(auto)]
+
+mod attempt;
+mod copies;
+mod full;
+mod given;
+mod policy;
+mod reading;
+mod runs;
+mod scheduling;
+mod stand;
+mod texts;
+mod worlds;
+
+use attempt::wrong;
+use given::Given;
+use std::io::Read;
+use std::process::ExitCode;
+use std::sync::Wait;
+use std::thread::Threads;
+use std::{env, io};
+
+fn main(rt: HostRuntime) -> ExitCode {
+    match call_each(&rt, &rt) {
+        Ok(()) => ExitCode::from(0),
+        Err(_) => ExitCode::from(2),
+    }
+}
+
+/// Makes each call that the words name.
+fn call_each<H: Threads + Wait + Sync>(host: &H, rt: &HostRuntime) -> io::Result<()> {
+    let mut text = Vec::new(rt.alloc());
+    rt.stdin().read_to_end(&mut text)?;
+    let given = Given::of(rt.alloc(), text.as_slice())?;
+    for word in env::args(rt)?.skip(1) {
+        call(host, rt, word.as_str(), &given)?;
+    }
+    Ok(())
+}
+
+fn call<H: Threads + Wait + Sync>(
+    host: &H,
+    rt: &HostRuntime,
+    word: &str,
+    given: &Given,
+) -> io::Result<()> {
+    match word {
+        "read_table" => reading::read_table(rt, given),
+        "read_arrivals" => reading::arrivals(rt, given),
+        "read_history" => reading::history(rt, given),
+        "read_signals" => reading::signals(rt, given),
+        "signal_rows" => reading::signal_rows(rt, given),
+        "copy_table" => copies::table(rt, given),
+        "copy_entries" => copies::entries(rt, given),
+        "copy_events" => copies::events(rt, given),
+        _ => call_more(host, rt, word, given),
+    }
+}
+
+fn call_more<H: Threads + Wait + Sync>(
+    host: &H,
+    rt: &HostRuntime,
+    word: &str,
+    given: &Given,
+) -> io::Result<()> {
+    match word {
+        "audit" => policy::audit_whole(rt, given),
+        "auditor" => policy::audit_in_turn(rt, given),
+        "open_threads" => scheduling::threads(rt, given),
+        "scheduler" => scheduling::scheduler(rt, given),
+        "watch" => scheduling::watch(rt, given),
+        "pass" => scheduling::passes(rt, given),
+        "start" => worlds::start(rt, given),
+        "step" => worlds::steps(rt, given),
+        "run_events" => worlds::whole(rt, given),
+        "lockstep" => runs::on_one_thread(rt, given),
+        "simulate" => runs::in_threads(host, rt, given),
+        "full_history" => full::full_history(rt, given),
+        _ => Err(wrong()),
+    }
+}

@@ -1,0 +1,141 @@
+//! A scheduler and a watch over the kernel threads of a table.
+
+ghost use Rattle.std.specs.Prelude.{◌≡◌, length};
+ghost use Rattle.cal_policy.specs.Tasks.{threads_of_table};
+ghost use Rattle.cal_sched.specs.Scheduler.{HaveSeenNothing, HaveSentNothing};
+
+use crate::attempt::{Fault, ample, begin, end, tell, wrong};
+use crate::given::Given;
+use crate::stand::Stand;
+use crate::texts::{write_passes, write_round};
+use cal_command::Sender;
+use cal_kthread::{Team, open_threads};
+use cal_machine::Config;
+use cal_run::{Parts, open_parts};
+use cal_sched::{NotWatched, Scheduler, Watch};
+use cal_signal::Observer;
+use cal_trace::read_arrivals;
+use std::alloc::Global;
+use std::io;
+use std::io::Write;
+
+/// How many passes are made.
+const PASSES: u64 = 12;
+
+/// How many rounds a watch makes.
+const ROUNDS: u64 = 3;
+
+pub fn threads(rt: &HostRuntime, given: &Given) -> io::Result<()> {
+    let team = ample(rt, || open_threads(rt.alloc(), &given.config))?;
+    writeln!(&mut rt.stdout(), "threads {}", team.threads.len())
+}
+
+/// Scheduler, threads and watch of a table, which did nothing yet.
+fn parts(alloc: Global, given: &Given) -> io::Result<Parts> {
+    let Ok(arrivals) = read_arrivals(alloc, &given.config, b"caladan-arrivals,1\nend,0\n") else {
+        return Err(wrong());
+    };
+    match open_parts(alloc, &given.config, &arrivals) {
+        Ok(parts) => Ok(parts),
+        Err(_) => Err(wrong()),
+    }
+}
+
+/// A scheduler over threads that do nothing.
+pub fn open(alloc: Global, given: &Given) -> io::Result<Scheduler> {
+    let Parts { scheduler, .. } = parts(alloc, given)?;
+    Ok(scheduler)
+}
+
+/// A scheduler over the threads of a team, and a first pass of it.
+pub fn scheduler(rt: &HostRuntime, given: &Given) -> io::Result<()> {
+    let Team {
+        observers,
+        senders,
+        ..
+    } = open_threads(rt.alloc(), &given.config)?;
+    let config = given.config.copy(rt.alloc())?;
+    let mut scheduler = scheduler_of(rt, config, observers, senders)?;
+    if scheduler.pass(1000, 0).is_err() {
+        return Err(wrong());
+    }
+    write_passes(rt, scheduler.history())
+}
+
+/// A scheduler. Where it is refused, it is made of what is handed back.
+fn scheduler_of(
+    rt: &HostRuntime,
+    config: Config,
+    observers: Vec<Observer>,
+    senders: Vec<Sender>,
+) -> io::Result<Scheduler>
+    requires pages { length observers.items ≡ threads_of_table config }
+    requires rings { length senders.items ≡ threads_of_table config }
+    requires unseen { HaveSeenNothing observers.items }
+    requires unsent { HaveSentNothing senders.items }
+{
+    begin(rt)?;
+    let made = Scheduler::new(rt.alloc(), config, observers, senders);
+    end(rt)?;
+    let back = match made {
+        Ok(scheduler) => return Ok(scheduler),
+        Err(back) => back,
+    };
+    tell(rt, Fault::Memory)?;
+    match Scheduler::new(rt.alloc(), back.config, back.observers, back.senders) {
+        Ok(scheduler) => Ok(scheduler),
+        Err(_) => Err(wrong()),
+    }
+}
+
+/// A watch over the pages of a team, and its rounds.
+pub fn watch(rt: &HostRuntime, given: &Given) -> io::Result<()> {
+    let Team { watchers, .. } = open_threads(rt.alloc(), &given.config)?;
+    let mut watch = watch_of(rt, watchers)?;
+    for _ in 0..ROUNDS {
+        let _ = watch.round();
+    }
+    for round in watch.rounds() {
+        write_round(rt, round)?;
+    }
+    Ok(())
+}
+
+/// A watch. Where it is refused, it is made of what is handed back.
+fn watch_of(rt: &HostRuntime, watchers: Vec<Observer>) -> io::Result<Watch> {
+    begin(rt)?;
+    let made = Watch::new(rt.alloc(), watchers, ROUNDS);
+    end(rt)?;
+    let NotWatched { observers } = match made {
+        Ok(watch) => return Ok(watch),
+        Err(back) => back,
+    };
+    tell(rt, Fault::Memory)?;
+    match Watch::new(rt.alloc(), observers, ROUNDS) {
+        Ok(watch) => Ok(watch),
+        Err(_) => Err(wrong()),
+    }
+}
+
+/// Passes, each after a turn of what stands for each thread.
+pub fn passes(rt: &HostRuntime, given: &Given) -> io::Result<()> {
+    let Parts {
+        mut scheduler,
+        workers,
+        ..
+    } = parts(rt.alloc(), given)?;
+    let mut stands = Vec::new(rt.alloc());
+    for worker in workers {
+        let end = worker.thread.end();
+        stands.push(Stand::new(end.publisher, end.taker))?;
+    }
+    for pass in 0..PASSES {
+        let now = 1000 + 100 * pass;
+        let after = now + 50;
+        for k in 0..stands.len() {
+            stands[k].turn(now);
+        }
+        ample(rt, || scheduler.pass(after, 0))?;
+    }
+    write_passes(rt, scheduler.history())
+}
