@@ -1,4 +1,4 @@
-use Rattle.cal_run.proofs.Opened.{saw_nothing, sent_nothing}
+use Rattle.cal_run.proofs.PartsLemmas.Opened.{saw_nothing, sent_nothing}
 use Rattle.refused_calls.proofs.scheduling.scheduler.Goals as goal
 
 pub scheduler_of-requires-clause-unseen : goal.scheduler_of-requires-clause-unseen
