@@ -41,8 +41,9 @@ fn number_of(look: Look) -> Option<u64> {
     }
 }
 
-// Each round ends with a look: round 0 finds the first turn's record, round 1 the second's. (A
-// watch whose observer always gives the zero record is refused here.)
+// Each round ends with a look: round 0 finds the first turn's record, round 1 the second's. Refused
+// here: a second observer that gives the zero record and forgets what it loaded
+// (`second_observer_gives_zero`).
 #[test]
 fn watched_rounds(rt: HostRuntime) -> Result<(), Fail> {
     let outcome = run(rt.alloc(), ONE_THREAD, ARRIVALS).expect(&rt, "memory");
@@ -84,8 +85,8 @@ request = 1000
 const ONE_IS_BUSY: &[u8] =
     b"caladan-arrivals,1\npass,100,0\npass,200,0\npass,300,0\nturn,150\nturn,250\nturn,350\nrequest,0,0,1,9,0\nrequest,0,1,2,9,0\nrequest,0,2,3,1,0\nend,9\n";
 
-// The thread that was granted a core last steals the newest request and serves it in one turn. (A
-// thief that never steals is refused here.)
+// The thread that was granted a core last steals the newest request and serves it in one turn.
+// Refused here: a thief that never steals (`never_steals`).
 #[test]
 fn steal_last_request(rt: HostRuntime) -> Result<(), Fail> {
     let outcome = run(rt.alloc(), TWO_THREADS, ONE_IS_BUSY).expect(&rt, "memory");
