@@ -41,8 +41,8 @@ run_text true arrivals outcome =
 run_text false arrivals outcome = history_text outcome.history
 
 -- a run on this came to some outcome, and the text of that was written
-pub record IsWrittenRun (summary : Bool) (input : RunInput) (old new : Option (List ℕ)) : Type
-    0 where
+pub record IsWrittenRun (summary : Bool) (input : RunInput)
+    (old new : Option (List ℕ)) : Type 0 where
   pub outcome : Outcome
   pub run : IsRun input.table input.arrivals outcome
   pub written : Appends old new (run_text summary input.arrivals outcome)
