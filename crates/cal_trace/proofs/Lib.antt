@@ -2,6 +2,5 @@ pub mod RowLemmas
 pub mod SignalLemmas
 pub mod ListLemmas
 pub mod HistoryLemmas
-pub mod ReportLemmas
 pub mod Given
 pub mod ArrivalsFit

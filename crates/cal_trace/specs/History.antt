@@ -3,7 +3,8 @@ pub mod ActionRows
 pub mod Ranges
 pub mod Reading
 pub mod Text
-use Rattle.std.specs.Prelude.{◌==◌, ◌&&◌, not, nat_lt, ℕ, List, [], ◌∷◌, ◌++◌, length, codes, Bool, true, false, Option, Some, None, Result, Ok, Err, if◌then◌else◌}
+use Rattle.std.specs.Prelude.{◌==◌, ◌&&◌, not, nat_lt, ℕ, List, [], ◌∷◌, ◌++◌, length, codes, Bool}
+use Rattle.std.specs.Prelude.{true, false, Option, Some, None, Result, Ok, Err, if◌then◌else◌}
 use Rattle.std.specs.Option.{option_map, option_to_list}
 use Rattle.cal_policy.specs.declared.history.look.Seen.{Seen}
 use Rattle.cal_policy.specs.declared.history.look.Seen.TheVariants as seen
@@ -64,11 +65,15 @@ busy_look (Ok row) = Ok (record { seen = seen.Busy row.first row.second; room = 
 -- what a look row of this form says, where the next look is this thread's
 abbrev pub seen_row : LookForm → ℕ → Fields → Result SeenRow FaultKind
 seen_row looks.Busy thread fields = busy_look (busy_row thread fields)
-seen_row looks.Whole thread fields = judged_row (λ row. seen.Whole row.shown.number row.shown.rec) (whole_row thread fields)
-seen_row looks.Ahead thread fields = judged_row (λ row. seen.Ahead row.shown.number row.shown.rec) (whole_row thread fields)
-seen_row looks.Foreign thread fields = judged_row (λ row. seen.Foreign row.shown.number row.shown.rec) (whole_row thread fields)
+seen_row looks.Whole thread fields =
+    judged_row (λ row. seen.Whole row.shown.number row.shown.rec) (whole_row thread fields)
+seen_row looks.Ahead thread fields =
+    judged_row (λ row. seen.Ahead row.shown.number row.shown.rec) (whole_row thread fields)
+seen_row looks.Foreign thread fields =
+    judged_row (λ row. seen.Foreign row.shown.number row.shown.rec) (whole_row thread fields)
 
--- what the rows so far have given: the passes before the one at hand, the pass at hand, whose looks and actions may still be missing, and whether the end row came
+-- what the rows so far have given: the passes before the one at hand, the pass at hand, whose looks
+-- and actions may still be missing, and whether the end row came
 pub record SoFar : Type 0 where
   pub before : List PassEntry
   pub at_hand : Option PassEntry
@@ -94,15 +99,30 @@ is_between extent so_far = not so_far.ended && is_full extent so_far.at_hand
 -- the thread whose look comes next, where a look can stand here
 abbrev pub next_thread : Extent → Option PassEntry → Result ℕ FaultKind
 next_thread extent None = Err kind.Order
-next_thread extent (Some entry) = if nat_lt (length entry.input.seen) extent.threads then Ok (length entry.input.seen) else Err kind.Order
+next_thread extent (Some entry) =
+    if nat_lt (length entry.input.seen) extent.threads then Ok (length entry.input.seen)
+    else Err kind.Order
 
 -- a pass that has no looks and no actions yet
 abbrev pub begun : PassRow → PassEntry
-begun row = record { input = record { now = row.now; bandwidth = row.bandwidth; seen = []; rooms = [] }; actions = [] }
+begun row = record {
+  input = record {
+    now = row.now;
+    bandwidth = row.bandwidth;
+    seen = [];
+    rooms = [];
+  };
+  actions = [];
+}
 
 abbrev pub with_look : SeenRow → PassEntry → PassEntry
 with_look row entry = record {
-  input = record { now = entry.input.now; bandwidth = entry.input.bandwidth; seen = entry.input.seen ++ row.seen ∷ []; rooms = entry.input.rooms ++ row.room ∷ [] };
+  input = record {
+    now = entry.input.now;
+    bandwidth = entry.input.bandwidth;
+    seen = entry.input.seen ++ row.seen ∷ [];
+    rooms = entry.input.rooms ++ row.room ∷ [];
+  };
   actions = entry.actions;
 }
 
@@ -111,14 +131,23 @@ with_action action entry = record { input = entry.input; actions = entry.actions
 
 -- one more look, one more action
 abbrev pub one_more_look : SoFar → SeenRow → SoFar
-one_more_look so_far row = record { before = so_far.before; at_hand = option_map (with_look row) so_far.at_hand; ended = so_far.ended }
+one_more_look so_far row = record {
+  before = so_far.before;
+  at_hand = option_map (with_look row) so_far.at_hand;
+  ended = so_far.ended;
+}
 
 abbrev pub one_more_action : SoFar → PassEntry → Action → SoFar
-one_more_action so_far entry action = record { before = so_far.before; at_hand = Some (with_action action entry); ended = so_far.ended }
+one_more_action so_far entry action = record {
+  before = so_far.before;
+  at_hand = Some (with_action action entry);
+  ended = so_far.ended;
+}
 
 abbrev pub add_pass : SoFar → Result PassRow FaultKind → Result SoFar FaultKind
 add_pass so_far (Err k) = Err k
-add_pass so_far (Ok row) = Ok (record { before = entries_of so_far; at_hand = Some (begun row); ended = false })
+add_pass so_far (Ok row) =
+    Ok (record { before = entries_of so_far; at_hand = Some (begun row); ended = false })
 
 abbrev pub add_end : SoFar → Result ℕ FaultKind → Result SoFar FaultKind
 add_end so_far (Err k) = Err k
@@ -134,7 +163,9 @@ most_actions = 338
 
 abbrev pub add_action : SoFar → PassEntry → Result Action FaultKind → Result SoFar FaultKind
 add_action so_far entry (Err k) = Err k
-add_action so_far entry (Ok action) = check (nat_lt (length entry.actions) most_actions) kind.Range (Ok (one_more_action so_far entry action))
+add_action so_far entry (Ok action) =
+    check (nat_lt (length entry.actions) most_actions) kind.Range
+    (Ok (one_more_action so_far entry action))
 
 -- a look row, where the next look is that of this thread, if one can stand here
 abbrev pub take_look : SoFar → LookForm → Fields → Result ℕ FaultKind → Result SoFar FaultKind
@@ -142,19 +173,27 @@ take_look so_far look fields (Err k) = Err k
 take_look so_far look fields (Ok thread) = add_look so_far (seen_row look thread fields)
 
 -- an action row, which comes after all looks of its pass
-abbrev pub take_action : Extent → SoFar → ActionForm → Fields → Option PassEntry → Result SoFar FaultKind
+abbrev pub take_action : Extent → SoFar → ActionForm → Fields → Option PassEntry →
+    Result SoFar FaultKind
 take_action extent so_far action fields None = Err kind.Order
 take_action extent so_far action fields (Some entry) =
-    check (length entry.input.seen == extent.threads) kind.Order (add_action so_far entry (action_row action extent fields))
+    check (length entry.input.seen == extent.threads) kind.Order
+    (add_action so_far entry (action_row action extent fields))
 
 -- what the rows say with one more row of this form
 abbrev pub take_form : Extent → SoFar → Option Form → Fields → Result SoFar FaultKind
 take_form extent so_far None fields = Err kind.Fields
 take_form extent so_far (Some form.Header) fields = Err kind.Order
-take_form extent so_far (Some form.Pass) fields = check (is_between extent so_far) kind.Order (add_pass so_far (pass_row (length (entries_of so_far)) fields))
-take_form extent so_far (Some form.End) fields = check (is_between extent so_far) kind.Order (add_end so_far (end_row (length (entries_of so_far)) fields))
-take_form extent so_far (Some (form.Look look)) fields = take_look so_far look fields (next_thread extent so_far.at_hand)
-take_form extent so_far (Some (form.Act action)) fields = take_action extent so_far action fields so_far.at_hand
+take_form extent so_far (Some form.Pass) fields =
+    check (is_between extent so_far) kind.Order
+    (add_pass so_far (pass_row (length (entries_of so_far)) fields))
+take_form extent so_far (Some form.End) fields =
+    check (is_between extent so_far) kind.Order
+    (add_end so_far (end_row (length (entries_of so_far)) fields))
+take_form extent so_far (Some (form.Look look)) fields =
+    take_look so_far look fields (next_thread extent so_far.at_hand)
+take_form extent so_far (Some (form.Act action)) fields =
+    take_action extent so_far action fields so_far.at_hand
 
 -- what the rows say with one more row, or the first of the row's checks that fails
 abbrev pub take_row : Extent → Version → SoFar → Fields → Result SoFar FaultKind
@@ -164,6 +203,8 @@ take_row extent version so_far fields = take_form extent so_far (form_of version
 abbrev pub whole : SoFar → Option (List PassEntry)
 whole so_far = if so_far.ended then Some so_far.before else None
 
--- the history of a file, for a table of this extent, or the first of its checks that fails, with its row
+-- the history of a file, for a table of this extent, or the first of its checks that fails, with
+-- its row
 abbrev pub history_of : Extent → List Fields → Result (List PassEntry) TraceFault
-history_of extent rows = read_under (take_row extent) whole at_start (header_of (codes "caladan-history") rows)
+history_of extent rows =
+    read_under (take_row extent) whole at_start (header_of (codes "caladan-history") rows)

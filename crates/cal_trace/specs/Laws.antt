@@ -11,18 +11,27 @@ use Rattle.cal_trace.specs.Rows.{rows_of}
 
 -- the rows of the text of a history that is in range are the rows that it was written as
 abbrev pub TextIsItsRows : Type 0
-TextIsItsRows = (table : Table) (history : List PassEntry) → IsTable table → IsInRange (extent_of table) history → rows_of (history_text history) ≡ history_rows history
+TextIsItsRows =
+    (table : Table) (history : List PassEntry) → IsTable table →
+    IsInRange (extent_of table) history → rows_of (history_text history) ≡ history_rows history
 
 -- the text of a history that is in range is read, for its table, as that history
 abbrev pub TextIsReadBack : Type 0
-TextIsReadBack = (table : Table) (history : List PassEntry) → IsTable table → IsInRange (extent_of table) history → history_of (extent_of table) (rows_of (history_text history)) ≡ Ok history
+TextIsReadBack =
+    (table : Table) (history : List PassEntry) → IsTable table →
+    IsInRange (extent_of table) history →
+    history_of (extent_of table) (rows_of (history_text history)) ≡ Ok history
 
 -- the text of a history that was read, of either version, is read as that history
 abbrev pub ReadIsReadBack : Type 0
-ReadIsReadBack = (table : Table) (text : List ℕ) (history : List PassEntry) → IsTable table → history_of (extent_of table) (rows_of text) ≡ Ok history
+ReadIsReadBack =
+    (table : Table) (text : List ℕ) (history : List PassEntry) → IsTable table →
+    history_of (extent_of table) (rows_of text) ≡ Ok history
     → history_of (extent_of table) (rows_of (history_text history)) ≡ Ok history
 
 -- the text of a legal history that a file can hold is read, for its table, as that history
 abbrev pub LegalIsReadBack : Type 0
-LegalIsReadBack = (table : Table) (history : List PassEntry) → IsTable table → IsLegal table history → IsSized history
+LegalIsReadBack =
+    (table : Table) (history : List PassEntry) → IsTable table → IsLegal table history →
+    IsSized history
     → history_of (extent_of table) (rows_of (history_text history)) ≡ Ok history

@@ -8,9 +8,11 @@ pub mod Reading
 pub mod RowFields
 pub mod Shown
 pub mod Text
-use Rattle.std.specs.Prelude.{◌≡◌, ◌+◌, ◌<◌, ◌^◌, ℕ, List, [], ◌∷◌, Bool, true, false, length, Option, Some, None}
+use Rattle.std.specs.Prelude.{◌≡◌, ◌+◌, ◌<◌, ◌^◌, ℕ, List, [], ◌∷◌, Bool, true, false, length}
+use Rattle.std.specs.Prelude.{Option, Some, None}
 use Rattle.csv.specs.Machine.{ends_at_end}
-use Rattle.csv.specs.Reading.{Ready, default_config, records, records_from, source_of, strip_bom, has_failed, is_flexible}
+use Rattle.csv.specs.Reading.{Ready, default_config, records, records_from, source_of, strip_bom}
+use Rattle.csv.specs.Reading.{has_failed, is_flexible}
 use Rattle.csv.specs.Records.{fields_of}
 use Rattle.csv.specs.declared.parser.State.{State}
 use Rattle.csv.specs.declared.reader.Trim.TheVariants as trim
@@ -41,7 +43,8 @@ rest_of rows = rows_from rows.reader.state (unread rows)
 abbrev pub row_at : Rows → Fields
 row_at rows = fields_of rows.record
 
--- rows are read as they are, of any number of fields, from a state between two rows, and their numbers fit
+-- rows are read as they are, of any number of fields, from a state between two rows, and their
+-- numbers fit
 pub record IsReading (rows : Rows) : Type 0 where
   pub untrimmed : rows.reader.trim ≡ trim.None
   pub flexible : is_flexible rows.reader ≡ true
@@ -57,5 +60,6 @@ HasStopped rows = has_failed rows.reader ≡ true
 
 -- one step: there was a row, which is now at hand, or the rows were at their end
 abbrev pub StepsOn : Rows → Rows → Bool → Type 0
-StepsOn old new true = (rest_of old ≡ row_at new ∷ rest_of new) × (new.number ≡ old.number + 1) × IsReading new
+StepsOn old new true =
+    (rest_of old ≡ row_at new ∷ rest_of new) × (new.number ≡ old.number + 1) × IsReading new
 StepsOn old new false = (rest_of old ≡ []) × (new.number ≡ old.number)

@@ -1,7 +1,9 @@
 -- What the rows of a file of signals say.
 pub mod Fitting
 pub mod Reading
-use Rattle.std.specs.Prelude.{◌==◌, ◌&&◌, not, nat_lt, ℕ, List, [], ◌∷◌, ◌++◌, length, codes, slice_get, Bool, true, false, Option, Some, None, Result, Ok, Err, if◌then◌else◌}
+use Rattle.std.specs.Prelude.{◌==◌, ◌&&◌, not, nat_lt, ℕ, List, [], ◌∷◌, ◌++◌, length, codes}
+use Rattle.std.specs.Prelude.{slice_get, Bool, true, false, Option, Some, None, Result, Ok, Err}
+use Rattle.std.specs.Prelude.{if◌then◌else◌}
 use Rattle.std.specs.Option.{option_and_then, option_map, option_to_list, unwrap_or}
 use Rattle.cal_signal.specs.declared.look.Look.{Look}
 use Rattle.cal_signal.specs.declared.look.Look.TheVariants as look
@@ -36,7 +38,8 @@ form_of version fields =
     else if is_row (codes "caladan-signals") 2 fields then Some form.Header
     else None
 
--- what the rows so far have given: the passes before the one at hand, the pass at hand, whose looks may still be missing, and whether the end row came
+-- what the rows so far have given: the passes before the one at hand, the pass at hand, whose looks
+-- may still be missing, and whether the end row came
 pub record SoFar : Type 0 where
   pub before : List SignalPass
   pub at_hand : Option SignalPass
@@ -62,7 +65,8 @@ is_between threads so_far = not so_far.ended && is_full threads so_far.at_hand
 -- the thread whose look comes next, where a look can stand here
 abbrev pub next_thread : ℕ → Option SignalPass → Result ℕ FaultKind
 next_thread threads None = Err kind.Order
-next_thread threads (Some pass) = if nat_lt (length pass.looks) threads then Ok (length pass.looks) else Err kind.Order
+next_thread threads (Some pass) =
+    if nat_lt (length pass.looks) threads then Ok (length pass.looks) else Err kind.Order
 
 -- what a look showed
 abbrev pub shown_by : Look → Option Shown
@@ -79,7 +83,11 @@ last_shown k passes = unwrap_or (last_of (λ before pass. shown_in k pass) passe
 
 -- one more look of the pass at hand
 abbrev pub with_look : FoundLook → SignalPass → SignalPass
-with_look seen pass = record { now = pass.now; bandwidth = pass.bandwidth; looks = pass.looks ++ seen ∷ [] }
+with_look seen pass = record {
+  now = pass.now;
+  bandwidth = pass.bandwidth;
+  looks = pass.looks ++ seen ∷ [];
+}
 
 -- the look of a row
 abbrev pub look_of_whole : WholeRow → FoundLook
@@ -91,7 +99,8 @@ look_of_busy row = record { look = look.Busy row.first row.second; room = row.ro
 -- a whole look, where a thread that showed this last may show it
 abbrev pub following : Shown → Result WholeRow FaultKind → Result FoundLook FaultKind
 following last (Err k) = Err k
-following last (Ok row) = check (is_shown_after last row.shown) kind.Backwards (Ok (look_of_whole row))
+following last (Ok row) =
+    check (is_shown_after last row.shown) kind.Backwards (Ok (look_of_whole row))
 
 abbrev pub as_look : Result BusyRow FaultKind → Result FoundLook FaultKind
 as_look (Err k) = Err k
@@ -99,7 +108,11 @@ as_look (Ok row) = Ok (look_of_busy row)
 
 -- the passes with one more look
 abbrev pub one_more : SoFar → FoundLook → SoFar
-one_more so_far seen = record { before = so_far.before; at_hand = option_map (with_look seen) so_far.at_hand; ended = so_far.ended }
+one_more so_far seen = record {
+  before = so_far.before;
+  at_hand = option_map (with_look seen) so_far.at_hand;
+  ended = so_far.ended;
+}
 
 -- the passes with the look of a row
 abbrev pub add_look : SoFar → Result FoundLook FaultKind → Result SoFar FaultKind
@@ -109,7 +122,12 @@ add_look so_far (Ok seen) = Ok (one_more so_far seen)
 -- a new pass at hand
 abbrev pub add_pass : SoFar → Result PassRow FaultKind → Result SoFar FaultKind
 add_pass so_far (Err k) = Err k
-add_pass so_far (Ok row) = Ok (record { before = passes_of so_far; at_hand = Some (record { now = row.now; bandwidth = row.bandwidth; looks = [] }); ended = false })
+add_pass so_far (Ok row) =
+    Ok (record {
+      before = passes_of so_far;
+      at_hand = Some (record { now = row.now; bandwidth = row.bandwidth; looks = [] });
+      ended = false;
+    })
 
 -- the end
 abbrev pub add_end : SoFar → Result ℕ FaultKind → Result SoFar FaultKind
@@ -127,16 +145,23 @@ look_row form.End k last fields = Err kind.Order
 -- a look row, where the next look is that of this thread, if one can stand here
 abbrev pub take_look : SoFar → Form → Fields → Result ℕ FaultKind → Result SoFar FaultKind
 take_look so_far form fields (Err k) = Err k
-take_look so_far form fields (Ok thread) = add_look so_far (look_row form thread (last_shown thread (passes_of so_far)) fields)
+take_look so_far form fields (Ok thread) =
+    add_look so_far (look_row form thread (last_shown thread (passes_of so_far)) fields)
 
 -- what the rows say with one more row of this form
 abbrev pub take_form : ℕ → SoFar → Option Form → Fields → Result SoFar FaultKind
 take_form threads so_far None fields = Err kind.Fields
 take_form threads so_far (Some form.Header) fields = Err kind.Order
-take_form threads so_far (Some form.Pass) fields = check (is_between threads so_far) kind.Order (add_pass so_far (pass_row (length (passes_of so_far)) fields))
-take_form threads so_far (Some form.End) fields = check (is_between threads so_far) kind.Order (add_end so_far (end_row (length (passes_of so_far)) fields))
-take_form threads so_far (Some form.Whole) fields = take_look so_far form.Whole fields (next_thread threads so_far.at_hand)
-take_form threads so_far (Some form.Busy) fields = take_look so_far form.Busy fields (next_thread threads so_far.at_hand)
+take_form threads so_far (Some form.Pass) fields =
+    check (is_between threads so_far) kind.Order
+    (add_pass so_far (pass_row (length (passes_of so_far)) fields))
+take_form threads so_far (Some form.End) fields =
+    check (is_between threads so_far) kind.Order
+    (add_end so_far (end_row (length (passes_of so_far)) fields))
+take_form threads so_far (Some form.Whole) fields =
+    take_look so_far form.Whole fields (next_thread threads so_far.at_hand)
+take_form threads so_far (Some form.Busy) fields =
+    take_look so_far form.Busy fields (next_thread threads so_far.at_hand)
 
 -- what the rows say with one more row, or the first of the row's checks that fails
 abbrev pub take_row : ℕ → Version → SoFar → Fields → Result SoFar FaultKind
@@ -146,6 +171,8 @@ take_row threads version so_far fields = take_form threads so_far (form_of versi
 abbrev pub whole : SoFar → Option (List SignalPass)
 whole so_far = if so_far.ended then Some so_far.before else None
 
--- the passes of a file of signals for so many threads, or the first of its checks that fails, with its row
+-- the passes of a file of signals for so many threads, or the first of its checks that fails, with
+-- its row
 abbrev pub signals_of : ℕ → List Fields → Result (List SignalPass) TraceFault
-signals_of threads rows = read_under (take_row threads) whole at_start (header_of (codes "caladan-signals") rows)
+signals_of threads rows =
+    read_under (take_row threads) whole at_start (header_of (codes "caladan-signals") rows)

@@ -8,7 +8,8 @@ use thiserror::Error;
 
 /// What is wrong with a row (this project's own). `kind as u8` is its number, 1 to 9.
 ///
-/// A file's fault is the first of its rows that has one; within a row the checks come in the order `Fields`, `Order` for
+/// A file's fault is the first of its rows that has one; within a row the checks come in the order
+/// `Fields`, `Order` for
 /// the row's kind at its place, `Number`, `Order` for its thread, its turn or its count, `Range`,
 /// `Backwards`, `Repeated`.
 #[derive(Clone, Copy, Debug, PartialEq, Eq, Error)]
@@ -16,7 +17,8 @@ pub enum FaultKind {
     /// The reader of rows answered an error other than memory. A text in memory gives none.
     #[error("cannot be read")]
     Read = 1,
-    /// The first row is not the file's header, or there is none. Another version is no header either.
+    /// The first row is not the file's header, or there is none. Another version is no header
+    /// either.
     #[error("is not the header")]
     Header = 2,
     /// The first field is none that the file knows, or the row has another number of fields.
@@ -25,8 +27,8 @@ pub enum FaultKind {
     /// A field is not a number: `0`, or digits with no zero in front, below 2^64.
     #[error("has a field that is no number")]
     Number = 4,
-    /// The row cannot stand here, is missing, comes after the end row, is of another thread than the
-    /// next, counts wrongly, or is a request that does not come after the last one.
+    /// The row cannot stand here, is missing, comes after the end row, is of another thread than
+    /// the next, counts wrongly, or is a request that does not come after the last one.
     #[error("cannot stand here")]
     Order = 5,
     /// A number is out of its range.

@@ -1,6 +1,7 @@
 //! Laws over the definitions alone, each the contract of a function that does nothing.
 
-ghost use Rattle.cal_trace.specs.Laws.{TextIsItsRows, TextIsReadBack, ReadIsReadBack, LegalIsReadBack};
+ghost use Rattle.cal_trace.specs.Laws.{TextIsItsRows, TextIsReadBack, ReadIsReadBack};
+ghost use Rattle.cal_trace.specs.Laws.{LegalIsReadBack};
 
 use cal_policy::{chosen_is_of_least_class, legal_is_short, legal_is_sound};
 
@@ -21,8 +22,8 @@ pub fn read_is_read_back()
     ensures { ReadIsReadBack }
 {}
 
-/// The text of a legal history is read, for its table, as that history, where a file can hold it: it
-/// has at most 1,048,576 passes, and its numbers are below 2 to the 64.
+/// The text of a legal history is read, for its table, as that history, where a file can hold it:
+/// it has at most 1,048,576 passes, and its numbers are below 2 to the 64.
 pub fn legal_is_read_back()
     ensures { LegalIsReadBack }
 {

@@ -1,6 +1,5 @@
 //! The report of a history: its passes, what they did, and the tasks at its end.
 
-pub mod standing;
 pub mod summary;
 
 ghost use Rattle.std.specs.Prelude.{◌<◌, ◌+◌, ◌^◌, ◌++◌, ◌∷◌, [], ℕ, List, Option, length, OnOk};
@@ -8,12 +7,16 @@ ghost use Rattle.std.specs.List.{flat_map};
 ghost use Rattle.std.specs.Io.KnownBytes.{Appends};
 ghost use Rattle.cal_policy.specs.declared.history.action.Action.{Action};
 ghost use Rattle.cal_policy.specs.declared.history.entry.PassEntry.{PassEntry};
-ghost use Rattle.cal_trace.specs.Report.{action_line, kept_line, kept_lines, pass_text, passes_text, report_text, revocation_line, task_line, task_lines};
-ghost use Rattle.cal_trace.specs.Report.Standing.{Agrees, IsReportOf};
+ghost use Rattle.cal_policy.specs.Board.{Agrees, IsReady};
+ghost use Rattle.cal_policy.specs.History.{actions_of};
+ghost use Rattle.cal_policy.specs.Judgement.Orderly.{IsOrderly};
+ghost use Rattle.cal_trace.specs.Report.{action_line, kept_line, kept_lines, pass_text};
+ghost use Rattle.cal_trace.specs.Report.{passes_text, report_text, revocation_line, task_line};
+ghost use Rattle.cal_trace.specs.Report.{task_lines, IsReportOf};
 
-use crate::report::standing::Standing;
 use crate::write_fault::WriteFault;
 use cal_machine::{Config, Kind};
+use cal_policy::state::{Board, board_of, booked_by, cap_of, held_by};
 use cal_policy::{Action, Cause, PassEntry, Seen};
 use std::io;
 use std::io::Write;
@@ -23,13 +26,11 @@ use std::io::Write;
 /// passes there are and a line for each task with the cores that it holds and leaves after the last
 /// pass.
 ///
-/// It keeps nothing of a pass that was written but its count, who has each core and the caps, and
-/// takes no memory of its own. The error is what the writer answered; then nothing is said of how
-/// much was written.
+/// It keeps nothing of a pass that was written but its count, and takes no memory of its own. The
+/// error is what the writer answered; then nothing is said of how much was written.
 #[derive(Drop)]
 pub struct Report {
     passes: u64,
-    standing: Standing,
 }
 
 impl Report {
@@ -37,10 +38,7 @@ impl Report {
     pub fn new() -> Report
         ensures { IsReportOf [] result }
     {
-        Report {
-            passes: 0,
-            standing: Standing::new(),
-        }
+        Report { passes: 0 }
     }
 
     /// Writes the lines of the next pass.
@@ -50,31 +48,42 @@ impl Report {
         writer: &mut W,
     ) -> Result<(), WriteFault>
         // After the lines of the passes so far stand those of one more.
-        ensures text { (start : Option (List ℕ)) (h : List PassEntry) → IsReportOf h self.old → Appends start (W.contents writer.old) (passes_text h) →
-            OnOk result (Appends start (W.contents writer.new) (passes_text (h ++ entry.now ∷ []))) }
+        ensures text { (start : Option (List ℕ)) (h : List PassEntry) → IsReportOf h self.old →
+            Appends start (W.contents writer.old) (passes_text h) →
+            OnOk result (Appends start (W.contents writer.new)
+            (passes_text (h ++ entry.now ∷ []))) }
         ensures of { (h : List PassEntry) → length h + 1 < 2 ^ 64 → IsReportOf h self.old →
             OnOk result (IsReportOf (h ++ entry.now ∷ []) self.new) }
     {
         write_pass(self.passes, entry, writer)?;
         self.passes = self.passes.saturating_add(1);
-        self.standing.apply_all(entry.actions.as_slice());
         Ok(())
     }
 
-    /// Writes what stands after the lines of the passes, by the table of the history.
-    pub fn write_end<W: Write>(&self, config: &Config, writer: &mut W) -> Result<(), WriteFault>
+    /// Writes what stands after the lines of the passes, by the table of the history and the state
+    /// that it leaves.
+    pub fn write_end<W: Write>(
+        &self,
+        config: &Config,
+        board: &Board,
+        writer: &mut W,
+    ) -> Result<(), WriteFault>
+        requires { IsReady config.now board.now }
         // After the lines of all passes it makes the whole report.
-        ensures { (start : Option (List ℕ)) (h : List PassEntry) → IsReportOf h self.now → Appends start (W.contents writer.old) (passes_text h) →
+        ensures { (start : Option (List ℕ)) (h : List PassEntry) → IsReportOf h self.now →
+            Agrees board.now (actions_of h) →
+            Appends start (W.contents writer.old) (passes_text h) →
             OnOk result (Appends start (W.contents writer.new) (report_text config.now h)) }
     {
         let passes = self.passes;
         writeln!(writer, "end {passes} passes")?;
-        write_tasks(config, &self.standing, writer)?;
+        write_tasks(config, board, writer)?;
         Ok(())
     }
 }
 
-/// Writes the report of a whole history, as `Report` has it.
+/// Writes the report of a whole history, as `Report` has it. The history is to be orderly, which
+/// each legal one is.
 ///
 /// The error is what the writer answered; then nothing is said of how much was written. It takes no
 /// memory of its own.
@@ -83,17 +92,20 @@ pub fn write_report<W: Write>(
     history: &[PassEntry],
     writer: &mut W,
 ) -> Result<(), WriteFault>
-    ensures { OnOk result (Appends (W.contents writer.old) (W.contents writer.new) (report_text config.now history.now)) }
+    requires { IsOrderly config.now history.now }
+    ensures { OnOk result (Appends (W.contents writer.old) (W.contents writer.new)
+        (report_text config.now history.now)) }
 {
     let mut report = Report::new();
     for pass in 0..history.len() {
         report.write_pass(&history[pass], writer)?;
     }
-    report.write_end(config, writer)
+    report.write_end(config, &board_of(config, history), writer)
 }
 
 fn write_pass<W: Write>(pass: u64, entry: &PassEntry, writer: &mut W) -> io::Result<()>
-    ensures { OnOk result (Appends (W.contents writer.old) (W.contents writer.new) (pass_text pass entry.now)) }
+    ensures { OnOk result (Appends (W.contents writer.old) (W.contents writer.new)
+        (pass_text pass entry.now)) }
 {
     let now = entry.input.now;
     let bandwidth = entry.input.bandwidth;
@@ -104,7 +116,8 @@ fn write_pass<W: Write>(pass: u64, entry: &PassEntry, writer: &mut W) -> io::Res
 
 // The looks that left the kept record as it was.
 fn write_kept<W: Write>(seen: &[Seen], writer: &mut W) -> io::Result<()>
-    ensures { OnOk result (Appends (W.contents writer.old) (W.contents writer.new) (kept_lines seen.now)) }
+    ensures { OnOk result (Appends (W.contents writer.old) (W.contents writer.new)
+        (kept_lines seen.now)) }
 {
     for thread in 0..seen.len() {
         write_look(thread, seen[thread], writer)?;
@@ -113,7 +126,8 @@ fn write_kept<W: Write>(seen: &[Seen], writer: &mut W) -> io::Result<()>
 }
 
 fn write_look<W: Write>(thread: usize, look: Seen, writer: &mut W) -> io::Result<()>
-    ensures { OnOk result (Appends (W.contents writer.old) (W.contents writer.new) (kept_line thread look)) }
+    ensures { OnOk result (Appends (W.contents writer.old) (W.contents writer.new)
+        (kept_line thread look)) }
 {
     match look {
         Seen::Whole { .. } => Ok(()),
@@ -124,7 +138,8 @@ fn write_look<W: Write>(thread: usize, look: Seen, writer: &mut W) -> io::Result
 }
 
 fn write_actions<W: Write>(actions: &[Action], writer: &mut W) -> io::Result<()>
-    ensures { OnOk result (Appends (W.contents writer.old) (W.contents writer.new) (flat_map action_line actions.now)) }
+    ensures { OnOk result (Appends (W.contents writer.old) (W.contents writer.new)
+        (flat_map action_line actions.now)) }
 {
     for action in actions {
         write_action(*action, writer)?;
@@ -133,7 +148,8 @@ fn write_actions<W: Write>(actions: &[Action], writer: &mut W) -> io::Result<()>
 }
 
 fn write_action<W: Write>(action: Action, writer: &mut W) -> io::Result<()>
-    ensures { OnOk result (Appends (W.contents writer.old) (W.contents writer.new) (action_line action)) }
+    ensures { OnOk result (Appends (W.contents writer.old) (W.contents writer.new)
+        (action_line action)) }
 {
     match action {
         Action::Free { core } => writeln!(writer, "  free core {core}"),
@@ -164,7 +180,8 @@ fn write_action<W: Write>(action: Action, writer: &mut W) -> io::Result<()>
 }
 
 fn write_revocation<W: Write>(core: u8, cause: Cause, writer: &mut W) -> io::Result<()>
-    ensures { OnOk result (Appends (W.contents writer.old) (W.contents writer.new) (revocation_line core cause)) }
+    ensures { OnOk result (Appends (W.contents writer.old) (W.contents writer.new)
+        (revocation_line core cause)) }
 {
     match cause {
         Cause::Ban { by } => writeln!(writer, "  revoke core {core} for ban by core {by}"),
@@ -173,32 +190,39 @@ fn write_revocation<W: Write>(core: u8, cause: Cause, writer: &mut W) -> io::Res
     }
 }
 
-fn write_tasks<W: Write>(config: &Config, standing: &Standing, writer: &mut W) -> io::Result<()>
-    ensures { (x : List Action) → Agrees standing.now x → OnOk result (Appends (W.contents writer.old) (W.contents writer.new) (task_lines config.now x (length config.now.tasks))) }
+fn write_tasks<W: Write>(config: &Config, board: &Board, writer: &mut W) -> io::Result<()>
+    requires { IsReady config.now board.now }
+    ensures { (x : List Action) → Agrees board.now x →
+        OnOk result (Appends (W.contents writer.old) (W.contents writer.new)
+        (task_lines config.now x (length config.now.tasks))) }
 {
     for task in 0..config.tasks() {
-        write_task(config, standing, task, writer)?;
+        write_task(config, board, task, writer)?;
     }
     Ok(())
 }
 
 fn write_task<W: Write>(
     config: &Config,
-    standing: &Standing,
+    board: &Board,
     task: usize,
     writer: &mut W,
 ) -> io::Result<()>
-    requires { task < length config.now.tasks }
-    ensures { (x : List Action) → Agrees standing.now x → OnOk result (Appends (W.contents writer.old) (W.contents writer.new) (task_line config.now x task)) }
+    requires ready { IsReady config.now board.now }
+    requires task { task < length config.now.tasks }
+    ensures { (x : List Action) → Agrees board.now x →
+        OnOk result (Appends (W.contents writer.old) (W.contents writer.new)
+        (task_line config.now x task)) }
 {
-    let held = standing.held(config, task);
-    let leaving = standing.booked(config, task).saturating_sub(held);
+    config.limits();
+    let held = held_by(config, board, task);
+    let leaving = booked_by(config, board, task).saturating_sub(held);
     match config.task(task).kind {
         Kind::LatencyCritical => {
             writeln!(writer, "task {task} lc held {held} leaving {leaving}")
         }
         Kind::BestEffort => {
-            let cap = standing.cap(config, task);
+            let cap = cap_of(config, board, task);
             writeln!(
                 writer,
                 "task {task} be held {held} leaving {leaving} cap {cap}"

@@ -12,7 +12,8 @@ use Rattle.cal_trace.specs.declared.arrivals.Arrivals.{Arrivals}
 pub record EachLater {X : Type 0} (P : X → X → Type 0) (xs : List X) : Type 0 where
   pub at : (i j : ℕ) (x y : X) → i < j → slice_get xs i ≡ Some x → slice_get xs j ≡ Some y → P x y
 
--- a request for one of so many threads, before one of so many turns, with its work and its misses in their ranges
+-- a request for one of so many threads, before one of so many turns, with its work and its misses
+-- in their ranges
 pub record IsArrival (threads turns : ℕ) (arrival : Arrival) : Type 0 where
   pub thread : arrival.thread < threads
   pub turn : arrival.turn < turns
@@ -20,7 +21,8 @@ pub record IsArrival (threads turns : ℕ) (arrival : Arrival) : Type 0 where
   pub most_work : arrival.request.work ≤ 1000000
   pub misses : arrival.request.misses ≤ 4294967295
 
--- one request comes before another: for an earlier thread, or for the same one and before an earlier turn
+-- one request comes before another: for an earlier thread, or for the same one and before an
+-- earlier turn
 abbrev pub ComesBefore : Arrival → Arrival → Type 0
 ComesBefore a b = (a.thread < b.thread) ⊎ ((a.thread ≡ b.thread) × (a.turn < b.turn))
 
@@ -38,8 +40,9 @@ pub record Fits (threads : ℕ) (arrivals : Arrivals) : Type 0 where
   pub rising : EachLater ComesBefore arrivals.requests
   pub once : EachLater HaveTwoIds arrivals.requests
 
--- arrivals that fit a table: at most 1,048,576 passes and 174,762 turns; turns' clocks at least 1 and never falling; each
--- request for a thread of the table and before a turn that there is, of 1 to 1,000,000 work and at most 4,294,967,295 misses;
--- requests in strictly rising order of thread and turn; each id once
+-- arrivals that fit a table: at most 1,048,576 passes and 174,762 turns; turns' clocks at least 1
+-- and never falling; each request for a thread of the table and before a turn that there is, of 1
+-- to 1,000,000 work and at most 4,294,967,295 misses; requests in strictly rising order of thread
+-- and turn; each id once
 abbrev pub FitsTable : Table → Arrivals → Type 0
 FitsTable table arrivals = Fits (threads_in table.tasks) arrivals

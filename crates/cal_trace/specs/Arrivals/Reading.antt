@@ -9,9 +9,15 @@ use Rattle.cal_trace.specs.declared.arrivals.reading.ArrivalReading.{ArrivalRead
 
 -- what the rows so far have given
 abbrev pub so_far : ArrivalReading → SoFar
-so_far reading = record { passes = reading.passes.items; turns = reading.turns.items; requests = reading.requests.items; ended = reading.ended }
+so_far reading = record {
+  passes = reading.passes.items;
+  turns = reading.turns.items;
+  requests = reading.requests.items;
+  ended = reading.ended;
+}
 
--- the ids at hand are those of the requests so far, and there are no more passes and turns than a file may have
+-- the ids at hand are those of the requests so far, and there are no more passes and turns than a
+-- file may have
 pub record IsKept (reading : ArrivalReading) : Type 0 where
   pub ids : (id : ℕ) → sets.contains nat_cmp reading.ids id ≡ is_given id reading.requests.items
   pub few_passes : vec_len reading.passes ≤ most_passes

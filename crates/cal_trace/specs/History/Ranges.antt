@@ -4,7 +4,8 @@ use Rattle.cal_signal.specs.declared.record.Record.{Record}
 use Rattle.cal_policy.specs.declared.history.look.Seen.{Seen}
 use Rattle.cal_policy.specs.declared.history.look.Seen.TheVariants as seen
 use Rattle.cal_policy.specs.declared.history.action.Action.{Action}
-use Rattle.cal_policy.specs.declared.history.action.Action.TheVariants.{Free, Unban, Ban, Revoke, Cap, Grant}
+use Rattle.cal_policy.specs.declared.history.action.Action.TheVariants.{Free, Unban, Ban, Revoke}
+use Rattle.cal_policy.specs.declared.history.action.Action.TheVariants.{Cap, Grant}
 use Rattle.cal_policy.specs.declared.history.action.Cause.{Cause}
 use Rattle.cal_policy.specs.declared.history.action.Cause.TheVariants as causes
 use Rattle.cal_policy.specs.declared.history.entry.PassEntry.{PassEntry}
@@ -77,9 +78,11 @@ IsActionInRange extent (Unban core) = core < extent.cores
 IsActionInRange extent (Ban core thread started) = (core < extent.cores) × (thread < extent.threads)
 IsActionInRange extent (Revoke core cause) = (core < extent.cores) × IsCauseInRange extent cause
 IsActionInRange extent (Cap task cap) = (task < extent.tasks) × (cap ≤ 16)
-IsActionInRange extent (Grant core thread class) = (core < extent.cores) × (thread < extent.threads) × (1 ≤ class) × (class ≤ 5)
+IsActionInRange extent (Grant core thread class) =
+    (core < extent.cores) × (thread < extent.threads) × (1 ≤ class) × (class ≤ 5)
 
--- a pass: one look and one answer on room for each thread, no more actions than a pass can have, and all in range
+-- a pass: one look and one answer on room for each thread, no more actions than a pass can have,
+-- and all in range
 pub record IsEntryInRange (extent : Extent) (entry : PassEntry) : Type 0 where
   pub looks : length entry.input.seen ≡ extent.threads
   pub rooms : length entry.input.rooms ≡ extent.threads

@@ -19,15 +19,25 @@ use Rattle.cal_trace.specs.declared.rows.version.Version.{Version}
 -- a pass at hand, with the looks and actions that it has so far
 abbrev pub entry_at_hand : OpenEntry → PassEntry
 entry_at_hand entry = record {
-  input = record { now = entry.now; bandwidth = entry.bandwidth; seen = entry.seen.items; rooms = entry.rooms.items };
+  input = record {
+    now = entry.now;
+    bandwidth = entry.bandwidth;
+    seen = entry.seen.items;
+    rooms = entry.rooms.items;
+  };
   actions = entry.actions.items;
 }
 
 -- what the rows so far have given, where these passes were handed out
 abbrev pub so_far : List PassEntry → HistoryReading → SoFar
-so_far given reading = record { before = given; at_hand = option_map entry_at_hand reading.at_hand; ended = reading.ended }
+so_far given reading = record {
+  before = given;
+  at_hand = option_map entry_at_hand reading.at_hand;
+  ended = reading.ended;
+}
 
--- what is kept of the passes that were handed out: their number, which is no more than a file may have
+-- what is kept of the passes that were handed out: their number, which is no more than a file may
+-- have
 pub record IsKept (given : List PassEntry) (reading : HistoryReading) : Type 0 where
   pub passes : reading.passes ≡ length (entries_of (so_far given reading))
   pub few : reading.passes ≤ most_passes
@@ -38,7 +48,11 @@ file_of reading = (reading.extent, reading.version)
 
 -- how many cores, threads and tasks a table has
 abbrev pub extent_of : Table → Extent
-extent_of table = record { cores = table.cores; threads = threads_in table.tasks; tasks = length table.tasks }
+extent_of table = record {
+  cores = table.cores;
+  threads = threads_in table.tasks;
+  tasks = length table.tasks;
+}
 
 -- more rows can be read
 abbrev pub IsOpen : HistoryRows → Type 0
@@ -50,14 +64,22 @@ rows_left history = length (rest_of history.rows)
 
 -- what these passes and the rows still to come give
 abbrev pub still_gives : List PassEntry → HistoryRows → Result (List PassEntry) TraceFault
-still_gives given history = read_from (take_row history.reading.extent history.reading.version) whole (so_far given history.reading) history.rows.number (rest_of history.rows)
+still_gives given history =
+    read_from (take_row history.reading.extent history.reading.version) whole
+    (so_far given history.reading) history.rows.number (rest_of history.rows)
 
--- These passes of a text were given, for a table of this extent: they and the rows still to come give what the whole text gives.
-pub record HasGiven (extent : Extent) (text : List ℕ) (given : List PassEntry) (history : HistoryRows) : Type 0 where
+-- These passes of a text were given, for a table of this extent: they and the rows still to come
+-- give what the whole text gives.
+pub record HasGiven (extent : Extent) (text : List ℕ) (given : List PassEntry)
+    (history : HistoryRows) : Type 0 where
   pub of : history.reading.extent ≡ extent
   pub kept : IsKept given history.reading
   pub same : still_gives given history ≡ history_of extent (rows_of text)
 
--- after these passes there is one more, or they are all that the text has, or the text has this fault
-abbrev pub GivesNext : Extent → List ℕ → List PassEntry → Result (Option PassEntry) TraceFault → HistoryRows → Type 0
-GivesNext extent text given result new = passes.GivesNext (λ all. HasGiven extent text all new) (history_of extent (rows_of text)) given result
+-- after these passes there is one more, or they are all that the text has, or the text has this
+-- fault
+abbrev pub GivesNext : Extent → List ℕ → List PassEntry → Result (Option PassEntry) TraceFault →
+    HistoryRows → Type 0
+GivesNext extent text given result new =
+    passes.GivesNext (λ all. HasGiven extent text all new)
+    (history_of extent (rows_of text)) given result

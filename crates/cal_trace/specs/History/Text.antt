@@ -1,11 +1,13 @@
 -- The text of a history, as it is written: version 2.
-use Rattle.std.specs.Prelude.{ℕ, List, [], ◌∷◌, ◌++◌, length, map, codes, decimal, slice_index_or, Bool, false, if◌then◌else◌}
+use Rattle.std.specs.Prelude.{ℕ, List, [], ◌∷◌, ◌++◌, length, map, codes, decimal, slice_index_or}
+use Rattle.std.specs.Prelude.{Bool, false, if◌then◌else◌}
 use Rattle.std.specs.List.{flat_map}
 use Rattle.cal_signal.specs.declared.record.Record.{Record}
 use Rattle.cal_policy.specs.declared.history.look.Seen.{Seen}
 use Rattle.cal_policy.specs.declared.history.look.Seen.TheVariants as seen
 use Rattle.cal_policy.specs.declared.history.action.Action.{Action}
-use Rattle.cal_policy.specs.declared.history.action.Action.TheVariants.{Free, Unban, Ban, Revoke, Cap, Grant}
+use Rattle.cal_policy.specs.declared.history.action.Action.TheVariants.{Free, Unban, Ban, Revoke}
+use Rattle.cal_policy.specs.declared.history.action.Action.TheVariants.{Cap, Grant}
 use Rattle.cal_policy.specs.declared.history.action.Cause.{Cause}
 use Rattle.cal_policy.specs.declared.history.action.Cause.TheVariants as causes
 use Rattle.cal_policy.specs.declared.history.entry.PassEntry.{PassEntry}
@@ -19,34 +21,44 @@ room_number room = if room then 1 else 0
 -- the nine words of a record
 abbrev pub words_of : Record → Fields
 words_of rec =
-    decimal rec.taken ∷ decimal rec.running ∷ decimal rec.queued ∷ decimal rec.oldest ∷ decimal rec.started
+    decimal rec.taken ∷ decimal rec.running ∷ decimal rec.queued ∷ decimal rec.oldest ∷
+    decimal rec.started
     ∷ decimal rec.misses ∷ decimal rec.stamp ∷ decimal rec.paused ∷ decimal rec.since ∷ []
 
 -- the row of a look that found a record
 abbrev pub record_fields : List ℕ → ℕ → Bool → ℕ → Record → Fields
-record_fields word thread room number rec = word ∷ decimal thread ∷ decimal (room_number room) ∷ decimal number ∷ words_of rec
+record_fields word thread room number rec =
+    word ∷ decimal thread ∷ decimal (room_number room) ∷ decimal number ∷ words_of rec
 
 -- the row of a look at a thread
 abbrev pub look_fields : ℕ → Bool → Seen → Fields
-look_fields thread room (seen.Whole number rec) = record_fields (codes "whole") thread room number rec
-look_fields thread room (seen.Ahead number rec) = record_fields (codes "ahead") thread room number rec
-look_fields thread room (seen.Foreign number rec) = record_fields (codes "foreign") thread room number rec
-look_fields thread room (seen.Busy first second) = codes "busy" ∷ decimal thread ∷ decimal (room_number room) ∷ decimal first ∷ decimal second ∷ []
+look_fields thread room (seen.Whole number rec) =
+    record_fields (codes "whole") thread room number rec
+look_fields thread room (seen.Ahead number rec) =
+    record_fields (codes "ahead") thread room number rec
+look_fields thread room (seen.Foreign number rec) =
+    record_fields (codes "foreign") thread room number rec
+look_fields thread room (seen.Busy first second) =
+    codes "busy" ∷ decimal thread ∷ decimal (room_number room) ∷ decimal first ∷ decimal second ∷ []
 
 -- the row of a revocation
 abbrev pub revocation_fields : ℕ → Cause → Fields
-revocation_fields core (causes.Ban by) = codes "revoke" ∷ decimal core ∷ codes "ban" ∷ decimal by ∷ []
+revocation_fields core (causes.Ban by) =
+    codes "revoke" ∷ decimal core ∷ codes "ban" ∷ decimal by ∷ []
 revocation_fields core causes.Bandwidth = codes "revoke" ∷ decimal core ∷ codes "bandwidth" ∷ []
-revocation_fields core (causes.Preempt task) = codes "revoke" ∷ decimal core ∷ codes "preempt" ∷ decimal task ∷ []
+revocation_fields core (causes.Preempt task) =
+    codes "revoke" ∷ decimal core ∷ codes "preempt" ∷ decimal task ∷ []
 
 -- the row of an action
 abbrev pub action_fields : Action → Fields
 action_fields (Free core) = codes "free" ∷ decimal core ∷ []
 action_fields (Unban core) = codes "unban" ∷ decimal core ∷ []
-action_fields (Ban core thread started) = codes "ban" ∷ decimal core ∷ decimal thread ∷ decimal started ∷ []
+action_fields (Ban core thread started) =
+    codes "ban" ∷ decimal core ∷ decimal thread ∷ decimal started ∷ []
 action_fields (Revoke core cause) = revocation_fields core cause
 action_fields (Cap task cap) = codes "cap" ∷ decimal task ∷ decimal cap ∷ []
-action_fields (Grant core thread class) = codes "grant" ∷ decimal core ∷ decimal thread ∷ decimal class ∷ []
+action_fields (Grant core thread class) =
+    codes "grant" ∷ decimal core ∷ decimal thread ∷ decimal class ∷ []
 
 -- the row that begins a pass
 abbrev pub pass_fields : PassEntry → Fields
@@ -54,11 +66,14 @@ pass_fields entry = codes "pass" ∷ decimal entry.input.now ∷ decimal entry.i
 
 -- the rows of a pass's looks, in thread order
 abbrev pub look_rows : List Bool → List Seen → List Fields
-look_rows rooms looks = numbered (λ k look. look_fields k (slice_index_or rooms k false) look) 0 looks
+look_rows rooms looks =
+    numbered (λ k look. look_fields k (slice_index_or rooms k false) look) 0 looks
 
 -- the rows of a pass
 abbrev pub entry_rows : PassEntry → List Fields
-entry_rows entry = pass_fields entry ∷ look_rows entry.input.rooms entry.input.seen ++ map action_fields entry.actions
+entry_rows entry =
+    pass_fields entry ∷ look_rows entry.input.rooms entry.input.seen
+    ++ map action_fields entry.actions
 
 abbrev pub header_row : Fields
 header_row = codes "caladan-history" ∷ codes "2" ∷ []

@@ -22,6 +22,7 @@ abbrev pub if_one : Version → List Fields → Result (Version × List Fields) 
 if_one version.One rest = Ok (version.One, rest)
 if_one version.Two rest = Err (record { row = 1; kind = kind.Header })
 
-abbrev pub in_version_one : Result (Version × List Fields) TraceFault → Result (Version × List Fields) TraceFault
+abbrev pub in_version_one : Result (Version × List Fields) TraceFault →
+    Result (Version × List Fields) TraceFault
 in_version_one (Err fault) = Err fault
 in_version_one (Ok file) = if_one file.0 file.1

@@ -1,4 +1,5 @@
--- Look rows and pass rows, as signals and histories have them: a row's value, or the first of its checks that fails.
+-- Look rows and pass rows, as signals and histories have them: a row's value, or the first of its
+-- checks that fails.
 use Rattle.std.specs.Prelude.{◌==◌, ◌&&◌, nat_lt, ℕ, Bool, Result, Ok, Err, if◌then◌else◌}
 use Rattle.cal_trace.specs.Rows.RowFields.{number_at, has_numbers}
 use Rattle.cal_trace.specs.Rows.{Fields}
@@ -31,15 +32,23 @@ whole_row thread fields =
     check (has_numbers fields) kind.Number (
     check (number_at fields 1 == thread) kind.Order (
     check (nat_lt (number_at fields 2) 2 && is_shaped (record_of fields)) kind.Range (
-    Ok (record { room = number_at fields 2 == 1; shown = record { number = number_at fields 3; rec = record_of fields } }))))
+    Ok (record {
+      room = number_at fields 2 == 1;
+      shown = record { number = number_at fields 3; rec = record_of fields };
+    }))))
 
 -- a row of a busy look, where the next look is this thread's
 abbrev pub busy_row : ℕ → Fields → Result BusyRow FaultKind
 busy_row thread fields =
     check (has_numbers fields) kind.Number (
     check (number_at fields 1 == thread) kind.Order (
-    check (nat_lt (number_at fields 2) 2 && is_busy_pair (number_at fields 3) (number_at fields 4)) kind.Range (
-    Ok (record { room = number_at fields 2 == 1; first = number_at fields 3; second = number_at fields 4 }))))
+    check (nat_lt (number_at fields 2) 2 &&
+    is_busy_pair (number_at fields 3) (number_at fields 4)) kind.Range (
+    Ok (record {
+      room = number_at fields 2 == 1;
+      first = number_at fields 3;
+      second = number_at fields 4;
+    }))))
 
 -- an end row after so many passes: what it gives is their number
 abbrev pub end_row : ℕ → Fields → Result ℕ FaultKind

@@ -9,8 +9,10 @@ module _ {Pass : Type 0} where
   abbrev pub with_closed : List Pass → Option Pass → List Pass
   with_closed given closed = given ++ option_to_list closed
 
-  -- After these passes of a file that gives so there is one more, and then HasGiven is so of it and those before it; or they are all that the file has, or it has this fault.
-  abbrev pub GivesNext : (List Pass → Type 0) → Result (List Pass) TraceFault → List Pass → Result (Option Pass) TraceFault → Type 0
+  -- After these passes of a file that gives so there is one more, and then HasGiven is so of it and
+  -- those before it; or they are all that the file has, or it has this fault.
+  abbrev pub GivesNext : (List Pass → Type 0) → Result (List Pass) TraceFault → List Pass →
+      Result (Option Pass) TraceFault → Type 0
   GivesNext HasGiven file given (Ok (Some pass)) = HasGiven (given ++ pass ∷ [])
   GivesNext HasGiven file given (Ok None) = file ≡ Ok given
   GivesNext HasGiven file given (Err fault) = Decided fault.kind (file ≡ Err fault)

@@ -1,4 +1,5 @@
--- Signals that can be decided: one look for each thread in each pass, and each look fits what its thread showed before.
+-- Signals that can be decided: one look for each thread in each pass, and each look fits what its
+-- thread showed before.
 use Rattle.std.specs.Prelude.{◌≡◌, ◌≤◌, ℕ, List, length, take, Option, Some, None, slice_get}
 use Rattle.cal_signal.specs.declared.look.Look.{Look}
 use Rattle.cal_signal.specs.declared.look.Look.TheVariants as look
@@ -16,7 +17,9 @@ IsFitting last (look.Busy first second) = IsBusyPair first second
 
 -- each of these looks is one that its thread may give after these passes; the first is thread 0's
 abbrev pub AreFitting : List SignalPass → List FoundLook → Type 0
-AreFitting before looks = (k : ℕ) (seen : FoundLook) → slice_get looks k ≡ Some seen → IsFitting (last_shown k before) seen.look
+AreFitting before looks =
+    (k : ℕ) (seen : FoundLook) → slice_get looks k ≡ Some seen →
+    IsFitting (last_shown k before) seen.look
 
 -- a pass after these: one look for each of so many threads, and each fits
 pub record IsFittingPass (threads : ℕ) (before : List SignalPass) (pass : SignalPass) : Type 0 where
@@ -25,7 +28,8 @@ pub record IsFittingPass (threads : ℕ) (before : List SignalPass) (pass : Sign
 
 -- each pass fits those before it
 pub record AreFittingPasses (threads : ℕ) (passes : List SignalPass) : Type 0 where
-  pub each : (p : ℕ) (pass : SignalPass) → slice_get passes p ≡ Some pass → IsFittingPass threads (take p passes) pass
+  pub each : (p : ℕ) (pass : SignalPass) → slice_get passes p ≡ Some pass →
+      IsFittingPass threads (take p passes) pass
 
 -- the looks of a pass at hand fit, as far as they were read
 abbrev pub IsHand : ℕ → List SignalPass → Option SignalPass → Type 0

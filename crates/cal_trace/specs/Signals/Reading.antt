@@ -1,5 +1,6 @@
 -- What the reader of signals keeps, and what it means: nothing of a pass that was handed out.
-use Rattle.std.specs.Prelude.{◌≡◌, ◌<◌, ◌≤◌, ◌++◌, ◌∷◌, [], ℕ, List, length, Option, Some, None, Result, Ok, Err, slice_index_or}
+use Rattle.std.specs.Prelude.{◌≡◌, ◌<◌, ◌≤◌, ◌++◌, ◌∷◌, [], ℕ, List, length, Option, Some, None}
+use Rattle.std.specs.Prelude.{Result, Ok, Err, slice_index_or}
 use Rattle.std.specs.Option.{option_map, option_to_list}
 use Rattle.std.specs.Vec.{vec_len}
 use Rattle.cal_signal.specs.Shown.{nothing_shown}
@@ -21,7 +22,11 @@ pass_at_hand pass = record { now = pass.now; bandwidth = pass.bandwidth; looks =
 
 -- what the rows so far have given, where these passes were handed out
 abbrev pub so_far : List SignalPass → SignalReading → SoFar
-so_far given reading = record { before = given; at_hand = option_map pass_at_hand reading.at_hand; ended = reading.ended }
+so_far given reading = record {
+  before = given;
+  at_hand = option_map pass_at_hand reading.at_hand;
+  ended = reading.ended;
+}
 
 -- the passes that were handed out, after a row that may have closed one more
 abbrev pub with_closed : List SignalPass → Option SignalPass → List SignalPass
@@ -34,7 +39,9 @@ HasPlaces reading = vec_len reading.shown ≡ reading.threads
 -- what is kept of the passes that were handed out: their number, and what each thread showed last
 pub record IsKept (given : List SignalPass) (reading : SignalReading) : Type 0 where
   pub passes : reading.passes ≡ length (passes_of (so_far given reading))
-  pub shown : (k : ℕ) → k < reading.threads → slice_index_or reading.shown.items k nothing_shown ≡ last_shown k (passes_of (so_far given reading))
+  pub shown : (k : ℕ) → k < reading.threads →
+      slice_index_or reading.shown.items k nothing_shown ≡
+      last_shown k (passes_of (so_far given reading))
 
 -- the file is the same
 pub record IsSameFile (old new : SignalReading) : Type 0 where
@@ -50,16 +57,23 @@ pub record IsOpen (signals : SignalRows) : Type 0 where
 abbrev pub rows_left : SignalRows → ℕ
 rows_left signals = length (rest_of signals.rows)
 
--- These passes of a text were given, for so many threads. They fit, and they and the rows still to come give what the whole text gives.
-pub record HasGiven (threads : ℕ) (text : List ℕ) (given : List SignalPass) (signals : SignalRows) : Type 0 where
+-- These passes of a text were given, for so many threads. They fit, and they and the rows still to
+-- come give what the whole text gives.
+pub record HasGiven (threads : ℕ) (text : List ℕ) (given : List SignalPass)
+    (signals : SignalRows) : Type 0 where
   pub extent : signals.reading.threads ≡ threads
   pub kept : IsKept given signals.reading
   pub fit : IsFittingSoFar threads (so_far given signals.reading)
   pub few : length (passes_of (so_far given signals.reading)) ≤ most_passes
-  pub same : read_from (take_row threads signals.reading.version) whole (so_far given signals.reading) signals.rows.number (rest_of signals.rows) ≡ signals_of threads (rows_of text)
+  pub same : read_from (take_row threads signals.reading.version) whole
+      (so_far given signals.reading) signals.rows.number (rest_of signals.rows) ≡
+      signals_of threads (rows_of text)
 
--- after these passes there is one more, or they are all that the text has, or the text has this fault
-abbrev pub GivesNext : ℕ → List ℕ → List SignalPass → Result (Option SignalPass) TraceFault → SignalRows → Type 0
+-- after these passes there is one more, or they are all that the text has, or the text has this
+-- fault
+abbrev pub GivesNext : ℕ → List ℕ → List SignalPass → Result (Option SignalPass) TraceFault →
+    SignalRows → Type 0
 GivesNext threads text given (Ok (Some pass)) new = HasGiven threads text (given ++ pass ∷ []) new
 GivesNext threads text given (Ok None) new = signals_of threads (rows_of text) ≡ Ok given
-GivesNext threads text given (Err fault) new = Decided fault.kind (signals_of threads (rows_of text) ≡ Err fault)
+GivesNext threads text given (Err fault) new =
+    Decided fault.kind (signals_of threads (rows_of text) ≡ Err fault)

@@ -22,7 +22,8 @@ use std::alloc::Global;
 /// rows and of the checks of a row. `Memory` comes only where memory was refused. `Read` comes only
 /// where `csv` fails to read, which it does not on a text in memory. `Backwards` never comes.
 pub fn read_arrivals(alloc: Global, config: &Config, text: &[u8]) -> Result<Arrivals, TraceFault>
-    ensures gives { Gives (λ arrivals. arrivals) result (arrivals_of (threads_in config.now.tasks) (rows_of text.now)) }
+    ensures gives { Gives (λ arrivals. arrivals) result
+        (arrivals_of (threads_in config.now.tasks) (rows_of text.now)) }
     ensures fits { IfOk result (FitsTable config.now) }
 {
     let mut rows = Rows::open(alloc, text);

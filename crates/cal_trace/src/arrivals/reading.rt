@@ -16,7 +16,8 @@ use csv::ByteRecord;
 use std::alloc::Global;
 use std::collections::BTreeSet;
 
-/// The most turns that a file may have: as many as a thread's journal holds, whatever they do.
+/// The most turns that a file may have: few enough that no thread's journal is ever full. This
+/// project's own limit.
 pub const MOST_TURNS: usize = 174_762;
 
 /// What a row of a file of arrivals is, by its first field and its number of fields.
@@ -168,7 +169,8 @@ impl ArrivalReading {
 
     fn take_pass(&mut self, row: &ByteRecord) -> Result<(), FaultKind>
         requires { IsKept self.old }
-        ensures takes { Takes (λ _. so_far self.new) result (take_form self.old.threads (so_far self.old) (Some form.Pass) (fields_of row.now)) }
+        ensures takes { Takes (λ _. so_far self.new) result
+            (take_form self.old.threads (so_far self.old) (Some form.Pass) (fields_of row.now)) }
         ensures kept { OnOk result (IsKept self.new) }
         ensures file { self.new.threads ≡ self.old.threads }
     {
@@ -185,7 +187,8 @@ impl ArrivalReading {
 
     fn take_turn(&mut self, row: &ByteRecord) -> Result<(), FaultKind>
         requires { IsKept self.old }
-        ensures takes { Takes (λ _. so_far self.new) result (take_form self.old.threads (so_far self.old) (Some form.Turn) (fields_of row.now)) }
+        ensures takes { Takes (λ _. so_far self.new) result
+            (take_form self.old.threads (so_far self.old) (Some form.Turn) (fields_of row.now)) }
         ensures kept { OnOk result (IsKept self.new) }
         ensures file { self.new.threads ≡ self.old.threads }
     {
@@ -199,7 +202,8 @@ impl ArrivalReading {
 
     fn take_arrival(&mut self, row: &ByteRecord) -> Result<(), FaultKind>
         requires { IsKept self.old }
-        ensures takes { Takes (λ _. so_far self.new) result (take_form self.old.threads (so_far self.old) (Some form.Arrival) (fields_of row.now)) }
+        ensures takes { Takes (λ _. so_far self.new) result
+            (take_form self.old.threads (so_far self.old) (Some form.Arrival) (fields_of row.now)) }
         ensures kept { OnOk result (IsKept self.new) }
         ensures file { self.new.threads ≡ self.old.threads }
     {
@@ -217,7 +221,8 @@ impl ArrivalReading {
 
     fn take_end(&mut self, row: &ByteRecord) -> Result<(), FaultKind>
         requires { IsKept self.old }
-        ensures takes { Takes (λ _. so_far self.new) result (take_form self.old.threads (so_far self.old) (Some form.End) (fields_of row.now)) }
+        ensures takes { Takes (λ _. so_far self.new) result
+            (take_form self.old.threads (so_far self.old) (Some form.End) (fields_of row.now)) }
         ensures kept { OnOk result (IsKept self.new) }
         ensures file { self.new.threads ≡ self.old.threads }
     {

@@ -1,7 +1,9 @@
 //! The action rows of a history.
 
 ghost use Rattle.std.specs.Prelude.{◌≡◌};
-ghost use Rattle.cal_trace.specs.History.ActionRows.{action_form, action_row, core_row, ban_row, revoke_row, cap_row, grant_row, revoke_for_bandwidth_row};
+ghost use Rattle.cal_trace.specs.History.ActionRows.{action_form, action_row, core_row, ban_row};
+ghost use Rattle.cal_trace.specs.History.ActionRows.{revoke_row, cap_row, grant_row};
+ghost use Rattle.cal_trace.specs.History.ActionRows.{revoke_for_bandwidth_row};
 ghost use Rattle.csv.specs.Records.{fields_of};
 
 use crate::fault::FaultKind;
@@ -66,8 +68,8 @@ pub(crate) fn action_form(row: &ByteRecord) -> Option<ActionForm>
     }
 }
 
-/// Reads an action row of this form. `Number` where a field is none, then `Range` where it names what the table has not, a
-/// class that is not 1 to 5 or a cap above 16.
+/// Reads an action row of this form. `Number` where a field is none, then `Range` where it names
+/// what the table has not, a class that is not 1 to 5 or a cap above 16.
 pub(crate) fn action_row(
     row: &ByteRecord,
     form: ActionForm,

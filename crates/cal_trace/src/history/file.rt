@@ -4,7 +4,8 @@ ghost use Rattle.std.specs.Prelude.{◌≡◌, ◌<◌, [], List, ℕ, IfOk, IfE
 ghost use Rattle.cal_policy.specs.declared.history.entry.PassEntry.{PassEntry};
 ghost use Rattle.cal_trace.specs.Rows.Answers.{Decided, Gives};
 ghost use Rattle.cal_trace.specs.Rows.{rows_of};
-ghost use Rattle.cal_trace.specs.History.Reading.{extent_of, rows_left, GivesNext, HasGiven, IsOpen};
+ghost use Rattle.cal_trace.specs.History.Reading.{extent_of, rows_left, GivesNext, HasGiven};
+ghost use Rattle.cal_trace.specs.History.Reading.{IsOpen};
 ghost use Rattle.cal_trace.specs.History.{history_of};
 ghost use Rattle.cal_trace.specs.declared.history.action_rows.Extent.{Extent};
 
@@ -49,7 +50,9 @@ impl<'a> HistoryRows<'a> {
     ) -> Result<HistoryRows<'a>, TraceFault>
         ensures ready { IfOk result IsOpen }
         ensures given { IfOk result (HasGiven (extent_of config.now) text.now []) }
-        ensures fault { IfErr result (λ fault. Decided fault.kind (history_of (extent_of config.now) (rows_of text.now) ≡ Err fault)) }
+        ensures fault { IfErr result
+            (λ fault. Decided fault.kind
+            (history_of (extent_of config.now) (rows_of text.now) ≡ Err fault)) }
     {
         let mut rows = Rows::open(alloc, text);
         let version = take_header(&mut rows, b"caladan-history".as_slice())?;
@@ -62,11 +65,14 @@ impl<'a> HistoryRows<'a> {
     /// `read_history` says. It is not called again after `None` or an error.
     pub fn next(&mut self) -> Result<Option<PassEntry>, TraceFault>
         requires { IsOpen self.old }
-        // The passes given so far and those still to come are those of the text, or its fault is the one.
-        ensures gives { (extent : Extent) (text : List ℕ) (given : List PassEntry) → HasGiven extent text given self.old →
+        // The passes given so far and those still to come are those of the text, or its fault is
+        // the one.
+        ensures gives { (extent : Extent) (text : List ℕ) (given : List PassEntry) →
+            HasGiven extent text given self.old →
             GivesNext extent text given result self.new }
         ensures ready { IfOk result (λ pass. IfSome pass (λ _. IsOpen self.new)) }
-        ensures fewer { IfOk result (λ pass. IfSome pass (λ _. rows_left self.new < rows_left self.old)) }
+        ensures fewer { IfOk result
+            (λ pass. IfSome pass (λ _. rows_left self.new < rows_left self.old)) }
     {
         next_pass(&mut self.rows, &mut self.reading)
     }
@@ -83,7 +89,8 @@ pub fn read_history(
     config: &Config,
     text: &[u8],
 ) -> Result<Vec<PassEntry>, TraceFault>
-    ensures { Gives (λ history. history.items) result (history_of (extent_of config.now) (rows_of text.now)) }
+    ensures { Gives (λ history. history.items) result
+        (history_of (extent_of config.now) (rows_of text.now)) }
 {
     let mut rows = HistoryRows::open(alloc, config, text)?;
     let mut history = Vec::new(alloc);

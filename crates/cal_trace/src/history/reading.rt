@@ -170,7 +170,8 @@ impl HistoryReading {
     ghost use Rattle.cal_policy.specs.declared.history.entry.PassEntry.{PassEntry};
     ghost use Rattle.cal_trace.specs.Rows.Answers.{Takes};
     ghost use Rattle.cal_trace.specs.Rows.Passes.{with_closed};
-    ghost use Rattle.cal_trace.specs.History.{at_start, is_between, next_thread, take_form, one_more_look};
+    ghost use Rattle.cal_trace.specs.History.{at_start, is_between, next_thread, take_form};
+    ghost use Rattle.cal_trace.specs.History.{one_more_look};
     ghost use Rattle.cal_trace.specs.History.Reading.{entry_at_hand, file_of, so_far, IsKept};
     ghost use Rattle.cal_trace.specs.declared.fault.FaultKind.TheVariants as kind;
     ghost use Rattle.cal_trace.specs.declared.history.reading.Form.TheVariants as form;
@@ -224,8 +225,11 @@ impl HistoryReading {
 
     fn take_pass(&mut self, row: &ByteRecord) -> Result<Option<PassEntry>, FaultKind>
         ensures takes { (given : List PassEntry) → IsKept given self.old →
-            Takes (λ closed. so_far (with_closed given closed) self.new) result (take_form self.old.extent (so_far given self.old) (Some form.Pass) (fields_of row.now)) }
-        ensures kept { (given : List PassEntry) → IsKept given self.old → IfOk result (λ closed. IsKept (with_closed given closed) self.new) }
+            Takes (λ closed. so_far (with_closed given closed) self.new) result
+            (take_form self.old.extent (so_far given self.old) (Some form.Pass)
+            (fields_of row.now)) }
+        ensures kept { (given : List PassEntry) → IsKept given self.old →
+            IfOk result (λ closed. IsKept (with_closed given closed) self.new) }
         ensures file { file_of self.new ≡ file_of self.old }
     {
         if !self.is_between() {
@@ -249,8 +253,11 @@ impl HistoryReading {
 
     fn take_end(&mut self, row: &ByteRecord) -> Result<Option<PassEntry>, FaultKind>
         ensures takes { (given : List PassEntry) → IsKept given self.old →
-            Takes (λ closed. so_far (with_closed given closed) self.new) result (take_form self.old.extent (so_far given self.old) (Some form.End) (fields_of row.now)) }
-        ensures kept { (given : List PassEntry) → IsKept given self.old → IfOk result (λ closed. IsKept (with_closed given closed) self.new) }
+            Takes (λ closed. so_far (with_closed given closed) self.new) result
+            (take_form self.old.extent (so_far given self.old) (Some form.End)
+            (fields_of row.now)) }
+        ensures kept { (given : List PassEntry) → IsKept given self.old →
+            IfOk result (λ closed. IsKept (with_closed given closed) self.new) }
         ensures file { file_of self.new ≡ file_of self.old }
     {
         if !self.is_between() {
@@ -262,8 +269,12 @@ impl HistoryReading {
     }
 
     fn take_look(&mut self, row: &ByteRecord, look: LookForm) -> Result<(), FaultKind>
-        ensures takes { (given : List PassEntry) → Takes (λ _. so_far given self.new) result (take_form self.old.extent (so_far given self.old) (Some (form.Look look)) (fields_of row.now)) }
-        ensures kept { (given : List PassEntry) → IsKept given self.old → OnOk result (IsKept given self.new) }
+        ensures takes { (given : List PassEntry) →
+            Takes (λ _. so_far given self.new) result
+            (take_form self.old.extent (so_far given self.old) (Some (form.Look look))
+            (fields_of row.now)) }
+        ensures kept { (given : List PassEntry) → IsKept given self.old →
+            OnOk result (IsKept given self.new) }
         ensures file { file_of self.new ≡ file_of self.old }
     {
         let thread = self.next_thread()?;
@@ -276,8 +287,12 @@ impl HistoryReading {
     }
 
     fn take_action(&mut self, row: &ByteRecord, action: ActionForm) -> Result<(), FaultKind>
-        ensures takes { (given : List PassEntry) → Takes (λ _. so_far given self.new) result (take_form self.old.extent (so_far given self.old) (Some (form.Act action)) (fields_of row.now)) }
-        ensures kept { (given : List PassEntry) → IsKept given self.old → OnOk result (IsKept given self.new) }
+        ensures takes { (given : List PassEntry) →
+            Takes (λ _. so_far given self.new) result
+            (take_form self.old.extent (so_far given self.old) (Some (form.Act action))
+            (fields_of row.now)) }
+        ensures kept { (given : List PassEntry) → IsKept given self.old →
+            OnOk result (IsKept given self.new) }
         ensures file { file_of self.new ≡ file_of self.old }
     {
         match &mut self.at_hand {

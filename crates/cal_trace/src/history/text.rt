@@ -3,7 +3,9 @@
 ghost use Rattle.std.specs.Prelude.{◌≡◌, OnOk, false, map, slice_index_or};
 ghost use Rattle.std.specs.List.{flat_map};
 ghost use Rattle.std.specs.Io.KnownBytes.{Appends};
-ghost use Rattle.cal_trace.specs.History.Text.{record_fields, look_fields, revocation_fields, action_fields, look_rows, entry_rows, lines_of, history_text};
+ghost use Rattle.cal_trace.specs.History.Text.{record_fields, look_fields, revocation_fields};
+ghost use Rattle.cal_trace.specs.History.Text.{action_fields, look_rows, entry_rows, lines_of};
+ghost use Rattle.cal_trace.specs.History.Text.{history_text};
 ghost use Rattle.cal_trace.specs.Rows.Text.{line_of};
 
 use crate::write_fault::WriteFault;
@@ -17,14 +19,16 @@ use std::io::Write;
 /// is what the writer answered; then nothing is said of how much was written. It takes no memory of
 /// its own.
 pub fn write_history<W: Write>(history: &[PassEntry], writer: &mut W) -> Result<(), WriteFault>
-    ensures { OnOk result (Appends (W.contents writer.old) (W.contents writer.new) (history_text history.now)) }
+    ensures { OnOk result (Appends (W.contents writer.old) (W.contents writer.new)
+        (history_text history.now)) }
 {
     write_rows(history, writer)?;
     Ok(())
 }
 
 fn write_rows<W: Write>(history: &[PassEntry], writer: &mut W) -> io::Result<()>
-    ensures { OnOk result (Appends (W.contents writer.old) (W.contents writer.new) (history_text history.now)) }
+    ensures { OnOk result (Appends (W.contents writer.old) (W.contents writer.new)
+        (history_text history.now)) }
 {
     writeln!(writer, "caladan-history,2")?;
     write_entries(history, writer)?;
@@ -33,7 +37,8 @@ fn write_rows<W: Write>(history: &[PassEntry], writer: &mut W) -> io::Result<()>
 }
 
 fn write_entries<W: Write>(history: &[PassEntry], writer: &mut W) -> io::Result<()>
-    ensures { OnOk result (Appends (W.contents writer.old) (W.contents writer.new) (lines_of (flat_map entry_rows history.now))) }
+    ensures { OnOk result (Appends (W.contents writer.old) (W.contents writer.new)
+        (lines_of (flat_map entry_rows history.now))) }
 {
     for entry in history {
         write_entry(entry, writer)?;
@@ -42,7 +47,8 @@ fn write_entries<W: Write>(history: &[PassEntry], writer: &mut W) -> io::Result<
 }
 
 fn write_entry<W: Write>(entry: &PassEntry, writer: &mut W) -> io::Result<()>
-    ensures { OnOk result (Appends (W.contents writer.old) (W.contents writer.new) (lines_of (entry_rows entry.now))) }
+    ensures { OnOk result (Appends (W.contents writer.old) (W.contents writer.new)
+        (lines_of (entry_rows entry.now))) }
 {
     let now = entry.input.now;
     let bandwidth = entry.input.bandwidth;
@@ -56,7 +62,8 @@ fn write_entry<W: Write>(entry: &PassEntry, writer: &mut W) -> io::Result<()>
 }
 
 fn write_looks<W: Write>(seen: &[Seen], rooms: &[bool], writer: &mut W) -> io::Result<()>
-    ensures { OnOk result (Appends (W.contents writer.old) (W.contents writer.new) (lines_of (look_rows rooms.now seen.now))) }
+    ensures { OnOk result (Appends (W.contents writer.old) (W.contents writer.new)
+        (lines_of (look_rows rooms.now seen.now))) }
 {
     for thread in 0..seen.len() {
         write_look(thread, room_at(rooms, thread), seen[thread], writer)?;
@@ -71,7 +78,8 @@ fn room_at(rooms: &[bool], thread: usize) -> bool
 }
 
 fn write_look<W: Write>(thread: usize, room: bool, look: Seen, writer: &mut W) -> io::Result<()>
-    ensures { OnOk result (Appends (W.contents writer.old) (W.contents writer.new) (line_of (look_fields thread room look))) }
+    ensures { OnOk result (Appends (W.contents writer.old) (W.contents writer.new)
+        (line_of (look_fields thread room look))) }
 {
     match look {
         Seen::Whole { number, rec } => write_record("whole", thread, room, number, rec, writer),
@@ -92,7 +100,8 @@ fn write_record<W: Write>(
     rec: Record,
     writer: &mut W,
 ) -> io::Result<()>
-    ensures { OnOk result (Appends (W.contents writer.old) (W.contents writer.new) (line_of (record_fields word.now thread room number rec))) }
+    ensures { OnOk result (Appends (W.contents writer.old) (W.contents writer.new)
+        (line_of (record_fields word.now thread room number rec))) }
 {
     let room = u8::from(room);
     write!(
@@ -108,7 +117,8 @@ fn write_record<W: Write>(
 }
 
 fn write_actions<W: Write>(actions: &[Action], writer: &mut W) -> io::Result<()>
-    ensures { OnOk result (Appends (W.contents writer.old) (W.contents writer.new) (lines_of (map action_fields actions.now))) }
+    ensures { OnOk result (Appends (W.contents writer.old) (W.contents writer.new)
+        (lines_of (map action_fields actions.now))) }
 {
     for action in actions {
         write_action(*action, writer)?;
@@ -117,7 +127,8 @@ fn write_actions<W: Write>(actions: &[Action], writer: &mut W) -> io::Result<()>
 }
 
 fn write_action<W: Write>(action: Action, writer: &mut W) -> io::Result<()>
-    ensures { OnOk result (Appends (W.contents writer.old) (W.contents writer.new) (line_of (action_fields action))) }
+    ensures { OnOk result (Appends (W.contents writer.old) (W.contents writer.new)
+        (line_of (action_fields action))) }
 {
     match action {
         Action::Free { core } => writeln!(writer, "free,{core}"),
@@ -138,7 +149,8 @@ fn write_action<W: Write>(action: Action, writer: &mut W) -> io::Result<()>
 }
 
 fn write_revocation<W: Write>(core: u8, cause: Cause, writer: &mut W) -> io::Result<()>
-    ensures { OnOk result (Appends (W.contents writer.old) (W.contents writer.new) (line_of (revocation_fields core cause))) }
+    ensures { OnOk result (Appends (W.contents writer.old) (W.contents writer.new)
+        (line_of (revocation_fields core cause))) }
 {
     match cause {
         Cause::Ban { by } => writeln!(writer, "revoke,{core},ban,{by}"),

@@ -3,7 +3,8 @@
 ghost use Rattle.std.specs.Prelude.{◌≡◌, OnOk, [], length, slice_index_or};
 ghost use Rattle.std.specs.Io.KnownBytes.{Appends};
 ghost use Rattle.std.specs.List.{count_by};
-ghost use Rattle.cal_trace.specs.Report.Summary.{is_took, is_published, is_served, summary_text, thread_line, thread_lines};
+ghost use Rattle.cal_trace.specs.Report.Summary.{is_took, is_published, is_served, summary_text};
+ghost use Rattle.cal_trace.specs.Report.Summary.{thread_line, thread_lines};
 
 use crate::write_fault::WriteFault;
 use cal_kthread::{Entry, Journal};
@@ -25,7 +26,8 @@ pub fn write_summary<W: Write>(
     left: &[Listed<Request>],
     writer: &mut W,
 ) -> Result<(), WriteFault>
-    ensures { OnOk result (Appends (W.contents writer.old) (W.contents writer.new) (summary_text passes turns journals.now left.now)) }
+    ensures { OnOk result (Appends (W.contents writer.old) (W.contents writer.new)
+        (summary_text passes turns journals.now left.now)) }
 {
     writeln!(writer, "passes {passes} turns {turns}")?;
     write_threads(journals, left, writer)?;
@@ -37,7 +39,8 @@ fn write_threads<W: Write>(
     left: &[Listed<Request>],
     writer: &mut W,
 ) -> io::Result<()>
-    ensures { OnOk result (Appends (W.contents writer.old) (W.contents writer.new) (thread_lines left.now journals.now)) }
+    ensures { OnOk result (Appends (W.contents writer.old) (W.contents writer.new)
+        (thread_lines left.now journals.now)) }
 {
     for thread in 0..journals.len() {
         write_thread(thread, &journals[thread], left_with(left, thread), writer)?;
@@ -61,7 +64,9 @@ fn write_thread<W: Write>(
     left: usize,
     writer: &mut W,
 ) -> io::Result<()>
-    ensures { (requests : List Request) → left ≡ length requests → OnOk result (Appends (W.contents writer.old) (W.contents writer.new) (thread_line thread journal.now requests)) }
+    ensures { (requests : List Request) → left ≡ length requests →
+        OnOk result (Appends (W.contents writer.old) (W.contents writer.new)
+        (thread_line thread journal.now requests)) }
 {
     let tally = Tally::of(journal.as_slice());
     let (taken, published, served) = (tally.taken, tally.published, tally.served);

@@ -2,7 +2,8 @@
 
 ghost use Rattle.std.specs.Prelude.{◌≡◌, ◌==◌, ◌≤◌, ◌<◌, ℕ, slice_index, if◌then◌else◌};
 ghost use Rattle.std.specs.Option.{is_some, IfSome};
-ghost use Rattle.cal_trace.specs.Rows.RowFields.{number_in, number_at, is_number_at, has_numbers, is_word, is_row};
+ghost use Rattle.cal_trace.specs.Rows.RowFields.{number_in, number_at, is_number_at, has_numbers};
+ghost use Rattle.cal_trace.specs.Rows.RowFields.{is_word, is_row};
 ghost use Rattle.csv.specs.Records.{field_at, fields_of};
 
 use crate::rows::number::number;
@@ -62,18 +63,20 @@ pub(crate) fn has_numbers(row: &ByteRecord) -> bool
 
 /// Puts a number at its place, where there is one.
 fn put(numbers: &mut [u64; 13], place: usize, number: u64)
-    ensures { (k : ℕ) → k < 13 → slice_index numbers.new k ≡ (if place == k then number else slice_index numbers.old k) }
+    ensures { (k : ℕ) → k < 13 → slice_index numbers.new k ≡
+        (if place == k then number else slice_index numbers.old k) }
 {
     if place < 13 {
         numbers[place] = number;
     }
 }
 
-/// The numbers of a row by place, each read once; none where a field after the first is no number. Places past the row's end
-/// have 0. A row of a record has 13 fields at most.
+/// The numbers of a row by place, each read once; none where a field after the first is no number.
+/// Places past the row's end have 0. A row of a record has 13 fields at most.
 pub(crate) fn numbers_of(row: &ByteRecord) -> Option<[u64; 13]>
     ensures all { is_some result ≡ has_numbers (fields_of row.now) }
-    ensures each { IfSome result (λ numbers. (k : ℕ) → 1 ≤ k → k < 13 → slice_index numbers k ≡ number_at (fields_of row.now) k) }
+    ensures each { IfSome result (λ numbers. (k : ℕ) → 1 ≤ k → k < 13 →
+        slice_index numbers k ≡ number_at (fields_of row.now) k) }
 {
     let mut numbers = [0u64; 13];
     for place in 1..row.len() {

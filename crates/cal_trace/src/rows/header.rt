@@ -13,7 +13,8 @@ use crate::rows::version::Version;
 pub(crate) fn take_header(rows: &mut Rows, name: &[u8]) -> Result<Version, TraceFault>
     requires reading { IsReading rows.old }
     requires first { rows.old.number ≡ 0 }
-    ensures gives { Gives (λ version. (version, rest_of rows.new)) result (header_of name.now (rest_of rows.old)) }
+    ensures gives { Gives (λ version. (version, rest_of rows.new)) result
+        (header_of name.now (rest_of rows.old)) }
     ensures reading { OnOk result (IsReading rows.new) }
     ensures number { OnOk result (rows.new.number ≡ 1) }
 {
@@ -35,7 +36,8 @@ pub(crate) fn take_header(rows: &mut Rows, name: &[u8]) -> Result<Version, Trace
 pub(crate) fn take_first_header(rows: &mut Rows, name: &[u8]) -> Result<Version, TraceFault>
     requires reading { IsReading rows.old }
     requires first { rows.old.number ≡ 0 }
-    ensures gives { Gives (λ version. (version, rest_of rows.new)) result (in_version_one (header_of name.now (rest_of rows.old))) }
+    ensures gives { Gives (λ version. (version, rest_of rows.new)) result
+        (in_version_one (header_of name.now (rest_of rows.old))) }
     ensures reading { OnOk result (IsReading rows.new) }
     ensures number { OnOk result (rows.new.number ≡ 1) }
 {

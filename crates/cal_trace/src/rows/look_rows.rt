@@ -45,7 +45,8 @@ pub(crate) struct BusyRow {
     pub second: u64,
 }
 
-/// Reads a pass row that comes after so many passes. `Number` where a field is none, then `Range` where it is one pass too many.
+/// Reads a pass row that comes after so many passes. `Number` where a field is none, then `Range`
+/// where it is one pass too many.
 pub(crate) fn pass_row(row: &ByteRecord, passes: usize) -> Result<PassRow, FaultKind>
     ensures { result ≡ pass_row passes (fields_of row.now) }
 {
@@ -96,8 +97,8 @@ fn whole_numbers(row: &ByteRecord) -> Option<WholeNumbers>
     }
 }
 
-/// Reads a row of a whole record, where the next look is this thread's. `Number` where a field is none, then `Order` where it
-/// is another thread's, then `Range`.
+/// Reads a row of a whole record, where the next look is this thread's. `Number` where a field is
+/// none, then `Order` where it is another thread's, then `Range`.
 pub(crate) fn whole_row(row: &ByteRecord, thread: usize) -> Result<WholeRow, FaultKind>
     ensures { result ≡ whole_row thread (fields_of row.now) }
 {
@@ -121,7 +122,8 @@ pub(crate) fn whole_row(row: &ByteRecord, thread: usize) -> Result<WholeRow, Fau
     })
 }
 
-/// Reads a row of a busy look, where the next look is this thread's. Its faults are those of `whole_row`.
+/// Reads a row of a busy look, where the next look is this thread's. Its faults are those of
+/// `whole_row`.
 pub(crate) fn busy_row(row: &ByteRecord, thread: usize) -> Result<BusyRow, FaultKind>
     ensures { result ≡ busy_row thread (fields_of row.now) }
 {
@@ -144,7 +146,8 @@ pub(crate) fn busy_row(row: &ByteRecord, thread: usize) -> Result<BusyRow, Fault
     })
 }
 
-/// Reads an end row that comes after so many passes. `Number` where its count is none, then `Order` where it counts wrongly.
+/// Reads an end row that comes after so many passes. `Number` where its count is none, then `Order`
+/// where it counts wrongly.
 pub(crate) fn end_row(row: &ByteRecord, passes: usize) -> Result<usize, FaultKind>
     ensures { result ≡ end_row passes (fields_of row.now) }
 {

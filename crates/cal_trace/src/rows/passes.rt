@@ -1,7 +1,8 @@
 //! Reading a file of passes row by row, whatever its rows are: each pass is handed out when its
 //! rows have come.
 
-ghost use Rattle.std.specs.Prelude.{◌≡◌, ◌<◌, List, length, Option, Some, None, Result, OnOk, IfOk, IfSome, if◌then◌else◌};
+ghost use Rattle.std.specs.Prelude.{◌≡◌, ◌<◌, List, length, Option, Some, None, Result, OnOk, IfOk};
+ghost use Rattle.std.specs.Prelude.{IfSome, if◌then◌else◌};
 ghost use Rattle.csv.specs.Records.{fields_of};
 ghost use Rattle.cal_trace.specs.Rows.Answers.{Takes};
 ghost use Rattle.cal_trace.specs.Rows.Passes.{GivesNext, with_closed};
@@ -45,14 +46,17 @@ pub(crate) trait PassReading: Sized + Drop {
     fn take_row(&mut self, row: &ByteRecord) -> Result<Option<Self::Pass>, FaultKind>
         requires { IsReady self.old }
         ensures takes { (given : List Self.Pass) → IsKept given self.old →
-            Takes (λ closed. so_far (with_closed given closed) self.new) result (take (file self.old) (so_far given self.old) (fields_of row.now)) }
-        ensures kept { (given : List Self.Pass) → IsKept given self.old → IfOk result (λ closed. IsKept (with_closed given closed) self.new) }
+            Takes (λ closed. so_far (with_closed given closed) self.new) result
+            (take (file self.old) (so_far given self.old) (fields_of row.now)) }
+        ensures kept { (given : List Self.Pass) → IsKept given self.old →
+            IfOk result (λ closed. IsKept (with_closed given closed) self.new) }
         ensures ready { OnOk result (IsReady self.new) }
         ensures file { file self.new ≡ file self.old };
 
     /// Whether the end row came.
     fn has_ended(&self) -> bool
-        ensures { (given : List Self.Pass) → whole (so_far given self.now) ≡ if result then Some given else None };
+        ensures { (given : List Self.Pass) → whole (so_far given self.now) ≡ if result
+            then Some given else None };
 }
 
 /// The next pass, or `None` where the file ended as it must. The error is the first check that
@@ -63,14 +67,20 @@ pub(crate) fn next_pass<R: PassReading>(
 ) -> Result<Option<R::Pass>, TraceFault>
     requires rows { IsReading rows.old }
     requires ready { R.IsReady reading.old }
-    // The passes handed out so far and those still to come are those of the rows, or their fault is the one.
+    // The passes handed out so far and those still to come are those of the rows, or their fault is
+    // the one.
     ensures gives { (given : List R.Pass) → R.IsKept given reading.old →
-        let file = read_from (R.take (R.file reading.old)) R.whole (R.so_far given reading.old) rows.old.number (rest_of rows.old) in
-        GivesNext (λ all. R.IsKept all reading.new × (read_from (R.take (R.file reading.new)) R.whole (R.so_far all reading.new) rows.new.number (rest_of rows.new) ≡ file)) file given result }
+        let file = read_from (R.take (R.file reading.old)) R.whole (R.so_far given reading.old)
+        rows.old.number (rest_of rows.old) in
+        GivesNext (λ all. R.IsKept all reading.new ×
+        (read_from (R.take (R.file reading.new)) R.whole
+        (R.so_far all reading.new) rows.new.number (rest_of rows.new) ≡
+        file)) file given result }
     ensures file { R.file reading.new ≡ R.file reading.old }
     ensures rows { IfOk result (λ pass. IfSome pass (λ _. IsReading rows.new)) }
     ensures ready { IfOk result (λ pass. IfSome pass (λ _. R.IsReady reading.new)) }
-    ensures fewer { IfOk result (λ pass. IfSome pass (λ _. length (rest_of rows.new) < length (rest_of rows.old))) }
+    ensures fewer { IfOk result (λ pass.
+        IfSome pass (λ _. length (rest_of rows.new) < length (rest_of rows.old))) }
 {
     while rows.step()? {
         match reading.take_row(rows.row()) {

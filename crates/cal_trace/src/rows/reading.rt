@@ -33,7 +33,8 @@ pub(crate) trait Reading: Sized + Drop {
     /// Takes one more row.
     fn take_row(&mut self, row: &ByteRecord) -> Result<(), FaultKind>
         requires { IsKept self.old }
-        ensures takes { Takes (λ _. so_far self.new) result (take self.old (so_far self.old) (fields_of row.now)) }
+        ensures takes { Takes (λ _. so_far self.new) result
+            (take self.old (so_far self.old) (fields_of row.now)) }
         ensures kept { OnOk result (IsKept self.new) }
         ensures same { take self.new ≡ take self.old };
 
@@ -46,7 +47,8 @@ pub(crate) trait Reading: Sized + Drop {
 pub(crate) fn take_rows<R: Reading>(rows: &mut Rows, mut reading: R) -> Result<R::Value, TraceFault>
     requires rows { IsReading rows.old }
     requires kept { R.IsKept reading }
-    ensures { Gives (λ value. value) result (read_from (R.take reading) R.whole (R.so_far reading) rows.old.number (rest_of rows.old)) }
+    ensures { Gives (λ value. value) result
+        (read_from (R.take reading) R.whole (R.so_far reading) rows.old.number (rest_of rows.old)) }
 {
     while rows.step()? {
         if let Err(kind) = reading.take_row(rows.row()) {

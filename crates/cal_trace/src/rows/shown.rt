@@ -9,7 +9,8 @@ use cal_signal::Record;
 
 /// The record of a row by its numbers, from the fifth field on; words that the row lacks are 0.
 pub(crate) fn record_of(numbers: &[u64; 13]) -> Record
-    ensures { (fields : Fields) → ((k : ℕ) → 1 ≤ k → k < 13 → slice_index numbers.now k ≡ number_at fields k) → result ≡ record_of fields }
+    ensures { (fields : Fields) → ((k : ℕ) → 1 ≤ k → k < 13 →
+        slice_index numbers.now k ≡ number_at fields k) → result ≡ record_of fields }
 {
     Record {
         taken: numbers[4],

@@ -38,7 +38,9 @@ impl<'a> SignalRows<'a> {
     ) -> Result<SignalRows<'a>, TraceFault>
         ensures ready { IfOk result IsOpen }
         ensures given { IfOk result (HasGiven (threads_in config.now.tasks) text.now []) }
-        ensures fault { IfErr result (λ fault. Decided fault.kind (signals_of (threads_in config.now.tasks) (rows_of text.now) ≡ Err fault)) }
+        ensures fault { IfErr result
+            (λ fault. Decided fault.kind
+            (signals_of (threads_in config.now.tasks) (rows_of text.now) ≡ Err fault)) }
     {
         let mut rows = Rows::open(alloc, text);
         let version = take_header(&mut rows, b"caladan-signals".as_slice())?;
@@ -53,11 +55,14 @@ impl<'a> SignalRows<'a> {
     /// `read_signals` says. It is not called again after `None` or an error.
     pub fn next(&mut self) -> Result<Option<SignalPass>, TraceFault>
         requires { IsOpen self.old }
-        // The passes given so far and those still to come are those of the text, or its fault is the one.
-        ensures gives { (threads : ℕ) (text : List ℕ) (given : List SignalPass) → HasGiven threads text given self.old →
+        // The passes given so far and those still to come are those of the text, or its fault is
+        // the one.
+        ensures gives { (threads : ℕ) (text : List ℕ) (given : List SignalPass) →
+            HasGiven threads text given self.old →
             GivesNext threads text given result self.new }
         ensures ready { IfOk result (λ pass. IfSome pass (λ _. IsOpen self.new)) }
-        ensures fewer { IfOk result (λ pass. IfSome pass (λ _. rows_left self.new < rows_left self.old)) }
+        ensures fewer { IfOk result
+            (λ pass. IfSome pass (λ _. rows_left self.new < rows_left self.old)) }
     {
         while self.rows.step()? {
             match self.reading.take_row(self.rows.row()) {
@@ -89,7 +94,8 @@ impl<'a> SignalRows<'a> {
 /// `Memory` comes only where memory was refused. `Read` comes only where `csv` fails to read, which
 /// it does not on a text in memory. `Repeated` never comes.
 pub fn read_signals(alloc: Global, config: &Config, text: &[u8]) -> Result<Signals, TraceFault>
-    ensures { Gives (λ signals. signals.passes) result (signals_of (threads_in config.now.tasks) (rows_of text.now)) }
+    ensures { Gives (λ signals. signals.passes) result
+        (signals_of (threads_in config.now.tasks) (rows_of text.now)) }
 {
     let mut signals = SignalRows::open(alloc, config, text)?;
     let mut passes = Vec::new(alloc);

@@ -73,8 +73,10 @@ impl SignalReading {
     ghost use Rattle.std.specs.Prelude.{◌≡◌, [], List, OnOk, IfOk, IfErr, Some, None, option_map};
     ghost use Rattle.csv.specs.Records.{fields_of};
     ghost use Rattle.cal_trace.specs.Rows.Answers.{Takes};
-    ghost use Rattle.cal_trace.specs.Signals.{at_start, is_between, next_thread, take_row, take_form, one_more};
-    ghost use Rattle.cal_trace.specs.Signals.Reading.{pass_at_hand, so_far, with_closed, HasPlaces, IsKept, IsSameFile};
+    ghost use Rattle.cal_trace.specs.Signals.{at_start, is_between, next_thread, take_row};
+    ghost use Rattle.cal_trace.specs.Signals.{take_form, one_more};
+    ghost use Rattle.cal_trace.specs.Signals.Reading.{pass_at_hand, so_far, with_closed, HasPlaces};
+    ghost use Rattle.cal_trace.specs.Signals.Reading.{IsKept, IsSameFile};
     ghost use Rattle.cal_trace.specs.declared.fault.FaultKind.TheVariants as kind;
     ghost use Rattle.cal_trace.specs.declared.signals.reading.Form.TheVariants as form;
     ghost use Rattle.cal_trace.specs.declared.signals.SignalPass.{SignalPass};
@@ -149,8 +151,11 @@ impl SignalReading {
     fn take_pass(&mut self, row: &ByteRecord) -> Result<Option<SignalPass>, FaultKind>
         requires { HasPlaces self.old }
         ensures takes { (given : List SignalPass) → IsKept given self.old →
-            Takes (λ closed. so_far (with_closed given closed) self.new) result (take_form self.old.threads (so_far given self.old) (Some form.Pass) (fields_of row.now)) }
-        ensures kept { (given : List SignalPass) → IsKept given self.old → IfOk result (λ closed. IsKept (with_closed given closed) self.new) }
+            Takes (λ closed. so_far (with_closed given closed) self.new) result
+            (take_form self.old.threads (so_far given self.old) (Some form.Pass)
+            (fields_of row.now)) }
+        ensures kept { (given : List SignalPass) → IsKept given self.old →
+            IfOk result (λ closed. IsKept (with_closed given closed) self.new) }
         ensures places { OnOk result (HasPlaces self.new) }
         ensures file { IsSameFile self.old self.new }
     {
@@ -172,8 +177,11 @@ impl SignalReading {
     fn take_end(&mut self, row: &ByteRecord) -> Result<Option<SignalPass>, FaultKind>
         requires { HasPlaces self.old }
         ensures takes { (given : List SignalPass) → IsKept given self.old →
-            Takes (λ closed. so_far (with_closed given closed) self.new) result (take_form self.old.threads (so_far given self.old) (Some form.End) (fields_of row.now)) }
-        ensures kept { (given : List SignalPass) → IsKept given self.old → IfOk result (λ closed. IsKept (with_closed given closed) self.new) }
+            Takes (λ closed. so_far (with_closed given closed) self.new) result
+            (take_form self.old.threads (so_far given self.old) (Some form.End)
+            (fields_of row.now)) }
+        ensures kept { (given : List SignalPass) → IsKept given self.old →
+            IfOk result (λ closed. IsKept (with_closed given closed) self.new) }
         ensures places { OnOk result (HasPlaces self.new) }
         ensures file { IsSameFile self.old self.new }
     {
@@ -188,8 +196,11 @@ impl SignalReading {
     fn take_whole(&mut self, row: &ByteRecord) -> Result<(), FaultKind>
         requires { HasPlaces self.old }
         ensures takes { (given : List SignalPass) → IsKept given self.old →
-            Takes (λ _. so_far given self.new) result (take_form self.old.threads (so_far given self.old) (Some form.Whole) (fields_of row.now)) }
-        ensures kept { (given : List SignalPass) → IsKept given self.old → OnOk result (IsKept given self.new) }
+            Takes (λ _. so_far given self.new) result
+            (take_form self.old.threads (so_far given self.old) (Some form.Whole)
+            (fields_of row.now)) }
+        ensures kept { (given : List SignalPass) → IsKept given self.old →
+            OnOk result (IsKept given self.new) }
         ensures places { OnOk result (HasPlaces self.new) }
         ensures file { IsSameFile self.old self.new }
     {
@@ -212,8 +223,11 @@ impl SignalReading {
     fn take_busy(&mut self, row: &ByteRecord) -> Result<(), FaultKind>
         requires { HasPlaces self.old }
         ensures takes { (given : List SignalPass) → IsKept given self.old →
-            Takes (λ _. so_far given self.new) result (take_form self.old.threads (so_far given self.old) (Some form.Busy) (fields_of row.now)) }
-        ensures kept { (given : List SignalPass) → IsKept given self.old → OnOk result (IsKept given self.new) }
+            Takes (λ _. so_far given self.new) result
+            (take_form self.old.threads (so_far given self.old) (Some form.Busy)
+            (fields_of row.now)) }
+        ensures kept { (given : List SignalPass) → IsKept given self.old →
+            OnOk result (IsKept given self.new) }
         ensures places { OnOk result (HasPlaces self.new) }
         ensures file { IsSameFile self.old self.new }
     {
@@ -230,7 +244,8 @@ impl SignalReading {
     }
 
     fn add_look(&mut self, look: FoundLook) -> Result<(), FaultKind>
-        ensures added { (given : List SignalPass) → OnOk result (so_far given self.new ≡ one_more (so_far given self.old) look) }
+        ensures added { (given : List SignalPass) →
+            OnOk result (so_far given self.new ≡ one_more (so_far given self.old) look) }
         ensures shown { self.new.shown ≡ self.old.shown }
         ensures passes { self.new.passes ≡ self.old.passes }
         ensures file { IsSameFile self.old self.new }
@@ -246,8 +261,11 @@ impl SignalReading {
     pub(crate) fn take_row(&mut self, row: &ByteRecord) -> Result<Option<SignalPass>, FaultKind>
         requires { HasPlaces self.old }
         ensures takes { (given : List SignalPass) → IsKept given self.old →
-            Takes (λ closed. so_far (with_closed given closed) self.new) result (take_row self.old.threads self.old.version (so_far given self.old) (fields_of row.now)) }
-        ensures kept { (given : List SignalPass) → IsKept given self.old → IfOk result (λ closed. IsKept (with_closed given closed) self.new) }
+            Takes (λ closed. so_far (with_closed given closed) self.new) result
+            (take_row self.old.threads self.old.version (so_far given self.old)
+            (fields_of row.now)) }
+        ensures kept { (given : List SignalPass) → IsKept given self.old →
+            IfOk result (λ closed. IsKept (with_closed given closed) self.new) }
         ensures places { OnOk result (HasPlaces self.new) }
         ensures file { IsSameFile self.old self.new }
     {

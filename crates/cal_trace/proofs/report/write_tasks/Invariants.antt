@@ -2,8 +2,8 @@ use Rattle.std.proofs.Common.{List}
 use Rattle.std.specs.Io.KnownBytes.{Appends}
 use Rattle.cal_policy.specs.declared.history.action.Action.{Action}
 use Rattle.cal_trace.specs.Report.{task_lines}
-use Rattle.cal_trace.specs.Report.Standing.{Agrees}
+use Rattle.cal_policy.specs.Board.{Agrees}
 use Rattle.cal_trace.proofs.report.write_tasks.Given as goal
 
 abbrev pub invariant-loop-task : goal.invariant-loop-task
-invariant-loop-task g l = (x : List Action) → Agrees l.standing x → Appends (g.W.Write.contents l.initial.writer) (g.W.Write.contents l.writer) (task_lines l.config x l.task)
+invariant-loop-task g l = (x : List Action) → Agrees l.board x → Appends (g.W.Write.contents l.initial.writer) (g.W.Write.contents l.writer) (task_lines l.config x l.task)

@@ -1,3 +1,0 @@
--- What a report needs of a history.
-pub mod Owners
-pub mod StandingKept
