@@ -9,8 +9,8 @@ use Rattle.clap.specs.declared.parser.matches.ArgMatches.TheViews.{out-ArgMatche
 use Rattle.clap.proofs.OnLiterals.{clap_on_literals}
 use Rattle.clap.proofs.WalkLemmas.{one_text-rows}
 use Rattle.cal_engine.specs.CommandWords.{Asks, FlagSays, Names, program}
-use Rattle.cal_engine.specs.declared.command_line.Job.{Job}
-use Rattle.cal_engine.specs.declared.command_line.Job.TheVariants as job
+use Rattle.cal_engine.specs.declared.command_words.command_line.Job.{Job}
+use Rattle.cal_engine.specs.declared.command_words.command_line.Job.TheVariants as job
 
 pub program_is_simple : is_simple program ≡ true
 unfolding clap_on_literals

@@ -9,9 +9,8 @@ use Rattle.cal_policy.specs.Book.{AgreesWith}
 use Rattle.cal_policy.specs.declared.book.Book.{Book}
 use Rattle.cal_policy.specs.declared.history.entry.PassEntry.{PassEntry}
 use Rattle.cal_trace.specs.Rows.Answers as files
-use Rattle.cal_trace.specs.Report.{passes_text, report_text}
+use Rattle.cal_trace.specs.Report.{passes_text, report_text, IsReportOf}
 use Rattle.cal_trace.specs.Signals.Reading.{HasGiven}
-use Rattle.cal_trace.specs.Report.Standing.{IsReportOf}
 use Rattle.cal_trace.specs.declared.fault.TraceFault.{TraceFault}
 use Rattle.cal_trace.specs.declared.report.Report.{Report}
 use Rattle.cal_trace.specs.declared.signals.file.SignalRows.{SignalRows}

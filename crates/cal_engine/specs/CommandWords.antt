@@ -7,8 +7,8 @@ use Rattle.clap.specs.Walk.{Row, Rule, Text, one_of}
 use Rattle.clap.specs.declared.builder.action.ArgAction.TheVariants.{SetTrue}
 use Rattle.clap.specs.declared.error.Error.{Error}
 use Rattle.clap.specs.declared.error.kind.ErrorKind.TheVariants as kind
-use Rattle.cal_engine.specs.declared.command_line.Job.{Job}
-use Rattle.cal_engine.specs.declared.command_line.Job.TheVariants as job
+use Rattle.cal_engine.specs.declared.command_words.command_line.Job.{Job}
+use Rattle.cal_engine.specs.declared.command_words.command_line.Job.TheVariants as job
 
 -- the program before it has its subcommands: it has a version, and the first of its words is no
 -- program's name

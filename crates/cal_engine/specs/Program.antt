@@ -5,8 +5,8 @@ use Rattle.cal_policy.specs.declared.verdict.Verdict.TheVariants.{Legal, Illegal
 use Rattle.cal_engine.specs.Outcome.{Failed, IsAudit, Reports}
 use Rattle.cal_engine.specs.Runs.{Run, decided_run_of, recorded_run_of, within_limit}
 use Rattle.cal_engine.specs.Running.{run_input_of, Runs, RunsInThreads}
-use Rattle.cal_engine.specs.declared.command_line.Job.{Job}
-use Rattle.cal_engine.specs.declared.command_line.Job.TheVariants as job
+use Rattle.cal_engine.specs.declared.command_words.command_line.Job.{Job}
+use Rattle.cal_engine.specs.declared.command_words.command_line.Job.TheVariants as job
 use Rattle.cal_engine.specs.declared.fault.RunFault.{RunFault}
 
 -- the exit status after an audit

@@ -1,7 +1,12 @@
 -- An input of a table and a history, whose passes are given one by one.
 use Rattle.std.specs.Prelude.{◌≡◌, ℕ, List, Result, Ok, Err}
 use Rattle.cal_machine.specs.Table.{Table}
+use Rattle.cal_policy.specs.Auditor.{IsAuditOf}
+use Rattle.cal_policy.specs.Board.{Agrees}
+use Rattle.cal_policy.specs.History.{actions_of}
 use Rattle.cal_policy.specs.Verdict.{IsVerdict}
+use Rattle.cal_policy.specs.declared.auditor.Auditor.{Auditor}
+use Rattle.cal_policy.specs.declared.board.Board.{Board}
 use Rattle.cal_policy.specs.declared.history.entry.PassEntry.{PassEntry}
 use Rattle.cal_policy.specs.declared.verdict.Verdict.{Verdict}
 use Rattle.cal_trace.specs.History.{history_of}
@@ -12,8 +17,10 @@ use Rattle.cal_engine.specs.Outcome.{audit_text, Decided}
 use Rattle.cal_engine.specs.Runs.{Run, parts_of, recorded_on}
 use Rattle.cal_engine.specs.declared.fault.RunFault.{RunFault}
 
--- These passes of an input's history were given, by its table: its trace is a text of which they were.
-pub record HasGivenOf (input : List ℕ) (table : Table) (given : List PassEntry) (history : HistoryRows) : Type 0 where
+-- These passes of an input's history were given, by its table: its trace is a text of which they
+-- were.
+pub record HasGivenOf (input : List ℕ) (table : Table) (given : List PassEntry)
+    (history : HistoryRows) : Type 0 where
   pub trace : List ℕ
   pub parts : parts_of input ≡ Ok (record { table = table; trace = trace })
   pub has : HasGiven (extent_of table) trace given history
@@ -22,15 +29,20 @@ pub record HasGivenOf (input : List ℕ) (table : Table) (given : List PassEntry
 abbrev pub recorded_in : Table → List ℕ → Result Run RunFault
 recorded_in table trace = recorded_on table (history_of (extent_of table) (rows_of trace))
 
--- there is a run, and its history has this verdict
-abbrev pub IsJudged : Verdict → Result Run RunFault → Type 0
-IsJudged verdict (Err f) = ⊥
-IsJudged verdict (Ok run) = IsVerdict run.table run.history verdict
+-- there is a run, and the auditor was handed its history
+abbrev pub HasTaken : Auditor → Result Run RunFault → Type 0
+HasTaken auditor (Err f) = ⊥
+HasTaken auditor (Ok run) = IsAuditOf run.table run.history auditor
 
--- the verdict is that of the run, or the fault is the first
-abbrev pub Judges : Result Verdict RunFault → Result Run RunFault → Type 0
-Judges (Ok verdict) outcome = IsJudged verdict outcome
-Judges (Err f) outcome = Decided f (outcome ≡ Err f)
+-- the auditor was handed the history of the run, or the fault is the first
+abbrev pub Takes : Result Auditor RunFault → Result Run RunFault → Type 0
+Takes (Ok auditor) outcome = HasTaken auditor outcome
+Takes (Err f) outcome = Decided f (outcome ≡ Err f)
+
+-- there is a run, and the board is the state that its history leaves
+abbrev pub IsLeft : Board → Result Run RunFault → Type 0
+IsLeft board (Err f) = ⊥
+IsLeft board (Ok run) = Agrees board (actions_of run.history)
 
 -- the verdict on a run, and the text that the audit writes of it
 pub record IsAnswer (verdict : Verdict) (text : List ℕ) (run : Run) : Type 0 where

@@ -7,28 +7,20 @@
 //! `status`.
 #![tactic(auto)]
 
-mod answer;
-mod auditing;
-mod command_line;
-mod deciding;
+mod command_words;
 mod fault;
-mod given;
-mod help_texts;
 mod input;
-mod parts;
+mod jobs;
 mod program;
-mod running;
-mod separator;
-mod simulating;
 
-pub use auditing::{recorded_passes, recorded_run, run_audit};
 pub use cal_policy::Verdict;
-pub use command_line::{Job, VERSION, words};
-pub use deciding::{decide, decided_run};
+pub use command_words::command_line::{Job, VERSION, words};
+pub use command_words::given::given_words;
 pub use fault::{RunFault, fault_line, status};
-pub use given::given_words;
+pub use input::separator::split_input;
 pub use input::{INPUT_LIMIT, read_input};
+pub use jobs::auditing::{recorded_passes, recorded_run, run_audit};
+pub use jobs::deciding::{decide, decided_run};
+pub use jobs::running::run_lockstep;
+pub use jobs::simulating::run_sim;
 pub use program::{end_with, refuse_words, run_program};
-pub use running::run_lockstep;
-pub use separator::split_input;
-pub use simulating::run_sim;

@@ -1,16 +1,18 @@
 //! A whole run of the program: words and an input in; an answer, an error line and an exit status
 //! out.
 
-ghost use Rattle.std.specs.Prelude.{◌≡◌, ◌⊎◌, IfErr, IfOk, IfSome};
+ghost use Rattle.std.specs.Prelude.{◌≡◌, ◌≢◌, ◌⊎◌, ◌↔◌, IfErr, IfOk, IfSome};
+ghost use Rattle.clap.specs.Values.{kind_of};
+ghost use Rattle.clap.specs.declared.error.kind.ErrorKind.TheVariants.{DisplayHelp, DisplayVersion};
 ghost use Rattle.cal_engine.specs.Faults.{status_of};
 ghost use Rattle.cal_engine.specs.Program.{DoesJob, verdict_status};
 
-use crate::auditing::run_audit;
-use crate::command_line::{Job, words};
-use crate::deciding::decide;
+use crate::command_words::command_line::{Job, words};
 use crate::fault::{RunFault, fault_line, status};
-use crate::running::run_lockstep;
-use crate::simulating::run_sim;
+use crate::jobs::auditing::run_audit;
+use crate::jobs::deciding::decide;
+use crate::jobs::running::run_lockstep;
+use crate::jobs::simulating::run_sim;
 use cal_policy::Verdict;
 use clap::error::{Error, ErrorKind};
 use std::alloc::Global;
@@ -20,8 +22,8 @@ use std::thread::Threads;
 
 /// Runs the program on its name and the words after it and on an input, and answers its exit
 /// status: 0 is done (help too), 1 is an illegal history, 2 is bad words or a refused input, 3 is
-/// memory or the writer. The words are read before the input. Only a run in threads, of the word
-/// `sim`, uses `rt`, and waits, at its joins.
+/// memory, the writer, or a thread that could not be started. The words are read before the input.
+/// Only a run in threads, of the word `sim`, uses `rt`, and waits, at its joins.
 ///
 /// The answer goes to `output`, and help too; what is wrong with the words (`clap`'s text) or the
 /// one line of a fault goes to `errors`. All of it is this project's own, but for `clap`'s texts.
@@ -117,6 +119,12 @@ pub fn refuse_words<W: Write, E: Write>(
     errors: &mut E,
 ) -> Result<u8, RunFault>
     ensures status { IfOk result (λ status. (status ≡ 0) ⊎ (status ≡ 2)) }
+    // Help and the version are answers, all else is a mistake.
+    ensures mistake { IfOk result (λ status. (status ≡ 2)
+        ↔ (kind_of error.now ≢ DisplayHelp) × (kind_of error.now ≢ DisplayVersion)) }
+    // Each goes to its own writer alone.
+    ensures apart { IfOk result (λ status. (status ≡ 0 → errors.new ≡ errors.old)
+        × (status ≡ 2 → output.new ≡ output.old)) }
     ensures kind { IfErr result (λ fault. (fault ≡ RunFault.Memory) ⊎ (fault ≡ RunFault.Write)) }
 {
     if error.kind() == ErrorKind::OutOfMemory {

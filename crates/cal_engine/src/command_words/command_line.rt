@@ -1,0 +1,109 @@
+//! What the words of a command line ask for.
+
+ghost use Rattle.std.specs.Prelude.{◌≡◌, false, map, IfOk};
+ghost use Rattle.clap.specs.Words.{app_of, subcommand_rows_of};
+ghost use Rattle.clap.specs.declared.builder.command.Command.TheViews.{out-Command};
+ghost use Rattle.clap.specs.Simple.{new_app};
+ghost use Rattle.cal_engine.specs.CommandWords.{Asks, IsJob, Names, bare_program, program};
+ghost use Rattle.cal_engine.specs.CommandWords.{run_word};
+
+use crate::command_words::help_texts;
+use clap::{Arg, ArgAction, ArgMatches, Command, Error};
+use std::alloc::{AllocError, Global};
+
+/// What both programs say of their version: that of the project, and of the files that they write.
+pub const VERSION: &str = "1 (writes history 2; reads signals and history 1 and 2, arrivals 1)";
+
+/// What the program is to do with its input (this project's own words).
+#[derive(Clone, Copy, Debug, PartialEq, Eq)]
+pub enum Job {
+    /// Decide the passes of a signal trace, and write the report. No words, or `decide`.
+    Decide,
+    /// Make a whole run on one thread, and write its history, or its summary where that is asked
+    /// for. The word `lockstep`, and `--summary` after it.
+    Lockstep(bool),
+    /// Make a whole run in threads, and write its history, or its summary where that is asked for.
+    /// The word `sim`, and `--summary` after it.
+    Sim(bool),
+    /// Audit a history, and write what the audit says. The word `audit`.
+    Audit,
+}
+
+/// What the words after the program's name ask for; no words are `Job::Decide`.
+///
+/// The error is clap's own. A word that is not in the table is refused; a request for help is an
+/// error of the kind `DisplayHelp`, one for the version of the kind `DisplayVersion`, whose texts
+/// go to the standard output; want of memory has the kind `OutOfMemory`.
+pub fn words<'a>(alloc: Global, words: &'a [&'a str]) -> Result<Job, Error>
+    ensures { (job : Job) → Asks (map (λ word. word.now) words.now) job → IsJob job result }
+{
+    let matches = program(alloc)?.try_get_matches_from(words)?;
+    Ok(job_named(&matches))
+}
+
+/// The program, with a subcommand for each word. A word is made as its turn comes, so that little
+/// stands to be dropped where memory is refused.
+fn program<'a>(alloc: Global) -> Result<Command<'a>, AllocError>
+    ensures { IfOk result (λ command. app_of command ≡ program) }
+{
+    let about_decide = "Decide the passes of a signal trace";
+    let decide = plain_word(alloc, "decide", about_decide, help_texts::DECIDE);
+    let program = bare_program(alloc).subcommand(decide)?;
+    let about_lockstep = "Make a whole run of arrivals on one thread";
+    let lockstep = run_word(alloc, "lockstep", about_lockstep, help_texts::LOCKSTEP)?;
+    let program = program.subcommand(lockstep)?;
+    let about_sim = "Make a whole run of arrivals in threads";
+    let sim = run_word(alloc, "sim", about_sim, help_texts::SIM)?;
+    let program = program.subcommand(sim)?;
+    let about_audit = "Audit a history against the policy";
+    let audit = plain_word(alloc, "audit", about_audit, help_texts::AUDIT);
+    program.subcommand(audit)
+}
+
+/// The program before it has its words.
+fn bare_program<'a>(alloc: Global) -> Command<'a>
+    ensures { app_of result ≡ bare_program }
+{
+    Command::new(alloc, "caladan_sim")
+        .version(VERSION)
+        .about("The core scheduler of Caladan over a task table and a trace on standard input")
+        .after_help(help_texts::PROGRAM)
+        .no_binary_name(true)
+}
+
+/// A word after which nothing stands.
+fn plain_word<'a>(alloc: Global, word: &'a str, about: &'a str, after: &'a str) -> Command<'a>
+    ensures shape { app_of result ≡ new_app word.entry.now }
+    ensures local { (out-Command result).has_globals ≡ false }
+{
+    Command::new(alloc, word).about(about).after_help(after)
+}
+
+/// A word for a run, after which the flag for its summary may stand.
+fn run_word<'a>(
+    alloc: Global,
+    word: &'a str,
+    about: &'a str,
+    after: &'a str,
+) -> Result<Command<'a>, AllocError>
+    ensures shape { IfOk result (λ command. app_of command ≡ run_word word.entry.now) }
+    ensures local { IfOk result (λ command. (out-Command command).has_globals ≡ false) }
+{
+    let summary = Arg::new(alloc, "summary")
+        .long("summary")
+        .action(ArgAction::SetTrue)
+        .help("Write the summary in place of the history");
+    plain_word(alloc, word, about, after).arg(summary)
+}
+
+/// The job that the subcommand names.
+fn job_named(matches: &ArgMatches) -> Job
+    ensures { (job : Job) → Names (subcommand_rows_of matches.now) job → result ≡ job }
+{
+    match matches.subcommand() {
+        Some((word, run)) if word == "lockstep" => Job::Lockstep(run.get_flag("summary")),
+        Some((word, run)) if word == "sim" => Job::Sim(run.get_flag("summary")),
+        Some((word, _)) if word == "audit" => Job::Audit,
+        _ => Job::Decide,
+    }
+}

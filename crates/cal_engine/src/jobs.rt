@@ -1,0 +1,7 @@
+//! What the words of the program ask for: a history decided, run or audited, and its answer.
+
+pub mod answer;
+pub mod auditing;
+pub mod deciding;
+pub mod running;
+pub mod simulating;

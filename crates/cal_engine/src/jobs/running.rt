@@ -1,0 +1,86 @@
+//! Whole runs on the arrivals of an input.
+
+ghost use Rattle.std.specs.Prelude.{◌≡◌, ◌≢◌, IfOk, IfErr, IfSome};
+ghost use Rattle.cal_trace.specs.Arrivals.FitsTable.{FitsTable};
+ghost use Rattle.cal_engine.specs.Outcome.{Gives};
+ghost use Rattle.cal_engine.specs.Runs.{within_limit};
+ghost use Rattle.cal_engine.specs.Running.{run_input_of, run_text, Runs};
+
+use crate::fault::RunFault;
+use crate::input::parts::read_parts;
+use crate::input::read_input;
+use crate::jobs::answer::write_answer;
+use cal_machine::Config;
+use cal_run::{Outcome, lockstep};
+use cal_trace::{Arrivals, read_arrivals, write_history, write_summary};
+use std::alloc::Global;
+use std::io::{Read, Write};
+
+/// Reads an input of a task table and arrivals to its end, makes a whole run of them on one thread,
+/// and writes its history as a file, or its summary, and nothing else. Nothing is written before
+/// the run was made and its text stands in memory.
+///
+/// The faults come in this order: `Read` or `Length` as met, `Separator`, `Config`, `Trace`,
+/// `Write`. `Memory` may come at any place, and only where memory was refused.
+pub fn run_lockstep<R: Read + Drop, W: Write>(
+    alloc: Global,
+    mut reader: R,
+    summary: bool,
+    writer: &mut W,
+) -> Result<(), RunFault>
+    // The text of a run on the input was written and nothing else, or the fault is the input's
+    // first.
+    ensures exact { IfSome (R.remaining reader) (λ input.
+        Runs summary result (within_limit input (run_input_of input)) (W.contents writer.old)
+        (W.contents writer.new)) }
+    // Nothing is written before the run was made.
+    ensures untouched { IfErr result (λ fault. fault ≢ RunFault.Write → writer.new ≡ writer.old) }
+    // No thread is started, and no gate asked.
+    ensures alone { IfErr result (λ fault. (fault ≢ RunFault.Spawn) × (fault ≢ RunFault.Gate)) }
+{
+    let input = read_input(alloc, &mut reader)?;
+    let (config, arrivals) = run_input(alloc, input.as_slice())?;
+    let outcome = lockstep(alloc, &config, &arrivals)?;
+    let text = run_text(alloc, summary, &arrivals, &outcome)?;
+    write_answer(text.as_slice(), writer)
+}
+
+/// The task table of an input, and the arrivals for its threads.
+pub fn run_input(alloc: Global, input: &[u8]) -> Result<(Config, Arrivals), RunFault>
+    ensures exact { Gives (λ r. record { table = r.0; arrivals = r.1 }) result
+        (run_input_of input.now) }
+    ensures fits { IfOk result (λ r. FitsTable r.0 r.1) }
+{
+    let (config, trace) = read_parts(alloc, input)?;
+    let arrivals = read_arrivals(alloc, &config, trace)?;
+    Ok((config, arrivals))
+}
+
+/// What is written of what a run came to, in memory. Its fault is `Memory`.
+pub(crate) fn run_text(
+    alloc: Global,
+    summary: bool,
+    arrivals: &Arrivals,
+    outcome: &Outcome,
+) -> Result<Vec<u8>, RunFault>
+    ensures text { IfOk result (λ text. text.items ≡ run_text summary arrivals.now outcome.now) }
+    ensures kind { IfErr result (λ fault. fault ≡ RunFault.Memory) }
+{
+    let mut text = Vec::new(alloc);
+    let written = if summary {
+        write_summary(
+            arrivals.passes.as_slice().len(),
+            arrivals.turns.as_slice().len(),
+            outcome.journals.as_slice(),
+            outcome.left.as_slice(),
+            &mut text,
+        )
+    } else {
+        write_history(outcome.history.as_slice(), &mut text)
+    };
+    match written {
+        Ok(()) => Ok(text),
+        // A list in memory refuses nothing but memory.
+        Err(_) => Err(RunFault::Memory),
+    }
+}

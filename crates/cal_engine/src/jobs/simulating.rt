@@ -1,0 +1,66 @@
+//! Whole runs in threads, on the arrivals of an input.
+
+ghost use Rattle.std.specs.Prelude.{◌≡◌, ◌≢◌, IfOk, IfErr, IfSome};
+ghost use Rattle.cal_run.specs.Outcome.{IsRun};
+ghost use Rattle.cal_run.specs.declared.fault.SimFault.TheVariants.{Gate as GateFault};
+ghost use Rattle.cal_trace.specs.Arrivals.FitsTable.{FitsTable};
+ghost use Rattle.cal_engine.specs.Runs.{within_limit};
+ghost use Rattle.cal_engine.specs.Running.{run_input_of, RunsInThreads};
+
+use crate::fault::RunFault;
+use crate::input::read_input;
+use crate::jobs::answer::write_answer;
+use crate::jobs::running::{run_input, run_text};
+use cal_machine::Config;
+use cal_run::{Outcome, SimFault};
+use cal_threads::{FreeGate, simulate};
+use cal_trace::Arrivals;
+use std::alloc::Global;
+use std::io::{Read, Write};
+use std::sync::Wait;
+use std::thread::Threads;
+
+/// Reads an input of a task table and arrivals to its end, makes a whole run of them in threads of
+/// their own, and writes its history as a file, or its summary, and nothing else. Nothing is
+/// written before the run was made and its text stands in memory. The joins of the threads wait.
+///
+/// The faults come in this order: `Read` or `Length` as met, `Separator`, `Config`, `Trace`,
+/// `Spawn` where a thread could not be started, `Write`. `Memory` may come at any place, and only
+/// where memory was refused.
+pub fn run_sim<H: Threads + Wait + Sync, R: Read + Drop, W: Write>(
+    rt: &H,
+    alloc: Global,
+    mut reader: R,
+    summary: bool,
+    writer: &mut W,
+) -> Result<(), RunFault>
+    // The text of a run on the input was written and nothing else, or the fault is the input's
+    // first.
+    ensures exact { IfSome (R.remaining reader) (λ input.
+        RunsInThreads summary result (within_limit input (run_input_of input))
+        (W.contents writer.old) (W.contents writer.new)) }
+    // Nothing is written before the run was made.
+    ensures untouched { IfErr result (λ fault. fault ≢ RunFault.Write → writer.new ≡ writer.old) }
+    // No gate ends a worker.
+    ensures ungated { IfErr result (λ fault. fault ≢ RunFault.Gate) }
+{
+    let input = read_input(alloc, &mut reader)?;
+    let (config, arrivals) = run_input(alloc, input.as_slice())?;
+    let outcome = simulate_freely(rt, alloc, &config, &arrivals)?;
+    let text = run_text(alloc, summary, &arrivals, &outcome)?;
+    write_answer(text.as_slice(), writer)
+}
+
+/// A run in threads that no gate ends.
+fn simulate_freely<H: Threads + Wait + Sync>(
+    rt: &H,
+    alloc: Global,
+    config: &Config,
+    arrivals: &Arrivals,
+) -> Result<Outcome, SimFault>
+    requires fits { FitsTable config.now arrivals.now }
+    ensures run { IfOk result (IsRun config.now arrivals.now) }
+    ensures ungated { IfErr result (λ fault. fault ≢ GateFault) }
+{
+    simulate(rt, alloc, config, arrivals, &FreeGate)
+}
