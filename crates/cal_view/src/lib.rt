@@ -4,33 +4,16 @@
 //! What it shows are the spans of a history (`cal_spans`). How they are drawn is only tested.
 #![tactic(auto)]
 
-mod bandwidth;
-mod colours;
-mod columns;
-mod command_line;
-mod cores;
-mod fault;
-mod heading;
-mod help_texts;
-mod layout;
-mod legend;
-mod page;
+mod command_words;
+mod counting;
 mod picture;
-mod program;
 mod recording;
-mod sheet;
 mod story;
-mod style;
-mod tasks;
-mod telling;
 mod timeline;
-mod walk;
-mod window;
 
-pub use command_line::{Job, words};
-pub use fault::fault_line;
+pub use command_words::command_line::{Job, words};
+pub use command_words::fault::fault_line;
+pub use command_words::program::{end_with, run_program};
 pub use picture::draw_picture;
-pub use program::{end_with, run_program};
 pub use recording::record;
 pub use timeline::write_timeline;
-pub use window::Window;

@@ -1,68 +1,72 @@
 //! The picture of a history: one SVG.
 
-use crate::bandwidth::draw_bandwidth;
-use crate::cores::draw_cores;
-use crate::heading::{
+pub mod bandwidth;
+pub mod colours;
+pub mod columns;
+pub mod cores;
+pub mod heading;
+pub mod layout;
+pub mod legend;
+pub mod page;
+pub mod sheet;
+pub mod style;
+pub mod tasks;
+pub mod telling;
+
+use crate::counting::count_passes;
+use crate::picture::bandwidth::draw_bandwidth;
+use crate::picture::cores::draw_cores;
+use crate::picture::heading::{
     draw_axis, draw_grid, draw_heading, draw_overview, tell_end, tell_machine, tell_sums,
     tell_tasks, tell_window,
 };
-use crate::layout::Layout;
-use crate::legend::draw_legend;
-use crate::page::Page;
-use crate::sheet::Sheet;
+use crate::picture::layout::Layout;
+use crate::picture::legend::draw_legend;
+use crate::picture::page::Page;
+use crate::picture::sheet::Sheet;
+use crate::picture::style::{draw_signs, draw_style};
+use crate::picture::tasks::draw_tasks;
 use crate::story::Story;
-use crate::style::{draw_signs, draw_style};
-use crate::tasks::draw_tasks;
-use crate::window::{Columns, Window};
-use cal_engine::RunFault;
-use cal_machine::Config;
-use cal_policy::PassEntry;
+use crate::story::window::{Columns, Window};
+use cal_engine::{RunFault, recorded_passes};
 use std::alloc::Global;
 use std::io::Write;
 
-/// Draws the passes of a history that a window shows, as one SVG that stands alone. It takes any
-/// history; of one that is not orderly it draws what fits and passes over the rest.
+/// Draws the history of an input, from pass `from` on and no more than so many passes, as one SVG
+/// that stands alone. It takes any history; of one that is not orderly it draws what fits and
+/// passes over the rest. It keeps only what shows, and writes nothing of an input that is refused.
 ///
-/// The faults are `Memory` and `Write`. What is drawn is only tested; the spans in it are
-/// `spans_of`.
+/// The faults come in this order: `Separator`, `Config`, `Trace`, `Write`; `Memory` may come at any
+/// place. What is drawn is only tested; the spans in it are `spans_of`.
 pub fn draw_picture<W: Write>(
     alloc: Global,
-    config: &Config,
-    history: &[PassEntry],
-    window: Window,
+    input: &[u8],
+    from: Option<usize>,
+    passes: Option<usize>,
     writer: &mut W,
 ) -> Result<(), RunFault> {
-    let story = Story::of(alloc, config, history, window)?;
-    let columns = Columns::new(alloc, history, window)?;
-    let layout = Layout::new(alloc, config, &story, window, &columns)?;
+    let window = Window::new(count_passes(alloc, input)?, from, passes);
+    let (config, history) = recorded_passes(alloc, input)?;
+    let story = Story::of(alloc, &config, history, window)?;
+    let columns = Columns::new(alloc, story.shown.as_slice(), window)?;
+    let layout = Layout::new(alloc, &config, &story, window, &columns)?;
     let sheet = Sheet {
-        config,
-        history,
+        config: &config,
         window,
         story: &story,
         columns: &columns,
         layout: &layout,
     };
+    let mut page = Page::new(alloc);
     for part in PARTS {
-        let mut page = Page::new(alloc);
         draw_part(&sheet, part, &mut page);
-        send(&page, writer)?;
+        page.send(writer)?;
     }
     Ok(())
 }
 
-/// Writes what stands on a page. The faults are `Memory`, where memory was refused while it was
-/// drawn, and `Write`.
-fn send<W: Write>(page: &Page, writer: &mut W) -> Result<(), RunFault> {
-    let text = page.whole()?;
-    match writer.write_all(text.as_bytes()) {
-        Ok(()) => Ok(()),
-        Err(_) => Err(RunFault::Write),
-    }
-}
-
 /// The parts of a picture, each drawn on a page of its own.
-#[derive(Clone, Copy, Debug, PartialEq, Eq)]
+#[derive(Clone, Copy)]
 enum Part {
     Front,
     Passes,

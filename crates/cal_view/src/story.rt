@@ -1,14 +1,22 @@
 //! All that is drawn, from one walk over a history.
 
-use crate::walk::{Over, Row, Walk, is_critical};
-use crate::window::{Window, plot_width};
+pub mod clocks;
+pub mod walk;
+pub mod window;
+
+ghost use Rattle.cal_trace.specs.History.Reading.{IsOpen};
+
+use crate::story::clocks::{ClockedBan, ClockedSpan};
+use crate::story::walk::{Over, Row, Walk, is_critical};
+use crate::story::window::{Window, plot_width};
+use cal_engine::RunFault;
 use cal_machine::Config;
 use cal_policy::{Action, Cause, PassEntry};
-use cal_spans::{BanSpan, Span};
+use cal_trace::HistoryRows;
 use std::alloc::{AllocError, Global};
 
 /// How many actions of each kind there are.
-#[derive(Clone, Copy, Debug, PartialEq, Eq)]
+#[derive(Clone, Copy)]
 pub struct Sums {
     pub grants: u64,
     pub frees: u64,
@@ -21,7 +29,7 @@ pub struct Sums {
 }
 
 /// A piece of the overview: sums over its passes.
-#[derive(Clone, Copy, Debug, PartialEq, Eq)]
+#[derive(Clone, Copy)]
 pub struct Slot {
     /// How many passes it has.
     pub passes: u64,
@@ -37,9 +45,11 @@ pub struct Slot {
 #[derive(Drop)]
 pub struct Story {
     /// The spans that show in the window.
-    pub spans: Vec<Span>,
+    pub spans: Vec<ClockedSpan>,
     /// The bans that show in the window.
-    pub bans: Vec<BanSpan>,
+    pub bans: Vec<ClockedBan>,
+    /// The passes that are shown and the one after them.
+    pub shown: Vec<PassEntry>,
     /// What the tasks have after each pass that is shown.
     pub rows: Vec<Row>,
     /// The whole history, piece by piece.
@@ -119,8 +129,9 @@ fn passes_a_slot(window: Window) -> usize {
 #[derive(Drop)]
 struct Gathering {
     walk: Walk,
-    spans: Vec<Span>,
-    bans: Vec<BanSpan>,
+    spans: Vec<ClockedSpan>,
+    bans: Vec<ClockedBan>,
+    shown: Vec<PassEntry>,
     rows: Vec<Row>,
     slots: Vec<Slot>,
     slot: Slot,
@@ -136,6 +147,7 @@ impl Gathering {
             walk,
             spans: Vec::new(alloc),
             bans: Vec::new(alloc),
+            shown: Vec::new(alloc),
             rows: Vec::new(alloc),
             slots: Vec::new(alloc),
             slot: Slot::new(),
@@ -147,21 +159,37 @@ impl Gathering {
     /// Keeps a span and a ban, where they show in the window.
     fn keep(&mut self, window: Window, over: Over) -> Result<(), AllocError> {
         match over.span {
-            Some(span) if window.shows(span.from, span.to) => self.spans.push(span)?,
+            Some(clocked) if window.shows(clocked.span.from, clocked.span.to) => self
+                .spans
+                .push(clocked)?,
             _ => {}
         }
         match over.ban {
-            Some(ban) if window.shows(ban.from, ban.to) => self.bans.push(ban)?,
+            Some(clocked) if window.shows(clocked.ban.from, clocked.ban.to) => self
+                .bans
+                .push(clocked)?,
             _ => {}
         }
         Ok(())
     }
 
-    fn note(&mut self, window: Window, pass: usize, actions: &[Action]) -> Result<(), AllocError> {
-        for action in actions {
+    /// Goes on by the actions of a pass.
+    fn note(&mut self, window: Window, pass: usize, entry: &PassEntry) -> Result<(), AllocError> {
+        self.walk.look(entry.input.seen.as_slice());
+        for action in entry.actions.as_slice() {
             self.sums.note(*action);
-            let over = self.walk.note(pass, *action);
+            let over = self.walk.note(pass, entry.input.now, *action);
             self.keep(window, over)?;
+        }
+        Ok(())
+    }
+
+    /// Adds a pass to the overview.
+    fn add(&mut self, window: Window, config: &Config, over: bool) -> Result<(), AllocError> {
+        self.slot.note(config, &self.last, over);
+        if self.slot.passes >= passes_a_slot(window) as u64 {
+            self.slots.push(self.slot)?;
+            self.slot = Slot::new();
         }
         Ok(())
     }
@@ -172,20 +200,17 @@ impl Gathering {
         config: &Config,
         window: Window,
         pass: usize,
-        entry: &PassEntry,
+        entry: PassEntry,
     ) -> Result<(), AllocError> {
-        self.walk.look(entry.input.seen.as_slice());
-        self.note(window, pass, entry.actions.as_slice())?;
-        let row = self.walk.row(config, entry.input.now);
-        if window.has(pass) {
-            self.rows.push(row)?;
-        }
+        self.note(window, pass, &entry)?;
+        self.last = self.walk.row(config, entry.input.now);
         let over = entry.input.bandwidth > config.bandwidth_limit();
-        self.slot.note(config, &row, over);
-        self.last = row;
-        if self.slot.passes >= passes_a_slot(window) as u64 {
-            self.slots.push(self.slot)?;
-            self.slot = Slot::new();
+        self.add(window, config, over)?;
+        if window.has(pass) {
+            self.rows.push(self.last)?;
+        }
+        if window.has(pass) || pass == window.end() {
+            self.shown.push(entry)?;
         }
         Ok(())
     }
@@ -204,21 +229,27 @@ impl Gathering {
 }
 
 impl Story {
-    /// What a history tells, seen through a window.
+    /// What a history tells, seen through a window. The faults are those of the history's text that
+    /// has not been read, and `Memory`.
     pub fn of(
         alloc: Global,
         config: &Config,
-        history: &[PassEntry],
+        mut history: HistoryRows<'_>,
         window: Window,
-    ) -> Result<Story, AllocError> {
+    ) -> Result<Story, RunFault>
+        requires { IsOpen history }
+    {
         let mut gathering = Gathering::new(alloc, config);
-        for pass in 0..history.len() {
-            gathering.pass(config, window, pass, &history[pass])?;
+        let mut pass = 0usize;
+        while let Some(entry) = history.next()? {
+            gathering.pass(config, window, pass, entry)?;
+            pass = pass.saturating_add(1);
         }
         gathering.close(config, window)?;
         Ok(Story {
             spans: gathering.spans,
             bans: gathering.bans,
+            shown: gathering.shown,
             rows: gathering.rows,
             slots: gathering.slots,
             sums: gathering.sums,

@@ -3,13 +3,17 @@
 //! Clocks stand as microseconds, since the format knows no ticks. Cores are the tracks of one
 //! group, bans those of a second; the counters of tasks and of bandwidth are a third.
 
-use crate::page::Page;
-use crate::telling::{clock_of, kind_word, tell_ban, tell_span};
-use crate::walk::{Over, Row, Walk, is_critical, task_of};
-use cal_engine::RunFault;
+ghost use Rattle.cal_trace.specs.History.Reading.{IsOpen};
+
+use crate::counting::count_passes;
+use crate::picture::page::Page;
+use crate::picture::telling::{kind_word, tell_ban, tell_span};
+use crate::story::clocks::{ClockedBan, ClockedSpan};
+use crate::story::walk::{Over, Row, Walk, is_critical, task_of};
+use cal_engine::{RunFault, recorded_passes};
 use cal_machine::Config;
-use cal_policy::{Cause, PassEntry};
-use cal_spans::{BanSpan, Span};
+use cal_policy::{Action, Cause, PassEntry};
+use cal_trace::HistoryRows;
 use serde::Serialize;
 use std::alloc::Global;
 use std::io::Write;
@@ -88,164 +92,176 @@ struct Figure {
     value: u64,
 }
 
-/// Events one after the other, with commas between.
+/// Events one after the other, with commas between, on a page.
 #[derive(Drop)]
-struct Events<'w, W: Write> {
+struct Events {
     alloc: Global,
-    writer: &'w mut W,
+    page: Page,
     first: bool,
 }
 
-impl<W: Write> Events<'_, W> {
-    /// Writes one event, of the text that serde_json makes of it.
-    fn put<T: Serialize>(&mut self, event: &T) -> Result<(), RunFault> {
-        let Ok(text) = serde_json::to_string(self.alloc, event) else {
-            return Err(RunFault::Memory);
-        };
-        let between: &[u8] = if self.first { b"\n" } else { b",\n" };
-        self.first = false;
-        self.write(between)?;
-        self.write(text.as_bytes())
+impl Events {
+    fn new(alloc: Global) -> Events {
+        Events {
+            alloc,
+            page: Page::new(alloc),
+            first: true,
+        }
     }
 
-    fn write(&mut self, bytes: &[u8]) -> Result<(), RunFault> {
-        match self.writer.write_all(bytes) {
-            Ok(()) => Ok(()),
-            Err(_) => Err(RunFault::Write),
+    /// Puts one event, as the text that serde_json makes of it.
+    fn put<T: Serialize>(&mut self, event: &T) {
+        self.page.put(if self.first { "\n" } else { ",\n" });
+        self.first = false;
+        match serde_json::to_string(self.alloc, event) {
+            Ok(text) => self.page.put(text.as_str()),
+            Err(_) => self.page.refuse(),
         }
     }
 }
 
-/// Writes a history as trace events. It takes any history. The faults are `Memory` and `Write`.
+/// Writes the history of an input as trace events. It takes any history. It keeps no pass, and
+/// writes nothing of an input that is refused.
+///
+/// The faults come in this order: `Separator`, `Config`, `Trace`, `Write`; `Memory` may come at any
+/// place.
 pub fn write_timeline<W: Write>(
     alloc: Global,
-    config: &Config,
-    history: &[PassEntry],
+    input: &[u8],
     writer: &mut W,
 ) -> Result<(), RunFault> {
-    let mut events = Events {
-        alloc,
-        writer,
-        first: true,
-    };
-    events.write(b"{\"displayTimeUnit\":\"ns\",\"traceEvents\":[")?;
-    put_names(config, &mut events)?;
-    put_passes(config, history, &mut events)?;
-    events.write(b"\n]}\n")
+    // To its end, so that a fault of the input comes before anything is written.
+    count_passes(alloc, input)?;
+    let (config, history) = recorded_passes(alloc, input)?;
+    let mut events = Events::new(alloc);
+    let opening = "{\"displayTimeUnit\":\"ns\",\"traceEvents\":[";
+    events.page.put(opening);
+    put_names(&config, &mut events);
+    put_passes(&config, history, &mut events, writer)?;
+    events.page.put("\n]}\n");
+    events.page.send(writer)
 }
 
 /// The names of the groups and of the tracks of cores.
-fn put_names<W: Write>(config: &Config, events: &mut Events<'_, W>) -> Result<(), RunFault> {
-    put_name("process_name", CORES, 0, "cores", events)?;
-    put_name("process_name", BANS, 0, "banned cores", events)?;
-    put_name("process_name", COUNTERS, 0, "tasks and bandwidth", events)?;
+fn put_names(config: &Config, events: &mut Events) {
+    put_name("process_name", CORES, 0, "cores", events);
+    put_name("process_name", BANS, 0, "banned cores", events);
+    put_name("process_name", COUNTERS, 0, "tasks and bandwidth", events);
     for core in 0..config.machine().cores() {
-        let name = format!(in events.alloc; "core {core}")?;
-        put_name("thread_name", CORES, u64::from(core), name.as_str(), events)?;
-        put_name("thread_name", BANS, u64::from(core), name.as_str(), events)?;
+        put_core_name(u64::from(core), events);
     }
-    Ok(())
 }
 
-fn put_name<W: Write>(
-    kind: &str,
-    pid: u64,
-    tid: u64,
-    name: &str,
-    events: &mut Events<'_, W>,
-) -> Result<(), RunFault> {
+/// The name of a core's two tracks.
+fn put_core_name(core: u64, events: &mut Events) {
+    let mut page = Page::new(events.alloc);
+    page.fill("core {}", &[core]);
+    match page.whole() {
+        Ok(name) => {
+            put_name("thread_name", CORES, core, name, events);
+            put_name("thread_name", BANS, core, name, events);
+        }
+        Err(_) => events.page.refuse(),
+    }
+}
+
+fn put_name(kind: &str, pid: u64, tid: u64, name: &str, events: &mut Events) {
     events.put(&Named {
         name: kind,
         ph: "M",
         pid,
         tid,
         args: Name { name },
-    })
+    });
 }
 
 /// Walks over the history once: writes each figure when it changes, and each span and each ban when
-/// it ends, or after the last pass.
+/// it ends, or after the last pass. The events of a pass go to the writer together.
 fn put_passes<W: Write>(
     config: &Config,
-    history: &[PassEntry],
-    events: &mut Events<'_, W>,
-) -> Result<(), RunFault> {
-    let mut walk = Walk::new(config);
-    let mut last = None;
-    for pass in 0..history.len() {
-        let entry = &history[pass];
-        let now = entry.input.now;
-        walk.look(entry.input.seen.as_slice());
-        put_actions(config, history, pass, &mut walk, events)?;
-        let row = walk.row(config, now);
-        put_row(config, now, &row, last, events)?;
-        put_figure("bandwidth", now, entry.input.bandwidth, events)?;
-        last = Some(row);
+    mut history: HistoryRows<'_>,
+    events: &mut Events,
+    writer: &mut W,
+) -> Result<(), RunFault>
+    requires { IsOpen history }
+{
+    let mut told = Told::new(config);
+    while let Some(entry) = history.next()? {
+        told.pass(config, &entry, events);
+        events.page.send(writer)?;
     }
-    put_rest(config, history, &walk, events)
-}
-
-/// What the actions of a pass end.
-fn put_actions<W: Write>(
-    config: &Config,
-    history: &[PassEntry],
-    pass: usize,
-    walk: &mut Walk,
-    events: &mut Events<'_, W>,
-) -> Result<(), RunFault> {
-    let Some(entry) = history.get(pass) else {
-        return Ok(());
-    };
-    for action in entry.actions.as_slice() {
-        let over = walk.note(pass, *action);
-        put_over(config, history, over, events)?;
-    }
+    told.rest(config, events);
     Ok(())
 }
 
-/// What goes on after the last pass.
-fn put_rest<W: Write>(
-    config: &Config,
-    history: &[PassEntry],
-    walk: &Walk,
-    events: &mut Events<'_, W>,
-) -> Result<(), RunFault> {
-    for core in 0..config.machine().cores() {
-        put_over(config, history, walk.open(core), events)?;
-    }
-    Ok(())
+/// What is known after the passes that were told.
+#[derive(Drop)]
+struct Told {
+    walk: Walk,
+    /// What the tasks have after the last pass; none before the first.
+    row: Option<Row>,
+    /// The clock of the last pass.
+    now: u64,
+    passes: usize,
 }
 
-/// A span and a ban, where there are such.
-fn put_over<W: Write>(
-    config: &Config,
-    history: &[PassEntry],
-    over: Over,
-    events: &mut Events<'_, W>,
-) -> Result<(), RunFault> {
-    if let Some(span) = over.span {
-        put_span(config, history, &span, events)?;
+impl Told {
+    /// Before the first pass.
+    fn new(config: &Config) -> Told {
+        Told {
+            walk: Walk::new(config),
+            row: None,
+            now: 0,
+            passes: 0,
+        }
     }
-    if let Some(ban) = over.ban {
-        put_ban(config, history, &ban, events)?;
+
+    /// Goes on by one pass, and puts what it changes and ends.
+    fn pass(&mut self, config: &Config, entry: &PassEntry, events: &mut Events) {
+        self.now = entry.input.now;
+        self.walk.look(entry.input.seen.as_slice());
+        self.note(config, entry.actions.as_slice(), events);
+        let row = self.walk.row(config, self.now);
+        put_row(config, self.now, &row, self.row, events);
+        put_figure("bandwidth", self.now, entry.input.bandwidth, events);
+        self.row = Some(row);
+        self.passes = self.passes.saturating_add(1);
     }
-    Ok(())
+
+    /// What the actions of a pass end.
+    fn note(&mut self, config: &Config, actions: &[Action], events: &mut Events) {
+        for action in actions {
+            let over = self.walk.note(self.passes, self.now, *action);
+            put_over(config, self.now, over, events);
+        }
+    }
+
+    /// What goes on after the last pass.
+    fn rest(&self, config: &Config, events: &mut Events) {
+        for core in 0..config.machine().cores() {
+            put_over(config, self.now, self.walk.open(core), events);
+        }
+    }
+}
+
+/// A span and a ban that end by this clock, where there are such.
+fn put_over(config: &Config, end: u64, over: Over, events: &mut Events) {
+    if let Some(clocked) = over.span {
+        put_span(config, end, &clocked, events);
+        put_leaving(end, &clocked, events);
+    }
+    if let Some(clocked) = over.ban {
+        put_ban(config, end, &clocked, events);
+    }
 }
 
 /// The figures of the tasks that are others than before.
-fn put_row<W: Write>(
-    config: &Config,
-    now: u64,
-    row: &Row,
-    last: Option<Row>,
-    events: &mut Events<'_, W>,
-) -> Result<(), RunFault> {
+fn put_row(config: &Config, now: u64, row: &Row, last: Option<Row>, events: &mut Events) {
     for task in 0..config.tasks() {
         if changes(row, last, task) {
-            put_task(config, now, row, task, events)?;
+            put_task(config, now, row, task, events);
         }
     }
-    Ok(())
 }
 
 fn changes(row: &Row, last: Option<Row>, task: usize) -> bool {
@@ -259,55 +275,56 @@ fn changes(row: &Row, last: Option<Row>, task: usize) -> bool {
     }
 }
 
-fn put_task<W: Write>(
-    config: &Config,
-    now: u64,
-    row: &Row,
-    task: usize,
-    events: &mut Events<'_, W>,
-) -> Result<(), RunFault> {
+/// What a task holds and leaves, and the cap of a best-effort one.
+fn put_task(config: &Config, now: u64, row: &Row, task: usize, events: &mut Events) {
     if task >= 16 {
-        return Ok(());
+        return;
     }
-    let kind = kind_word(config, task);
     let held = row.held[task];
-    let name = format!(in events.alloc; "task {task} ({kind})")?;
-    events.put(&TaskCounter {
-        name: name.as_str(),
-        ph: "C",
-        ts: now,
-        pid: COUNTERS,
-        args: TaskFigures {
-            held,
-            leaving: row.booked[task].saturating_sub(held),
-        },
-    })?;
-    if is_critical(config, task) {
-        return Ok(());
+    let figures = TaskFigures {
+        held,
+        leaving: row.booked[task].saturating_sub(held),
+    };
+    put_task_figures(kind_word(config, task), now, task, figures, events);
+    if !is_critical(config, task) {
+        put_cap(now, task, row.caps[task], events);
     }
-    let name = format!(in events.alloc; "cap of task {task}")?;
-    put_figure(name.as_str(), now, u64::from(row.caps[task]), events)
 }
 
-fn put_figure<W: Write>(
-    name: &str,
-    ts: u64,
-    value: u64,
-    events: &mut Events<'_, W>,
-) -> Result<(), RunFault> {
+fn put_task_figures(kind: &str, now: u64, task: usize, figures: TaskFigures, events: &mut Events) {
+    let mut page = Page::new(events.alloc);
+    page.fill("task {} (", &[task as u64]);
+    page.put(kind);
+    page.put(")");
+    match page.whole() {
+        Ok(name) => events.put(&TaskCounter {
+            name,
+            ph: "C",
+            ts: now,
+            pid: COUNTERS,
+            args: figures,
+        }),
+        Err(_) => events.page.refuse(),
+    }
+}
+
+fn put_cap(now: u64, task: usize, cap: u8, events: &mut Events) {
+    let mut page = Page::new(events.alloc);
+    page.fill("cap of task {}", &[task as u64]);
+    match page.whole() {
+        Ok(name) => put_figure(name, now, u64::from(cap), events),
+        Err(_) => events.page.refuse(),
+    }
+}
+
+fn put_figure(name: &str, ts: u64, value: u64, events: &mut Events) {
     events.put(&Counter {
         name,
         ph: "C",
         ts,
         pid: COUNTERS,
         args: Figure { value },
-    })
-}
-
-/// The clock at which something ended, or that of the last pass.
-fn end_clock(history: &[PassEntry], to: Option<usize>) -> u64 {
-    let last = history.len().saturating_sub(1);
-    clock_of(history, to.unwrap_or(last))
+    });
 }
 
 /// Where and when a slice stands.
@@ -319,75 +336,64 @@ struct Place {
     thread: u8,
     from: usize,
     to: Option<usize>,
+    /// The clocks at which it begins and ends.
+    start: u64,
+    end: u64,
 }
 
-/// Writes a slice from a pass to another, or to the last one.
-fn put_slice<'a, W: Write>(
-    history: &[PassEntry],
-    place: Place,
-    name: &'a str,
-    told: &'a str,
-    events: &mut Events<'_, W>,
-) -> Result<(), RunFault> {
-    let start = clock_of(history, place.from);
-    let end = end_clock(history, place.to);
-    events.put(&Slice {
-        name,
-        cat: place.cat,
-        ph: "X",
-        ts: start,
-        dur: end.saturating_sub(start),
-        pid: place.pid,
-        tid: u64::from(place.core),
-        args: Story {
-            told,
-            thread: place.thread,
-            from_pass: place.from,
-            to_pass: place.to,
-        },
-    })
+/// Puts a slice, under a name and with what is told of it.
+fn put_slice<'a>(place: Place, name: &'a Page, told: &'a Page, events: &mut Events) {
+    match (name.whole(), told.whole()) {
+        (Ok(name), Ok(told)) => events.put(&Slice {
+            name,
+            cat: place.cat,
+            ph: "X",
+            ts: place.start,
+            dur: place.end.saturating_sub(place.start),
+            pid: place.pid,
+            tid: u64::from(place.core),
+            args: Story {
+                told,
+                thread: place.thread,
+                from_pass: place.from,
+                to_pass: place.to,
+            },
+        }),
+        _ => events.page.refuse(),
+    }
 }
 
-/// A span: a slice of its core, and within it one for the time in which it is being left.
-fn put_span<W: Write>(
-    config: &Config,
-    history: &[PassEntry],
-    span: &Span,
-    events: &mut Events<'_, W>,
-) -> Result<(), RunFault> {
+/// A span: a slice of its core.
+fn put_span(config: &Config, end: u64, clocked: &ClockedSpan, events: &mut Events) {
+    let span = clocked.span;
     let mut told = Page::new(events.alloc);
-    tell_span(config, history, span, &mut told);
-    let thread = span.thread;
-    let name = match task_of(config, thread) {
-        Some(task) => format!(in events.alloc; "thread {thread} of task {task}")?,
-        None => format!(in events.alloc; "thread {thread}")?,
-    };
+    tell_span(config, clocked, &mut told);
+    let mut name = Page::new(events.alloc);
+    name.fill("thread {}", &[u64::from(span.thread)]);
+    if let Some(task) = task_of(config, span.thread) {
+        name.fill(" of task {}", &[task as u64]);
+    }
     let place = Place {
         cat: "span",
         pid: CORES,
         core: span.core,
-        thread,
+        thread: span.thread,
         from: span.from,
         to: span.to,
+        start: clocked.granted,
+        end,
     };
-    put_slice(history, place, name.as_str(), told.whole()?, events)?;
-    put_leaving(history, span, events)
+    put_slice(place, &name, &told, events);
 }
 
-/// The time in which a span's core is being left, by its cause.
-fn put_leaving<W: Write>(
-    history: &[PassEntry],
-    span: &Span,
-    events: &mut Events<'_, W>,
-) -> Result<(), RunFault> {
+/// The time in which a span's core is being left, by its cause: a slice within that of the span.
+fn put_leaving(end: u64, clocked: &ClockedSpan, events: &mut Events) {
+    let span = clocked.span;
     let Some(left) = span.left else {
-        return Ok(());
+        return;
     };
-    let name = match left.cause {
-        Cause::Ban { by } => format!(in events.alloc; "leaving: ban by core {by}")?,
-        Cause::Bandwidth => format!(in events.alloc; "leaving: bandwidth")?,
-        Cause::Preempt { task } => format!(in events.alloc; "leaving: for task {task}")?,
-    };
+    let mut name = Page::new(events.alloc);
+    name_cause(left.cause, &mut name);
     let place = Place {
         cat: "leaving",
         pid: CORES,
@@ -395,28 +401,36 @@ fn put_leaving<W: Write>(
         thread: span.thread,
         from: left.pass,
         to: span.to,
+        start: clocked.revoked,
+        end,
     };
-    put_slice(history, place, name.as_str(), name.as_str(), events)
+    put_slice(place, &name, &name, events);
+}
+
+fn name_cause(cause: Cause, page: &mut Page) {
+    match cause {
+        Cause::Ban { by } => page.fill("leaving: ban by core {}", &[by as u64]),
+        Cause::Bandwidth => page.put("leaving: bandwidth"),
+        Cause::Preempt { task } => page.fill("leaving: for task {}", &[task as u64]),
+    }
 }
 
 /// A ban: a slice of its core, in the group of bans.
-fn put_ban<W: Write>(
-    config: &Config,
-    history: &[PassEntry],
-    ban: &BanSpan,
-    events: &mut Events<'_, W>,
-) -> Result<(), RunFault> {
+fn put_ban(config: &Config, end: u64, clocked: &ClockedBan, events: &mut Events) {
+    let ban = clocked.ban;
     let mut told = Page::new(events.alloc);
-    tell_ban(config, history, ban, &mut told);
-    let thread = ban.thread;
-    let name = format!(in events.alloc; "banned for thread {thread}")?;
+    tell_ban(config, clocked, &mut told);
+    let mut name = Page::new(events.alloc);
+    name.fill("banned for thread {}", &[u64::from(ban.thread)]);
     let place = Place {
         cat: "ban",
         pid: BANS,
         core: ban.core,
-        thread,
+        thread: ban.thread,
         from: ban.from,
         to: ban.to,
+        start: clocked.banned,
+        end,
     };
-    put_slice(history, place, name.as_str(), told.whole()?, events)
+    put_slice(place, &name, &told, events);
 }

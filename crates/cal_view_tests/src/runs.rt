@@ -56,7 +56,8 @@ fn a_picture_tells_each_span_once(rt: HostRuntime) -> Result<(), Fail> {
     assert_eq!(rt; ran.status, 0);
     assert!(rt; text.starts_with(b"<svg ") && text.ends_with(b"</svg>\n"));
     assert_eq!(rt; count(text, b": granted in pass "), 3);
-    assert_eq!(rt; count(text, b"; freed in pass 2"), 1);
+    let span = b"in pass 0 at 100, class 3; revoked in pass 1 at 110 for task 0; freed in pass 2";
+    assert_eq!(rt; count(text, span), 1);
     assert_eq!(rt; count(text, b"; still held"), 2);
     let end = b" At the end: task 0 lc held 1 leaving 0; task 1 be held 1 leaving 0. The report ";
     assert_eq!(rt; count(text, end), 1);
@@ -70,7 +71,8 @@ fn a_timeline_is_json(rt: HostRuntime) -> Result<(), Fail> {
     assert_eq!(rt; ran.status, 0);
     assert!(rt; Value::from_slice(rt.alloc(), ran.output.as_slice()).is_ok());
     assert_eq!(rt; count(ran.output.as_slice(), b"\"cat\":\"span\""), 3);
-    assert_eq!(rt; count(ran.output.as_slice(), b"\"cat\":\"leaving\""), 1);
+    let leaving = b"\"cat\":\"leaving\",\"ph\":\"X\",\"ts\":110,\"dur\":10,";
+    assert_eq!(rt; count(ran.output.as_slice(), leaving), 1);
     Ok(())
 }
 
@@ -85,6 +87,18 @@ fn faults_have_the_program_in_front(rt: HostRuntime) -> Result<(), Fail> {
     assert_eq!(rt; ran.output.len(), 0);
     let ran = run(&rt, &["picture", "--passes", "0"], TABLE)?;
     assert_eq!(rt; ran.status, 2);
+    Ok(())
+}
+
+// What is wrong stands after all passes, which could have been drawn.
+#[test]
+fn nothing_is_drawn_of_a_refused_history(rt: HostRuntime) -> Result<(), Fail> {
+    let input = format!(in rt.alloc(); "{TABLE}---\n{HISTORY}end,3\n")?;
+    for word in ["picture", "timeline"] {
+        let ran = run(&rt, &[word], input.as_str())?;
+        assert_eq!(rt; ran.status, 2, "{word}");
+        assert!(rt; ran.output.is_empty() && !ran.errors.is_empty());
+    }
     Ok(())
 }
 

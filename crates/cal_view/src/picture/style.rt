@@ -1,9 +1,9 @@
 //! The rules of a picture's style sheet, and the patterns and signs that it draws with.
 
-use crate::colours::{Paper, Scheme, Shade, paper_of, shade_of};
-use crate::page::Page;
-use crate::sheet::Sheet;
-use crate::walk::is_critical;
+use crate::picture::colours::{Paper, Scheme, Shade, paper_of, shade_of};
+use crate::picture::page::Page;
+use crate::picture::sheet::Sheet;
+use crate::story::walk::is_critical;
 use cal_machine::Config;
 
 const FIXED: &str =

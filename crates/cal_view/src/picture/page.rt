@@ -1,7 +1,9 @@
 //! The text of a picture or of a tooltip, while it is written.
 
+use cal_engine::RunFault;
 use std::alloc::{AllocError, Global};
 use std::fmt::Write;
+use std::io;
 
 /// A text to which words are put one after the other. Where memory is refused it is refused from
 /// then on, so that only the end has to look.
@@ -61,11 +63,27 @@ impl Page {
         }
     }
 
+    /// Says that memory was refused for what was to be put.
+    pub fn refuse(&mut self) {
+        self.refused = true;
+    }
+
     /// What was put. The error is want of memory.
     pub fn whole(&self) -> Result<&str, AllocError> {
         if self.refused {
             return Err(AllocError);
         }
         Ok(self.text.as_str())
+    }
+
+    /// Writes what was put, and begins anew. The faults are `Memory`, where memory was refused for
+    /// some of it, and `Write`.
+    pub fn send<W: io::Write>(&mut self, writer: &mut W) -> Result<(), RunFault> {
+        let text = self.whole()?;
+        if writer.write_all(text.as_bytes()).is_err() {
+            return Err(RunFault::Write);
+        }
+        self.text.clear();
+        Ok(())
     }
 }

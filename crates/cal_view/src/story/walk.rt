@@ -1,12 +1,13 @@
 //! What is known after the passes so far, while a history is walked: who has which core, which
 //! cores are banned, and what the tasks have. It does not grow.
 
+use crate::story::clocks::{ClockedBan, ClockedSpan, Clocks};
 use cal_machine::{Config, Kind};
 use cal_policy::{Action, Record, Seen};
 use cal_spans::{BanSpan, BanTracker, Span, Tracker};
 
 /// What each task has after a pass, in task order.
-#[derive(Clone, Copy, Debug, PartialEq, Eq)]
+#[derive(Clone, Copy)]
 pub struct Row {
     /// Cores that its threads hold.
     pub held: [u8; 16],
@@ -117,10 +118,10 @@ fn count(counts: &mut [u8; 16], task: usize) {
 }
 
 /// What an action ends.
-#[derive(Clone, Copy, Debug, PartialEq, Eq)]
+#[derive(Clone, Copy)]
 pub struct Over {
-    pub span: Option<Span>,
-    pub ban: Option<BanSpan>,
+    pub span: Option<ClockedSpan>,
+    pub ban: Option<ClockedBan>,
 }
 
 /// What is known after the passes so far.
@@ -128,6 +129,7 @@ pub struct Over {
 pub struct Walk {
     spans: Tracker,
     bans: BanTracker,
+    clocks: Clocks,
     tasks: Tasks,
 }
 
@@ -137,6 +139,7 @@ impl Walk {
         Walk {
             spans: Tracker::new(),
             bans: BanTracker::new(),
+            clocks: Clocks::new(),
             tasks: Tasks::new(config),
         }
     }
@@ -146,21 +149,26 @@ impl Walk {
         self.tasks.look(looks);
     }
 
-    /// Goes on by one action of a pass, and answers what it ends.
-    pub fn note(&mut self, pass: usize, action: Action) -> Over {
+    /// Goes on by one action of a pass of this clock, and answers what it ends.
+    pub fn note(&mut self, pass: usize, now: u64, action: Action) -> Over {
         self.tasks.cap(action);
+        let span = self.spans.note(pass, action);
+        let ban = self.bans.note(pass, action);
+        let over = self.clocked(span, ban);
+        self.clocks.note(now, action);
+        over
+    }
+
+    fn clocked(&self, span: Option<Span>, ban: Option<BanSpan>) -> Over {
         Over {
-            span: self.spans.note(pass, action),
-            ban: self.bans.note(pass, action),
+            span: self.clocks.span(span),
+            ban: self.clocks.ban(ban),
         }
     }
 
     /// What goes on at a core.
     pub fn open(&self, core: u8) -> Over {
-        Over {
-            span: self.spans.span(core),
-            ban: self.bans.ban(core),
-        }
+        self.clocked(self.spans.span(core), self.bans.ban(core))
     }
 
     /// What the tasks have by this clock.

@@ -1,15 +1,12 @@
 //! A whole run of the program: words and an input in; an answer, an error line and an exit status
 //! out.
 
-use crate::command_line::{Job, help, words};
-use crate::fault::fault_line;
+use crate::command_words::command_line::{Job, help, words};
+use crate::command_words::fault::fault_line;
 use crate::picture::draw_picture;
 use crate::recording::record;
 use crate::timeline::write_timeline;
-use crate::window::Window;
-use cal_engine::{RunFault, read_input, recorded_run, refuse_words, status};
-use cal_machine::Config;
-use cal_policy::PassEntry;
+use cal_engine::{RunFault, read_input, refuse_words, status};
 use std::alloc::Global;
 use std::io::{BufWriter, Read, Write};
 
@@ -94,34 +91,24 @@ fn do_job<R: Read + Drop, W: Write>(
     }
 }
 
-/// Reads an input of a task table and a history to its end.
-fn recorded<R: Read + Drop>(
-    alloc: Global,
-    mut reader: R,
-) -> Result<(Config, Vec<PassEntry>), RunFault> {
-    let input = read_input(alloc, &mut reader)?;
-    recorded_run(alloc, input.as_slice())
-}
-
 /// Reads an input of a table and a history, and draws the passes that were asked for.
 fn picture<R: Read + Drop, W: Write>(
     alloc: Global,
-    reader: R,
+    mut reader: R,
     from: Option<usize>,
     passes: Option<usize>,
     writer: &mut W,
 ) -> Result<(), RunFault> {
-    let (config, history) = recorded(alloc, reader)?;
-    let window = Window::new(history.len(), from, passes);
-    draw_picture(alloc, &config, history.as_slice(), window, writer)
+    let input = read_input(alloc, &mut reader)?;
+    draw_picture(alloc, input.as_slice(), from, passes, writer)
 }
 
 /// Reads an input of a table and a history, and writes it as trace events.
 fn timeline<R: Read + Drop, W: Write>(
     alloc: Global,
-    reader: R,
+    mut reader: R,
     writer: &mut W,
 ) -> Result<(), RunFault> {
-    let (config, history) = recorded(alloc, reader)?;
-    write_timeline(alloc, &config, history.as_slice(), writer)
+    let input = read_input(alloc, &mut reader)?;
+    write_timeline(alloc, input.as_slice(), writer)
 }

@@ -1,14 +1,14 @@
 //! The lanes of the tasks: what each holds and leaves, its limit, guarantee and cap.
 
-use crate::layout::TaskLane;
-use crate::page::Page;
-use crate::sheet::Sheet;
-use crate::telling::{draw_box, ending, kind_word};
-use crate::walk::{Row, is_critical};
-use crate::window::LEFT;
+use crate::picture::layout::TaskLane;
+use crate::picture::page::Page;
+use crate::picture::sheet::Sheet;
+use crate::picture::telling::{draw_box, ending, kind_word};
+use crate::story::walk::{Row, is_critical};
+use crate::story::window::LEFT;
 
 /// What is drawn of a task as steps.
-#[derive(Clone, Copy, Debug, PartialEq, Eq)]
+#[derive(Clone, Copy)]
 enum Figure {
     Held,
     Booked,

@@ -1,14 +1,14 @@
 //! The colours, in a light and a dark set.
 
 /// The set of colours for a light or a dark ground.
-#[derive(Clone, Copy, Debug, PartialEq, Eq)]
+#[derive(Clone, Copy)]
 pub enum Scheme {
     Light,
     Dark,
 }
 
 /// The colours of a task.
-#[derive(Clone, Copy, Debug, PartialEq, Eq)]
+#[derive(Clone, Copy)]
 pub struct Shade {
     /// The full colour.
     pub fill: &'static str,
@@ -21,7 +21,7 @@ pub struct Shade {
 }
 
 /// The colours of everything else.
-#[derive(Clone, Copy, Debug, PartialEq, Eq)]
+#[derive(Clone, Copy)]
 pub struct Paper {
     pub name: &'static str,
     pub paper: &'static str,

@@ -1,6 +1,6 @@
 //! What the words of a command line ask for.
 
-use crate::help_texts;
+use crate::command_words::help_texts;
 use cal_engine::VERSION;
 use clap::{Arg, ArgAction, ArgMatches, Command, Error};
 use std::alloc::{AllocError, Global};

@@ -1,9 +1,9 @@
 //! Where on the paper everything stands, in whole pixels.
 
 use crate::story::Story;
-use crate::window::{Columns, Window};
+use crate::story::clocks::{ClockedBan, ClockedSpan};
+use crate::story::window::{Columns, Window};
 use cal_machine::Config;
-use cal_spans::{BanSpan, Span};
 use std::alloc::{AllocError, Global};
 
 /// The height of the bandwidth lane and of the overview.
@@ -16,7 +16,7 @@ const CANVAS_LEAST: u64 = 860;
 const NUMBERS: u64 = 12;
 
 /// The sizes of the lanes of cores, by how many cores there are.
-#[derive(Clone, Copy, Debug, PartialEq, Eq)]
+#[derive(Clone, Copy)]
 pub struct Sizes {
     /// The height of a lane.
     pub lane: u64,
@@ -37,7 +37,7 @@ pub struct Sizes {
 }
 
 /// The lane of a task: its top stands for the limit and its base for no core.
-#[derive(Clone, Copy, Debug, PartialEq, Eq)]
+#[derive(Clone, Copy)]
 pub struct TaskLane {
     pub top: u64,
     pub base: u64,
@@ -53,7 +53,7 @@ impl TaskLane {
 }
 
 /// What stands on the paper for some cores.
-#[derive(Clone, Copy, Debug, PartialEq, Eq)]
+#[derive(Clone, Copy)]
 pub enum Ground {
     /// A pair of siblings, by its lower core, each in a lane.
     Pair { core: u8, top: u64 },
@@ -148,13 +148,13 @@ fn scaled_unit(most: u64, limit: u64) -> u64 {
 }
 
 /// Which pairs have a span or a ban that shows.
-fn used_pairs(spans: &[Span], bans: &[BanSpan]) -> [bool; 128] {
+fn used_pairs(spans: &[ClockedSpan], bans: &[ClockedBan]) -> [bool; 128] {
     let mut used = [false; 128];
-    for span in spans {
-        used[(span.core / 2) as usize] = true;
+    for clocked in spans {
+        used[(clocked.span.core / 2) as usize] = true;
     }
-    for ban in bans {
-        used[(ban.core / 2) as usize] = true;
+    for clocked in bans {
+        used[(clocked.ban.core / 2) as usize] = true;
     }
     used
 }

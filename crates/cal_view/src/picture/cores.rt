@@ -1,11 +1,12 @@
 //! The lanes of the cores: their spans, and the bans that keep them empty.
 
-use crate::layout::{Ground, Sizes, digits};
-use crate::page::Page;
-use crate::sheet::Sheet;
-use crate::telling::{draw_box, tell_ban, tell_span};
-use crate::walk::task_of;
-use crate::window::LEFT;
+use crate::picture::layout::{Ground, Sizes, digits};
+use crate::picture::page::Page;
+use crate::picture::sheet::Sheet;
+use crate::picture::telling::{draw_box, tell_ban, tell_span};
+use crate::story::clocks::{ClockedBan, ClockedSpan};
+use crate::story::walk::task_of;
+use crate::story::window::LEFT;
 use cal_policy::Cause;
 use cal_spans::{BanSpan, Left, Span};
 
@@ -21,13 +22,13 @@ pub fn draw_cores(sheet: &Sheet<'_>, page: &mut Page) {
         draw_ground(sheet, *ground, page);
     }
     page.put("<g transform='translate(.5 .5)'>\n");
-    for ban in sheet.story.bans.as_slice() {
-        draw_ban(sheet, ban, page);
+    for clocked in sheet.story.bans.as_slice() {
+        draw_ban(sheet, clocked, page);
     }
     draw_spans(sheet, page);
     page.put("</g>\n<g>");
-    for ban in sheet.story.bans.as_slice() {
-        draw_ban_sign(sheet, ban, page);
+    for clocked in sheet.story.bans.as_slice() {
+        draw_ban_sign(sheet, &clocked.ban, page);
     }
     page.put("</g>\n");
 }
@@ -35,8 +36,8 @@ pub fn draw_cores(sheet: &Sheet<'_>, page: &mut Page) {
 /// The spans, and bars where they begin and end.
 fn draw_spans(sheet: &Sheet<'_>, page: &mut Page) {
     page.put("<g class='c st'>\n");
-    for span in sheet.story.spans.as_slice() {
-        draw_span(sheet, span, page);
+    for clocked in sheet.story.spans.as_slice() {
+        draw_span(sheet, clocked, page);
     }
     page.put("</g><path class='G' d='");
     draw_grants(sheet, page);
@@ -108,7 +109,8 @@ fn draw_pair_name(sizes: Sizes, core: u8, top: u64, below: u64, page: &mut Page)
 /// A thick bar where each span begins.
 fn draw_grants(sheet: &Sheet<'_>, page: &mut Page) {
     let tall = sheet.layout.sizes.tall;
-    for span in sheet.story.spans.as_slice() {
+    for clocked in sheet.story.spans.as_slice() {
+        let span = clocked.span;
         if sheet.window.has(span.from) {
             let x = sheet.columns.at(span.from);
             let top = sheet.layout.top(span.core);
@@ -120,7 +122,8 @@ fn draw_grants(sheet: &Sheet<'_>, page: &mut Page) {
 /// A thin bar where each span ends.
 fn draw_frees(sheet: &Sheet<'_>, page: &mut Page) {
     let tall = sheet.layout.sizes.tall;
-    for span in sheet.story.spans.as_slice() {
+    for clocked in sheet.story.spans.as_slice() {
+        let span = clocked.span;
         if let Some(to) = span.to {
             if sheet.window.has(to) {
                 let x = sheet.columns.at(to).saturating_sub(1);
@@ -141,7 +144,8 @@ fn end_of(sheet: &Sheet<'_>, to: Option<usize>) -> u64 {
 }
 
 /// A span: full where it is held, hatched where it is being left, with its thread's number.
-fn draw_span(sheet: &Sheet<'_>, span: &Span, page: &mut Page) {
+fn draw_span(sheet: &Sheet<'_>, clocked: &ClockedSpan, page: &mut Page) {
+    let span = &clocked.span;
     let x = sheet.columns.at(span.from);
     let end = end_of(sheet, span.to);
     let middle = match span.left {
@@ -152,7 +156,7 @@ fn draw_span(sheet: &Sheet<'_>, span: &Span, page: &mut Page) {
         Some(task) => page.fill("<g class='t{}'><title>", &[task as u64]),
         None => page.put("<g><title>"),
     }
-    tell_span(sheet.config, sheet.history, span, page);
+    tell_span(sheet.config, clocked, page);
     page.put("</title>");
     draw_bars(sheet, span, x, middle, end, page);
     draw_thread(sheet, span, x, middle, page);
@@ -245,13 +249,14 @@ fn draw_preemption(task: u64, x: u64, y: u64, word: u64, foot: u64, room: u64, p
 }
 
 /// A ban lies behind the spans; its rail is under them.
-fn draw_ban(sheet: &Sheet<'_>, ban: &BanSpan, page: &mut Page) {
+fn draw_ban(sheet: &Sheet<'_>, clocked: &ClockedBan, page: &mut Page) {
+    let ban = &clocked.ban;
     let sizes = sheet.layout.sizes;
     let x = sheet.columns.at(ban.from);
     let wide = sheet.columns.end_of(ban.to).saturating_sub(x);
     let top = sheet.layout.top(ban.core);
     page.put("<g class='ban'><title>");
-    tell_ban(sheet.config, sheet.history, ban, page);
+    tell_ban(sheet.config, clocked, page);
     page.put("</title><path class='d' d='");
     draw_box(x, top, wide, sizes.tall, page);
     page.put("'/><path d='");
@@ -262,7 +267,8 @@ fn draw_ban(sheet: &Sheet<'_>, ban: &BanSpan, page: &mut Page) {
 /// Where a core is empty in a ban: after the span that the ban met, if any.
 fn empty_from(sheet: &Sheet<'_>, ban: &BanSpan) -> u64 {
     let mut x = sheet.columns.at(ban.from);
-    for span in sheet.story.spans.as_slice() {
+    for clocked in sheet.story.spans.as_slice() {
+        let span = clocked.span;
         let met = span.core == ban.core && span.from <= ban.from;
         if met && span.to.unwrap_or(usize::MAX) > ban.from {
             x = sheet.columns.end_of(span.to).max(x);

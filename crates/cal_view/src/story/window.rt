@@ -21,7 +21,7 @@ const WHOLE: usize = 80;
 const SHOWN_MOST: usize = 1_000;
 
 /// The passes that are shown, of all of a history.
-#[derive(Clone, Copy, Debug, PartialEq, Eq)]
+#[derive(Clone, Copy)]
 pub struct Window {
     /// The first pass that is shown.
     pub first: usize,
@@ -86,23 +86,23 @@ pub fn scaled(length: u64, part: u64, whole: u64) -> u64 {
     length.saturating_mul(part).checked_div(whole).unwrap_or(0)
 }
 
-fn clock_of(history: &[PassEntry], pass: usize) -> Option<u64> {
-    history.get(pass).map(|entry| entry.input.now)
+fn clock_of(shown: &[PassEntry], place: usize) -> Option<u64> {
+    shown.get(place).map(|entry| entry.input.now)
 }
 
 /// How far the clock rises from a pass to the next: 0 where it stands or goes back, none after the
 /// last pass.
-fn gap(history: &[PassEntry], pass: usize) -> Option<u64> {
-    let now = clock_of(history, pass)?;
-    let next = clock_of(history, pass.saturating_add(1))?;
+fn gap(shown: &[PassEntry], place: usize) -> Option<u64> {
+    let now = clock_of(shown, place)?;
+    let next = clock_of(shown, place.saturating_add(1))?;
     Some(next.saturating_sub(now))
 }
 
 /// The median of the steps that rise, of the passes that are shown; 1 where none does.
-fn usual_gap(alloc: Global, history: &[PassEntry], window: Window) -> Result<u64, AllocError> {
+fn usual_gap(alloc: Global, shown: &[PassEntry], count: usize) -> Result<u64, AllocError> {
     let mut rises = Vec::new(alloc);
-    for pass in window.first..window.end() {
-        match gap(history, pass) {
+    for place in 0..count {
+        match gap(shown, place) {
             Some(rise) if rise > 0 => rises.push(rise)?,
             _ => {}
         }
@@ -126,40 +126,68 @@ fn is_bent(gap: u64, usual: u64) -> bool {
     gap == 0 || gap > usual.saturating_mul(4) || gap.saturating_mul(2) < usual
 }
 
+/// The weight of a step; the last pass of all gets that of the usual step.
+fn step_of(shown: &[PassEntry], place: usize, usual: u64) -> u64 {
+    match gap(shown, place) {
+        Some(rise) => weight(rise, usual),
+        None => 16,
+    }
+}
+
+/// The weight of all steps.
+fn weight_of(shown: &[PassEntry], count: usize, usual: u64) -> u64 {
+    let mut total = 0u64;
+    for place in 0..count {
+        total = total.saturating_add(step_of(shown, place, usual));
+    }
+    total
+}
+
+/// The left edge of each pass's column.
+fn edges_of(
+    alloc: Global,
+    shown: &[PassEntry],
+    count: usize,
+    usual: u64,
+) -> Result<Vec<u64>, AllocError> {
+    let total = weight_of(shown, count, usual);
+    let mut edges = Vec::new(alloc);
+    let mut before = 0u64;
+    for place in 0..count {
+        edges.push(LEFT.saturating_add(scaled(plot_width(count), before, total)))?;
+        before = before.saturating_add(step_of(shown, place, usual));
+    }
+    Ok(edges)
+}
+
+/// The passes whose step is not to scale.
+fn bent_of(
+    alloc: Global,
+    shown: &[PassEntry],
+    window: Window,
+    usual: u64,
+) -> Result<Vec<usize>, AllocError> {
+    let mut bent = Vec::new(alloc);
+    for place in 0..window.count {
+        match gap(shown, place) {
+            Some(rise) if is_bent(rise, usual) => bent.push(window.first.saturating_add(place))?,
+            _ => {}
+        }
+    }
+    Ok(bent)
+}
+
 impl Columns {
-    /// The places of the passes of a window. The last pass of all gets the usual step.
-    pub fn new(
-        alloc: Global,
-        history: &[PassEntry],
-        window: Window,
-    ) -> Result<Columns, AllocError> {
-        let usual = usual_gap(alloc, history, window)?;
-        let mut before = Vec::new(alloc);
-        let mut bent = Vec::new(alloc);
-        let mut total = 0u64;
-        for pass in window.first..window.end() {
-            before.push(total)?;
-            let step = match gap(history, pass) {
-                None => 16,
-                Some(rise) => {
-                    if is_bent(rise, usual) {
-                        bent.push(pass)?;
-                    }
-                    weight(rise, usual)
-                }
-            };
-            total = total.saturating_add(step);
-        }
-        let width = plot_width(window.count);
-        let mut edges = Vec::new(alloc);
-        for part in &before {
-            edges.push(LEFT.saturating_add(scaled(width, *part, total)))?;
-        }
+    /// The places of the passes of a window, by the passes that it shows and the one after them.
+    pub fn new(alloc: Global, shown: &[PassEntry], window: Window) -> Result<Columns, AllocError> {
+        let usual = usual_gap(alloc, shown, window.count)?;
+        let edges = edges_of(alloc, shown, window.count, usual)?;
+        let bent = bent_of(alloc, shown, window, usual)?;
         Ok(Columns {
             window,
             edges,
             bent,
-            right: LEFT.saturating_add(width),
+            right: LEFT.saturating_add(plot_width(window.count)),
         })
     }
 

@@ -1,12 +1,12 @@
 //! The heading, the overview of a history that is not shown whole, and the axis.
 
-use crate::layout::{BAND, digits};
-use crate::page::Page;
-use crate::sheet::Sheet;
+use crate::picture::layout::{BAND, digits};
+use crate::picture::page::Page;
+use crate::picture::sheet::Sheet;
+use crate::picture::telling::{draw_box, ending, kind_word};
+use crate::story::walk::is_critical;
+use crate::story::window::{LEFT, scaled};
 use crate::story::{Slot, Sums};
-use crate::telling::{clock_of, draw_box, ending, kind_word};
-use crate::walk::is_critical;
-use crate::window::{LEFT, scaled};
 
 /// A number, and a word for as many.
 fn tell_count(count: u64, word: &str, many: &'static str, page: &mut Page) {
@@ -84,8 +84,8 @@ pub fn tell_window(sheet: &Sheet<'_>, page: &mut Page) {
     } else {
         page.fill("Shown: passes {} to {}", &[first as u64, last as u64]);
     }
-    let from = clock_of(sheet.history, first);
-    let to = clock_of(sheet.history, last);
+    let from = sheet.clock(first);
+    let to = sheet.clock(last);
     page.fill(", clock {} to {}.", &[from, to]);
     if window.count < window.all {
         tell_cut(first as u64, window.after() as u64, page);
@@ -257,14 +257,14 @@ fn every(step: u64, need: u64) -> usize {
 fn widest(sheet: &Sheet<'_>, zero: u64) -> u64 {
     let mut widest = 1;
     for pass in sheet.window.first..sheet.window.end() {
-        let clock = clock_of(sheet.history, pass).saturating_sub(zero);
+        let clock = sheet.clock(pass).saturating_sub(zero);
         widest = digits(clock).max(widest);
     }
     widest
 }
 
 /// How an axis tells clocks.
-#[derive(Clone, Copy, Debug, PartialEq, Eq)]
+#[derive(Clone, Copy)]
 struct Scale {
     /// Whether clocks are told from the first one shown, since they are of more than seven digits.
     far: bool,
@@ -277,7 +277,7 @@ struct Scale {
 fn scale_of(sheet: &Sheet<'_>) -> Scale {
     let far = widest(sheet, 0) > 7;
     let zero = if far {
-        clock_of(sheet.history, sheet.window.first)
+        sheet.clock(sheet.window.first)
     } else {
         0
     };
@@ -328,7 +328,7 @@ fn draw_label(sheet: &Sheet<'_>, pass: usize, y: u64, scale: Scale, page: &mut P
         "<text class='b' x='{}' y='{}'>{}</text><text class='q' x='{}' y='{}'>",
         &[x, y, pass as u64, x, below],
     );
-    tell_clock(clock_of(sheet.history, pass), scale, page);
+    tell_clock(sheet.clock(pass), scale, page);
     page.put("</text>\n");
 }
 
@@ -356,7 +356,7 @@ pub fn draw_grid(sheet: &Sheet<'_>, page: &mut Page) {
     draw_bent(sheet, top, page);
     draw_cuts(sheet, top, bottom, page);
     page.put("<g class='col'>");
-    crate::columns::draw_columns(sheet, top, bottom, page);
+    crate::picture::columns::draw_columns(sheet, top, bottom, page);
     page.put("</g>\n");
 }
 

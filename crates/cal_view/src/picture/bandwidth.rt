@@ -1,13 +1,13 @@
 //! The lane of the bandwidth figure.
 
-use crate::layout::BAND;
-use crate::page::Page;
-use crate::sheet::Sheet;
-use crate::telling::draw_box;
-use crate::window::{LEFT, scaled};
+use crate::picture::layout::BAND;
+use crate::picture::page::Page;
+use crate::picture::sheet::Sheet;
+use crate::picture::telling::draw_box;
+use crate::story::window::{LEFT, scaled};
 
 fn figure_of(sheet: &Sheet<'_>, pass: usize) -> u64 {
-    match sheet.history.get(pass) {
+    match sheet.entry(pass) {
         Some(entry) => entry.input.bandwidth,
         None => 0,
     }

@@ -1,11 +1,11 @@
 //! The words of a picture: what its tooltips tell, and the small marks of its paths.
 
-use crate::page::Page;
-use crate::sheet::Sheet;
-use crate::walk::{is_critical, task_of};
+use crate::picture::page::Page;
+use crate::picture::sheet::Sheet;
+use crate::story::clocks::{ClockedBan, ClockedSpan};
+use crate::story::walk::{is_critical, task_of};
 use cal_machine::Config;
-use cal_policy::{Action, Cause, PassEntry, Seen};
-use cal_spans::{BanSpan, Span};
+use cal_policy::{Action, Cause, Seen};
 
 /// `lc` or `be`.
 pub fn kind_word(config: &Config, task: usize) -> &'static str {
@@ -39,14 +39,6 @@ fn tell_thread(config: &Config, thread: u8, page: &mut Page) {
     }
 }
 
-/// The clock of a pass.
-pub fn clock_of(history: &[PassEntry], pass: usize) -> u64 {
-    match history.get(pass) {
-        Some(entry) => entry.input.now,
-        None => 0,
-    }
-}
-
 fn tell_cause(cause: Cause, page: &mut Page) {
     match cause {
         Cause::Ban { by } => page.fill("for ban by core {}", &[by as u64]),
@@ -56,21 +48,19 @@ fn tell_cause(cause: Cause, page: &mut Page) {
 }
 
 /// What the report says of a span.
-pub fn tell_span(config: &Config, history: &[PassEntry], span: &Span, page: &mut Page) {
-    let from = span.from;
-    let core = span.core;
-    let class = span.class;
-    let clock = clock_of(history, from);
-    page.fill("core {}, ", &[core as u64]);
+pub fn tell_span(config: &Config, clocked: &ClockedSpan, page: &mut Page) {
+    let span = clocked.span;
+    page.fill("core {}, ", &[u64::from(span.core)]);
     tell_thread(config, span.thread, page);
     page.fill(
         ": granted in pass {} at {}, class {}",
-        &[from as u64, clock, class as u64],
+        &[span.from as u64, clocked.granted, u64::from(span.class)],
     );
     if let Some(left) = span.left {
-        let pass = left.pass;
-        let clock = clock_of(history, pass);
-        page.fill("; revoked in pass {} at {} ", &[pass as u64, clock]);
+        page.fill(
+            "; revoked in pass {} at {} ",
+            &[left.pass as u64, clocked.revoked],
+        );
         tell_cause(left.cause, page);
     }
     match span.to {
@@ -81,16 +71,13 @@ pub fn tell_span(config: &Config, history: &[PassEntry], span: &Span, page: &mut
 }
 
 /// What the report says of a ban.
-pub fn tell_ban(config: &Config, history: &[PassEntry], ban: &BanSpan, page: &mut Page) {
-    let core = ban.core;
-    let from = ban.from;
-    let started = ban.started;
-    let clock = clock_of(history, from);
-    page.fill("core {}: banned for ", &[core as u64]);
+pub fn tell_ban(config: &Config, clocked: &ClockedBan, page: &mut Page) {
+    let ban = clocked.ban;
+    page.fill("core {}: banned for ", &[u64::from(ban.core)]);
     tell_thread(config, ban.thread, page);
     page.fill(
         " in pass {} at {}, started {}",
-        &[from as u64, clock, started],
+        &[ban.from as u64, clocked.banned, ban.started],
     );
     match ban.to {
         Some(pass) => page.fill("; unbanned in pass {}", &[pass as u64]),
@@ -100,7 +87,7 @@ pub fn tell_ban(config: &Config, history: &[PassEntry], ban: &BanSpan, page: &mu
 
 /// The lines of the report of a pass.
 pub fn tell_pass(sheet: &Sheet<'_>, pass: usize, page: &mut Page) {
-    let Some(entry) = sheet.history.get(pass) else {
+    let Some(entry) = sheet.entry(pass) else {
         return;
     };
     let now = entry.input.now;

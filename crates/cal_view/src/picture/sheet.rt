@@ -1,0 +1,33 @@
+//! What the parts of a picture are drawn from.
+
+use crate::picture::layout::Layout;
+use crate::story::Story;
+use crate::story::window::{Columns, Window};
+use cal_machine::Config;
+use cal_policy::PassEntry;
+
+/// A table, what a history tells through a window, and where everything stands.
+#[derive(Clone, Copy)]
+pub struct Sheet<'a> {
+    pub config: &'a Config,
+    pub window: Window,
+    pub story: &'a Story,
+    pub columns: &'a Columns,
+    pub layout: &'a Layout,
+}
+
+impl<'a> Sheet<'a> {
+    /// A pass that is shown.
+    pub fn entry(&self, pass: usize) -> Option<&'a PassEntry> {
+        let place = pass.checked_sub(self.window.first)?;
+        self.story.shown.as_slice().get(place)
+    }
+
+    /// The clock of a pass that is shown.
+    pub fn clock(&self, pass: usize) -> u64 {
+        match self.entry(pass) {
+            Some(entry) => entry.input.now,
+            None => 0,
+        }
+    }
+}
