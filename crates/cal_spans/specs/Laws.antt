@@ -32,17 +32,23 @@ pub record IsOf (stay span : Span) : Type 0 where
 
 -- whatever span a core is in after the first n passes, a span of the history shows it there
 abbrev pub StaysAreShown : Type 0
-StaysAreShown = (cores : ℕ) (history : List PassEntry) (n c : ℕ) (stay : Span) → c < cores → span_at (moves_of (take n history)) c ≡ Some stay
+StaysAreShown =
+    (cores : ℕ) (history : List PassEntry) (n c : ℕ) (stay : Span) → c < cores →
+    span_at (moves_of (take n history)) c ≡ Some stay
     → (span : Span) × Contains (spans_of cores history) span × IsOf stay span × Shows span n
 
 -- a span of the history that shows after the first n passes is the one that its core is in there
 abbrev pub ShownAreStays : Type 0
-ShownAreStays = (cores : ℕ) (history : List PassEntry) (n : ℕ) (span : Span) → Contains (spans_of cores history) span → Shows span n
+ShownAreStays =
+    (cores : ℕ) (history : List PassEntry) (n : ℕ) (span : Span) →
+    Contains (spans_of cores history) span → Shows span n
     → (stay : Span) × (span_at (moves_of (take n history)) span.core ≡ Some stay) × IsOf stay span
 
 -- no two spans of a core show after the same pass, unless they are one: the same grant's
 abbrev pub SpansAreApart : Type 0
-SpansAreApart = (cores : ℕ) (history : List PassEntry) (n : ℕ) (one other : Span) → Contains (spans_of cores history) one → Contains (spans_of cores history) other
+SpansAreApart =
+    (cores : ℕ) (history : List PassEntry) (n : ℕ) (one other : Span) →
+    Contains (spans_of cores history) one → Contains (spans_of cores history) other
     → one.core ≡ other.core → Shows one n → Shows other n → IsOf one other
 
 -- a stay of thread k that is not being left
@@ -76,13 +82,19 @@ StaysAreHolders = (table : Table) (history : List PassEntry) (n c : ℕ) → IsO
 -- whoever holds or leaves a core after the first n passes of an orderly history: a span of the
 -- history shows the thread there
 abbrev pub HoldersAreShown : Type 0
-HoldersAreShown = (cores : ℕ) (table : Table) (history : List PassEntry) (n c : ℕ) (placement : placements.Placement) → IsOrderly table history → c < cores
+HoldersAreShown =
+    (cores : ℕ) (table : Table) (history : List PassEntry) (n c : ℕ)
+    (placement : placements.Placement) → IsOrderly table history → c < cores
     → placement_of (holder_of (actions_of (take n history)) c) ≡ Some placement
-    → (span : Span) × Contains (spans_of cores history) span × (span.core ≡ c) × (span.thread ≡ placement.thread) × Shows span n
+    → (span : Span) × Contains (spans_of cores history) span × (span.core ≡ c) ×
+    (span.thread ≡ placement.thread) × Shows span n
 
 -- a span of an orderly history that shows after the first n passes is of the thread that holds or
 -- leaves its core there
 abbrev pub ShownAreHolders : Type 0
-ShownAreHolders = (cores : ℕ) (table : Table) (history : List PassEntry) (n : ℕ) (span : Span) → IsOrderly table history → Contains (spans_of cores history) span
-    → Shows span n → (placement : placements.Placement) × (placement_of (holder_of (actions_of (take n history)) span.core) ≡ Some placement)
+ShownAreHolders =
+    (cores : ℕ) (table : Table) (history : List PassEntry) (n : ℕ) (span : Span) →
+    IsOrderly table history → Contains (spans_of cores history) span
+    → Shows span n → (placement : placements.Placement) ×
+    (placement_of (holder_of (actions_of (take n history)) span.core) ≡ Some placement)
     × (span.thread ≡ placement.thread)

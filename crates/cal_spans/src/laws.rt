@@ -1,7 +1,8 @@
 //! What the spans of every history tell, each law the contract of a function that does nothing.
 
 ghost use Rattle.cal_spans.specs.Laws.{HoldersAreShown, ShownAreHolders};
-ghost use Rattle.cal_spans.specs.Laws.{ShownAreStays, SpansAreApart, StaysAreHolders, StaysAreShown};
+ghost use Rattle.cal_spans.specs.Laws.{ShownAreStays, SpansAreApart, StaysAreHolders};
+ghost use Rattle.cal_spans.specs.Laws.{StaysAreShown};
 
 /// After any number of passes: whatever span a core is in, one of the spans of the history shows it
 /// there, with the same thread and from the same grant.
