@@ -100,28 +100,25 @@ pub fn wrong() -> io::Error {
     io::Error::from(io::ErrorKind::InvalidInput)
 }
 
-/// What a call answers at its first try, or where it was refused, at its second one.
-pub fn ample<T: Drop, E: Into<Fault> + Drop, F: FnMut() -> Result<T, E>>(
-    rt: &HostRuntime,
-    mut call: F,
-) -> io::Result<T>
-    requires { F.IsAlwaysCallable call }
-{
-    for _ in 0..2 {
-        begin(rt)?;
-        let answer = call();
-        end(rt)?;
-        match answer {
-            Ok(answer) => return Ok(answer),
-            Err(fault) => tell(rt, fault.into())?,
-        }
-    }
-    Err(wrong())
-}
-
 /// Marks the beginning of a try.
 pub fn begin(rt: &HostRuntime) -> io::Result<()> {
     rt.stderr().write_all(b"(")
+}
+
+/// Marks the end of a try, and gives its answer. Where the call was refused there is none, and the
+/// line of the fault is written.
+pub fn answer<T: Drop, E: Into<Fault> + Drop>(
+    rt: &HostRuntime,
+    made: Result<T, E>,
+) -> io::Result<Option<T>> {
+    end(rt)?;
+    match made {
+        Ok(answer) => Ok(Some(answer)),
+        Err(fault) => {
+            tell(rt, fault.into())?;
+            Ok(None)
+        }
+    }
 }
 
 /// Marks the end of a try.

@@ -1,32 +1,58 @@
 //! Copies.
 
-use crate::attempt::ample;
+use crate::attempt::{answer, begin, wrong};
 use crate::given::Given;
-use crate::texts::{write_entry, write_event};
-use std::io;
+use crate::texts::{write_event, write_passes};
+use cal_policy::PassEntry;
+use cal_world::Event;
 use std::io::Write;
+use std::{io, slice};
 
-pub fn table(rt: &HostRuntime, given: &Given) -> io::Result<()> {
-    let config = ample(rt, || given.config.copy(rt.alloc()))?;
-    writeln!(&mut rt.stdout(), "{config:?}")
+pub fn table(rt: &HostRuntime, given: &Given) -> io::Result<bool> {
+    begin(rt)?;
+    let Some(config) = answer(rt, given.config.copy(rt.alloc()))? else {
+        return Ok(false);
+    };
+    writeln!(&mut rt.stdout(), "{config:?}")?;
+    Ok(true)
 }
 
 /// Each pass of a run.
-pub fn entries(rt: &HostRuntime, given: &Given) -> io::Result<()> {
+pub fn entries(rt: &HostRuntime, given: &Given) -> io::Result<bool> {
     let outcome = given.run(rt.alloc())?;
     for entry in outcome.history.as_slice() {
-        let copy = ample(rt, || entry.copy(rt.alloc()))?;
-        write_entry(rt, &copy)?;
+        if !copy_entry(rt, entry)? && !copy_entry(rt, entry)? {
+            return Err(wrong());
+        }
     }
-    Ok(())
+    Ok(true)
+}
+
+fn copy_entry(rt: &HostRuntime, entry: &PassEntry) -> io::Result<bool> {
+    begin(rt)?;
+    let Some(copy) = answer(rt, entry.copy(rt.alloc()))? else {
+        return Ok(false);
+    };
+    write_passes(rt, slice::from_ref(&copy))?;
+    Ok(true)
 }
 
 /// Each event of a run.
-pub fn events(rt: &HostRuntime, given: &Given) -> io::Result<()> {
+pub fn events(rt: &HostRuntime, given: &Given) -> io::Result<bool> {
     let outcome = given.run(rt.alloc())?;
     for event in outcome.events.as_slice() {
-        let copy = ample(rt, || event.copy(rt.alloc()))?;
-        write_event(rt, &copy)?;
+        if !copy_event(rt, event)? && !copy_event(rt, event)? {
+            return Err(wrong());
+        }
     }
-    Ok(())
+    Ok(true)
+}
+
+fn copy_event(rt: &HostRuntime, event: &Event) -> io::Result<bool> {
+    begin(rt)?;
+    let Some(copy) = answer(rt, event.copy(rt.alloc()))? else {
+        return Ok(false);
+    };
+    write_event(rt, &copy)?;
+    Ok(true)
 }

@@ -1,14 +1,16 @@
-//! A history to its last pass.
+//! A history to its last pass, and a journal to its last turn.
 
 use crate::attempt::wrong;
 use crate::given::Given;
-use crate::scheduling::open;
+use crate::scheduling::{open, parts};
+use cal_kthread::{KernelThread, TurnFault};
+use cal_run::Worker;
 use cal_sched::PassFault;
 use std::io;
 use std::io::Write;
 
 /// Passes until one is refused.
-pub fn full_history(rt: &HostRuntime, given: &Given) -> io::Result<()> {
+pub fn full_history(rt: &HostRuntime, given: &Given) -> io::Result<bool> {
     let mut scheduler = open(rt.alloc(), given)?;
     for pass in 1..=1_100_000_u64 {
         if let Err(fault) = scheduler.pass(pass, 0) {
@@ -18,10 +20,37 @@ pub fn full_history(rt: &HostRuntime, given: &Given) -> io::Result<()> {
                 "pass {pass}: {fault}, after {passes} passes"
             )?;
             return match fault {
-                PassFault::HistoryFull => Ok(()),
+                PassFault::HistoryFull => Ok(true),
                 PassFault::Memory => Err(wrong()),
             };
         }
     }
     Err(wrong())
+}
+
+/// Turns of the first thread until one is refused.
+pub fn full_journal(rt: &HostRuntime, given: &Given) -> io::Result<bool> {
+    let mut thread = first_of(parts(rt.alloc(), given)?.workers)?;
+    for turn in 1..=1_100_000_u64 {
+        let now = thread.clock().saturating_add(1);
+        if let Err(fault) = thread.turn(now, None) {
+            let entries = thread.journal().len();
+            writeln!(
+                &mut rt.stdout(),
+                "turn {turn}: {fault}, after {entries} entries"
+            )?;
+            return match fault {
+                TurnFault::JournalFull => Ok(true),
+                TurnFault::Memory => Err(wrong()),
+            };
+        }
+    }
+    Err(wrong())
+}
+
+fn first_of(workers: Vec<Worker>) -> io::Result<KernelThread> {
+    match workers.into_iter().next() {
+        Some(worker) => Ok(worker.thread),
+        None => Err(wrong()),
+    }
 }

@@ -11,12 +11,13 @@ mod attempt;
 mod copies;
 mod full;
 mod given;
+mod order;
 mod policy;
 mod reading;
 mod runs;
 mod scheduling;
-mod stand;
 mod texts;
+mod turning;
 mod worlds;
 
 use attempt::wrong;
@@ -34,23 +35,27 @@ fn main(rt: HostRuntime) -> ExitCode {
     }
 }
 
-/// Makes each call that the words name.
+/// Makes each call that the words name, and again where it was refused.
 fn call_each<H: Threads + Wait + Sync>(host: &H, rt: &HostRuntime) -> io::Result<()> {
     let mut text = Vec::new(rt.alloc());
     rt.stdin().read_to_end(&mut text)?;
     let given = Given::of(rt.alloc(), text.as_slice())?;
     for word in env::args(rt)?.skip(1) {
-        call(host, rt, word.as_str(), &given)?;
+        let word = word.as_str();
+        if !call(host, rt, word, &given)? && !call(host, rt, word, &given)? {
+            return Err(wrong());
+        }
     }
     Ok(())
 }
 
+/// Makes a call and writes its answer. False where it was refused.
 fn call<H: Threads + Wait + Sync>(
     host: &H,
     rt: &HostRuntime,
     word: &str,
     given: &Given,
-) -> io::Result<()> {
+) -> io::Result<bool> {
     match word {
         "read_table" => reading::read_table(rt, given),
         "read_arrivals" => reading::arrivals(rt, given),
@@ -69,20 +74,23 @@ fn call_more<H: Threads + Wait + Sync>(
     rt: &HostRuntime,
     word: &str,
     given: &Given,
-) -> io::Result<()> {
+) -> io::Result<bool> {
     match word {
         "audit" => policy::audit_whole(rt, given),
         "auditor" => policy::audit_in_turn(rt, given),
         "open_threads" => scheduling::threads(rt, given),
         "scheduler" => scheduling::scheduler(rt, given),
         "watch" => scheduling::watch(rt, given),
-        "pass" => scheduling::passes(rt, given),
+        "pass" => turning::passes(rt, given),
+        "turn" => turning::turns(rt, given),
         "start" => worlds::start(rt, given),
         "step" => worlds::steps(rt, given),
         "run_events" => worlds::whole(rt, given),
+        "linearise" => order::of_run(rt, given),
         "lockstep" => runs::on_one_thread(rt, given),
         "simulate" => runs::in_threads(host, rt, given),
         "full_history" => full::full_history(rt, given),
+        "full_journal" => full::full_journal(rt, given),
         _ => Err(wrong()),
     }
 }

@@ -1,6 +1,6 @@
 //! Audits.
 
-use crate::attempt::ample;
+use crate::attempt::{answer, begin};
 use crate::given::Given;
 use cal_machine::Config;
 use cal_policy::{Auditor, PassEntry, Verdict, audit};
@@ -8,20 +8,19 @@ use std::alloc::{AllocError, Global};
 use std::io;
 use std::io::Write;
 
-pub fn audit_whole(rt: &HostRuntime, given: &Given) -> io::Result<()> {
+pub fn audit_whole(rt: &HostRuntime, given: &Given) -> io::Result<bool> {
     let history = given.history(rt.alloc())?;
-    let verdict = ample(rt, || audit(rt.alloc(), &given.config, history.as_slice()))?;
-    writeln!(&mut rt.stdout(), "{verdict:?}")
+    begin(rt)?;
+    let made = audit(rt.alloc(), &given.config, history.as_slice());
+    write_verdict(rt, answer(rt, made)?)
 }
 
 /// The audit of a history that is handed over one pass after the other.
-pub fn audit_in_turn(rt: &HostRuntime, given: &Given) -> io::Result<()> {
+pub fn audit_in_turn(rt: &HostRuntime, given: &Given) -> io::Result<bool> {
     let history = given.history(rt.alloc())?;
-    let verdict = ample(
-        rt,
-        || audit_each(rt.alloc(), &given.config, history.as_slice()),
-    )?;
-    writeln!(&mut rt.stdout(), "{verdict:?}")
+    begin(rt)?;
+    let made = audit_each(rt.alloc(), &given.config, history.as_slice());
+    write_verdict(rt, answer(rt, made)?)
 }
 
 fn audit_each(
@@ -34,4 +33,12 @@ fn audit_each(
         auditor.next(config, entry);
     }
     Ok(auditor.verdict())
+}
+
+fn write_verdict(rt: &HostRuntime, verdict: Option<Verdict>) -> io::Result<bool> {
+    let Some(verdict) = verdict else {
+        return Ok(false);
+    };
+    writeln!(&mut rt.stdout(), "{verdict:?}")?;
+    Ok(true)
 }

@@ -4,10 +4,9 @@ ghost use Rattle.std.specs.Prelude.{◌≡◌, length};
 ghost use Rattle.cal_policy.specs.Tasks.{threads_of_table};
 ghost use Rattle.cal_sched.specs.Scheduler.{HaveSeenNothing, HaveSentNothing};
 
-use crate::attempt::{Fault, ample, begin, end, tell, wrong};
+use crate::attempt::{Fault, answer, begin, end, tell, wrong};
 use crate::given::Given;
-use crate::stand::Stand;
-use crate::texts::{write_passes, write_round};
+use crate::texts::{write_lists, write_passes};
 use cal_command::Sender;
 use cal_kthread::{Team, open_threads};
 use cal_machine::Config;
@@ -19,19 +18,20 @@ use std::alloc::Global;
 use std::io;
 use std::io::Write;
 
-/// How many passes are made.
-const PASSES: u64 = 12;
-
 /// How many rounds a watch makes.
 const ROUNDS: u64 = 3;
 
-pub fn threads(rt: &HostRuntime, given: &Given) -> io::Result<()> {
-    let team = ample(rt, || open_threads(rt.alloc(), &given.config))?;
-    writeln!(&mut rt.stdout(), "threads {}", team.threads.len())
+pub fn threads(rt: &HostRuntime, given: &Given) -> io::Result<bool> {
+    begin(rt)?;
+    let Some(team) = answer(rt, open_threads(rt.alloc(), &given.config))? else {
+        return Ok(false);
+    };
+    writeln!(&mut rt.stdout(), "threads {}", team.threads.len())?;
+    Ok(true)
 }
 
 /// Scheduler, threads and watch of a table, which did nothing yet.
-fn parts(alloc: Global, given: &Given) -> io::Result<Parts> {
+pub fn parts(alloc: Global, given: &Given) -> io::Result<Parts> {
     let Ok(arrivals) = read_arrivals(alloc, &given.config, b"caladan-arrivals,1\nend,0\n") else {
         return Err(wrong());
     };
@@ -48,7 +48,7 @@ pub fn open(alloc: Global, given: &Given) -> io::Result<Scheduler> {
 }
 
 /// A scheduler over the threads of a team, and a first pass of it.
-pub fn scheduler(rt: &HostRuntime, given: &Given) -> io::Result<()> {
+pub fn scheduler(rt: &HostRuntime, given: &Given) -> io::Result<bool> {
     let Team {
         observers,
         senders,
@@ -59,7 +59,8 @@ pub fn scheduler(rt: &HostRuntime, given: &Given) -> io::Result<()> {
     if scheduler.pass(1000, 0).is_err() {
         return Err(wrong());
     }
-    write_passes(rt, scheduler.history())
+    write_passes(rt, scheduler.history())?;
+    Ok(true)
 }
 
 /// A scheduler. Where it is refused, it is made of what is handed back.
@@ -89,16 +90,14 @@ fn scheduler_of(
 }
 
 /// A watch over the pages of a team, and its rounds.
-pub fn watch(rt: &HostRuntime, given: &Given) -> io::Result<()> {
+pub fn watch(rt: &HostRuntime, given: &Given) -> io::Result<bool> {
     let Team { watchers, .. } = open_threads(rt.alloc(), &given.config)?;
     let mut watch = watch_of(rt, watchers)?;
     for _ in 0..ROUNDS {
         let _ = watch.round();
     }
-    for round in watch.rounds() {
-        write_round(rt, round)?;
-    }
-    Ok(())
+    write_lists(rt, watch.rounds())?;
+    Ok(true)
 }
 
 /// A watch. Where it is refused, it is made of what is handed back.
@@ -115,27 +114,4 @@ fn watch_of(rt: &HostRuntime, watchers: Vec<Observer>) -> io::Result<Watch> {
         Ok(watch) => Ok(watch),
         Err(_) => Err(wrong()),
     }
-}
-
-/// Passes, each after a turn of what stands for each thread.
-pub fn passes(rt: &HostRuntime, given: &Given) -> io::Result<()> {
-    let Parts {
-        mut scheduler,
-        workers,
-        ..
-    } = parts(rt.alloc(), given)?;
-    let mut stands = Vec::new(rt.alloc());
-    for worker in workers {
-        let end = worker.thread.end();
-        stands.push(Stand::new(end.publisher, end.taker))?;
-    }
-    for pass in 0..PASSES {
-        let now = 1000 + 100 * pass;
-        let after = now + 50;
-        for k in 0..stands.len() {
-            stands[k].turn(now);
-        }
-        ample(rt, || scheduler.pass(after, 0))?;
-    }
-    write_passes(rt, scheduler.history())
 }

@@ -1,32 +1,47 @@
 //! Worlds, on the events of a run.
 
-use crate::attempt::ample;
+use crate::attempt::{answer, begin, wrong};
 use crate::given::Given;
 use crate::texts::write_passes;
-use cal_world::{World, run_events};
+use cal_world::{Event, World, run_events};
 use std::io;
 use std::io::Write;
 
-pub fn start(rt: &HostRuntime, given: &Given) -> io::Result<()> {
-    let world = ample(rt, || World::start(rt.alloc(), &given.config))?;
-    write_world(rt, given, &world)
+pub fn start(rt: &HostRuntime, given: &Given) -> io::Result<bool> {
+    begin(rt)?;
+    let Some(world) = answer(rt, World::start(rt.alloc(), &given.config))? else {
+        return Ok(false);
+    };
+    write_world(rt, given, &world)?;
+    Ok(true)
 }
 
-pub fn steps(rt: &HostRuntime, given: &Given) -> io::Result<()> {
+pub fn steps(rt: &HostRuntime, given: &Given) -> io::Result<bool> {
     let outcome = given.run(rt.alloc())?;
     let mut world = World::start(rt.alloc(), &given.config)?;
     for event in outcome.events.as_slice() {
-        ample(rt, || world.step(event))?;
+        if !step(rt, &mut world, event)? && !step(rt, &mut world, event)? {
+            return Err(wrong());
+        }
         write_world(rt, given, &world)?;
     }
-    Ok(())
+    Ok(true)
 }
 
-pub fn whole(rt: &HostRuntime, given: &Given) -> io::Result<()> {
+fn step(rt: &HostRuntime, world: &mut World, event: &Event) -> io::Result<bool> {
+    begin(rt)?;
+    Ok(answer(rt, world.step(event))?.is_some())
+}
+
+pub fn whole(rt: &HostRuntime, given: &Given) -> io::Result<bool> {
     let outcome = given.run(rt.alloc())?;
-    let events = outcome.events.as_slice();
-    let world = ample(rt, || run_events(rt.alloc(), &given.config, events))?;
-    write_world(rt, given, &world)
+    begin(rt)?;
+    let made = run_events(rt.alloc(), &given.config, outcome.events.as_slice());
+    let Some(world) = answer(rt, made)? else {
+        return Ok(false);
+    };
+    write_world(rt, given, &world)?;
+    Ok(true)
 }
 
 /// Its passes, and the core of each thread.

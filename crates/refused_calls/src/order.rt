@@ -1,0 +1,42 @@
+//! The order of a run's steps.
+
+ghost use Rattle.cal_linear.specs.Runs.{AreOfOneRun, AreWatched};
+
+use crate::attempt::{answer, begin, wrong};
+use crate::given::Given;
+use crate::texts::write_events;
+use cal_kthread::laws::others_change_nothing;
+use cal_linear::{fitting_looks_are_publications, linearise};
+use cal_machine::Config;
+use cal_run::{Outcome, lockstep};
+use cal_world::threads_keep_journals;
+use std::io;
+
+/// The steps of a run on one thread.
+pub fn of_run(rt: &HostRuntime, given: &Given) -> io::Result<bool> {
+    let arrivals = given.arrivals(rt.alloc())?;
+    given.config.limits();
+    fitting_looks_are_publications();
+    others_change_nothing();
+    threads_keep_journals();
+    match lockstep(rt.alloc(), &given.config, &arrivals) {
+        Ok(outcome) => of_outcome(rt, &given.config, &outcome),
+        Err(_) => Err(wrong()),
+    }
+}
+
+fn of_outcome(rt: &HostRuntime, config: &Config, outcome: &Outcome) -> io::Result<bool>
+    requires run { AreOfOneRun config.now outcome.now.history outcome.now.journals }
+    requires watched { AreWatched config.now outcome.now.journals outcome.now.watched }
+{
+    let history = outcome.history.as_slice();
+    let journals = outcome.journals.as_slice();
+    let watched = outcome.watched.as_slice();
+    begin(rt)?;
+    let made = linearise(rt.alloc(), config, history, journals, watched);
+    let Some(events) = answer(rt, made)? else {
+        return Ok(false);
+    };
+    write_events(rt, events.as_slice())?;
+    Ok(true)
+}
