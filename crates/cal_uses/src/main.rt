@@ -67,6 +67,27 @@ fn pass(rt: &HostRuntime, scheduler: &mut Scheduler, now: u64) -> anyhow::Result
     Ok(())
 }
 
+/// The passes, and what the two threads do between them: the first one waits for a core and runs,
+/// the second one waits in its turn, and gets its core as the first gives it up.
+fn run(
+    rt: &HostRuntime,
+    scheduler: &mut Scheduler,
+    first: &mut KernelThread,
+    second: &mut KernelThread,
+) -> anyhow::Result<()> {
+    first.wait_from(100)?;
+    pass(rt, scheduler, 111)?;
+    first.obey(rt, 112)?;
+    second.wait_from(113)?;
+    pass(rt, scheduler, 124)?;
+    second.obey(rt, 125)?;
+    pass(rt, scheduler, 170)?;
+    second.obey(rt, 171)?;
+    first.give_up_core(172)?;
+    pass(rt, scheduler, 180)?;
+    second.obey(rt, 181)
+}
+
 fn main(rt: HostRuntime) -> anyhow::Result<()> {
     let config = Config::read(rt.alloc(), TABLE)?;
     let Ends {
@@ -80,15 +101,5 @@ fn main(rt: HostRuntime) -> anyhow::Result<()> {
     let (Some(mut second), Some(mut first)) = (threads.pop(), threads.pop()) else {
         return Ok(());
     };
-    first.wait_from(100)?;
-    pass(&rt, &mut scheduler, 111)?;
-    first.obey(&rt, 112)?;
-    second.wait_from(113)?;
-    pass(&rt, &mut scheduler, 124)?;
-    second.obey(&rt, 125)?;
-    pass(&rt, &mut scheduler, 170)?;
-    second.obey(&rt, 171)?;
-    first.give_up_core(172)?;
-    pass(&rt, &mut scheduler, 180)?;
-    second.obey(&rt, 181)
+    run(&rt, &mut scheduler, &mut first, &mut second)
 }
