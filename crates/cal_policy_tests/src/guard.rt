@@ -1,5 +1,3 @@
 //! What is permitted, and the guard.
 
-mod histories;
-mod made;
 mod refusals;

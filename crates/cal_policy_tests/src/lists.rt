@@ -9,9 +9,9 @@ fn three(alloc: Global) -> Result<Listed<u64>, AllocError> {
 #[test]
 fn lists_give_their_members_and_their_vector(rt: HostRuntime) -> Result<(), AllocError> {
     let list = three(rt.alloc())?;
-    assert_eq!(rt; list.as_slice(), &[3_u64, 1, 2][..]);
+    assert!(rt; matches!(list.as_slice(), [3, 1, 2]));
     let mut items = list.into_items();
     items.push(5)?;
-    assert_eq!(rt; items.as_slice(), &[3_u64, 1, 2, 5][..]);
+    assert!(rt; matches!(items.as_slice(), [3, 1, 2, 5]));
     Ok(())
 }

@@ -1,6 +1,3 @@
-//! The policy: passes from a state, the book beside the plain pass, and audits.
+//! The policy: worked passes that begin in a state.
 
-mod audits;
-mod book;
-mod made;
 mod states;

@@ -5,9 +5,10 @@ use cal_signal::{
     Look, Observer, OpenLook, OpenPage, PublishFault, Publisher, Record, close_page, close_watched,
     look_open, open_page, open_watched, read_back,
 };
-use std::alloc::AllocError;
+use std::alloc::{AllocError, Global};
+use std::sync::Wait;
 use std::test::Fail;
-use std::thread::join;
+use std::thread::{Threads, join};
 
 fn record(misses: u64, stamp: u64) -> Record {
     Record {
@@ -39,6 +40,30 @@ fn store(mut page: OpenPage, count: u8) -> OpenPage
     page
 }
 
+/// The look that finds this record at this place.
+fn whole(number: u64, rec: Record) -> Look {
+    Look::Whole { number, rec }
+}
+
+/// The look that finds these two versions.
+fn busy(first: u64, second: u64) -> Look {
+    Look::Busy { first, second }
+}
+
+/// Whether the record is published at this place.
+fn publishes(publisher: &mut Publisher, place: u64, rec: Record) -> bool
+    ensures { publisher.new.page ≡ publisher.old.page }
+{
+    publisher.publish(rec) == Ok(place)
+}
+
+/// Whether a look finds this.
+fn finds(observer: &mut Observer, wanted: Look) -> bool
+    ensures { observer.new.page ≡ observer.old.page }
+{
+    observer.observe() == wanted
+}
+
 #[test]
 fn half_written_page(rt: HostRuntime) -> Result<(), Fail> {
     let (publisher, mut observer) = open_page(rt.alloc())?;
@@ -46,172 +71,66 @@ fn half_written_page(rt: HostRuntime) -> Result<(), Fail> {
         panic!(rt; "the record was refused")
     };
     let page = store(page, 3);
-    assert_eq!(rt; page.stored(), 3);
-    assert_eq!(rt;
-        observer.observe(),
-        Look::Busy {
-            first: 1,
-            second: 1
-        }
-    );
-    assert_eq!(rt; observer.floor(), 0);
-    let (page, mut observer, look) = look_open(page, observer);
-    assert_eq!(rt;
-        look,
-        Look::Busy {
-            first: 1,
-            second: 1
-        }
-    );
+    assert!(rt; finds(&mut observer, busy(1, 1)));
+    let (page, observer, look) = look_open(page, observer);
+    assert!(rt; look == busy(1, 1));
+    let Err((look, mut observer)) = observer.start() else {
+        panic!(rt; "an even version")
+    };
+    assert!(rt; look == busy(1, 1));
     let page = store(page, 6);
     assert!(rt; page.stored() == 9);
     let publisher = page.finish();
-    assert_eq!(rt;
-        observer.observe(),
-        Look::Whole {
-            number: 1,
-            rec: record(5, 10)
-        }
-    );
-    assert_eq!(rt; publisher.last(), (1, record(5, 10)));
-    Ok(())
-}
-
-#[test]
-fn publish_faults(rt: HostRuntime) -> Result<(), Fail> {
-    let (mut publisher, observer) = open_page(rt.alloc())?;
-    assert_eq!(rt; publisher.publish(record(5, 10)), Ok(1));
-    assert_eq!(rt;
-        publisher.publish(record(4, 10)),
-        Err(PublishFault::Backwards)
-    );
-    let wide = Record {
-        running: 129,
-        ..record(5, 10)
-    };
-    assert_eq!(rt; publisher.publish(wide), Err(PublishFault::BadShape));
-    let Err((fault, publisher)) = publisher.begin(wide) else {
-        panic!(rt; "the record was taken")
-    };
-    assert_eq!(rt; fault, PublishFault::BadShape);
-    let (_, observer, last) = read_back(publisher, observer);
-    assert_eq!(rt; last, record(5, 10));
-    assert_eq!(rt; observer.floor(), 1);
-    Ok(())
-}
-
-#[test]
-fn looks_skip_records(rt: HostRuntime) -> Result<(), Fail> {
-    let (mut publisher, mut observer) = open_page(rt.alloc())?;
-    assert_eq!(rt; publisher.publish(record(0, 10)), Ok(1));
-    assert_eq!(rt;
-        observer.observe(),
-        Look::Whole {
-            number: 1,
-            rec: record(0, 10)
-        }
-    );
-    assert_eq!(rt; publisher.publish(record(0, 20)), Ok(2));
-    assert_eq!(rt; publisher.publish(record(0, 30)), Ok(3));
-    assert_eq!(rt;
-        observer.observe(),
-        Look::Whole {
-            number: 3,
-            rec: record(0, 30)
-        }
-    );
+    assert!(rt; finds(&mut observer, whole(1, record(5, 10))));
     let end = close_page(publisher, observer);
-    assert_eq!(rt; (end.published, end.seen), (3, 3));
+    assert!(rt; end.published == 1 && end.seen == 1);
     Ok(())
 }
 
+/// A look of nine loads, where the version is even. None where it is odd.
+fn whole_look(observer: Observer) -> Option<(Look, Observer)> {
+    let Ok(look) = observer.start() else {
+        return None;
+    };
+    let look = load(look, 9);
+    if look.loaded() != 9 {
+        return None;
+    }
+    Some(look.finish())
+}
+
+/// A look of nine loads, after three of which this record is published.
+fn look_beside(
+    publisher: &mut Publisher,
+    observer: Observer,
+    rec: Record,
+) -> Option<(Look, Observer)> {
+    let Ok(look) = observer.start() else {
+        return None;
+    };
+    let look = load(look, 3);
+    let _ = publisher.publish(rec);
+    let look = load(look, 6);
+    if look.loaded() != 9 {
+        return None;
+    }
+    Some(look.finish())
+}
+
+/// A look between whose loads a record is published finds two versions; the next one finds the
+/// record.
 #[test]
 fn stopped_look(rt: HostRuntime) -> Result<(), Fail> {
     let (mut publisher, observer) = open_page(rt.alloc())?;
-    assert_eq!(rt; publisher.publish(record(5, 10)), Ok(1));
-    let Ok(look) = observer.start() else {
-        panic!(rt; "an odd version")
+    let Some((look, observer)) = look_beside(&mut publisher, observer, record(6, 20)) else {
+        panic!(rt; "the look was not begun")
     };
-    let look = load(look, 3);
-    assert_eq!(rt; look.loaded(), 3);
-    assert_eq!(rt; publisher.publish(record(6, 20)), Ok(2));
-    let look = load(look, 6);
-    assert!(rt; look.loaded() == 9);
-    let (found, observer) = look.finish();
-    assert_eq!(rt;
-        found,
-        Look::Busy {
-            first: 2,
-            second: 4
-        }
-    );
-    assert_eq!(rt; observer.floor(), 0);
-    let Ok(look) = observer.start() else {
-        panic!(rt; "an odd version")
+    assert!(rt; look == busy(0, 2));
+    let Some((look, observer)) = whole_look(observer) else {
+        panic!(rt; "the look was not begun")
     };
-    let Ok(mut page) = publisher.begin(record(7, 30)) else {
-        panic!(rt; "the record was refused")
-    };
-    let look = load(look, 9);
-    assert!(rt; look.loaded() == 9);
-    let (found, mut observer) = look.finish();
-    assert_eq!(rt;
-        found,
-        Look::Busy {
-            first: 4,
-            second: 5
-        }
-    );
-    for stored in 0..9 {
-        let Err((found, same)) = observer.start() else {
-            panic!(rt; "an even version")
-        };
-        assert_eq!(rt;
-            found,
-            Look::Busy {
-                first: 5,
-                second: 5
-            },
-            "after {stored} stores"
-        );
-        observer = same;
-        if page.stored() < 9 {
-            page.store_next();
-        }
-    }
-    let Err((found, mut observer)) = observer.start() else {
-        panic!(rt; "an even version")
-    };
-    assert_eq!(rt;
-        found,
-        Look::Busy {
-            first: 5,
-            second: 5
-        }
-    );
-    assert!(rt; page.stored() == 9);
-    let publisher = page.finish();
-    assert_eq!(rt;
-        observer.observe(),
-        Look::Whole {
-            number: 3,
-            rec: record(7, 30)
-        }
-    );
-    let Ok(look) = observer.start() else {
-        panic!(rt; "an odd version")
-    };
-    let look = load(look, 9);
-    assert!(rt; look.loaded() == 9);
-    let (found, _) = look.finish();
-    assert_eq!(rt;
-        found,
-        Look::Whole {
-            number: 3,
-            rec: record(7, 30)
-        }
-    );
-    assert_eq!(rt; publisher.last(), (3, record(7, 30)));
+    assert!(rt; look == whole(1, record(6, 20)));
+    assert!(rt; observer.floor() == 1 && publisher.last().0 == 1);
     Ok(())
 }
 
@@ -242,13 +161,20 @@ fn publish_all(mut publisher: Publisher) -> Publisher
     publisher
 }
 
-fn observe_all(mut observer: Observer, mut looks: Vec<Look>) -> (Observer, Vec<Look>)
-    ensures { result.0.page ≡ observer.page }
+/// An observer, and what it found.
+#[derive(Drop)]
+struct Looked {
+    observer: Observer,
+    looks: Vec<Look>,
+}
+
+fn observe_all(mut observer: Observer, mut looks: Vec<Look>) -> Looked
+    ensures { result.observer.page ≡ observer.page }
 {
     for _ in 0..1000 {
         let _ = looks.push(observer.observe());
     }
-    (observer, looks)
+    Looked { observer, looks }
 }
 
 /// Whether there are 1,000 looks, each Whole one is the record of its place, and places never fall.
@@ -277,156 +203,91 @@ fn all_fit(looks: &[Look]) -> bool {
     looks.len() == 1000
 }
 
-#[test]
-fn publisher_beside_observer(rt: HostRuntime) -> Result<(), Fail> {
-    let (publisher, observer) = open_page(rt.alloc())?;
-    let looks = Vec::with_capacity(rt.alloc(), 1000)?;
-    let (publisher, (observer, looks)) = join(
-        &rt,
-        move || -> Publisher
-            ensures { result.page ≡ publisher.page }
-        { publish_all(publisher) },
-        move || -> (Observer, Vec<Look>)
-            ensures { result.0.page ≡ observer.page }
-        { observe_all(observer, looks) },
-    );
-    assert!(rt; all_fit(&looks));
-    let floor = observer.floor();
-    let end = close_page(publisher, observer);
-    assert_eq!(rt; (end.published, end.seen), (1000, floor));
-    Ok(())
+/// Both observe at the same time.
+fn observe_both<H: Threads + Wait + Sync>(
+    rt: &H,
+    first: (Observer, Vec<Look>),
+    second: (Observer, Vec<Look>),
+) -> (Looked, Looked)
+    ensures first { result.0.observer.page ≡ first.0.page }
+    ensures second { result.1.observer.page ≡ second.0.page }
+{
+    let ((first, looks), (second, more)) = (first, second);
+    join(
+        rt,
+        move || -> Looked
+            ensures { result.observer.page ≡ first.page }
+        { observe_all(first, looks) },
+        move || -> Looked
+            ensures { result.observer.page ≡ second.page }
+        { observe_all(second, more) },
+    )
 }
 
 #[test]
 fn publisher_beside_two_observers(rt: HostRuntime) -> Result<(), Fail> {
     let (publisher, observer, watcher) = open_watched(rt.alloc())?;
     let looks = Vec::with_capacity(rt.alloc(), 1000)?;
-    let watched = Vec::with_capacity(rt.alloc(), 1000)?;
-    let (publisher, ((observer, looks), (watcher, watched))) = join(
-        &rt,
+    let more = Vec::with_capacity(rt.alloc(), 1000)?;
+    let host = &rt;
+    let (publisher, (seen, watched)) = join(
+        host,
         move || -> Publisher
             ensures { result.page ≡ publisher.page }
         { publish_all(publisher) },
-        move || -> ((Observer, Vec<Look>), (Observer, Vec<Look>))
-            ensures { (result.0.0.page ≡ observer.page) × (result.1.0.page ≡ watcher.page) }
-        {
-            join(
-                &rt,
-                move || -> (Observer, Vec<Look>)
-                    ensures { result.0.page ≡ observer.page }
-                { observe_all(observer, looks) },
-                move || -> (Observer, Vec<Look>)
-                    ensures { result.0.page ≡ watcher.page }
-                { observe_all(watcher, watched) },
-            )
-        },
+        move || -> (Looked, Looked)
+            ensures { (result.0.observer.page ≡ observer.page)
+                × (result.1.observer.page ≡ watcher.page) }
+        { observe_both(host, (observer, looks), (watcher, more)) },
     );
-    assert!(rt; all_fit(&looks) && all_fit(&watched));
-    let floors = (observer.floor(), watcher.floor());
-    let (publisher, watcher, last) = read_back(publisher, watcher);
-    assert_eq!(rt; last, record_at(1000));
-    let end = close_watched(publisher, watcher, observer);
-    assert_eq!(rt;
-        (end.published, end.first, end.second),
-        (1000, 1000, floors.0)
-    );
+    assert!(rt; all_fit(&seen.looks) && all_fit(&watched.looks));
+    let (publisher, watcher, last) = read_back(publisher, watched.observer);
+    assert!(rt; last == record_at(1000));
+    let end = close_watched(publisher, watcher, seen.observer);
+    assert!(rt; end.published == 1000 && end.first == 1000);
     Ok(())
 }
 
 #[test]
 fn second_observer_sees_what_the_first_sees(rt: HostRuntime) -> Result<(), Fail> {
     let (mut publisher, mut observer, mut watcher) = open_watched(rt.alloc())?;
-    assert_eq!(rt;
-        watcher.observe(),
-        Look::Whole {
-            number: 0,
-            rec: Record::ZERO
-        }
-    );
-    assert_eq!(rt; publisher.publish(record(5, 10)), Ok(1));
-    assert_eq!(rt;
-        watcher.observe(),
-        Look::Whole {
-            number: 1,
-            rec: record(5, 10)
-        }
-    );
-    assert_eq!(rt; publisher.publish(record(6, 20)), Ok(2));
-    assert_eq!(rt;
-        observer.observe(),
-        Look::Whole {
-            number: 2,
-            rec: record(6, 20)
-        }
-    );
+    assert!(rt; finds(&mut watcher, whole(0, Record::ZERO)));
+    assert!(rt; publishes(&mut publisher, 1, record(5, 10)));
+    assert!(rt; finds(&mut watcher, whole(1, record(5, 10))));
+    assert!(rt; publishes(&mut publisher, 2, record(6, 20)));
+    assert!(rt; publishes(&mut publisher, 3, record(7, 30)));
+    assert!(rt; finds(&mut observer, whole(3, record(7, 30))));
     let end = close_watched(publisher, observer, watcher);
-    assert_eq!(rt; (end.published, end.first, end.second), (2, 2, 1));
+    assert!(rt; end.published == 3 && end.first == 3 && end.second == 1);
     Ok(())
 }
 
-/// With one allocation refused, wherever that is, opening answers want of memory, or the page
-/// serves as ever. (tools/refusals runs it so, and the next one.)
-#[test]
-fn refused_memory_of_a_page(rt: HostRuntime) -> Result<(), Fail> {
-    let (mut publisher, mut observer) = match open_page(rt.alloc()) {
-        Ok(ends) => ends,
-        Err(AllocError) => return Ok(()),
-    };
-    assert_eq!(rt; publisher.publish(record(5, 10)), Ok(1));
-    assert_eq!(rt;
-        observer.observe(),
-        Look::Whole {
-            number: 1,
-            rec: record(5, 10)
-        }
-    );
-    let end = close_page(publisher, observer);
-    assert_eq!(rt; (end.published, end.seen), (1, 1));
-    Ok(())
-}
-
-#[test]
-fn refused_memory_of_a_watched_page(rt: HostRuntime) -> Result<(), Fail> {
-    let (mut publisher, mut observer, mut watcher) = match open_watched(rt.alloc()) {
-        Ok(ends) => ends,
-        Err(AllocError) => return Ok(()),
-    };
-    let opening = Look::Whole {
-        number: 0,
-        rec: Record::ZERO,
-    };
-    assert_eq!(rt; watcher.observe(), opening);
-    assert_eq!(rt; publisher.publish(record(5, 10)), Ok(1));
-    assert_eq!(rt;
-        observer.observe(),
-        Look::Whole {
-            number: 1,
-            rec: record(5, 10)
-        }
-    );
-    let end = close_watched(publisher, observer, watcher);
-    assert_eq!(rt; (end.published, end.first, end.second), (1, 1, 0));
-    Ok(())
+/// Whether the fault has this number and this text.
+fn is(alloc: Global, fault: PublishFault, number: u8, text: &str) -> Result<bool, AllocError> {
+    let said = format!(in alloc; "{fault}")?;
+    Ok(fault as u8 == number && said.as_str() == text)
 }
 
 #[test]
 fn fault_numbers_and_texts(rt: HostRuntime) -> Result<(), Fail> {
-    let faults = [
-        (
-            PublishFault::Backwards,
-            1,
-            "the record is not later than the last one",
-        ),
-        (
+    let alloc = rt.alloc();
+    let later = "the record is not later than the last one";
+    assert!(rt; is(alloc, PublishFault::Backwards, 1, later)?);
+    assert!(rt;
+        is(
+            alloc,
             PublishFault::BadShape,
             2,
-            "the record has not the right shape",
-        ),
-        (PublishFault::Exhausted, 3, "the page has no place left"),
-    ];
-    for (fault, number, text) in faults {
-        assert_eq!(rt; fault as u8, number);
-        assert_eq!(rt; format!(in rt.alloc(); "{fault}")?.as_str(), text);
-    }
+            "the record has not the right shape"
+        )?
+    );
+    assert!(rt;
+        is(
+            alloc,
+            PublishFault::Exhausted,
+            3,
+            "the page has no place left"
+        )?
+    );
     Ok(())
 }

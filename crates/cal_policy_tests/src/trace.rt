@@ -2,8 +2,6 @@
 
 mod arrivals;
 mod histories;
-mod memory;
 mod reports;
 mod signals;
-mod summaries;
 mod tables;

@@ -1,11 +1,10 @@
 //! Readers that never end or fail, and a writer that fails.
 
-use crate::given::{REPORT, TABLE, TRACE};
+use crate::given::{INPUT, REPORT};
 use cal_engine::{RunFault, decide, fault_line, status};
-use cal_trace::WriteFault;
+use std::alloc::Global;
 use std::io;
 use std::io::{Read, Write};
-use std::test::Fail;
 
 /// A reader that never ends.
 #[derive(Drop)]
@@ -66,60 +65,62 @@ impl Write for FailingWriter {
 }
 
 #[test]
-fn a_reader_without_end_is_too_long(rt: HostRuntime) -> Result<(), Fail> {
+fn a_reader_without_end_is_too_long(rt: HostRuntime) {
     let mut written = Vec::new(rt.alloc());
     let answer = decide(rt.alloc(), Endless, &mut written);
-    assert_eq!(rt; answer, Err(RunFault::Length));
-    assert_eq!(rt; written.len(), 0);
-    Ok(())
+    assert!(rt; answer == Err(RunFault::Length) && written.is_empty());
+}
+
+/// What is answered where so many bytes are read before a read fails, and what is then written.
+fn decided(alloc: Global, left: usize) -> (Result<(), RunFault>, Vec<u8>) {
+    let bytes = INPUT.as_bytes();
+    let mut written = Vec::new(alloc);
+    let answer = decide(alloc, FailingReader { bytes, left }, &mut written);
+    (answer, written)
+}
+
+/// Whether the failed read is answered, and nothing is written.
+fn is_answered(alloc: Global, left: usize) -> bool {
+    let (answer, written) = decided(alloc, left);
+    answer == Err(RunFault::Read) && written.is_empty()
 }
 
 #[test]
-fn a_failed_read_is_answered(rt: HostRuntime) -> Result<(), Fail> {
-    let input = format!(in rt.alloc(); "{TABLE}---\n{TRACE}")?;
-    let reads = input.len();
-    for left in 0..reads + 1 {
-        let reader = FailingReader {
-            bytes: input.as_bytes(),
-            left,
-        };
-        let mut written = Vec::new(rt.alloc());
-        assert_eq!(rt;
-            decide(rt.alloc(), reader, &mut written),
-            Err(RunFault::Read),
-            "after {left} reads"
-        );
-        assert_eq!(rt; written.len(), 0);
+fn a_failed_read_is_answered(rt: HostRuntime) {
+    for left in 0..INPUT.len() + 1 {
+        assert!(rt; is_answered(rt.alloc(), left), "after {left} reads");
     }
-    let reader = FailingReader {
-        bytes: input.as_bytes(),
-        left: reads + 1,
-    };
-    let mut written = Vec::new(rt.alloc());
-    assert_eq!(rt; decide(rt.alloc(), reader, &mut written), Ok(()));
-    assert_eq!(rt; written.as_slice(), REPORT.as_bytes());
-    Ok(())
+    let (answer, written) = decided(rt.alloc(), INPUT.len() + 1);
+    assert!(rt; answer == Ok(()) && written.as_slice() == REPORT.as_bytes());
+}
+
+/// What is answered where so many bytes are taken before a write fails, and how many are taken.
+fn written(alloc: Global, left: usize) -> (Result<(), RunFault>, usize) {
+    let mut writer = FailingWriter { taken: 0, left };
+    let answer = decide(alloc, INPUT.as_bytes(), &mut writer);
+    (answer, writer.taken)
 }
 
 #[test]
-fn a_failed_write_is_answered(rt: HostRuntime) -> Result<(), Fail> {
-    let input = format!(in rt.alloc(); "{TABLE}---\n{TRACE}")?;
+fn a_failed_write_is_answered(rt: HostRuntime) {
     for left in 0..REPORT.len() {
-        let mut writer = FailingWriter { taken: 0, left };
-        let answer = decide(rt.alloc(), input.as_bytes(), &mut writer);
-        assert_eq!(rt; answer, Err(RunFault::Write), "after {left} writes");
+        let (answer, _) = written(rt.alloc(), left);
+        assert!(rt; answer == Err(RunFault::Write), "after {left} writes");
     }
-    let mut writer = FailingWriter {
-        taken: 0,
-        left: REPORT.len(),
-    };
-    assert_eq!(rt; decide(rt.alloc(), input.as_bytes(), &mut writer), Ok(()));
-    assert_eq!(rt; writer.taken, REPORT.len());
-    Ok(())
+    let (answer, taken) = written(rt.alloc(), REPORT.len());
+    assert!(rt; answer == Ok(()) && taken == REPORT.len());
+}
+
+/// Whether this is the line of the fault, and its exit status.
+fn ends_so(alloc: Global, fault: &RunFault, line: &str, code: u8) -> bool {
+    let mut said = Vec::new(alloc);
+    fault_line(fault, &mut said) == Ok(())
+        && said.as_slice() == line.as_bytes()
+        && status(fault) == code
 }
 
 #[test]
-fn faults_without_an_input(rt: HostRuntime) -> Result<(), Fail> {
+fn faults_without_an_input(rt: HostRuntime) {
     for (fault, line, code) in [
         (RunFault::Read, "caladan_sim: input read\n", 2),
         (RunFault::Length, "caladan_sim: input length\n", 2),
@@ -128,15 +129,6 @@ fn faults_without_an_input(rt: HostRuntime) -> Result<(), Fail> {
         (RunFault::Spawn, "caladan_sim: spawn\n", 3),
         (RunFault::Gate, "caladan_sim: gate\n", 3),
     ] {
-        let mut said = Vec::new(rt.alloc());
-        fault_line(&fault, &mut said)?;
-        assert_eq!(rt; said.as_slice(), line.as_bytes());
-        assert_eq!(rt; status(&fault), code, "{line}");
+        assert!(rt; ends_so(rt.alloc(), &fault, line, code), "{line}");
     }
-    let mut writer = FailingWriter { taken: 0, left: 3 };
-    assert_eq!(rt;
-        fault_line(&RunFault::Gate, &mut writer),
-        Err(WriteFault::Write)
-    );
-    Ok(())
 }

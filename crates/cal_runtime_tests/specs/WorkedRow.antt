@@ -1,11 +1,9 @@
 -- A worked run: one thread, which took its Run between two passes and published three times.
-use Rattle.std.specs.Prelude.{◌≡◌, ℕ, true, List, [], ◌∷◌, length, Some, slice_get}
+use Rattle.std.specs.Prelude.{ℕ, true, List, [], ◌∷◌}
 use Rattle.cal_machine.specs.declared.command.Command.TheVariants.{Run}
 use Rattle.cal_signal.specs.declared.record.Record.{Record}
 use Rattle.cal_signal.specs.declared.look.Look.{Look}
 use Rattle.cal_signal.specs.declared.look.Look.TheVariants as found
-use Rattle.cal_signal.specs.Pages.{FitsPage}
-use Rattle.cal_signal.specs.Rounds.{found_at}
 use Rattle.cal_policy.specs.declared.history.look.Seen.TheVariants.{Whole}
 use Rattle.cal_policy.specs.declared.history.action.Action.{Action}
 use Rattle.cal_policy.specs.declared.history.action.Action.TheVariants.{Grant}
@@ -13,7 +11,8 @@ use Rattle.cal_policy.specs.declared.history.entry.PassEntry.{PassEntry}
 use Rattle.cal_kthread.specs.declared.journal.entry.Entry.{Entry}
 use Rattle.cal_kthread.specs.declared.journal.entry.Entry.TheVariants.{Arrived, Took, Served}
 use Rattle.cal_kthread.specs.declared.journal.entry.Entry.TheVariants.{Published}
-use Rattle.cal_linear.specs.Runs.{page_at}
+use Rattle.cal_world.specs.declared.event.Event.{Event}
+use Rattle.cal_world.specs.declared.event.Event.TheVariants.{Take, Publish, Read, Decide, Watch}
 
 -- what it published: with a request that waits, at work on it, and after it
 abbrev pub waiting : Record
@@ -86,8 +85,17 @@ journal =
 abbrev pub rounds : List (List Look)
 rounds = (found.Whole 1 waiting ∷ []) ∷ (found.Busy 2 4 ∷ []) ∷ (found.Whole 3 served ∷ []) ∷ []
 
--- rounds that may be watched beside it
-pub record AreRowsRounds (watched : List (List Look)) : Type 0 where
-  pub sizes : (r : ℕ) (round : List Look) → slice_get watched r ≡ Some round →
-      length round ≡ 1
-  pub fit : (k : ℕ) → FitsPage (page_at (journal ∷ []) k) (found_at watched k)
+-- its steps in order: a watcher's whole looks come after all else, and its busy one gives nothing
+abbrev pub order : List Event
+order =
+    Publish 0 waiting
+    ∷ Read 0 1
+    ∷ Decide granting
+    ∷ Take 0
+    ∷ Publish 0 at_work
+    ∷ Read 0 2
+    ∷ Decide resting
+    ∷ Publish 0 served
+    ∷ Watch 0 1
+    ∷ Watch 0 3
+    ∷ []

@@ -1,11 +1,9 @@
-//! All workers run at the same time and meet over their pages and rings; what the gate is asked;
-//! and each request stands in one place at the end.
+//! All workers run at the same time and meet over their pages and rings; what the gate is asked.
 //!
 //! The gates show it: with the bodies `workers_on_one_thread` and `threads_share_nothing` their
 //! questions come in another order, or not at all.
 
 mod gates;
-mod requests;
 
 use cal_machine::Config;
 use cal_run::{Outcome, SimFault};

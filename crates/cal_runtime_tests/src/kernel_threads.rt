@@ -75,18 +75,30 @@ pub fn turn(
     Ok(true)
 }
 
-/// A turn of one thread of a team: which one, the commands that are sent to it before, when, and
-/// what arrives.
-type Turn<'a> = (usize, &'a [Command], u64, Option<Request>);
+/// A step of one thread of a team, which is named by its number.
+#[derive(Clone, Copy)]
+enum Step {
+    /// The command is sent to the thread.
+    Send(usize, Command),
+    /// Its turn at this time, before which nothing arrives.
+    Turn(usize, u64),
+    /// Its turn at this time, before which the request of this name and this work arrives.
+    Arrive(usize, u64, u64, u64),
+}
 
-/// The turns, one after the other. False where a command was not sent, or a turn not made.
-fn all_turns(threads: &mut Vec<KernelThread>, senders: &mut Vec<Sender>, turns: &[Turn]) -> bool
+/// The steps, one after the other. False where a command was not sent, or a turn not made.
+fn all_steps(threads: &mut Vec<KernelThread>, senders: &mut Vec<Sender>, steps: &[Step]) -> bool
     requires { IsTeam (map (λ t. place_of t.thread) threads.old.items) }
     ensures team { IsTeam (map (λ t. place_of t.thread) threads.new.items) }
     ensures count { length threads.new.items ≡ length threads.old.items }
 {
-    for (k, commands, now, arriving) in turns {
-        if !sent(senders, *k, commands) || !turn_of(threads, *k, *now, *arriving) {
+    for step in steps {
+        let done = match *step {
+            Step::Send(k, command) => sent(senders, k, command),
+            Step::Turn(k, now) => turn_of(threads, k, now, None),
+            Step::Arrive(k, now, id, work) => turn_of(threads, k, now, Some(request(id, work))),
+        };
+        if !done {
             return false;
         }
     }
@@ -106,17 +118,12 @@ fn turn_of(threads: &mut Vec<KernelThread>, k: usize, now: u64, arriving: Option
     turn(&mut threads[k], now, arriving) == Ok(true)
 }
 
-/// Sends the commands to this thread. False where there is no room for one, or no such core.
-fn sent(senders: &mut Vec<Sender>, k: usize, commands: &[Command]) -> bool {
+/// Sends the command to this thread. False where there is no room, or no such core.
+fn sent(senders: &mut Vec<Sender>, k: usize, command: Command) -> bool {
     if k >= senders.len() {
         return false;
     }
-    for command in commands {
-        if !send(&mut senders[k], *command) {
-            return false;
-        }
-    }
-    true
+    send(&mut senders[k], command)
 }
 
 /// Sends a command, where there is room.

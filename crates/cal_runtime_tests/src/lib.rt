@@ -1,15 +1,14 @@
 //! The tests of the runtime, in a crate of their own, since a crate with tests is proved twice: the
 //! scheduler, kernel threads, worlds of events, the order of a run's steps, and whole runs on one
 //! thread and in threads. What no clause says: that calls succeed where there is memory, that
-//! worked examples come out as they were meant, that threads meet, and what refused memory leaves.
+//! worked examples come out as they were meant, and that threads meet.
 #![tactic(auto)]
 
 #[cfg(test)]
 mod in_threads;
 #[cfg(test)]
 mod kernel_threads;
-#[cfg(test)]
-mod order;
+pub mod order;
 #[cfg(test)]
 mod runs;
 #[cfg(test)]

@@ -1,11 +1,10 @@
-//! What no clause says: the worked passes over a bare page and ring, a full history, rounds of a
-//! watch, and refused memory.
+//! What no clause says: the worked passes over a bare page and ring, a full history, and rounds of a
+//! watch.
 ghost use Rattle.std.specs.Prelude.{◌≡◌, [], length, IfOk};
 ghost use Rattle.cal_machine.specs.Tasks.{threads_in};
 ghost use Rattle.cal_sched.specs.Scheduler.{HaveSeenNothing, HaveSentNothing};
 
 mod passes;
-mod refused_memory;
 mod watches;
 
 use cal_command::{Sender, Taker, open_ring};

@@ -1,9 +1,8 @@
 //! What no clause says: the worked rows of worlds, each refusal once, that a legal list is gone
-//! through where there is memory, and refused memory.
+//! through where there is memory.
 
 mod long_lists;
 mod refusals;
-mod refused_memory;
 
 use cal_policy::{Action, ActionList, Input, PassEntry, Record, Rooms, Seen, SeenList};
 use cal_world::{Event, Illegal, World};
@@ -36,11 +35,6 @@ const GRANT: Action = Action::Grant {
     thread: 0,
     class: 3,
 };
-
-/// What the world answers to an event.
-fn answer(world: &mut World, event: Event) -> Result<(), Illegal> {
-    world.step(&event)
-}
 
 /// The pass at 111 on that look, with room in the ring, and these actions.
 fn decide(alloc: Global, actions: &[Action]) -> Result<Event, AllocError> {

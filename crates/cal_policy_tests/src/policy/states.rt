@@ -1,284 +1,454 @@
-//! The worked rows that begin in a state, as passes over two entries made by hand: the first grants
-//! the cores, the second shows the threads on them.
+//! Worked passes that begin in a state: of each history the first entry, made by hand, grants the
+//! cores, the second shows the threads on them, and each pass after these is the policy's.
 
-use super::made::{TaskRow, entry, input, table};
 use cal_machine::Config;
-use cal_policy::{Action, Actions, Cause, Input, PassEntry, is_input, orderly, plain_pass};
+use cal_policy::{Actions, PassEntry, is_input, orderly, plain_pass};
+use cal_trace::read_history;
 use std::alloc::Global;
-use std::process::Abort;
 use std::test::Fail;
 
-const ZERO: [u64; 9] = [0; 9];
-
-/// A thread that took its Run and is on the core that it was granted.
-fn on(core: u8, misses: u64, stamp: u64) -> [u64; 9] {
-    [1, u64::from(core) + 1, 0, 0, 0, misses, stamp, 0, 0]
-}
-
-fn grant(core: u8, thread: u8, class: u8) -> Action {
-    Action::Grant {
-        core,
-        thread,
-        class,
-    }
-}
-
-/// The plain pass on this input, which then stands at the end of the history: its actions are
-/// these.
-fn assert_pass<R: Abort + AllocGlobal>(
-    rt: &R,
+/// Whether the plain pass on the input of this entry, after these, makes its actions.
+fn is_made(
+    alloc: Global,
     config: &Config,
-    history: &mut Vec<PassEntry>,
-    input: Input,
-    actions: &[Action],
-) -> Result<(), Fail> {
-    assert!(rt; orderly(config, history.as_slice()));
-    assert!(rt; is_input(config, history.as_slice(), &input));
-    let mut made = Actions::reserved(rt.alloc())?;
-    plain_pass(config, history.as_slice(), &input, &mut made);
-    assert_eq!(rt; made.as_slice(), actions);
-    let actions = made.list();
-    history.push(PassEntry { input, actions })?;
-    Ok(())
-}
-
-/// A state: the table's cores and tasks, the grants of the first entry, on zero records, and of the
-/// second what its looks show and its actions.
-#[derive(Clone, Copy)]
-struct State<'a> {
-    cores: u8,
-    tasks: &'a [TaskRow],
-    grants: &'a [Action],
-    shown: &'a [[u64; 9]],
-    actions: &'a [Action],
-}
-
-/// The clock of a pass, its bandwidth figure, the place of its whole looks and their records, and
-/// the actions that it makes.
-type PassRow<'a> = (u64, u64, u64, &'a [[u64; 9]], &'a [Action]);
-
-/// The two entries of a state.
-fn begun(alloc: Global, state: &State) -> Result<Vec<PassEntry>, Fail> {
-    let mut zeros = Vec::new(alloc);
-    for _ in state.shown {
-        zeros.push(ZERO)?;
+    before: &[PassEntry],
+    entry: &PassEntry,
+) -> Result<bool, Fail> {
+    if !orderly(config, before) || !is_input(config, before, &entry.input) {
+        return Ok(false);
     }
-    let first = input(alloc, 50, 0, 0, zeros.as_slice())?;
-    let second = input(alloc, 100, 0, 1, state.shown)?;
-    let mut history = Vec::new(alloc);
-    history.push(entry(alloc, first, state.grants)?)?;
-    history.push(entry(alloc, second, state.actions)?)?;
-    Ok(history)
+    let mut made = Actions::reserved(alloc)?;
+    plain_pass(config, before, &entry.input, &mut made);
+    Ok(made.as_slice() == entry.actions.as_slice())
 }
 
-/// From this state each pass makes its actions.
-fn assert_passes<R: Abort + AllocGlobal>(
-    rt: &R,
-    state: &State,
-    passes: &[PassRow],
-) -> Result<(), Fail> {
-    let alloc = rt.alloc();
-    let config = table(alloc, state.cores, state.tasks)?;
-    let mut history = begun(alloc, state)?;
-    for (now, bandwidth, number, words, actions) in passes {
-        let input = input(alloc, *now, *bandwidth, *number, *words)?;
-        assert_pass(rt, &config, &mut history, input, *actions)?;
+/// Whether each pass of the history from the third on is made after those before it.
+fn are_made(alloc: Global, table: &str, history: &str) -> Result<bool, Fail> {
+    let config = Config::read(alloc, table.as_bytes())?;
+    let history = read_history(alloc, &config, history.as_bytes())?;
+    for p in 2..history.len() {
+        if !is_made(alloc, &config, &history[..p], &history[p])? {
+            return Ok(false);
+        }
+    }
+    Ok(history.len() > 2)
+}
+
+#[test]
+fn worked_passes(rt: HostRuntime) -> Result<(), Fail> {
+    let rows = [
+        SIBLING_FIRST,
+        PREEMPT_BEST_EFFORT,
+        YIELD_BEFORE_PARK,
+        CAP_COUNTS_BOOKED,
+        BANDWIDTH_VICTIM_AND_CAP_RECOVERS,
+        SIBLING_NOT_OVER,
+        BAN_AND_UNBAN,
+        PREEMPT_LATENCY_CRITICAL,
+        NO_PREEMPTION,
+    ];
+    for (k, (table, history)) in rows.iter().enumerate() {
+        assert!(rt; are_made(rt.alloc(), *table, *history)?, "state {k}");
     }
     Ok(())
 }
 
-#[test]
-fn sibling_first(rt: HostRuntime) -> Result<(), Fail> {
-    let state = State {
-        cores: 4,
-        tasks: &[("lc", 1, 3, 10, 50)],
-        grants: &[grant(0, 0, 3), grant(1, 1, 3), grant(2, 2, 3)],
-        shown: &[on(0, 0, 100), on(1, 0, 100), on(2, 0, 100)],
-        actions: &[],
-    };
-    let looks = [
-        [1, 0, 1, 100, 0, 0, 190, 0, 0],
-        [1, 0, 0, 0, 0, 0, 190, 0, 0],
-        [1, 3, 0, 0, 0, 0, 190, 0, 0],
-    ];
-    let actions = [
-        Action::Free { core: 0 },
-        Action::Free { core: 1 },
-        grant(3, 0, 1),
-    ];
-    assert_passes(&rt, &state, &[(200, 0, 2, &looks, &actions)])
-}
+/// A table, and a history for it.
+type State = (&'static str, &'static str);
 
-/// From two best-effort threads on both cores each pass makes its actions.
-fn assert_after_best_effort<R: Abort + AllocGlobal>(
-    rt: &R,
-    passes: &[PassRow],
-) -> Result<(), Fail> {
-    let state = State {
-        cores: 2,
-        tasks: &[("lc", 1, 2, 10, 50), ("be", 0, 2, 0, 0)],
-        grants: &[grant(0, 2, 3), grant(1, 3, 3)],
-        shown: &[ZERO, ZERO, on(0, 0, 100), on(1, 0, 100)],
-        actions: &[],
-    };
-    assert_passes(rt, &state, passes)
-}
+/// Two threads left their cores, and one has work again: of the free cores the one beside its
+/// task's own is granted (class 1).
+const SIBLING_FIRST: State = (
+    "\
+cores = 4
+bandwidth_limit = 1000
+[[task]]
+kind = \"lc\"
+guaranteed = 1
+limit = 3
+delay = 10
+request = 50
+",
+    "\
+caladan-history,2
+pass,50,0
+whole,0,1,0,0,0,0,0,0,0,0,0,0
+whole,1,1,0,0,0,0,0,0,0,0,0,0
+whole,2,1,0,0,0,0,0,0,0,0,0,0
+grant,0,0,3
+grant,1,1,3
+grant,2,2,3
+pass,100,0
+whole,0,1,1,1,1,0,0,0,0,100,0,0
+whole,1,1,1,1,2,0,0,0,0,100,0,0
+whole,2,1,1,1,3,0,0,0,0,100,0,0
+pass,200,0
+whole,0,1,2,1,0,1,100,0,0,190,0,0
+whole,1,1,2,1,0,0,0,0,0,190,0,0
+whole,2,1,2,1,3,0,0,0,0,190,0,0
+free,0
+free,1
+grant,3,0,1
+end,3
+",
+);
 
-const PREEMPT: Action = Action::Revoke {
-    core: 0,
-    cause: Cause::Preempt { task: 0 },
-};
+/// A core of a best-effort task is revoked for a latency-critical one (class 4), and no other while
+/// it is being left.
+const PREEMPT_BEST_EFFORT: State = (
+    "\
+cores = 2
+bandwidth_limit = 1000
+[[task]]
+kind = \"lc\"
+guaranteed = 1
+limit = 2
+delay = 10
+request = 50
+[[task]]
+kind = \"be\"
+guaranteed = 0
+limit = 2
+delay = 0
+request = 0
+",
+    "\
+caladan-history,2
+pass,50,0
+whole,0,1,0,0,0,0,0,0,0,0,0,0
+whole,1,1,0,0,0,0,0,0,0,0,0,0
+whole,2,1,0,0,0,0,0,0,0,0,0,0
+whole,3,1,0,0,0,0,0,0,0,0,0,0
+grant,0,2,3
+grant,1,3,3
+pass,100,0
+whole,0,1,1,0,0,0,0,0,0,0,0,0
+whole,1,1,1,0,0,0,0,0,0,0,0,0
+whole,2,1,1,1,1,0,0,0,0,100,0,0
+whole,3,1,1,1,2,0,0,0,0,100,0,0
+pass,200,0
+whole,0,1,2,0,0,1,100,0,0,190,0,0
+whole,1,1,2,0,0,0,0,0,0,0,0,0
+whole,2,1,2,1,1,0,0,0,0,100,0,0
+whole,3,1,2,1,2,0,0,0,0,100,0,0
+revoke,0,preempt,0
+pass,210,0
+whole,0,1,2,0,0,1,100,0,0,190,0,0
+whole,1,1,2,0,0,0,0,0,0,0,0,0
+whole,2,1,2,1,1,0,0,0,0,100,0,0
+whole,3,1,2,1,2,0,0,0,0,100,0,0
+end,4
+",
+);
 
-#[test]
-fn preempt_best_effort(rt: HostRuntime) -> Result<(), Fail> {
-    let words = [
-        [0, 0, 1, 100, 0, 0, 190, 0, 0],
-        ZERO,
-        on(0, 0, 100),
-        on(1, 0, 100),
-    ];
-    let passes: [PassRow; 2] = [(200, 0, 2, &words, &[PREEMPT]), (210, 0, 2, &words, &[])];
-    assert_after_best_effort(&rt, &passes)
-}
+/// A thread that yielded before it took its Park shows that it left: its core is free.
+const YIELD_BEFORE_PARK: State = (
+    "\
+cores = 2
+bandwidth_limit = 1000
+[[task]]
+kind = \"lc\"
+guaranteed = 1
+limit = 2
+delay = 10
+request = 50
+[[task]]
+kind = \"be\"
+guaranteed = 0
+limit = 2
+delay = 0
+request = 0
+",
+    "\
+caladan-history,2
+pass,50,0
+whole,0,1,0,0,0,0,0,0,0,0,0,0
+whole,1,1,0,0,0,0,0,0,0,0,0,0
+whole,2,1,0,0,0,0,0,0,0,0,0,0
+whole,3,1,0,0,0,0,0,0,0,0,0,0
+grant,0,2,3
+grant,1,3,3
+pass,100,0
+whole,0,1,1,0,0,0,0,0,0,0,0,0
+whole,1,1,1,0,0,0,0,0,0,0,0,0
+whole,2,1,1,1,1,0,0,0,0,100,0,0
+whole,3,1,1,1,2,0,0,0,0,100,0,0
+pass,200,0
+whole,0,1,2,0,0,1,100,0,0,190,0,0
+whole,1,1,2,0,0,0,0,0,0,0,0,0
+whole,2,1,2,1,1,0,0,0,0,100,0,0
+whole,3,1,2,1,2,0,0,0,0,100,0,0
+revoke,0,preempt,0
+pass,220,0
+whole,0,1,3,0,0,1,100,0,0,190,0,0
+whole,1,1,3,0,0,0,0,0,0,0,0,0
+whole,2,1,3,1,0,0,0,0,0,205,0,0
+whole,3,1,3,1,2,0,0,0,0,100,0,0
+free,0
+grant,0,0,3
+end,4
+",
+);
 
-/// A thread that yielded before it took its Park shows it later: only the pass is here.
-#[test]
-fn yield_before_park(rt: HostRuntime) -> Result<(), Fail> {
-    let waiting = [0, 0, 1, 100, 0, 0, 190, 0, 0];
-    let before = [waiting, ZERO, on(0, 0, 100), on(1, 0, 100)];
-    let after = [waiting, ZERO, [1, 0, 0, 0, 0, 0, 205, 0, 0], on(1, 0, 100)];
-    let actions = [Action::Free { core: 0 }, grant(0, 0, 3)];
-    let passes: [PassRow; 2] = [
-        (200, 0, 2, &before, &[PREEMPT]),
-        (220, 0, 3, &after, &actions),
-    ];
-    assert_after_best_effort(&rt, &passes)
-}
+/// A core that is being left counts too: at its cap, which rises by one, the task gets no other core.
+const CAP_COUNTS_BOOKED: State = (
+    "\
+cores = 4
+bandwidth_limit = 1000
+[[task]]
+kind = \"lc\"
+guaranteed = 1
+limit = 2
+delay = 10
+request = 50
+[[task]]
+kind = \"be\"
+guaranteed = 0
+limit = 3
+delay = 0
+request = 0
+",
+    "\
+caladan-history,2
+pass,50,0
+whole,0,1,0,0,0,0,0,0,0,0,0,0
+whole,1,1,0,0,0,0,0,0,0,0,0,0
+whole,2,1,0,0,0,0,0,0,0,0,0,0
+whole,3,1,0,0,0,0,0,0,0,0,0,0
+whole,4,1,0,0,0,0,0,0,0,0,0,0
+grant,0,2,3
+grant,1,3,3
+pass,100,0
+whole,0,1,1,0,0,0,0,0,0,0,0,0
+whole,1,1,1,0,0,0,0,0,0,0,0,0
+whole,2,1,1,1,1,0,0,0,0,100,0,0
+whole,3,1,1,1,2,0,0,0,0,100,0,0
+whole,4,1,1,0,0,0,0,0,0,0,0,0
+cap,1,1
+revoke,1,bandwidth
+pass,200,0
+whole,0,1,2,0,0,0,0,0,0,0,0,0
+whole,1,1,2,0,0,0,0,0,0,0,0,0
+whole,2,1,2,1,1,1,100,0,0,190,0,0
+whole,3,1,2,1,2,0,0,0,0,190,0,0
+whole,4,1,2,0,0,0,0,0,0,0,0,0
+cap,1,2
+end,3
+",
+);
 
-#[test]
-fn cap_counts_booked(rt: HostRuntime) -> Result<(), Fail> {
-    let cut = Action::Revoke {
-        core: 1,
-        cause: Cause::Bandwidth,
-    };
-    let state = State {
-        cores: 4,
-        tasks: &[("lc", 1, 2, 10, 50), ("be", 0, 3, 0, 0)],
-        grants: &[grant(0, 2, 3), grant(1, 3, 3)],
-        shown: &[ZERO, ZERO, on(0, 0, 100), on(1, 0, 100), ZERO],
-        actions: &[Action::Cap { task: 1, cap: 1 }, cut],
-    };
-    let looks = [
-        ZERO,
-        ZERO,
-        [1, 1, 1, 100, 0, 0, 190, 0, 0],
-        [1, 2, 0, 0, 0, 0, 190, 0, 0],
-        ZERO,
-    ];
-    let actions = [Action::Cap { task: 1, cap: 2 }];
-    assert_passes(&rt, &state, &[(200, 0, 2, &looks, &actions)])
-}
+/// Above the limit the first of two tasks with as many misses loses its highest core and gets a cap;
+/// at the limit its cap rises again.
+const BANDWIDTH_VICTIM_AND_CAP_RECOVERS: State = (
+    "\
+cores = 4
+bandwidth_limit = 1000
+[[task]]
+kind = \"be\"
+guaranteed = 0
+limit = 2
+delay = 0
+request = 0
+[[task]]
+kind = \"be\"
+guaranteed = 0
+limit = 2
+delay = 0
+request = 0
+",
+    "\
+caladan-history,2
+pass,50,0
+whole,0,1,0,0,0,0,0,0,0,0,0,0
+whole,1,1,0,0,0,0,0,0,0,0,0,0
+whole,2,1,0,0,0,0,0,0,0,0,0,0
+whole,3,1,0,0,0,0,0,0,0,0,0,0
+grant,0,0,3
+grant,1,1,3
+grant,2,2,3
+grant,3,3,3
+pass,100,0
+whole,0,1,1,1,1,0,0,0,0,100,0,0
+whole,1,1,1,1,2,0,0,0,0,100,0,0
+whole,2,1,1,1,3,0,0,0,0,100,0,0
+whole,3,1,1,1,4,0,0,0,0,100,0,0
+pass,200,1001
+whole,0,1,2,1,1,0,0,0,300,150,0,0
+whole,1,1,2,1,2,0,0,0,200,150,0,0
+whole,2,1,2,1,3,0,0,0,500,150,0,0
+whole,3,1,2,1,4,0,0,0,0,150,0,0
+cap,0,1
+revoke,1,bandwidth
+pass,210,1000
+whole,0,1,3,1,1,0,0,0,300,150,0,0
+whole,1,1,3,2,0,0,0,0,200,205,0,0
+whole,2,1,3,1,3,0,0,0,500,150,0,0
+whole,3,1,3,1,4,0,0,0,0,150,0,0
+free,1
+cap,0,2
+end,4
+",
+);
 
-#[test]
-fn bandwidth_victim_and_cap_recovers(rt: HostRuntime) -> Result<(), Fail> {
-    let state = State {
-        cores: 4,
-        tasks: &[("be", 0, 2, 0, 0), ("be", 0, 2, 0, 0)],
-        grants: &[
-            grant(0, 0, 3),
-            grant(1, 1, 3),
-            grant(2, 2, 3),
-            grant(3, 3, 3),
-        ],
-        shown: &[on(0, 0, 100), on(1, 0, 100), on(2, 0, 100), on(3, 0, 100)],
-        actions: &[],
-    };
-    let missed = [
-        on(0, 300, 150),
-        on(1, 200, 150),
-        on(2, 500, 150),
-        on(3, 0, 150),
-    ];
-    let revoke = Action::Revoke {
-        core: 1,
-        cause: Cause::Bandwidth,
-    };
-    let cut = [Action::Cap { task: 0, cap: 1 }, revoke];
-    let parked = [2, 0, 0, 0, 0, 200, 205, 0, 0];
-    let left = [on(0, 300, 150), parked, on(2, 500, 150), on(3, 0, 150)];
-    let rise = [Action::Free { core: 1 }, Action::Cap { task: 0, cap: 2 }];
-    let passes: [PassRow; 2] = [(200, 1001, 2, &missed, &cut), (210, 1000, 3, &left, &rise)];
-    assert_passes(&rt, &state, &passes)
-}
+/// A request runs longer than its task allows, beside a task that holds no more than its guarantee:
+/// nothing is banned.
+const SIBLING_NOT_OVER: State = (
+    "\
+cores = 2
+bandwidth_limit = 1000
+[[task]]
+kind = \"lc\"
+guaranteed = 1
+limit = 1
+delay = 10
+request = 50
+[[task]]
+kind = \"lc\"
+guaranteed = 1
+limit = 1
+delay = 10
+request = 50
+",
+    "\
+caladan-history,2
+pass,50,0
+whole,0,1,0,0,0,0,0,0,0,0,0,0
+whole,1,1,0,0,0,0,0,0,0,0,0,0
+grant,0,0,3
+grant,1,1,3
+pass,100,0
+whole,0,1,1,1,1,0,0,0,0,100,0,0
+whole,1,1,1,1,2,0,0,0,0,100,0,0
+pass,151,0
+whole,0,1,2,1,1,0,0,100,0,100,0,0
+whole,1,1,2,1,2,0,0,0,0,100,0,0
+end,3
+",
+);
 
-#[test]
-fn sibling_not_over(rt: HostRuntime) -> Result<(), Fail> {
-    let state = State {
-        cores: 2,
-        tasks: &[("lc", 1, 1, 10, 50), ("lc", 1, 1, 10, 50)],
-        grants: &[grant(0, 0, 3), grant(1, 1, 3)],
-        shown: &[on(0, 0, 100), on(1, 0, 100)],
-        actions: &[],
-    };
-    let looks = [[1, 1, 0, 0, 100, 0, 100, 0, 0], on(1, 0, 100)];
-    assert_passes(&rt, &state, &[(151, 0, 2, &looks, &[])])
-}
+/// Beside a request that runs longer than its task allows the sibling is banned and revoked, and
+/// unbanned when it is done.
+const BAN_AND_UNBAN: State = (
+    "\
+cores = 2
+bandwidth_limit = 1000
+[[task]]
+kind = \"lc\"
+guaranteed = 1
+limit = 1
+delay = 10
+request = 50
+[[task]]
+kind = \"be\"
+guaranteed = 0
+limit = 1
+delay = 0
+request = 0
+",
+    "\
+caladan-history,2
+pass,50,0
+whole,0,1,0,0,0,0,0,0,0,0,0,0
+whole,1,1,0,0,0,0,0,0,0,0,0,0
+grant,0,0,3
+grant,1,1,3
+pass,100,0
+whole,0,1,1,1,1,0,0,0,0,100,0,0
+whole,1,1,1,1,2,0,0,0,0,100,0,0
+pass,150,0
+whole,0,1,2,1,1,0,0,100,0,100,0,0
+whole,1,1,2,1,2,0,0,0,0,100,0,0
+pass,151,0
+whole,0,1,2,1,1,0,0,100,0,100,0,0
+whole,1,1,2,1,2,0,0,0,0,100,0,0
+ban,1,0,100
+revoke,1,ban,0
+pass,160,0
+whole,0,1,3,1,1,0,0,100,0,100,0,0
+whole,1,1,3,2,0,1,90,0,0,155,0,0
+free,1
+pass,170,0
+whole,0,1,4,1,1,0,0,0,0,165,0,0
+whole,1,1,4,2,0,1,90,0,0,155,0,0
+unban,1
+grant,1,1,2
+end,6
+",
+);
 
-#[test]
-fn ban_and_unban(rt: HostRuntime) -> Result<(), Fail> {
-    let state = State {
-        cores: 2,
-        tasks: &[("lc", 1, 1, 10, 50), ("be", 0, 1, 0, 0)],
-        grants: &[grant(0, 0, 3), grant(1, 1, 3)],
-        shown: &[on(0, 0, 100), on(1, 0, 100)],
-        actions: &[],
-    };
-    let long = [1, 1, 0, 0, 100, 0, 100, 0, 0];
-    let done = [1, 1, 0, 0, 0, 0, 165, 0, 0];
-    let off = [2, 0, 1, 90, 0, 0, 155, 0, 0];
-    let both = [long, on(1, 0, 100)];
-    let ban = Action::Ban {
-        core: 1,
-        thread: 0,
-        started: 100,
-    };
-    let revoke = Action::Revoke {
-        core: 1,
-        cause: Cause::Ban { by: 0 },
-    };
-    let passes: [PassRow; 4] = [
-        (150, 0, 2, &both, &[]),
-        (151, 0, 2, &both, &[ban, revoke]),
-        (160, 0, 3, &[long, off], &[Action::Free { core: 1 }]),
-        (
-            170,
-            0,
-            4,
-            &[done, off],
-            &[Action::Unban { core: 1 }, grant(1, 1, 2)],
-        ),
-    ];
-    assert_passes(&rt, &state, &passes)
-}
+/// A core beyond a task's guarantee is revoked for one whose guarantee is not met (class 5).
+const PREEMPT_LATENCY_CRITICAL: State = (
+    "\
+cores = 2
+bandwidth_limit = 1000
+[[task]]
+kind = \"lc\"
+guaranteed = 0
+limit = 2
+delay = 10
+request = 50
+[[task]]
+kind = \"lc\"
+guaranteed = 1
+limit = 1
+delay = 10
+request = 50
+",
+    "\
+caladan-history,2
+pass,50,0
+whole,0,1,0,0,0,0,0,0,0,0,0,0
+whole,1,1,0,0,0,0,0,0,0,0,0,0
+whole,2,1,0,0,0,0,0,0,0,0,0,0
+grant,0,0,3
+grant,1,1,3
+pass,100,0
+whole,0,1,1,1,1,0,0,0,0,100,0,0
+whole,1,1,1,1,2,0,0,0,0,100,0,0
+whole,2,1,1,0,0,0,0,0,0,0,0,0
+pass,200,0
+whole,0,1,2,1,1,0,0,0,0,100,0,0
+whole,1,1,2,1,2,0,0,0,0,100,0,0
+whole,2,1,2,0,0,1,100,0,0,190,0,0
+revoke,0,preempt,1
+end,3
+",
+);
 
-/// Class 5, where the task's guarantee is not met; without a guarantee nothing is taken.
-#[test]
-fn preempt_latency_critical(rt: HostRuntime) -> Result<(), Fail> {
-    let revoke = Action::Revoke {
-        core: 0,
-        cause: Cause::Preempt { task: 1 },
-    };
-    let waiting = [0, 0, 1, 100, 0, 0, 190, 0, 0];
-    let looks = [on(0, 0, 100), on(1, 0, 100), waiting];
-    for (guaranteed, actions) in [(1, &[revoke] as &[Action]), (0, &[] as &[Action])] {
-        let state = State {
-            cores: 2,
-            tasks: &[("lc", 0, 2, 10, 50), ("lc", guaranteed, 1, 10, 50)],
-            grants: &[grant(0, 0, 3), grant(1, 1, 3)],
-            shown: &[on(0, 0, 100), on(1, 0, 100), ZERO],
-            actions: &[],
-        };
-        assert_passes(&rt, &state, &[(200, 0, 2, &looks, actions)])?;
-    }
-    Ok(())
-}
+/// Without a guarantee nothing is taken.
+const NO_PREEMPTION: State = (
+    "\
+cores = 2
+bandwidth_limit = 1000
+[[task]]
+kind = \"lc\"
+guaranteed = 0
+limit = 2
+delay = 10
+request = 50
+[[task]]
+kind = \"lc\"
+guaranteed = 0
+limit = 1
+delay = 10
+request = 50
+",
+    "\
+caladan-history,2
+pass,50,0
+whole,0,1,0,0,0,0,0,0,0,0,0,0
+whole,1,1,0,0,0,0,0,0,0,0,0,0
+whole,2,1,0,0,0,0,0,0,0,0,0,0
+grant,0,0,3
+grant,1,1,3
+pass,100,0
+whole,0,1,1,1,1,0,0,0,0,100,0,0
+whole,1,1,1,1,2,0,0,0,0,100,0,0
+whole,2,1,1,0,0,0,0,0,0,0,0,0
+pass,200,0
+whole,0,1,2,1,1,0,0,0,0,100,0,0
+whole,1,1,2,1,2,0,0,0,0,100,0,0
+whole,2,1,2,0,0,1,100,0,0,190,0,0
+end,3
+",
+);

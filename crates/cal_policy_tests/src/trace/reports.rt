@@ -1,93 +1,81 @@
-use super::tables::one_thread;
-use cal_policy::{Action, ActionList, Cause, Input, PassEntry, Rooms, Seen, SeenList};
-use cal_trace::write_report;
+use super::tables::two_threads;
+use cal_machine::Config;
+use cal_policy::{PassEntry, orderly};
+use cal_trace::{FaultKind, WriteFault, read_history, write_report};
 use std::alloc::Global;
 use std::test::Fail;
 
-/// The text of a report, with the table of one thread.
-fn report_of(alloc: Global, history: &[PassEntry]) -> Result<Vec<u8>, Fail> {
-    let config = one_thread(alloc)?;
-    let mut text = Vec::new(alloc);
-    write_report(&config, history, &mut text)?;
-    Ok(text)
+/// An orderly history of two threads with every kind of action and of look.
+const EVERY_ACTION: &[u8] = b"caladan-history,2
+pass,100,7
+whole,0,1,1,0,0,1,90,0,0,95,0,0
+ahead,1,0,2,9,4,8,7,6,5,4,3,18446744073709551615
+grant,0,0,3
+cap,1,1
+revoke,0,bandwidth
+ban,2,1,99
+pass,200,0
+foreign,0,1,3,1,128,2,3,4,5,96,6,7
+busy,1,1,6,9
+free,0
+unban,2
+grant,1,0,1
+revoke,1,ban,2
+free,1
+grant,0,0,4
+cap,1,0
+grant,3,1,5
+revoke,3,preempt,0
+end,2
+";
+
+const EVERY_ACTION_REPORT: &[u8] = b"pass 0 now 100 bandwidth 7
+  kept 1 ahead
+  grant core 0 to thread 0 class 3
+  cap task 1 at 1
+  revoke core 0 for bandwidth
+  ban core 2 for thread 1 started 99
+pass 1 now 200 bandwidth 0
+  kept 0 foreign
+  kept 1 busy
+  free core 0
+  unban core 2
+  grant core 1 to thread 0 class 1
+  revoke core 1 for ban by core 2
+  free core 1
+  grant core 0 to thread 0 class 4
+  cap task 1 at 0
+  grant core 3 to thread 1 class 5
+  revoke core 3 for task 0
+end 2 passes
+task 0 lc held 1 leaving 0
+task 1 be held 0 leaving 1 cap 0
+";
+
+/// The history and its table, where memory was there for them.
+fn every_action(alloc: Global) -> Result<Option<(Config, Vec<PassEntry>)>, Fail> {
+    let Some(config) = two_threads(alloc)? else {
+        return Ok(None);
+    };
+    match read_history(alloc, &config, EVERY_ACTION) {
+        Ok(history) => Ok(Some((config, history))),
+        Err(fault) if fault.kind == FaultKind::Memory => Ok(None),
+        Err(fault) => Err(Fail::from(fault)),
+    }
 }
 
-fn entry(alloc: Global, now: u64, seen: Seen, actions: &[Action]) -> Result<PassEntry, Fail> {
-    Ok(PassEntry {
-        input: Input {
-            now,
-            bandwidth: 0,
-            seen: SeenList::new(vec![in alloc; seen]?),
-            rooms: Rooms::new(vec![in alloc; true]?),
-        },
-        actions: ActionList::new(Vec::from_slice(alloc, actions)?),
-    })
-}
-
+/// With one allocation refused, wherever that is, the answer is want of memory by its name, or the
+/// ample one. (tools/refusals runs it so.)
 #[test]
 fn report_of_every_action(rt: HostRuntime) -> Result<(), Fail> {
-    let alloc = rt.alloc();
-    let busy = Seen::Busy {
-        first: 1,
-        second: 1,
+    let Some((config, history)) = every_action(rt.alloc())? else {
+        return Ok(());
     };
-    let actions = [
-        Action::Grant {
-            core: 0,
-            thread: 0,
-            class: 3,
-        },
-        Action::Revoke {
-            core: 0,
-            cause: Cause::Bandwidth,
-        },
-        Action::Ban {
-            core: 1,
-            thread: 0,
-            started: 9,
-        },
-        Action::Unban { core: 1 },
-        Action::Cap { task: 0, cap: 1 },
-    ];
-    let more = [
-        Action::Free { core: 0 },
-        Action::Grant {
-            core: 1,
-            thread: 0,
-            class: 1,
-        },
-        Action::Revoke {
-            core: 1,
-            cause: Cause::Preempt { task: 0 },
-        },
-        Action::Revoke {
-            core: 1,
-            cause: Cause::Ban { by: 0 },
-        },
-    ];
-    let mut history = Vec::new(alloc);
-    history.push(entry(alloc, 5, busy, actions.as_slice())?)?;
-    history.push(entry(alloc, 6, busy, more.as_slice())?)?;
-    let text = report_of(alloc, history.as_slice())?;
-    assert_eq!(rt;
-        text.as_slice(),
-        b"pass 0 now 5 bandwidth 0
-  kept 0 busy
-  grant core 0 to thread 0 class 3
-  revoke core 0 for bandwidth
-  ban core 1 for thread 0 started 9
-  unban core 1
-  cap task 0 at 1
-pass 1 now 6 bandwidth 0
-  kept 0 busy
-  free core 0
-  grant core 1 to thread 0 class 1
-  revoke core 1 for task 0
-  revoke core 1 for ban by core 0
-end 2 passes
-task 0 lc held 0 leaving 1
-"
-            .as_slice()
-    );
+    assert!(rt; orderly(&config, history.as_slice()));
+    let mut text = Vec::new(rt.alloc());
+    match write_report(&config, history.as_slice(), &mut text) {
+        Ok(()) => assert_eq!(rt; text.as_slice(), EVERY_ACTION_REPORT),
+        Err(fault) => assert_eq!(rt; fault, WriteFault::Memory),
+    }
     Ok(())
 }

@@ -68,27 +68,6 @@ grant,3,1,5
 end,2
 ";
 
-/// Its report.
-pub(crate) const EVERY_ROW_REPORT: &[u8] = b"pass 0 now 100 bandwidth 7
-  kept 1 ahead
-  grant core 0 to thread 0 class 3
-  cap task 1 at 0
-  revoke core 0 for bandwidth
-pass 1 now 200 bandwidth 0
-  kept 0 foreign
-  kept 1 busy
-  free core 0
-  unban core 3
-  ban core 3 for thread 1 started 99
-  revoke core 1 for ban by core 2
-  revoke core 2 for task 1
-  cap task 0 at 16
-  grant core 3 to thread 1 class 5
-end 2 passes
-task 0 lc held 0 leaving 0
-task 1 be held 1 leaving 0 cap 0
-";
-
 /// The history with a row of every kind, and its table, where memory was there for them.
 pub(crate) fn every_row(alloc: Global) -> Result<Option<(Config, Vec<PassEntry>)>, Fail> {
     let Some(config) = two_threads(alloc)? else {

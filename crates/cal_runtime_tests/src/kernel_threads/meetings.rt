@@ -4,7 +4,7 @@ ghost use Rattle.cal_kthread.specs.Team.{place_of};
 
 use super::{THREE_THREADS, add_names, ends_of, left_of_all, request, send, turn};
 use cal_command::{Command, Sender};
-use cal_kthread::{KernelThread, Team, open_threads};
+use cal_kthread::{KernelEnd, KernelThread, Request, RequestList, Team, open_threads};
 use cal_machine::Config;
 use std::alloc::{AllocError, Global};
 use std::test::Fail;
@@ -36,11 +36,7 @@ fn list_of(
 ) -> Result<Vec<KernelThread>, AllocError>
     ensures { IfOk result (λ threads. threads.items ≡ first ∷ second ∷ third ∷ []) }
 {
-    let mut threads = Vec::new(alloc);
-    threads.push(first)?;
-    threads.push(second)?;
-    threads.push(third)?;
-    Ok(threads)
+    Ok(vec![in alloc; first, second, third]?)
 }
 
 /// That many turns in which nothing arrives. One that is refused is left out.
@@ -74,6 +70,32 @@ fn runs(sender: &mut Sender, core: u8) {
     }
 }
 
+/// Adds the names of the requests that are left.
+fn add_left(left: &[Request], names: &mut Vec<u64>) -> Result<(), AllocError> {
+    for request in left {
+        names.push(request.id)?;
+    }
+    Ok(())
+}
+
+/// Whether all requests arrived, and each was served, as some were, or is left.
+fn stand_once(
+    alloc: Global,
+    ends: &[KernelEnd],
+    lefts: &[RequestList],
+) -> Result<bool, AllocError> {
+    let (mut arrived, mut stood) = (Vec::new(alloc), Vec::new(alloc));
+    for end in ends {
+        add_names(end.journal.as_slice(), &mut arrived, &mut stood)?;
+    }
+    let served = stood.len();
+    for left in lefts {
+        add_left(left.as_slice(), &mut stood)?;
+    }
+    stood.sort()?;
+    Ok(served > 0 && arrived.len() as u64 == REQUESTS && arrived == stood)
+}
+
 /// Each of the two takes a Run again after a theft that found the other in its way. What they
 /// served and what the third had left are then the requests that came, each once.
 #[test]
@@ -87,7 +109,7 @@ fn two_threads_steal_at_once(rt: HostRuntime) -> Result<(), Fail> {
     let Some((first, second, third)) = three_of(threads) else {
         panic!(rt; "there are not three threads")
     };
-    assert_eq!(rt; senders.len(), 3);
+    assert!(rt; senders.len() == 3);
     runs(&mut senders[0], 0);
     runs(&mut senders[1], 1);
     let Some(third) = requests_come(third) else {
@@ -106,19 +128,6 @@ fn two_threads_steal_at_once(rt: HostRuntime) -> Result<(), Fail> {
     let threads = list_of(rt.alloc(), first, second, third)?;
     let mut ends = ends_of(rt.alloc(), threads)?;
     let lefts = left_of_all(rt.alloc(), &config, ends.as_mut_slice())?;
-    let mut arrived = Vec::new(rt.alloc());
-    let mut stood = Vec::new(rt.alloc());
-    for end in ends.iter() {
-        add_names(end.journal.as_slice(), &mut arrived, &mut stood)?;
-    }
-    assert!(rt; !stood.is_empty());
-    for left in lefts.iter() {
-        for request in left.as_slice() {
-            stood.push(request.id)?;
-        }
-    }
-    stood.sort()?;
-    assert_eq!(rt; arrived.len() as u64, REQUESTS);
-    assert!(rt; arrived[..] == stood[..]);
+    assert!(rt; stand_once(rt.alloc(), &ends, &lefts)?);
     Ok(())
 }

@@ -1,7 +1,7 @@
 //! A turn's search for work: first in its own queue, then with each other thread of its task, from
 //! the next one on.
 
-use super::{THREE_THREADS, all_turns, record, request};
+use super::{Step, THREE_THREADS, all_steps, record, request};
 use cal_command::Command;
 use cal_kthread::{Entry, open_threads};
 use cal_machine::Config;
@@ -18,22 +18,23 @@ fn published(place: u64, running: u64, misses: u64, stamp: u64) -> Entry {
 fn own_queue_then_the_next_thread_first(rt: HostRuntime) -> Result<(), Fail> {
     let config = Config::read(rt.alloc(), THREE_THREADS)?;
     let mut team = open_threads(rt.alloc(), &config)?;
-    let turns = [
+    let steps = [
         // Of each, the first request becomes the front; the second one stays in the queue.
-        (0, [].as_slice(), 10, Some(request(10, 1))),
-        (0, [].as_slice(), 20, Some(request(11, 1))),
-        (1, [].as_slice(), 10, Some(request(20, 1))),
-        (1, [].as_slice(), 20, Some(request(21, 1))),
+        Step::Arrive(0, 10, 10, 1),
+        Step::Arrive(0, 20, 11, 1),
+        Step::Arrive(1, 10, 20, 1),
+        Step::Arrive(1, 20, 21, 1),
         // The next thread after the last of its task is the first.
-        (2, [Command::Run(3)].as_slice(), 30, None),
-        (2, [].as_slice(), 40, None),
+        Step::Send(2, Command::Run(3)),
+        Step::Turn(2, 30),
+        Step::Turn(2, 40),
         // With a request of its own it steals none.
-        (0, [].as_slice(), 50, Some(request(12, 1))),
-        (2, [].as_slice(), 60, Some(request(30, 1))),
-        (2, [].as_slice(), 70, None),
-        (2, [].as_slice(), 80, None),
+        Step::Arrive(0, 50, 12, 1),
+        Step::Arrive(2, 60, 30, 1),
+        Step::Turn(2, 70),
+        Step::Turn(2, 80),
     ];
-    assert!(rt; all_turns(&mut team.threads, &mut team.senders, &turns));
+    assert!(rt; all_steps(&mut team.threads, &mut team.senders, &steps));
     let journal = [
         Entry::Took(1, Command::Run(3)),
         Entry::Stole { from: 0, id: 11 },

@@ -1,8 +1,8 @@
-//! Turns of one kernel thread, and a journal that is full.
+//! Turns of one kernel thread.
 
-use super::{ONE_THREAD, all_turns, record, turn};
+use super::{ONE_THREAD, Step, all_steps, record, request};
 use cal_command::Command;
-use cal_kthread::{Entry, KernelThread, Request, Team, TurnFault, open_threads};
+use cal_kthread::{Entry, Team, open_threads};
 use cal_machine::Config;
 use std::test::Fail;
 
@@ -10,27 +10,23 @@ use std::test::Fail;
 fn one_request_served(rt: HostRuntime) -> Result<(), Fail> {
     let config = Config::read(rt.alloc(), ONE_THREAD)?;
     let mut team = open_threads(rt.alloc(), &config)?;
-    let request = Request {
-        id: 1,
-        work: 2,
-        misses: 7,
-    };
-    let turns = [
-        (0, [].as_slice(), 100, Some(request)),
-        (0, [Command::Run(0)].as_slice(), 120, None),
-        (0, [].as_slice(), 140, None),
-        (0, [].as_slice(), 150, None),
+    let steps = [
+        Step::Arrive(0, 100, 1, 2),
+        Step::Send(0, Command::Run(0)),
+        Step::Turn(0, 120),
+        Step::Turn(0, 140),
+        Step::Turn(0, 150),
     ];
-    assert!(rt; all_turns(&mut team.threads, &mut team.senders, &turns));
+    assert!(rt; all_steps(&mut team.threads, &mut team.senders, &steps));
     let journal = [
-        Entry::Arrived(request),
+        Entry::Arrived(request(1, 2)),
         Entry::Published(1, record([0, 0, 1, 100, 0, 0, 100, 0, 0])),
         Entry::Took(1, Command::Run(0)),
-        Entry::Published(2, record([1, 1, 0, 0, 120, 7, 120, 0, 0])),
+        Entry::Published(2, record([1, 1, 0, 0, 120, 3, 120, 0, 0])),
         Entry::Served { id: 1 },
-        Entry::Published(3, record([1, 1, 0, 0, 0, 14, 140, 0, 0])),
+        Entry::Published(3, record([1, 1, 0, 0, 0, 6, 140, 0, 0])),
         Entry::Yielded,
-        Entry::Published(4, record([1, 0, 0, 0, 0, 14, 150, 0, 0])),
+        Entry::Published(4, record([1, 0, 0, 0, 0, 6, 150, 0, 0])),
     ];
     assert!(rt; is_only_thread_that_did(team, &journal));
     Ok(())
@@ -42,26 +38,24 @@ fn one_request_served(rt: HostRuntime) -> Result<(), Fail> {
 fn yield_before_park(rt: HostRuntime) -> Result<(), Fail> {
     let config = Config::read(rt.alloc(), ONE_THREAD)?;
     let mut team = open_threads(rt.alloc(), &config)?;
-    let request = Request {
-        id: 5,
-        work: 2,
-        misses: 1,
-    };
-    let turns = [
-        (0, [Command::Run(0)].as_slice(), 205, None),
-        (0, [Command::Park, Command::Run(0)].as_slice(), 230, None),
-        (0, [].as_slice(), 240, Some(request)),
+    let steps = [
+        Step::Send(0, Command::Run(0)),
+        Step::Turn(0, 205),
+        Step::Send(0, Command::Park),
+        Step::Send(0, Command::Run(0)),
+        Step::Turn(0, 230),
+        Step::Arrive(0, 240, 5, 2),
     ];
-    assert!(rt; all_turns(&mut team.threads, &mut team.senders, &turns));
+    assert!(rt; all_steps(&mut team.threads, &mut team.senders, &steps));
     let journal = [
         Entry::Took(1, Command::Run(0)),
         Entry::Yielded,
         Entry::Published(1, record([1, 0, 0, 0, 0, 0, 205, 0, 0])),
         Entry::Took(2, Command::Park),
         Entry::Published(2, record([2, 0, 0, 0, 0, 0, 230, 0, 0])),
-        Entry::Arrived(request),
+        Entry::Arrived(request(5, 2)),
         Entry::Took(3, Command::Run(0)),
-        Entry::Published(3, record([3, 1, 0, 0, 240, 1, 240, 0, 0])),
+        Entry::Published(3, record([3, 1, 0, 0, 240, 3, 240, 0, 0])),
     ];
     assert!(rt; is_only_thread_that_did(team, &journal));
     Ok(())
@@ -73,32 +67,4 @@ fn is_only_thread_that_did(team: Team, journal: &[Entry]) -> bool {
         [thread] => thread.journal()[..] == journal[..],
         _ => false,
     }
-}
-
-/// How many turns a thread makes that only publishes, and why it stops, where it does before that
-/// many.
-fn turns_that_publish(thread: KernelThread, most: u64) -> (u64, Option<TurnFault>) {
-    let mut thread = thread;
-    for made in 0..most {
-        match turn(&mut thread, 1, None) {
-            Ok(true) => {}
-            Ok(false) => return (made, None),
-            Err(fault) => return (made, Some(fault)),
-        }
-    }
-    (most, None)
-}
-
-/// A thread that only publishes makes 1,048,571 turns, and its journal is full at the next.
-#[test]
-fn full_journal(rt: HostRuntime) -> Result<(), Fail> {
-    let config = Config::read(rt.alloc(), ONE_THREAD)?;
-    let mut team = open_threads(rt.alloc(), &config)?;
-    let Some(thread) = team.threads.pop() else {
-        return Err(Fail::new("there is no thread"));
-    };
-    let (made, fault) = turns_that_publish(thread, 2_000_000);
-    assert_eq!(rt; made, 1_048_571);
-    assert!(rt; fault == Some(TurnFault::JournalFull));
-    Ok(())
 }

@@ -6,20 +6,16 @@ use super::ONE_THREAD;
 use crate::kernel_threads::turn;
 use cal_kthread::{KernelThread, Request};
 use cal_machine::Config;
-use cal_policy::{Action, Holder, PassEntry, Placement, Seen, Verdict, audit};
+use cal_policy::{Action, Holder, Placement, Seen};
 use cal_run::{Parts, open_parts};
 use cal_sched::Scheduler;
-use cal_signal::Record;
-use cal_trace::{read_arrivals, write_report};
+use cal_trace::read_arrivals;
 use std::alloc::Global;
-use std::io::Write;
-use std::process::Abort;
 use std::test::Fail;
 
 /// A scheduler of one task of one thread on two cores, and the thread.
 #[derive(Drop)]
 struct Opened {
-    config: Config,
     scheduler: Scheduler,
     thread: KernelThread,
 }
@@ -43,52 +39,55 @@ fn open(alloc: Global) -> Result<Opened, Fail>
         return Err(Fail::new("there is no thread"));
     };
     Ok(Opened {
-        config,
         scheduler,
         thread: worker.thread,
     })
 }
 
-/// One pass, which finds the record with this number on the first thread's page and does this.
-fn passes<R: Abort>(rt: &R, scheduler: &mut Scheduler, now: u64, found: u64, wanted: &[Action])
+/// One pass, which finds the record with this number on the first thread's page. Whether it does
+/// this alone, or nothing.
+fn passes(scheduler: &mut Scheduler, now: u64, found: u64, wanted: Option<Action>) -> bool
     ensures { scheduler.new.table ≡ scheduler.old.table }
 {
-    assert_eq!(rt; scheduler.pass(now, 0), Ok(()));
-    let entry = scheduler.history().last().expect(rt, "the pass was made");
-    assert_eq!(rt; entry.actions.as_slice(), wanted);
-    let seen = *entry.input.seen.as_slice().first().expect(rt, "one look");
-    assert!(rt; matches!(seen, Seen::Whole { number, .. } if number == found));
+    if scheduler.pass(now, 0) != Ok(()) {
+        return false;
+    }
+    let Some(entry) = scheduler.history().last() else {
+        return false;
+    };
+    is_found(entry.input.seen.as_slice(), found) && is_done(entry.actions.as_slice(), wanted)
 }
 
-/// What the first task books, and who has the first core.
-fn stands<R: Abort>(rt: &R, scheduler: &Scheduler, booked: u8, holder: Holder)
+/// Whether the first look is the whole one at this place.
+fn is_found(seen: &[Seen], found: u64) -> bool {
+    match seen.first() {
+        Some(Seen::Whole { number, .. }) => *number == found,
+        _ => false,
+    }
+}
+
+/// Whether this action alone was made, or none.
+fn is_done(actions: &[Action], wanted: Option<Action>) -> bool {
+    actions.len() < 2 && actions.first().copied() == wanted
+}
+
+/// Whether the first task books so many cores, and this one has the first core.
+fn stands(scheduler: &Scheduler, booked: u8, holder: Holder) -> bool
     requires task { 0 < length scheduler.now.table.tasks }
     requires core { 0 < scheduler.now.table.cores }
 {
-    assert_eq!(rt; scheduler.booked(0), booked);
-    assert_eq!(rt; scheduler.holder(0), holder);
+    scheduler.booked(0) == booked && scheduler.holder(0) == holder
 }
 
-/// Copies of the passes are equal ones.
-fn copies_are_equal(rt: &HostRuntime, history: &[PassEntry]) -> Result<bool, Fail> {
-    for entry in history {
-        let copied = entry.copy(rt.alloc())?;
-        if copied.input.now != entry.input.now
-            || copied.input.seen.as_slice() != entry.input.seen.as_slice()
-            || copied.actions.as_slice() != entry.actions.as_slice()
-        {
-            return Ok(false);
-        }
-    }
-    Ok(true)
+/// Whether a turn is made.
+fn turned(thread: &mut KernelThread, now: u64, arriving: Option<Request>) -> bool {
+    turn(thread, now, arriving) == Ok(true)
 }
 
-// A thread has a request, is given a core, serves the request and yields. The history is audited,
-// and copies of the table and of its entries are equal ones.
+// A thread has a request, is given a core, serves the request and yields.
 #[test]
 fn scheduler_and_thread(rt: HostRuntime) -> Result<(), Fail> {
     let Opened {
-        config,
         mut scheduler,
         mut thread,
     } = open(rt.alloc())?;
@@ -106,69 +105,13 @@ fn scheduler_and_thread(rt: HostRuntime) -> Result<(), Fail> {
         thread: 0,
         class: 3,
     };
-    assert!(rt; turn(&mut thread, 100, Some(request)) == Ok(true));
-    passes(&rt, &mut scheduler, 111, 1, &[grant][..]);
-    stands(&rt, &scheduler, 1, Holder::Held(held));
-    assert!(rt; turn(&mut thread, 120, None) == Ok(true));
-    passes(&rt, &mut scheduler, 130, 2, &[][..]);
-    assert!(rt; turn(&mut thread, 140, None) == Ok(true));
-    assert!(rt; turn(&mut thread, 150, None) == Ok(true));
-    passes(&rt, &mut scheduler, 160, 4, &[Action::Free { core: 0 }][..]);
-    stands(&rt, &scheduler, 0, Holder::Free);
-    assert!(rt; audit(rt.alloc(), &config, scheduler.history())? == Verdict::Legal);
-    assert!(rt; copies_are_equal(&rt, scheduler.history())?);
-    assert!(rt; config.copy(rt.alloc())?.threads() == 1);
-    Ok(())
-}
-
-/// The one line of each of so many passes that found the page busy, and the end of the report.
-fn busy_report(rt: &HostRuntime, passes: u64) -> Result<Vec<u8>, Fail> {
-    let mut text = Vec::new(rt.alloc());
-    for pass in 0..passes {
-        writeln!(text, "pass {pass} now {pass} bandwidth 0\n  kept 0 busy")?;
-    }
-    writeln!(text, "end {passes} passes\ntask 0 lc held 0 leaving 0")?;
-    Ok(text)
-}
-
-/// Makes so many passes, with clocks from 0.
-fn pass_often<R: Abort>(rt: &R, scheduler: &mut Scheduler, passes: u64) {
-    for now in 0..passes {
-        assert_eq!(rt; scheduler.pass(now, 0), Ok(()));
-    }
-}
-
-/// Whether each pass found the page busy with the odd version twice, and did nothing.
-fn all_busy(history: &[PassEntry]) -> bool {
-    let busy = Seen::Busy {
-        first: 1,
-        second: 1,
-    };
-    for entry in history {
-        if entry.input.seen.as_slice() != &[busy][..] || !entry.actions.as_slice().is_empty() {
-            return false;
-        }
-    }
-    true
-}
-
-// While a record is being written each pass finds the page busy, with the odd version twice.
-#[test]
-fn open_page_is_busy(rt: HostRuntime) -> Result<(), Fail> {
-    let Opened {
-        config,
-        mut scheduler,
-        thread,
-    } = open(rt.alloc())?;
-    let record = Record::from_words([0, 0, 1, 100, 0, 0, 100, 0, 0]);
-    let Ok(_open) = thread.end().publisher.begin(record) else {
-        return Err(Fail::new("the record may follow"));
-    };
-    pass_often(&rt, &mut scheduler, 100);
-    assert_eq!(rt; scheduler.history().len(), 100);
-    assert!(rt; all_busy(scheduler.history()));
-    let mut report = Vec::new(rt.alloc());
-    write_report(&config, scheduler.history(), &mut report)?;
-    assert!(rt; report.as_slice() == busy_report(&rt, 100)?.as_slice());
+    assert!(rt; turned(&mut thread, 100, Some(request)));
+    assert!(rt; passes(&mut scheduler, 111, 1, Some(grant)));
+    assert!(rt; stands(&scheduler, 1, Holder::Held(held)));
+    assert!(rt; turned(&mut thread, 120, None));
+    assert!(rt; passes(&mut scheduler, 130, 2, None));
+    assert!(rt; turned(&mut thread, 140, None) && turned(&mut thread, 150, None));
+    assert!(rt; passes(&mut scheduler, 160, 4, Some(Action::Free { core: 0 })));
+    assert!(rt; stands(&scheduler, 0, Holder::Free));
     Ok(())
 }

@@ -3,7 +3,7 @@
 
 use super::*;
 use cal_machine::Config;
-use cal_world::{Stopped, run_events};
+use cal_world::run_events;
 use std::test::Fail;
 
 /// So many records, each published and then watched.
@@ -33,12 +33,6 @@ fn two_thousand_events(rt: HostRuntime) -> Result<(), Fail> {
     let Err(stopped) = run_events(rt.alloc(), &config, events.as_slice()) else {
         return Err(Fail::new("the last place is 1,000"));
     };
-    assert_eq!(rt;
-        stopped,
-        Stopped {
-            at: 2_000,
-            why: Illegal::NoSuchPlace
-        }
-    );
+    assert!(rt; stopped.at == 2_000 && stopped.why == Illegal::NoSuchPlace);
     Ok(())
 }
