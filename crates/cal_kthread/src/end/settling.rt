@@ -1,7 +1,8 @@
 //! The shares of each queue are gathered at its own end.
 ghost use Rattle.std.specs.Prelude.{◌≡◌, ◌≢◌, ◌+◌, ◌<◌, ℕ, [], map, length, IsTrue, IsFalse};
 ghost use Rattle.cal_machine.specs.Tasks.{threads_in};
-ghost use Rattle.cal_kthread.specs.End.Account.{KeepsItsWork, IsSettled, Gathers, stripped, victims_at};
+ghost use Rattle.cal_kthread.specs.End.Account.{KeepsItsWork, IsSettled, Gathers, stripped};
+ghost use Rattle.cal_kthread.specs.End.Account.{victims_at};
 ghost use Rattle.cal_kthread.specs.End.HandingOut.{HandedOutNothing, run_of};
 ghost use Rattle.cal_kthread.specs.Places.{Each};
 ghost use Rattle.cal_kthread.specs.Team.{IsTeam, place_of_rest};
