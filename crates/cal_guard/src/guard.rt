@@ -79,7 +79,8 @@ impl Guard {
     /// Who has a core after the history. A number is the least of the Run's and 2^64.
     pub fn holder(&self, core: u8) -> Holder
         requires { core < 128 }
-        ensures { (h : List PassEntry) → Keeps self.now h → result ≡ kept_holder (holder_of (actions_of h) core) }
+        ensures { (h : List PassEntry) → Keeps self.now h →
+            result ≡ kept_holder (holder_of (actions_of h) core) }
     {
         self.passing.board.holding.holders[core as usize]
     }
@@ -88,7 +89,8 @@ impl Guard {
     pub fn held(&self, config: &Config, task: usize) -> u8
         requires of { IsGuardOf config.now self.now }
         requires task { task < length config.now.tasks }
-        ensures { (h : List PassEntry) → Keeps self.now h → result ≡ counts.held_by config.now (actions_of h) task }
+        ensures { (h : List PassEntry) → Keeps self.now h →
+            result ≡ counts.held_by config.now (actions_of h) task }
     {
         config.limits();
         held_by(config, &self.passing.board, task)
@@ -98,7 +100,8 @@ impl Guard {
     pub fn booked(&self, config: &Config, task: usize) -> u8
         requires of { IsGuardOf config.now self.now }
         requires task { task < length config.now.tasks }
-        ensures { (h : List PassEntry) → Keeps self.now h → result ≡ counts.booked_by config.now (actions_of h) task }
+        ensures { (h : List PassEntry) → Keeps self.now h →
+            result ≡ counts.booked_by config.now (actions_of h) task }
     {
         config.limits();
         booked_by(config, &self.passing.board, task)
@@ -107,7 +110,8 @@ impl Guard {
     /// The cap of a task after the history: its last one, else its limit.
     pub fn cap(&self, config: &Config, task: usize) -> u8
         requires { task < length config.now.tasks }
-        ensures { (h : List PassEntry) → Keeps self.now h → result ≡ counts.cap_of config.now (actions_of h) task }
+        ensures { (h : List PassEntry) → Keeps self.now h →
+            result ≡ counts.cap_of config.now (actions_of h) task }
     {
         config.limits();
         cap_of(config, &self.passing.board, task)

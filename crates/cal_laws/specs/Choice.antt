@@ -13,7 +13,8 @@ use Rattle.cal_policy.specs.declared.board.holders.Holder.TheVariants as holders
 use Rattle.cal_policy.specs.History.{holder_of, last_thread, is_banned}
 use Rattle.cal_policy.specs.Board.Counts.{held_by, booked_by, cores_of_thread}
 use Rattle.cal_policy.specs.Setting.{Setting, so_far, has_room}
-use Rattle.cal_policy.specs.Pass.Grants.{thread_delay, is_congested, may_book, is_granted_in, class_of}
+use Rattle.cal_policy.specs.Pass.Grants.{thread_delay, is_congested, may_book, is_granted_in}
+use Rattle.cal_policy.specs.Pass.Grants.{class_of}
 use Rattle.cal_laws.specs.Point.{Point, IsPoint, setting_at, made_at, actions_at, next_at}
 
 -- a thread that a core may be granted to: it holds and leaves none, and its ring has room

@@ -94,11 +94,13 @@ impl Book {
         judging::fits(&self.board, config, input)
     }
 
-    /// Whether the next pass may be given an input that was made of what was found, by this book as it
-    /// stands: `fits`, but no look is judged again.
+    /// Whether the next pass may be given an input that was made of what was found, by this book as
+    /// it stands: `fits`, but no look is judged again.
     pub fn made_fits(&self, config: &Config, input: &Input) -> bool
-        ensures fits { (h : List PassEntry) (now bandwidth : ℕ) (found : List FoundLook) → AgreesWith self.now h →
-            input.entry.now ≡ judged_input config.now h now bandwidth found → IsTrue result ↔ IsInput config.now h input.entry.now }
+        ensures fits { (h : List PassEntry) (now bandwidth : ℕ) (found : List FoundLook) →
+            AgreesWith self.now h →
+            input.entry.now ≡ judged_input config.now h now bandwidth found →
+            IsTrue result ↔ IsInput config.now h input.entry.now }
         ensures sizes { IsTrue result → HasSizes config.now input.entry.now }
     {
         config.limits();

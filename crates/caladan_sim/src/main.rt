@@ -1,6 +1,8 @@
-//! The core scheduler of Caladan as a program: words, one input on standard input, the answer on standard output.
+//! The core scheduler of Caladan as a program: words, one input on standard input, the answer on
+//! standard output.
 //!
-//! What it does with them is cal_engine's `run_program`, the exit statuses too; here stand only the ends of the process.
+//! What it does with them is cal_engine's `run_program`, the exit statuses too; here stand only the
+//! ends of the process.
 #![tactic(auto)]
 
 use cal_engine::{end_with, given_words, run_program};

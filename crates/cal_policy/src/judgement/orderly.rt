@@ -12,7 +12,8 @@ ghost use Rattle.cal_policy.specs.History as history;
 ghost use Rattle.cal_policy.specs.Board.Counts as counts;
 ghost use Rattle.cal_policy.specs.Board.Counts.{cores_of_thread};
 ghost use Rattle.cal_policy.specs.Judgement.Orderly as order;
-ghost use Rattle.cal_policy.specs.Judgement.Orderly.{fits_state, FitInTurn, IsOrderlyEntry, IsOrderly};
+ghost use Rattle.cal_policy.specs.Judgement.Orderly.{fits_state, FitInTurn, IsOrderlyEntry};
+ghost use Rattle.cal_policy.specs.Judgement.Orderly.{IsOrderly};
 ghost use Rattle.cal_policy.specs.Board.{Agrees, KeepingAgrees, IsReady, NamesTable};
 
 use crate::board::Board;
