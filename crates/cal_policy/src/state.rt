@@ -1,5 +1,5 @@
 //! The state that a history leaves, and its tests, for a crate that judges the actions of others by
-//! it. Whoever only wants this policy's passes needs none of this.
+//! it, or tells what it is. Whoever only wants this policy's passes needs none of this.
 
 pub use crate::board::Board;
 pub use crate::board::counts::{booked_by, cap_of, held_by, holds_for, is_over};
