@@ -9,9 +9,8 @@ use thiserror::Error;
 /// What is wrong with a row (this project's own). `kind as u8` is its number, 1 to 9.
 ///
 /// A file's fault is the first of its rows that has one; within a row the checks come in the order
-/// `Fields`, `Order` for
-/// the row's kind at its place, `Number`, `Order` for its thread, its turn or its count, `Range`,
-/// `Backwards`, `Repeated`.
+/// `Fields`, `Order` for the row's kind at its place, `Number`, `Order` for its thread, its turn or
+/// its count, `Range`, `Backwards`, `Repeated`.
 #[derive(Clone, Copy, Debug, PartialEq, Eq, Error)]
 pub enum FaultKind {
     /// The reader of rows answered an error other than memory. A text in memory gives none.

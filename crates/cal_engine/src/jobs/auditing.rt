@@ -22,14 +22,13 @@ use std::io::{Read, Write};
 
 /// Reads an input of a task table and a history to its end, audits the history, and writes what the
 /// audit says and nothing else: of a legal history its report and the line `legal`, of another the
-/// one line
-/// `illegal pass <p>`, where p
-/// is the first pass that is not the policy's, from 0. An illegal history is an answer and no
-/// fault. Nothing is written before the whole input was read and accepted and the answer is made.
+/// one line `illegal pass <p>`, where p is the first pass that is not the policy's, from 0. An
+/// illegal history is an answer and no fault. Nothing is written before the whole input was read
+/// and accepted and the answer is made.
 ///
 /// The faults come in this order: `Read` or `Length` as met, `Separator`, `Config`, `Trace`,
-/// `Write`. `Memory` may come
-/// at any place, and only where memory was refused. What it writes is this project's own.
+/// `Write`. `Memory` may come at any place, and only where memory was refused. What it writes is
+/// this project's own.
 pub fn run_audit<R: Read + Drop, W: Write>(
     alloc: Global,
     mut reader: R,

@@ -1,4 +1,4 @@
-use super::tables::{EVERY_ROW, every_row};
+use super::tables::{EVERY_ROW, history_of};
 use cal_trace::{WriteFault, write_history};
 use std::test::Fail;
 
@@ -6,7 +6,7 @@ use std::test::Fail;
 /// ample one. (tools/refusals runs it so.)
 #[test]
 fn every_row_is_read_and_written(rt: HostRuntime) -> Result<(), Fail> {
-    let Some((_, history)) = every_row(rt.alloc())? else {
+    let Some((_, history)) = history_of(rt.alloc(), EVERY_ROW)? else {
         return Ok(());
     };
     let mut text = Vec::new(rt.alloc());

@@ -1,8 +1,6 @@
-use super::tables::two_threads;
-use cal_machine::Config;
-use cal_policy::{PassEntry, orderly};
-use cal_trace::{FaultKind, WriteFault, read_history, write_report};
-use std::alloc::Global;
+use super::tables::history_of;
+use cal_policy::orderly;
+use cal_trace::{WriteFault, write_report};
 use std::test::Fail;
 
 /// An orderly history of two threads with every kind of action and of look.
@@ -52,23 +50,11 @@ task 0 lc held 1 leaving 0
 task 1 be held 0 leaving 1 cap 0
 ";
 
-/// The history and its table, where memory was there for them.
-fn every_action(alloc: Global) -> Result<Option<(Config, Vec<PassEntry>)>, Fail> {
-    let Some(config) = two_threads(alloc)? else {
-        return Ok(None);
-    };
-    match read_history(alloc, &config, EVERY_ACTION) {
-        Ok(history) => Ok(Some((config, history))),
-        Err(fault) if fault.kind == FaultKind::Memory => Ok(None),
-        Err(fault) => Err(Fail::from(fault)),
-    }
-}
-
 /// With one allocation refused, wherever that is, the answer is want of memory by its name, or the
 /// ample one. (tools/refusals runs it so.)
 #[test]
 fn report_of_every_action(rt: HostRuntime) -> Result<(), Fail> {
-    let Some((config, history)) = every_action(rt.alloc())? else {
+    let Some((config, history)) = history_of(rt.alloc(), EVERY_ACTION)? else {
         return Ok(());
     };
     assert!(rt; orderly(&config, history.as_slice()));

@@ -68,12 +68,15 @@ grant,3,1,5
 end,2
 ";
 
-/// The history with a row of every kind, and its table, where memory was there for them.
-pub(crate) fn every_row(alloc: Global) -> Result<Option<(Config, Vec<PassEntry>)>, Fail> {
+/// A history of two threads, and its table, where memory was there for them.
+pub(crate) fn history_of(
+    alloc: Global,
+    text: &[u8],
+) -> Result<Option<(Config, Vec<PassEntry>)>, Fail> {
     let Some(config) = two_threads(alloc)? else {
         return Ok(None);
     };
-    match read_history(alloc, &config, EVERY_ROW) {
+    match read_history(alloc, &config, text) {
         Ok(history) => Ok(Some((config, history))),
         Err(fault) if fault.kind == FaultKind::Memory => Ok(None),
         Err(fault) => Err(Fail::from(fault)),
