@@ -2,6 +2,7 @@ pub mod LinesOf
 pub mod Decided
 pub mod Reading
 pub mod InThreads
+pub mod WrittenRuns
 pub mod CommandWords
 pub mod Reporting
 pub mod Audited

@@ -12,7 +12,7 @@ pub within : {X : Type 0} (text : List ℕ) (outcome : Result X RunFault) → le
 within text outcome le = let no : nat_lt INPUT_LIMIT (length text) ≡ false = grind arith in rw no refl
 
 -- a fault of an input fails as it must
-failed : {X : Type 0} (f : RunFault) (outcome : Result X RunFault) → Decided f (outcome ≡ Err f) → Failed f outcome
+pub failed : {X : Type 0} (f : RunFault) (outcome : Result X RunFault) → Decided f (outcome ≡ Err f) → Failed f outcome
 failed fault.Length outcome h = h
 failed fault.Separator outcome h = h
 failed (fault.Config f) outcome h = h

@@ -1,36 +1,33 @@
 -- The report of signals that are decided as they are read.
-use Rattle.std.proofs.Common.{◌≡◌, ℕ, List, length, Option, Result, Ok, Err, IsOk, IfErr, OnOk, refl, sym, ap, subst, ◌∙◌}
+use Rattle.std.proofs.Common.{◌≡◌, ℕ, List, length, Option, Result, Ok, Err, IsOk, IfOk, IfErr, OnOk, refl, sym, ap, subst, ◌∙◌}
 use Rattle.std.specs.Io.KnownBytes.{Appends}
 use Rattle.cal_machine.specs.Table.{Table}
 use Rattle.cal_machine.specs.Tasks.{threads_in}
 use Rattle.cal_machine.specs.declared.fault.ConfigFault.{ConfigFault}
 use Rattle.cal_machine.specs.declared.fault.ConfigFault.TheVariants as config
-use Rattle.cal_policy.specs.Book.{AgreesWith}
-use Rattle.cal_policy.specs.declared.book.Book.{Book}
 use Rattle.cal_policy.specs.declared.history.entry.PassEntry.{PassEntry}
 use Rattle.cal_trace.specs.Rows.Answers as files
-use Rattle.cal_trace.specs.Report.{passes_text, report_text, IsReportOf}
+use Rattle.cal_trace.specs.Report.{report_text}
 use Rattle.cal_trace.specs.Signals.Reading.{HasGiven}
 use Rattle.cal_trace.specs.declared.fault.TraceFault.{TraceFault}
-use Rattle.cal_trace.specs.declared.report.Report.{Report}
 use Rattle.cal_trace.specs.declared.signals.file.SignalRows.{SignalRows}
 use Rattle.cal_trace.specs.declared.signals.SignalPass.{SignalPass}
 use Rattle.cal_trace.proofs.RowLemmas.Refusals.{decided}
-use Rattle.cal_engine.specs.Outcome.{run_report, report_of, ConfigDecided, Decided, Failed, Reported, Reports}
+use Rattle.cal_engine.specs.Deciding.{Tells}
+use Rattle.cal_engine.specs.Outcome.{run_report, report_of, ConfigDecided, Decided, Failed, Gives, Reported, Reports}
 use Rattle.cal_engine.specs.Runs.{Run, decided_on}
 use Rattle.cal_engine.specs.declared.fault.RunFault.{RunFault}
 use Rattle.cal_engine.specs.declared.fault.RunFault.TheVariants as fault
+use Rattle.cal_engine.specs.declared.jobs.deciding.OpenReport.{OpenReport}
 use Rattle.cal_engine.proofs.Decided.{IsDecided}
 
 -- The first signals of a text were decided, and the text so far is that of their passes.
-pub record IsReporting (table : Table) (trace : List ℕ) (signals : SignalRows) (book : Book) (report : Report) (text : List ℕ) : Type 0 where
+pub record IsReporting (table : Table) (trace : List ℕ) (signals : SignalRows) (report : OpenReport) : Type 0 where
   pub given : List SignalPass
   pub history : List PassEntry
   pub has : HasGiven (threads_in table.tasks) trace given signals
   pub so_far : IsDecided table given history
-  pub agrees : AgreesWith book history
-  pub of : IsReportOf history report
-  pub written : text ≡ passes_text history
+  pub tells : Tells history report
   pub count : length history ≡ length given
 
 -- a fault says of an outcome what it says of its report
@@ -88,7 +85,11 @@ refused_signals table signals f h =
     decided f.kind (signals ≡ Err f) (report_of (decided_on table signals) ≡ Err (fault.Trace f)) (λ e. ap (λ s. report_of (decided_on table s)) e) h
 
 -- signals that were all decided
-pub whole_report : (table : Table) (signals : Result (List SignalPass) TraceFault) (given : List SignalPass) (history : List PassEntry) (text : List ℕ) → signals ≡ Ok given
-    → IsDecided table given history → text ≡ report_text table history → report_of (decided_on table signals) ≡ Ok text
-whole_report table signals given history text gives so_far written =
-    ap (λ s. report_of (decided_on table s)) gives ∙ ap Ok (ap (report_text table) (sym so_far.done) ∙ sym written)
+pub whole_report : {T : Type 0} (view : T → List ℕ) (result : Result T RunFault) (table : Table) (signals : Result (List SignalPass) TraceFault) (given : List SignalPass)
+    (history : List PassEntry) → signals ≡ Ok given → IsDecided table given history → IfOk result (λ t. view t ≡ report_text table history) → IfErr result (λ f. f ≡ fault.Memory)
+    → Gives view result (report_of (decided_on table signals))
+whole_report view (Ok t) table signals given history gives so_far made kind =
+    ap (λ s. report_of (decided_on table s)) gives ∙ ap Ok (ap (report_text table) (sym so_far.done) ∙ sym made)
+whole_report view (Err f) table signals given history gives so_far made kind =
+    let outcome = report_of (decided_on table signals) in
+    subst (λ (g : RunFault). Decided g (outcome ≡ Err g)) (sym kind) tt

@@ -25,11 +25,14 @@ summary_flag =
 abbrev pub run_word : Text → App
 run_word word = with_rule (new_app word) summary_flag
 
+-- the program with the words that decide or make a run
+abbrev pub program_of_runs : App
+program_of_runs = with_subcommand (with_subcommand (with_subcommand bare_program
+    (new_app (codes "decide")).top) (run_word (codes "lockstep")).top) (run_word (codes "sim")).top
+
 -- the program, with a subcommand for each word
 abbrev pub program : App
-program = with_subcommand (with_subcommand (with_subcommand (with_subcommand bare_program
-    (new_app (codes "decide")).top) (run_word (codes "lockstep")).top) (run_word (codes "sim")).top)
-    (new_app (codes "audit")).top
+program = with_subcommand program_of_runs (new_app (codes "audit")).top
 
 -- the words after the program's name ask for this job
 abbrev pub Asks : List (List ℕ) → Job → Type 0

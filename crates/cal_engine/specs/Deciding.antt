@@ -1,12 +1,15 @@
 -- The passes that signals lead to: each is decided after all before it.
-use Rattle.std.specs.Prelude.{List, [], ◌∷◌, ◌++◌}
+use Rattle.std.specs.Prelude.{◌≡◌, List, [], ◌∷◌, ◌++◌}
 use Rattle.cal_machine.specs.Table.{Table}
+use Rattle.cal_policy.specs.Book.{AgreesWith}
 use Rattle.cal_policy.specs.declared.history.entry.PassEntry.{PassEntry}
 use Rattle.cal_policy.specs.declared.history.input.Input.{Input}
 use Rattle.cal_policy.specs.Judgement.OpenInput.{judged_input}
 use Rattle.cal_policy.specs.Pass.{pass_of}
 use Rattle.cal_policy.specs.Setting.{setting}
+use Rattle.cal_trace.specs.Report.{passes_text, IsReportOf}
 use Rattle.cal_trace.specs.declared.signals.SignalPass.{SignalPass}
+use Rattle.cal_engine.specs.declared.jobs.deciding.OpenReport.{OpenReport}
 
 -- the input of a pass after this history: each look as it is judged, and the rooms
 abbrev pub input_of : Table → List PassEntry → SignalPass → Input
@@ -28,3 +31,9 @@ decided_after table history (pass ∷ passes) =
 -- the history that signals lead to
 abbrev pub decided : Table → List SignalPass → List PassEntry
 decided table passes = decided_after table [] passes
+
+-- the report has come to the end of this history: its book agrees with it, and it has its lines
+pub record Tells (history : List PassEntry) (report : OpenReport) : Type 0 where
+  pub agrees : AgreesWith report.decider.book history
+  pub of : IsReportOf history report.report
+  pub written : report.text.items ≡ passes_text history

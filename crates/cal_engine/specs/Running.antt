@@ -1,5 +1,6 @@
 -- Whole runs: what an input gives to one, and what is written of what it came to.
-use Rattle.std.specs.Prelude.{ℕ, Bool, true, false, List, length, Option, Result, Ok, Err, IsOk}
+use Rattle.std.specs.Prelude.{◌≡◌, ℕ, Bool, true, false, List, length, Option, Result, Ok, Err}
+use Rattle.std.specs.Prelude.{IsOk}
 use Rattle.std.specs.Io.KnownBytes.{Appends}
 use Rattle.cal_machine.specs.Table.{Table}
 use Rattle.cal_machine.specs.Tasks.{threads_in}
@@ -39,6 +40,17 @@ abbrev pub run_text : Bool → Arrivals → Outcome → List ℕ
 run_text true arrivals outcome =
     summary_text (length arrivals.passes) (length arrivals.turns) outcome.journals outcome.left
 run_text false arrivals outcome = history_text outcome.history
+
+-- a run on this came to some outcome, and this is the text of that
+pub record IsTextOfRun (summary : Bool) (input : RunInput) (text : List ℕ) : Type 0 where
+  pub outcome : Outcome
+  pub run : IsRun input.table input.arrivals outcome
+  pub made : text ≡ run_text summary input.arrivals outcome
+
+-- the input gives a run, and this is the text of one
+abbrev pub TellsRun : Bool → Result RunInput RunFault → List ℕ → Type 0
+TellsRun summary (Err f) text = ⊥
+TellsRun summary (Ok input) text = IsTextOfRun summary input text
 
 -- a run on this came to some outcome, and the text of that was written
 pub record IsWrittenRun (summary : Bool) (input : RunInput)

@@ -15,7 +15,7 @@ use crate::jobs::running::run_lockstep;
 use crate::jobs::simulating::run_sim;
 use cal_policy::Verdict;
 use clap::error::{Error, ErrorKind};
-use std::alloc::Global;
+use std::alloc::{AllocError, Global};
 use std::io::{Read, Write};
 use std::sync::Wait;
 use std::thread::Threads;
@@ -51,14 +51,20 @@ fn answer_words<H: Threads + Wait + Sync, R: Read + Drop, W: Write, E: Write>(
     output: &mut W,
     errors: &mut E,
 ) -> Result<u8, RunFault> {
-    let mut given = Vec::new(alloc);
-    for word in named.iter().skip(1) {
-        given.push(word.as_str())?;
-    }
+    let given = words_after_first(alloc, named)?;
     match words(alloc, given.as_slice()) {
         Ok(job) => do_job(rt, alloc, job, reader, output),
         Err(error) => refuse_words(&error, output, errors),
     }
+}
+
+/// The words after the first one.
+fn words_after_first<'a>(alloc: Global, named: &'a [String]) -> Result<Vec<&'a str>, AllocError> {
+    let mut given = Vec::new(alloc);
+    for word in named.iter().skip(1) {
+        given.push(word.as_str())?;
+    }
+    Ok(given)
 }
 
 /// Writes the line of a fault, and answers the exit status after it. Where the writer answers an

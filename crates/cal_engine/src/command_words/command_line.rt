@@ -3,9 +3,10 @@
 ghost use Rattle.std.specs.Prelude.{◌≡◌, false, map, IfOk};
 ghost use Rattle.clap.specs.Words.{app_of, subcommand_rows_of};
 ghost use Rattle.clap.specs.declared.builder.command.Command.TheViews.{out-Command};
-ghost use Rattle.clap.specs.Simple.{new_app};
+ghost use Rattle.clap.specs.Simple.{new_app, with_subcommand};
+ghost use Rattle.clap.specs.Walk.{rule_of};
 ghost use Rattle.cal_engine.specs.CommandWords.{Asks, IsJob, Names, bare_program, program};
-ghost use Rattle.cal_engine.specs.CommandWords.{run_word};
+ghost use Rattle.cal_engine.specs.CommandWords.{program_of_runs, run_word, summary_flag};
 
 use crate::command_words::help_texts;
 use clap::{Arg, ArgAction, ArgMatches, Command, Error};
@@ -41,34 +42,58 @@ pub fn words<'a>(alloc: Global, words: &'a [&'a str]) -> Result<Job, Error>
     Ok(job_named(&matches))
 }
 
-/// The program, with a subcommand for each word. A word is made as its turn comes, so that little
+/// The program, with a subcommand for each word. A word is added as its turn comes, so that little
 /// stands to be dropped where memory is refused.
 fn program<'a>(alloc: Global) -> Result<Command<'a>, AllocError>
     ensures { IfOk result (λ command. app_of command ≡ program) }
+{
+    let program = program_of_runs(alloc)?;
+    let about = "Audit a history against the policy";
+    program.subcommand(plain_word(alloc, "audit", about, help_texts::AUDIT))
+}
+
+/// The program with the words that decide or make a run.
+fn program_of_runs<'a>(alloc: Global) -> Result<Command<'a>, AllocError>
+    ensures { IfOk result (λ command. app_of command ≡ program_of_runs) }
 {
     let about_decide = "Decide the passes of a signal trace";
     let decide = plain_word(alloc, "decide", about_decide, help_texts::DECIDE);
     let program = bare_program(alloc).subcommand(decide)?;
     let about_lockstep = "Make a whole run of arrivals on one thread";
-    let lockstep = run_word(alloc, "lockstep", about_lockstep, help_texts::LOCKSTEP)?;
-    let program = program.subcommand(lockstep)?;
+    let program = with_run(
+        alloc,
+        program,
+        "lockstep",
+        about_lockstep,
+        help_texts::LOCKSTEP,
+    )?;
     let about_sim = "Make a whole run of arrivals in threads";
-    let sim = run_word(alloc, "sim", about_sim, help_texts::SIM)?;
-    let program = program.subcommand(sim)?;
-    let about_audit = "Audit a history against the policy";
-    let audit = plain_word(alloc, "audit", about_audit, help_texts::AUDIT);
-    program.subcommand(audit)
+    with_run(alloc, program, "sim", about_sim, help_texts::SIM)
 }
 
 /// The program before it has its words.
 fn bare_program<'a>(alloc: Global) -> Command<'a>
     ensures { app_of result ≡ bare_program }
 {
-    Command::new(alloc, "caladan_sim")
+    let about = "The core scheduler of Caladan over a task table and a trace on standard input";
+    plain_word(alloc, "caladan_sim", about, help_texts::PROGRAM)
         .version(VERSION)
-        .about("The core scheduler of Caladan over a task table and a trace on standard input")
-        .after_help(help_texts::PROGRAM)
         .no_binary_name(true)
+}
+
+/// The program with one word more, for a run.
+fn with_run<'a>(
+    alloc: Global,
+    program: Command<'a>,
+    word: &'a str,
+    about: &'a str,
+    after: &'a str,
+) -> Result<Command<'a>, AllocError>
+    ensures { IfOk result (λ command.
+        app_of command ≡ with_subcommand (app_of program.entry) (run_word word.entry.now).top) }
+{
+    let command = run_word(alloc, word, about, after)?;
+    program.subcommand(command)
 }
 
 /// A word after which nothing stands.
@@ -89,21 +114,34 @@ fn run_word<'a>(
     ensures shape { IfOk result (λ command. app_of command ≡ run_word word.entry.now) }
     ensures local { IfOk result (λ command. (out-Command command).has_globals ≡ false) }
 {
-    let summary = Arg::new(alloc, "summary")
+    plain_word(alloc, word, about, after).arg(summary_flag(alloc))
+}
+
+/// The flag that asks for the summary of a run.
+fn summary_flag<'a>(alloc: Global) -> Arg<'a>
+    ensures shape { rule_of result ≡ summary_flag }
+    ensures local { result.global ≡ false }
+{
+    Arg::new(alloc, "summary")
         .long("summary")
         .action(ArgAction::SetTrue)
-        .help("Write the summary in place of the history");
-    plain_word(alloc, word, about, after).arg(summary)
+        .help("Write the summary in place of the history")
 }
 
 /// The job that the subcommand names.
 fn job_named(matches: &ArgMatches) -> Job
     ensures { (job : Job) → Names (subcommand_rows_of matches.now) job → result ≡ job }
 {
-    match matches.subcommand() {
-        Some((word, run)) if word == "lockstep" => Job::Lockstep(run.get_flag("summary")),
-        Some((word, run)) if word == "sim" => Job::Sim(run.get_flag("summary")),
-        Some((word, _)) if word == "audit" => Job::Audit,
-        _ => Job::Decide,
+    let Some((word, run)) = matches.subcommand() else {
+        return Job::Decide;
+    };
+    if word == "lockstep" {
+        Job::Lockstep(run.get_flag("summary"))
+    } else if word == "sim" {
+        Job::Sim(run.get_flag("summary"))
+    } else if word == "audit" {
+        Job::Audit
+    } else {
+        Job::Decide
     }
 }

@@ -3,7 +3,8 @@
 ghost use Rattle.std.specs.Prelude.{◌≡◌, IfErr};
 
 use crate::fault::RunFault;
-use std::env::{self, Env};
+use std::alloc::{AllocError, Global};
+use std::env::{self, Args, Env};
 use std::io;
 
 /// The name of the program and the words after it, as they were given. Where one of them is not
@@ -11,21 +12,31 @@ use std::io;
 pub fn given_words<R: Env + AllocGlobal>(rt: &R, name: &str) -> Result<Vec<String>, RunFault>
     ensures { IfErr result (λ fault. fault ≡ RunFault.Memory) }
 {
-    let mut given = Vec::new(rt.alloc());
     match env::args(rt) {
-        Ok(args) => {
-            for word in args {
-                given.push(word)?;
-            }
-        }
+        Ok(args) => Ok(listed(rt.alloc(), args)?),
         Err(error) => {
             if error.kind() == io::ErrorKind::OutOfMemory {
                 return Err(RunFault::Memory);
             }
-            for word in [name, "\u{FFFD}"] {
-                given.push(String::from_str(rt.alloc(), word)?)?;
-            }
+            Ok(in_place_of_no_text(rt.alloc(), name)?)
         }
+    }
+}
+
+/// All the words.
+fn listed(alloc: Global, args: Args) -> Result<Vec<String>, AllocError> {
+    let mut given = Vec::new(alloc);
+    for word in args {
+        given.push(word)?;
+    }
+    Ok(given)
+}
+
+/// The name and a replacement character.
+fn in_place_of_no_text(alloc: Global, name: &str) -> Result<Vec<String>, AllocError> {
+    let mut given = Vec::new(alloc);
+    for word in [name, "\u{FFFD}"] {
+        given.push(String::from_str(alloc, word)?)?;
     }
     Ok(given)
 }

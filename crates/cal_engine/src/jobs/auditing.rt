@@ -1,9 +1,9 @@
 //! Auditing a history against the policy.
 
-ghost use Rattle.std.specs.Prelude.{◌≡◌, ◌≢◌, [], Ok, Err, IfOk, IfErr, IfSome};
+ghost use Rattle.std.specs.Prelude.{◌≡◌, ◌≢◌, [], ℕ, List, Ok, Err, IfOk, IfErr, IfSome};
 ghost use Rattle.cal_policy.specs.Auditor.{IsAuditorOf};
 ghost use Rattle.cal_policy.specs.Board.{IsReady};
-ghost use Rattle.cal_trace.specs.History.Reading.{IsOpen};
+ghost use Rattle.cal_trace.specs.History.Reading.{extent_of, HasGiven, IsOpen};
 ghost use Rattle.cal_engine.specs.Outcome.{audit_text, illegal_line, report_of};
 ghost use Rattle.cal_engine.specs.Outcome.{Audits, Decided, Gives};
 ghost use Rattle.cal_engine.specs.Recorded.{recorded_in, HasGivenOf, IsAnswerTo, IsLeft, Takes};
@@ -91,6 +91,20 @@ fn audit_in_turn(alloc: Global, config: &Config, trace: &[u8]) -> Result<Auditor
     ensures of { IfOk result (λ auditor. IsAuditorOf config.now auditor) }
 {
     let mut rows = HistoryRows::open(alloc, config, trace)?;
+    audit_rows(alloc, config, &mut rows)
+}
+
+/// The auditor of a history before its first pass, which is handed all its passes.
+fn audit_rows(
+    alloc: Global,
+    config: &Config,
+    rows: &mut HistoryRows<'_>,
+) -> Result<Auditor, RunFault>
+    requires { IsOpen rows.old }
+    ensures audits { (trace : List ℕ) → HasGiven (extent_of config.now) trace [] rows.old →
+        Takes result (recorded_in config.now trace) }
+    ensures of { IfOk result (λ auditor. IsAuditorOf config.now auditor) }
+{
     let mut auditor = Auditor::open(alloc, config)?;
     while let Some(entry) = rows.next()? {
         auditor.next(config, &entry);
@@ -136,6 +150,22 @@ fn report_history(
     ensures { Gives (λ report. report.items) result (report_of (recorded_in config.now trace.now)) }
 {
     let mut rows = HistoryRows::open(alloc, config, trace)?;
+    report_rows(alloc, config, &mut rows, board)
+}
+
+/// The report of a history before its first pass, by the board that it leaves.
+fn report_rows(
+    alloc: Global,
+    config: &Config,
+    rows: &mut HistoryRows<'_>,
+    board: &Board,
+) -> Result<Vec<u8>, RunFault>
+    requires open { IsOpen rows.old }
+    requires ready { IsReady config.now board.now }
+    ensures { (trace : List ℕ) → HasGiven (extent_of config.now) trace [] rows.old →
+        IsLeft board.now (recorded_in config.now trace) →
+        Gives (λ report. report.items) result (report_of (recorded_in config.now trace)) }
+{
     let mut report = Report::new();
     let mut text = Vec::new(alloc);
     while let Some(entry) = rows.next()? {

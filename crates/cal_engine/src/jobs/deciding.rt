@@ -1,17 +1,19 @@
 //! Deciding the passes of a signal trace.
 
-ghost use Rattle.std.specs.Prelude.{◌≡◌, ◌≢◌, ◌++◌, ◌∷◌, [], List, length, IfOk, OnOk, IfErr};
-ghost use Rattle.std.specs.Prelude.{IfSome};
+ghost use Rattle.std.specs.Prelude.{◌≡◌, ◌≢◌, ◌<◌, ◌+◌, ◌^◌, ◌++◌, ◌∷◌, [], ℕ, List, length};
+ghost use Rattle.std.specs.Prelude.{IfOk, OnOk, IfErr, IfSome};
 ghost use Rattle.cal_machine.specs.Tasks.{threads_in};
 ghost use Rattle.cal_policy.specs.Book.{AgreesWith, IsBookOf};
 ghost use Rattle.cal_policy.specs.Judgement.Judging.{IsInput};
 ghost use Rattle.cal_policy.specs.Pass.{IsLegal};
 ghost use Rattle.cal_policy.specs.Tasks.{threads_of_table};
 ghost use Rattle.cal_policy.specs.declared.history.entry.PassEntry.{PassEntry};
-ghost use Rattle.cal_trace.specs.Signals.Fitting.{AreFittingPasses};
+ghost use Rattle.cal_trace.specs.Report.{report_text};
 ghost use Rattle.cal_trace.specs.Rows.{rows_of};
 ghost use Rattle.cal_trace.specs.Signals.{signals_of};
-ghost use Rattle.cal_engine.specs.Deciding.{decided, decided_pass, input_of};
+ghost use Rattle.cal_trace.specs.Signals.Fitting.{AreFittingPasses};
+ghost use Rattle.cal_trace.specs.Signals.Reading.{HasGiven, IsOpen};
+ghost use Rattle.cal_engine.specs.Deciding.{decided, decided_pass, input_of, Tells};
 ghost use Rattle.cal_engine.specs.Outcome.{report_of, Gives, Reports};
 ghost use Rattle.cal_engine.specs.Runs.{decided_on, decided_run_of, within_limit};
 
@@ -57,28 +59,93 @@ fn decided_report(alloc: Global, input: &[u8]) -> Result<Vec<u8>, RunFault>
     report_signals(alloc, &config, trace)
 }
 
-/// The report of the history that these signals lead to, in memory. Each pass is decided and its
-/// lines are made as soon as its rows were read, and nothing else is kept of it.
+/// The report of the history that these signals lead to, in memory.
 fn report_signals(alloc: Global, config: &Config, trace: &[u8]) -> Result<Vec<u8>, RunFault>
     ensures { Gives (λ report. report.items) result
         (report_of (decided_on config.now (signals_of (threads_in config.now.tasks)
         (rows_of trace.now)))) }
 {
     let mut signals = SignalRows::open(alloc, config, trace)?;
-    let mut book = Book::open(alloc, config)?;
-    let mut actions = Actions::reserved(alloc)?;
-    let mut report = Report::new();
-    let mut text = Vec::new(alloc);
+    report_passes(alloc, config, &mut signals)
+}
+
+/// The report of signals before their first pass. Each pass is decided and its lines are made as
+/// soon as its rows were read, and nothing else is kept of it.
+fn report_passes(
+    alloc: Global,
+    config: &Config,
+    signals: &mut SignalRows<'_>,
+) -> Result<Vec<u8>, RunFault>
+    requires ready { IsOpen signals.old }
+    requires given { (trace : List ℕ) × HasGiven (threads_in config.now.tasks) trace []
+        signals.old }
+    ensures { (trace : List ℕ) → HasGiven (threads_in config.now.tasks) trace [] signals.old →
+        Gives (λ report. report.items) result
+        (report_of (decided_on config.now (signals_of (threads_in config.now.tasks)
+        (rows_of trace)))) }
+{
+    let mut report = OpenReport::open(alloc, config)?;
     while let Some(pass) = signals.next()? {
-        let entry = decide_pass(alloc, config, &mut book, &mut actions, &pass)?;
-        // A list in memory refuses nothing but memory.
-        let Ok(()) = report.write_pass(&entry, &mut text) else {
-            return Err(RunFault::Memory);
-        };
+        report.take(alloc, config, &pass)?;
     }
-    match report.write_end(config, book.board(), &mut text) {
-        Ok(()) => Ok(text),
-        Err(_) => Err(RunFault::Memory),
+    report.end(config)
+}
+
+/// The report of the passes so far, each decided after all before it.
+#[derive(Drop)]
+struct OpenReport {
+    decider: Decider,
+    report: Report,
+    text: Vec<u8>,
+}
+
+impl OpenReport {
+    /// The report before the first pass. Its error is want of memory alone.
+    fn open(alloc: Global, config: &Config) -> Result<OpenReport, AllocError>
+        ensures tells { IfOk result (Tells []) }
+        ensures of { IfOk result (λ report. IsBookOf config.now report.decider.book) }
+    {
+        let decider = Decider::open(alloc, config)?;
+        Ok(OpenReport {
+            decider,
+            report: Report::new(),
+            text: Vec::new(alloc),
+        })
+    }
+
+    /// Decides the next pass, and writes its lines. The fault is `Memory`.
+    fn take(&mut self, alloc: Global, config: &Config, pass: &SignalPass) -> Result<(), RunFault>
+        requires of { IsBookOf config.now self.old.decider.book }
+        requires looks { length pass.now.looks ≡ threads_of_table config.now }
+        ensures tells { OnOk result ((h : List PassEntry) → IsLegal config.now h →
+            IsInput config.now h (input_of config.now h pass.entry.now) → length h + 1 < 2 ^ 64 →
+            Tells h self.old →
+            Tells (h ++ decided_pass config.now h pass.entry.now ∷ []) self.new) }
+        ensures of { OnOk result (IsBookOf config.now self.new.decider.book) }
+        ensures kind { IfErr result (λ fault. fault ≡ RunFault.Memory) }
+    {
+        let entry = self.decider.decide(alloc, config, pass)?;
+        match self.report.write_pass(&entry, &mut self.text) {
+            Ok(()) => Ok(()),
+            // A list in memory refuses nothing but memory.
+            Err(_) => Err(RunFault::Memory),
+        }
+    }
+
+    /// The whole report, after the last pass. The fault is `Memory`.
+    fn end(mut self, config: &Config) -> Result<Vec<u8>, RunFault>
+        requires { IsBookOf config.now self.decider.book }
+        ensures text { (h : List PassEntry) → Tells h self →
+            IfOk result (λ text. text.items ≡ report_text config.now h) }
+        ensures kind { IfErr result (λ fault. fault ≡ RunFault.Memory) }
+    {
+        match self
+            .report
+            .write_end(config, self.decider.book.board(), &mut self.text)
+        {
+            Ok(()) => Ok(self.text),
+            Err(_) => Err(RunFault::Memory),
+        }
     }
 }
 
@@ -105,43 +172,76 @@ fn decide_passes(
     ensures decided { IfOk result (λ history. history.items ≡ decided config.now passes.items) }
     ensures legal { IfOk result (λ history. IsLegal config.now history.items) }
 {
-    let mut book = Book::open(alloc, config)?;
-    let mut actions = Actions::reserved(alloc)?;
+    let mut decider = Decider::open(alloc, config)?;
+    decide_with(alloc, config, &mut decider, passes)
+}
+
+/// The same by a decider before its first pass.
+fn decide_with(
+    alloc: Global,
+    config: &Config,
+    decider: &mut Decider,
+    passes: Vec<SignalPass>,
+) -> Result<Vec<PassEntry>, AllocError>
+    requires fit { AreFittingPasses (threads_in config.now.tasks) passes.items }
+    requires agrees { AgreesWith decider.old.book [] }
+    requires of { IsBookOf config.now decider.old.book }
+    ensures decided { IfOk result (λ history. history.items ≡ decided config.now passes.items) }
+    ensures legal { IfOk result (λ history. IsLegal config.now history.items) }
+{
     let mut history = Vec::with_capacity(alloc, passes.len())?;
     for pass in passes {
-        let entry = decide_pass(alloc, config, &mut book, &mut actions, &pass)?;
+        let entry = decider.decide(alloc, config, &pass)?;
         history.push(entry)?;
     }
     Ok(history)
 }
 
-/// The next pass on these signals, which is taken into the book. `actions` is room to work in.
-fn decide_pass(
-    alloc: Global,
-    config: &Config,
-    book: &mut Book,
-    actions: &mut Actions,
-    pass: &SignalPass,
-) -> Result<PassEntry, AllocError>
-    requires of { IsBookOf config.now book.old }
-    requires looks { length pass.now.looks ≡ threads_of_table config.now }
-    ensures decided { IfOk result (λ entry. (h : List PassEntry) → IsLegal config.now h →
-        AgreesWith book.old h → IsInput config.now h (input_of config.now h pass.entry.now) →
-        entry ≡ decided_pass config.now h pass.entry.now) }
-    ensures agrees { IfOk result (λ entry. (h : List PassEntry) → IsLegal config.now h →
-        AgreesWith book.old h → IsInput config.now h (input_of config.now h pass.entry.now) →
-        AgreesWith book.new (h ++ entry ∷ [])) }
-    ensures of { OnOk result (IsBookOf config.now book.new) }
-{
-    let input = book.input(
-        alloc,
-        config,
-        pass.now,
-        pass.bandwidth,
-        pass.looks.as_slice(),
-    )?;
-    actions.clear();
-    book.step(config, &input, actions);
-    let actions = actions.to_list(alloc)?;
-    Ok(PassEntry { input, actions })
+/// Decides passes one after the other.
+#[derive(Drop)]
+struct Decider {
+    book: Book,
+    /// Room for the actions of a pass.
+    actions: Actions,
+}
+
+impl Decider {
+    /// Before the first pass. Its error is want of memory alone.
+    fn open(alloc: Global, config: &Config) -> Result<Decider, AllocError>
+        ensures agrees { IfOk result (λ decider. AgreesWith decider.book []) }
+        ensures of { IfOk result (λ decider. IsBookOf config.now decider.book) }
+    {
+        let book = Book::open(alloc, config)?;
+        let actions = Actions::reserved(alloc)?;
+        Ok(Decider { book, actions })
+    }
+
+    /// The next pass on these signals, which is taken into the book.
+    fn decide(
+        &mut self,
+        alloc: Global,
+        config: &Config,
+        pass: &SignalPass,
+    ) -> Result<PassEntry, AllocError>
+        requires of { IsBookOf config.now self.old.book }
+        requires looks { length pass.now.looks ≡ threads_of_table config.now }
+        ensures decided { IfOk result (λ entry. (h : List PassEntry) → IsLegal config.now h →
+            AgreesWith self.old.book h →
+            IsInput config.now h (input_of config.now h pass.entry.now) →
+            entry ≡ decided_pass config.now h pass.entry.now) }
+        ensures agrees { IfOk result (λ entry. (h : List PassEntry) → IsLegal config.now h →
+            AgreesWith self.old.book h →
+            IsInput config.now h (input_of config.now h pass.entry.now) →
+            AgreesWith self.new.book (h ++ entry ∷ [])) }
+        ensures of { OnOk result (IsBookOf config.now self.new.book) }
+    {
+        let looks = pass.looks.as_slice();
+        let input = self
+            .book
+            .input(alloc, config, pass.now, pass.bandwidth, looks)?;
+        self.actions.clear();
+        self.book.step(config, &input, &mut self.actions);
+        let actions = self.actions.to_list(alloc)?;
+        Ok(PassEntry { input, actions })
+    }
 }

@@ -1,10 +1,10 @@
 //! Whole runs on the arrivals of an input.
 
-ghost use Rattle.std.specs.Prelude.{◌≡◌, ◌≢◌, IfOk, IfErr, IfSome};
+ghost use Rattle.std.specs.Prelude.{◌≡◌, ◌≢◌, Err, IfOk, IfErr, IfSome};
 ghost use Rattle.cal_trace.specs.Arrivals.FitsTable.{FitsTable};
-ghost use Rattle.cal_engine.specs.Outcome.{Gives};
+ghost use Rattle.cal_engine.specs.Outcome.{Decided, Gives};
 ghost use Rattle.cal_engine.specs.Runs.{within_limit};
-ghost use Rattle.cal_engine.specs.Running.{run_input_of, run_text, Runs};
+ghost use Rattle.cal_engine.specs.Running.{run_input_of, run_text, IsTextOfRun, Runs, TellsRun};
 
 use crate::fault::RunFault;
 use crate::input::parts::read_parts;
@@ -39,10 +39,33 @@ pub fn run_lockstep<R: Read + Drop, W: Write>(
     ensures alone { IfErr result (λ fault. (fault ≢ RunFault.Spawn) × (fault ≢ RunFault.Gate)) }
 {
     let input = read_input(alloc, &mut reader)?;
-    let (config, arrivals) = run_input(alloc, input.as_slice())?;
-    let outcome = lockstep(alloc, &config, &arrivals)?;
-    let text = run_text(alloc, summary, &arrivals, &outcome)?;
+    let text = lockstep_text(alloc, summary, input.as_slice())?;
     write_answer(text.as_slice(), writer)
+}
+
+/// What is written of a run on one thread on the arrivals of an input, in memory.
+fn lockstep_text(alloc: Global, summary: bool, input: &[u8]) -> Result<Vec<u8>, RunFault>
+    ensures text { IfOk result (λ text. TellsRun summary (run_input_of input.now) text.items) }
+    ensures fault { IfErr result (λ fault. Decided fault (run_input_of input.now ≡ Err fault)) }
+{
+    let (config, arrivals) = run_input(alloc, input)?;
+    lockstep_on(alloc, summary, &config, &arrivals)
+}
+
+/// What is written of a run on one thread on these arrivals, in memory. Its fault is `Memory`.
+fn lockstep_on(
+    alloc: Global,
+    summary: bool,
+    config: &Config,
+    arrivals: &Arrivals,
+) -> Result<Vec<u8>, RunFault>
+    requires fits { FitsTable config.now arrivals.now }
+    ensures text { IfOk result (λ text. IsTextOfRun summary
+        (record { table = config.now; arrivals = arrivals.now }) text.items) }
+    ensures kind { IfErr result (λ fault. fault ≡ RunFault.Memory) }
+{
+    let outcome = lockstep(alloc, config, arrivals)?;
+    run_text(alloc, summary, arrivals, &outcome)
 }
 
 /// The task table of an input, and the arrivals for its threads.

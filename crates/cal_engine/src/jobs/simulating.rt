@@ -1,11 +1,12 @@
 //! Whole runs in threads, on the arrivals of an input.
 
-ghost use Rattle.std.specs.Prelude.{◌≡◌, ◌≢◌, IfOk, IfErr, IfSome};
+ghost use Rattle.std.specs.Prelude.{◌≡◌, ◌≢◌, ◌⊎◌, IfOk, IfErr, IfSome};
 ghost use Rattle.cal_run.specs.Outcome.{IsRun};
 ghost use Rattle.cal_run.specs.declared.fault.SimFault.TheVariants.{Gate as GateFault};
 ghost use Rattle.cal_trace.specs.Arrivals.FitsTable.{FitsTable};
 ghost use Rattle.cal_engine.specs.Runs.{within_limit};
-ghost use Rattle.cal_engine.specs.Running.{run_input_of, RunsInThreads};
+ghost use Rattle.cal_engine.specs.Running.{run_input_of, FailedInThreads, IsTextOfRun};
+ghost use Rattle.cal_engine.specs.Running.{RunsInThreads, TellsRun};
 
 use crate::fault::RunFault;
 use crate::input::read_input;
@@ -45,10 +46,39 @@ pub fn run_sim<H: Threads + Wait + Sync, R: Read + Drop, W: Write>(
     ensures ungated { IfErr result (λ fault. fault ≢ RunFault.Gate) }
 {
     let input = read_input(alloc, &mut reader)?;
-    let (config, arrivals) = run_input(alloc, input.as_slice())?;
-    let outcome = simulate_freely(rt, alloc, &config, &arrivals)?;
-    let text = run_text(alloc, summary, &arrivals, &outcome)?;
+    let text = simulation_text(rt, alloc, summary, input.as_slice())?;
     write_answer(text.as_slice(), writer)
+}
+
+/// What is written of a run in threads on the arrivals of an input, in memory.
+fn simulation_text<H: Threads + Wait + Sync>(
+    rt: &H,
+    alloc: Global,
+    summary: bool,
+    input: &[u8],
+) -> Result<Vec<u8>, RunFault>
+    ensures text { IfOk result (λ text. TellsRun summary (run_input_of input.now) text.items) }
+    ensures fault { IfErr result (λ fault. FailedInThreads fault (run_input_of input.now)) }
+{
+    let (config, arrivals) = run_input(alloc, input)?;
+    simulation_on(rt, alloc, summary, &config, &arrivals)
+}
+
+/// What is written of a run in threads on these arrivals, in memory.
+fn simulation_on<H: Threads + Wait + Sync>(
+    rt: &H,
+    alloc: Global,
+    summary: bool,
+    config: &Config,
+    arrivals: &Arrivals,
+) -> Result<Vec<u8>, RunFault>
+    requires fits { FitsTable config.now arrivals.now }
+    ensures text { IfOk result (λ text. IsTextOfRun summary
+        (record { table = config.now; arrivals = arrivals.now }) text.items) }
+    ensures kind { IfErr result (λ fault. (fault ≡ RunFault.Memory) ⊎ (fault ≡ RunFault.Spawn)) }
+{
+    let outcome = simulate_freely(rt, alloc, config, arrivals)?;
+    run_text(alloc, summary, arrivals, &outcome)
 }
 
 /// A run in threads that no gate ends.

@@ -1,4 +1,4 @@
-use Rattle.std.proofs.Common.{◌≡◌, true, ap, ◌∙◌}
+use Rattle.std.proofs.Common.{true, ap, ◌∙◌}
 use Rattle.clap.specs.Simple.{app_of_fields, on_top}
 use Rattle.clap.specs.declared.builder.command.Command.{Command}
 use Rattle.clap.specs.declared.builder.command.Command.TheOpen.{Command-F}
@@ -7,7 +7,5 @@ use Rattle.cal_engine.proofs.command_words.command_line.bare_program.Goals as go
 pub returns : goal.returns
 returns c =
     ap app_of_fields c.no_binary_name.ensures
-    ∙ ap (λ (f : Command-F Command). app_of_fields (record f { no_binary_name = true })) c.after_help.ensures
-    ∙ ap (λ (f : Command-F Command). app_of_fields (record f { no_binary_name = true })) c.about.ensures
     ∙ ap (λ (f : Command-F Command). app_of_fields (record f { no_binary_name = true })) c.version.ensures
-    ∙ ap (on_top (λ s. record s { has_version = true; no_binary_name = true })) c.new.ensures.app
+    ∙ ap (on_top (λ s. record s { has_version = true; no_binary_name = true })) c.plain_word.ensures.shape

@@ -1,10 +1,21 @@
-use Rattle.std.proofs.Common.{◌≡◌, Err, rules}
-use Rattle.cal_engine.specs.Running.{run_input_of}
-use Rattle.cal_engine.proofs.Reading.{refused}
+use Rattle.std.proofs.Common.{◌≡◌, Err, Result, rules}
+use Rattle.cal_engine.specs.Running.{run_input_of, RunInput, Runs}
+use Rattle.cal_engine.specs.declared.fault.RunFault.{RunFault}
+use Rattle.cal_engine.proofs.Reading.{answered, refused}
+use Rattle.cal_engine.proofs.WrittenRuns.{runs}
 use Rattle.cal_engine.proofs.jobs.running.run_lockstep.Goals as goal
 
-pub returns-in_err-config-clause-exact : goal.returns-in_err-config-clause-exact
-returns-in_err-config-clause-exact g c =
-    let fault : c.from_residual-in_err-config.result ≡ Err c.in_err-config.field-0.0 = search rules in
-    rw fault (refused (g.R.Read.remaining c.args.reader) (g.R.Read.remaining c.read_input.new.reader) c.in_ok-input.input.items run_input_of c.in_err-config.field-0.0
-    c.in_ok-input.ensures.all c.in_ok-input.ensures.end c.in_ok-input.ensures.short (rw c.as_slice.ensures.value at c.in_err-config.ensures.exact))
+pub returns-in_err-text-clause-exact : goal.returns-in_err-text-clause-exact
+returns-in_err-text-clause-exact g c =
+    let fault : c.from_residual-in_err-text.result ≡ Err c.in_err-text.field-0.0 = search rules in
+    rw fault (refused (g.R.Read.remaining c.args.reader) (g.R.Read.remaining c.read_input.new.reader) c.in_ok-input.input.items run_input_of c.in_err-text.field-0.0
+    c.in_ok-input.ensures.all c.in_ok-input.ensures.end c.in_ok-input.ensures.short (rw c.as_slice.ensures.value at c.in_err-text.ensures.fault))
+
+pub returns-clause-exact : goal.returns-clause-exact
+returns-clause-exact g c =
+    let input = c.in_ok-input.input.items in
+    answered (λ (outcome : Result RunInput RunFault). Runs c.args.summary c.write_answer.result outcome (g.W.Write.contents c.args.writer.now) (g.W.Write.contents c.write_answer.new.writer))
+    (g.R.Read.remaining c.args.reader) (g.R.Read.remaining c.read_input.new.reader) input run_input_of
+    c.in_ok-input.ensures.all c.in_ok-input.ensures.end c.in_ok-input.ensures.short
+    (runs c.args.summary c.write_answer.result (run_input_of input) _ _ c.in_ok-text.text.items (rw c.as_slice.ensures.value at c.in_ok-text.ensures.text)
+    (rw c.as_slice-2.ensures.value at c.write_answer.ensures.bytes) c.write_answer.ensures.kind)

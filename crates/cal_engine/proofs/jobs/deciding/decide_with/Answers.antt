@@ -9,24 +9,24 @@ use Rattle.cal_policy.specs.declared.history.entry.PassEntry.{PassEntry}
 use Rattle.cal_trace.specs.Signals.Fitting.{IsFittingPass}
 use Rattle.cal_engine.specs.Deciding.{decided_after, decided_pass, input_of}
 use Rattle.cal_engine.proofs.Decided.{IsDecided, IsDecided-none, IsDecided-append, judged_is_input}
-use Rattle.cal_engine.proofs.jobs.deciding.decide_passes.Goals as goal
+use Rattle.cal_engine.proofs.jobs.deciding.decide_with.Goals as goal
 
 pub loop-pass-init : goal.loop-pass-init
 loop-pass-init c =
     let none : c.in_ok-history.history.items ≡ [] = c.in_ok-history.ensures.items in
     record {
-      of = c.in_ok-book.ensures.of;
-      agrees = rw none c.in_ok-book.ensures.agrees;
+      of = c.requires.of;
+      agrees = rw none c.requires.agrees;
       so_far = rw none (IsDecided-none c.args.config.now);
     }
 
-pub decide_pass-requires-clause-looks : goal.decide_pass-requires-clause-looks
-decide_pass-requires-clause-looks c =
+pub decide-requires-clause-looks : goal.decide-requires-clause-looks
+decide-requires-clause-looks c =
     let passes = c.args.passes.items in
     let i = length c.loop-pass.yielded in
     let turn = YieldsList-turn (YieldsList-from_vec {s = c.into_iter-pass-iterator.result} passes (search rules) (search rules)) c.loop-pass.yielded c.loop-pass.pass-iterator c.loop-pass.yielded_by c.next.result c.next.new.self c.in-Some.pass c.in-Some.is c.next.ensures.steps in
     let at = slice_get_read passes (length passes) i c.in-Some.pass refl turn.0 turn.1 in
-    (c.requires.each i c.in-Some.pass at).looks
+    (c.requires.fit.each i c.in-Some.pass at).looks
 
 pub loop-pass-preserved : goal.loop-pass-preserved
 loop-pass-preserved c =
@@ -38,8 +38,8 @@ loop-pass-preserved c =
     let turn = YieldsList-turn road done c.loop-pass.pass-iterator c.loop-pass.yielded_by c.next.result c.next.new.self pass c.in-Some.is c.next.ensures.steps in
     let taken = sym (map-id done) ∙ YieldsList-so_far road done c.loop-pass.pass-iterator c.loop-pass.yielded_by in
     let at = slice_get_read passes (length passes) (length done) pass refl turn.0 turn.1 in
-    let fits : IsFittingPass (threads_of_table c.args.config.now) done pass = rw taken (c.requires.each (length done) pass at) in
-    let agrees : AgreesWith c.loop-pass.book h = c.loop-pass.invariant.agrees in
+    let fits : IsFittingPass (threads_of_table c.args.config.now) done pass = rw taken (c.requires.fit.each (length done) pass at) in
+    let agrees : AgreesWith c.loop-pass.decider.book h = c.loop-pass.invariant.agrees in
     let so_far : IsDecided c.args.config.now done h = c.loop-pass.invariant.so_far in
     let given : IsInput c.args.config.now h (input_of c.args.config.now h pass) = judged_is_input c.args.config.now h done pass so_far.shown fits in
     let made : c.in_ok-entry.entry ≡ decided_pass c.args.config.now h pass = c.in_ok-entry.ensures.decided h so_far.legal agrees given in

@@ -1,0 +1,79 @@
+use Rattle.std.proofs.Common.{◌≡◌, ◌<◌, ◌+◌, ◌^◌, ◌++◌, ◌∷◌, [], Err, length, length-append, refl, sym, ap, ◌∙◌, arith, rules}
+use Rattle.cal_machine.specs.Tasks.{threads_in}
+use Rattle.cal_policy.specs.Judgement.Judging.{IsInput}
+use Rattle.cal_policy.specs.Tasks.{threads_of_table}
+use Rattle.cal_trace.specs.Signals.Fitting.{IsFittingPass}
+use Rattle.cal_trace.specs.Rows.{rows_of}
+use Rattle.cal_trace.specs.Signals.Reading.{HasGiven}
+use Rattle.cal_trace.specs.Signals.{signals_of}
+use Rattle.cal_trace.proofs.SignalLemmas.Accepted.{last_fits}
+use Rattle.cal_trace.proofs.Given.{few_given}
+use Rattle.cal_engine.specs.Deciding.{decided_pass, input_of}
+use Rattle.cal_engine.specs.declared.fault.RunFault.TheVariants as fault
+use Rattle.cal_engine.proofs.Decided.{IsDecided-none, IsDecided-append, judged_is_input}
+use Rattle.cal_engine.proofs.Reporting.{refused_signals, whole_report}
+use Rattle.cal_engine.proofs.jobs.deciding.report_passes.Goals as goal
+
+pub loop-report-init : goal.loop-report-init
+loop-report-init c = record {
+  ready = c.requires.ready;
+  of = c.in_ok-report.ensures.of;
+  reporting = λ trace has. record {
+    given = [];
+    history = [];
+    has = has;
+    so_far = IsDecided-none c.args.config.now;
+    tells = c.in_ok-report.ensures.tells;
+    count = refl;
+  };
+}
+
+pub take-requires-clause-looks : goal.take-requires-clause-looks
+take-requires-clause-looks c =
+    let some = c.requires.given in
+    let before = c.loop-report.invariant.reporting some.0 some.1 in
+    let threads = threads_in c.args.config.now.tasks in
+    let has = rw c.in-Some.is at (c.in_ok-pass.ensures.gives threads some.0 before.given before.has) in
+    (last_fits threads before.given c.in-Some.pass has.fit.before).looks
+
+pub loop-report-preserved : goal.loop-report-preserved
+loop-report-preserved c = record {
+  ready = rw c.in-Some.is at c.in_ok-pass.ensures.ready;
+  of = c.in_ok-take.ensures.of;
+  reporting = λ trace start.
+      let table = c.args.config.now in
+      let threads = threads_in table.tasks in
+      let before = c.loop-report.invariant.reporting trace start in
+      let given = before.given in
+      let h = before.history in
+      let pass = c.in-Some.pass in
+      let has : HasGiven threads trace (given ++ pass ∷ []) c.next.new.self = rw c.in-Some.is at (c.in_ok-pass.ensures.gives threads trace given before.has) in
+      let fits : IsFittingPass (threads_of_table table) given pass = last_fits threads given pass has.fit.before in
+      let input : IsInput table h (input_of table h pass) = judged_is_input table h given pass before.so_far.shown fits in
+      let few : length h + 1 < 2 ^ 64 = omega (arith, before.count, length-append given (pass ∷ []), few_given threads trace (given ++ pass ∷ []) c.next.new.self has) in
+      record {
+        given = given ++ pass ∷ [];
+        history = h ++ decided_pass table h pass ∷ [];
+        has = has;
+        so_far = IsDecided-append table given h pass fits before.so_far;
+        tells = c.in_ok-take.ensures.tells h before.so_far.legal input few before.tells;
+        count = length-append h (decided_pass table h pass ∷ []) ∙ ap (λ n. n + 1) before.count ∙ sym (length-append given (pass ∷ []));
+      };
+}
+
+pub returns-in_err-pass : goal.returns-in_err-pass
+returns-in_err-pass c = λ trace start.
+    let table = c.args.config.now in
+    let threads = threads_in table.tasks in
+    let before = c.loop-report.invariant.reporting trace start in
+    let same : c.from_residual-in_err-pass.result ≡ Err (fault.Trace c.in_err-pass.field-0.0) = search rules in
+    rw same (refused_signals table (signals_of threads (rows_of trace)) c.in_err-pass.field-0.0 (c.in_err-pass.ensures.gives threads trace before.given before.has))
+
+pub returns : goal.returns
+returns c = λ trace start.
+    let table = c.args.config.now in
+    let threads = threads_in table.tasks in
+    let before = c.loop-report.invariant.reporting trace start in
+    let gives = rw c.in_default.is at (c.in_ok-pass.ensures.gives threads trace before.given before.has) in
+    whole_report (λ report. report.items) c.end.result table (signals_of threads (rows_of trace)) before.given before.history gives before.so_far
+    (c.end.ensures.text before.history before.tells) c.end.ensures.kind
