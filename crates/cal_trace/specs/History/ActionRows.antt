@@ -19,13 +19,10 @@ use Rattle.cal_trace.specs.declared.fault.FaultKind.TheVariants as kind
 abbrev pub is_revocation : ℕ → Fields → Bool → Bool
 is_revocation count fields cause = is_row (codes "revoke") count fields && cause
 
--- what an action row is, by its first field, its cause and its number of fields
-abbrev pub action_form : Fields → Option ActionForm
-action_form fields =
-    if is_row (codes "free") 2 fields then Some form.Free
-    else if is_row (codes "unban") 2 fields then Some form.Unban
-    else if is_row (codes "ban") 4 fields then Some form.Ban
-    else if is_revocation 4 fields (is_word (field_at fields 2) (codes "ban"))
+-- the form of a revocation, a cap or a grant
+abbrev pub later_action_form : Fields → Option ActionForm
+later_action_form fields =
+    if is_revocation 4 fields (is_word (field_at fields 2) (codes "ban"))
     then Some form.RevokeForBan
     else if is_revocation 3 fields (is_word (field_at fields 2) (codes "bandwidth"))
     then Some form.RevokeForBandwidth
@@ -34,6 +31,14 @@ action_form fields =
     else if is_row (codes "cap") 3 fields then Some form.Cap
     else if is_row (codes "grant") 4 fields then Some form.Grant
     else None
+
+-- what an action row is, by its first field, its cause and its number of fields
+abbrev pub action_form : Fields → Option ActionForm
+action_form fields =
+    if is_row (codes "free") 2 fields then Some form.Free
+    else if is_row (codes "unban") 2 fields then Some form.Unban
+    else if is_row (codes "ban") 4 fields then Some form.Ban
+    else later_action_form fields
 
 -- a row that names a core of the table
 abbrev pub core_row : Extent → Fields → Result ℕ FaultKind

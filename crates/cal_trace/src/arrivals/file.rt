@@ -5,7 +5,7 @@ ghost use Rattle.cal_machine.specs.Tasks.{threads_in};
 ghost use Rattle.cal_trace.specs.Rows.Answers.{Gives};
 ghost use Rattle.cal_trace.specs.Arrivals.{arrivals_of};
 ghost use Rattle.cal_trace.specs.Arrivals.FitsTable.{FitsTable};
-ghost use Rattle.cal_trace.specs.Rows.{rows_of};
+ghost use Rattle.cal_trace.specs.Rows.{rows_of, rest_of, IsReading};
 
 use crate::arrivals::Arrivals;
 use crate::arrivals::reading::ArrivalReading;
@@ -27,7 +27,15 @@ pub fn read_arrivals(alloc: Global, config: &Config, text: &[u8]) -> Result<Arri
     ensures fits { IfOk result (FitsTable config.now) }
 {
     let mut rows = Rows::open(alloc, text);
-    take_first_header(&mut rows, b"caladan-arrivals".as_slice())?;
-    let threads = config.threads() as u8;
-    take_rows(&mut rows, ArrivalReading::new(alloc, threads))
+    take_arrivals(alloc, config.threads() as u8, &mut rows)
+}
+
+/// The arrivals of a file for so many threads, of all its rows.
+fn take_arrivals(alloc: Global, threads: u8, rows: &mut Rows) -> Result<Arrivals, TraceFault>
+    requires reading { IsReading rows.old }
+    requires first { rows.old.number ≡ 0 }
+    ensures { Gives (λ arrivals. arrivals) result (arrivals_of threads (rest_of rows.old)) }
+{
+    take_first_header(rows, b"caladan-arrivals".as_slice())?;
+    take_rows(rows, ArrivalReading::new(alloc, threads))
 }

@@ -21,7 +21,7 @@ use std::collections::BTreeSet;
 pub const MOST_TURNS: usize = 174_762;
 
 /// What a row of a file of arrivals is, by its first field and its number of fields.
-#[derive(Clone, Copy, Debug, PartialEq, Eq)]
+#[derive(Clone, Copy)]
 pub(crate) enum Form {
     /// The header once more, which cannot stand here.
     Header,
@@ -144,10 +144,10 @@ pub(crate) struct ArrivalReading {
 }
 
 impl ArrivalReading {
-    ghost use Rattle.std.specs.Prelude.{◌≡◌, OnOk, Some};
+    ghost use Rattle.std.specs.Prelude.{◌≡◌, Ok, OnOk, Some};
     ghost use Rattle.csv.specs.Records.{fields_of};
     ghost use Rattle.cal_trace.specs.Rows.Answers.{Takes};
-    ghost use Rattle.cal_trace.specs.Arrivals.{at_start, take_form};
+    ghost use Rattle.cal_trace.specs.Arrivals.{add_arrival, at_start, take_form};
     ghost use Rattle.cal_trace.specs.Arrivals.Reading.{so_far, IsKept};
     ghost use Rattle.cal_trace.specs.declared.arrivals.reading.Form.TheVariants as form;
 
@@ -212,6 +212,16 @@ impl ArrivalReading {
         }
         let last = last_of(&self.requests);
         let arrival = arrival_row(row, self.threads, self.turns.len(), last)?;
+        self.add_arrival(arrival)
+    }
+
+    fn add_arrival(&mut self, arrival: Arrival) -> Result<(), FaultKind>
+        requires { IsKept self.old }
+        ensures takes { Takes (λ _. so_far self.new) result
+            (add_arrival (so_far self.old) (Ok arrival)) }
+        ensures kept { OnOk result (IsKept self.new) }
+        ensures file { self.new.threads ≡ self.old.threads }
+    {
         if !self.ids.insert(arrival.request.id)? {
             return Err(FaultKind::Repeated);
         }

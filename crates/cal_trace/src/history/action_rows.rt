@@ -3,8 +3,10 @@
 ghost use Rattle.std.specs.Prelude.{◌≡◌};
 ghost use Rattle.cal_trace.specs.History.ActionRows.{action_form, action_row, core_row, ban_row};
 ghost use Rattle.cal_trace.specs.History.ActionRows.{revoke_row, cap_row, grant_row};
+ghost use Rattle.cal_trace.specs.History.ActionRows.{is_revocation, later_action_form};
 ghost use Rattle.cal_trace.specs.History.ActionRows.{revoke_for_bandwidth_row};
-ghost use Rattle.csv.specs.Records.{fields_of};
+ghost use Rattle.cal_trace.specs.Rows.RowFields.{is_word};
+ghost use Rattle.csv.specs.Records.{field_at, fields_of};
 
 use crate::fault::FaultKind;
 use crate::rows::fields::{has_numbers, is_number_at, is_row, is_word_at, number_at};
@@ -12,7 +14,7 @@ use cal_policy::{Action, Cause};
 use csv::ByteRecord;
 
 /// What an action row is, by its first field, its cause and its number of fields.
-#[derive(Clone, Copy, Debug, PartialEq, Eq)]
+#[derive(Clone, Copy)]
 pub(crate) enum ActionForm {
     /// `free,core`
     Free,
@@ -33,7 +35,7 @@ pub(crate) enum ActionForm {
 }
 
 /// How many cores, threads and tasks a table has: what a row names is below.
-#[derive(Clone, Copy, Debug, PartialEq, Eq)]
+#[derive(Clone, Copy)]
 pub(crate) struct Extent {
     /// How many cores, 2 to 128.
     pub cores: u8,
@@ -53,11 +55,20 @@ pub(crate) fn action_form(row: &ByteRecord) -> Option<ActionForm>
         Some(ActionForm::Unban)
     } else if is_row(row, b"ban".as_slice(), 4) {
         Some(ActionForm::Ban)
-    } else if is_row(row, b"revoke".as_slice(), 4) && is_word_at(row, 2, b"ban".as_slice()) {
+    } else {
+        later_action_form(row)
+    }
+}
+
+/// The form of a revocation, a cap or a grant.
+fn later_action_form(row: &ByteRecord) -> Option<ActionForm>
+    ensures { result ≡ later_action_form (fields_of row.now) }
+{
+    if is_revocation(row, 4, b"ban".as_slice()) {
         Some(ActionForm::RevokeForBan)
-    } else if is_row(row, b"revoke".as_slice(), 3) && is_word_at(row, 2, b"bandwidth".as_slice()) {
+    } else if is_revocation(row, 3, b"bandwidth".as_slice()) {
         Some(ActionForm::RevokeForBandwidth)
-    } else if is_row(row, b"revoke".as_slice(), 4) && is_word_at(row, 2, b"preempt".as_slice()) {
+    } else if is_revocation(row, 4, b"preempt".as_slice()) {
         Some(ActionForm::RevokeForTask)
     } else if is_row(row, b"cap".as_slice(), 3) {
         Some(ActionForm::Cap)
@@ -66,6 +77,14 @@ pub(crate) fn action_form(row: &ByteRecord) -> Option<ActionForm>
     } else {
         None
     }
+}
+
+/// Whether a row is a revocation for this cause, with so many fields.
+fn is_revocation(row: &ByteRecord, count: usize, cause: &[u8]) -> bool
+    ensures { result ≡ is_revocation count (fields_of row.now)
+        (is_word (field_at (fields_of row.now) 2) cause.now) }
+{
+    is_row(row, b"revoke".as_slice(), count) && is_word_at(row, 2, cause)
 }
 
 /// Reads an action row of this form. `Number` where a field is none, then `Range` where it names

@@ -13,7 +13,7 @@ use crate::fault::{FaultKind, TraceFault};
 use crate::history::action_rows::Extent;
 use crate::history::reading::HistoryReading;
 use crate::rows::Rows;
-use crate::rows::header::take_header;
+use crate::rows::header::open_under;
 use crate::rows::passes::next_pass;
 use cal_machine::Config;
 use cal_policy::PassEntry;
@@ -54,8 +54,7 @@ impl<'a> HistoryRows<'a> {
             (λ fault. Decided fault.kind
             (history_of (extent_of config.now) (rows_of text.now) ≡ Err fault)) }
     {
-        let mut rows = Rows::open(alloc, text);
-        let version = take_header(&mut rows, b"caladan-history".as_slice())?;
+        let (rows, version) = open_under(alloc, text, b"caladan-history".as_slice())?;
         let reading = HistoryReading::new(alloc, version, extent_of(config));
         Ok(HistoryRows { rows, reading })
     }
@@ -93,7 +92,26 @@ pub fn read_history(
         (history_of (extent_of config.now) (rows_of text.now)) }
 {
     let mut rows = HistoryRows::open(alloc, config, text)?;
+    all_passes(alloc, &mut rows)
+}
+
+/// All passes of a history of which none was given.
+fn all_passes(alloc: Global, rows: &mut HistoryRows) -> Result<Vec<PassEntry>, TraceFault>
+    requires { IsOpen rows.old }
+    ensures { (extent : Extent) (text : List ℕ) → HasGiven extent text [] rows.old →
+        Gives (λ history. history.items) result (history_of extent (rows_of text)) }
+{
     let mut history = Vec::new(alloc);
+    push_passes(rows, &mut history)?;
+    Ok(history)
+}
+
+/// Adds the passes still to come to those that were given.
+fn push_passes(rows: &mut HistoryRows, history: &mut Vec<PassEntry>) -> Result<(), TraceFault>
+    requires { IsOpen rows.old }
+    ensures { (extent : Extent) (text : List ℕ) → HasGiven extent text history.old.items rows.old →
+        Gives (λ _. history.new.items) result (history_of extent (rows_of text)) }
+{
     while let Some(entry) = rows.next()? {
         let Ok(()) = history.push(entry) else {
             return Err(TraceFault {
@@ -102,5 +120,5 @@ pub fn read_history(
             });
         };
     }
-    Ok(history)
+    Ok(())
 }

@@ -7,7 +7,7 @@ ghost use Rattle.csv.specs.Records.{fields_of};
 use crate::fault::FaultKind;
 use crate::history::action_rows::{ActionForm, Extent, action_form, action_row};
 use crate::rows::fields::is_row;
-use crate::rows::look_rows::{busy_row, end_row, pass_row, whole_row};
+use crate::rows::look_rows::{PassRow, busy_row, end_row, pass_row, whole_row};
 use crate::rows::passes::PassReading;
 use crate::rows::version::Version;
 use cal_policy::{Action, ActionList, Input, MOST_ACTIONS, PassEntry, Rooms, Seen, SeenList};
@@ -15,7 +15,7 @@ use csv::ByteRecord;
 use std::alloc::Global;
 
 /// What a look row is, by its first field and its number of fields.
-#[derive(Clone, Copy, Debug, PartialEq, Eq)]
+#[derive(Clone, Copy)]
 pub(crate) enum LookForm {
     /// A record that was kept.
     Whole,
@@ -28,7 +28,7 @@ pub(crate) enum LookForm {
 }
 
 /// What a row of a history is, by its first field and its number of fields.
-#[derive(Clone, Copy, Debug, PartialEq, Eq)]
+#[derive(Clone, Copy)]
 pub(crate) enum Form {
     /// The header once more, which cannot stand here.
     Header,
@@ -43,7 +43,7 @@ pub(crate) enum Form {
 }
 
 /// A look row: the look as it was judged, and whether the thread's ring had room.
-#[derive(Clone, Copy, Debug, PartialEq, Eq)]
+#[derive(Clone, Copy)]
 pub(crate) struct SeenRow {
     /// The look.
     pub seen: Seen,
@@ -127,8 +127,52 @@ struct OpenEntry {
 }
 
 impl OpenEntry {
-    ghost use Rattle.std.specs.Prelude.{◌≡◌};
+    ghost use Rattle.std.specs.Prelude.{◌≡◌, nat_lt, length, Ok, OnOk, IfOk, IfErr};
+    ghost use Rattle.cal_trace.specs.History.{begun, most_actions, with_action, with_look};
     ghost use Rattle.cal_trace.specs.History.Reading.{entry_at_hand};
+    ghost use Rattle.cal_trace.specs.Rows.Answers.{Takes};
+    ghost use Rattle.cal_trace.specs.Rows.LookRows.{check};
+    ghost use Rattle.cal_trace.specs.declared.fault.FaultKind.TheVariants as kind;
+
+    // A pass with room for the looks of so many threads. The error is want of memory.
+    fn begin(alloc: Global, threads: u8, pass: PassRow) -> Result<OpenEntry, FaultKind>
+        ensures begun { IfOk result (λ entry. entry_at_hand entry ≡ begun pass) }
+        ensures memory { IfErr result (λ k. k ≡ kind.Memory) }
+    {
+        let seen = Vec::with_capacity(alloc, threads as usize)?;
+        let rooms = Vec::with_capacity(alloc, threads as usize)?;
+        Ok(OpenEntry {
+            now: pass.now,
+            bandwidth: pass.bandwidth,
+            seen,
+            rooms,
+            actions: Vec::new(alloc),
+        })
+    }
+
+    // One more look. The error is want of memory.
+    fn add_look(&mut self, looked: SeenRow) -> Result<(), FaultKind>
+        ensures added { OnOk result
+            (entry_at_hand self.new ≡ with_look looked (entry_at_hand self.old)) }
+        ensures memory { IfErr result (λ k. k ≡ kind.Memory) }
+    {
+        self.seen.push(looked.seen)?;
+        self.rooms.push(looked.room)?;
+        Ok(())
+    }
+
+    // One more action, where the pass has not too many.
+    fn add_action(&mut self, action: Action) -> Result<(), FaultKind>
+        ensures { Takes (λ _. entry_at_hand self.new) result
+            (check (nat_lt (length (entry_at_hand self.old).actions) most_actions) kind.Range
+            (Ok (with_action action (entry_at_hand self.old)))) }
+    {
+        if self.actions.len() >= MOST_ACTIONS {
+            return Err(FaultKind::Range);
+        }
+        self.actions.push(action)?;
+        Ok(())
+    }
 
     fn close(self) -> PassEntry
         ensures { result ≡ entry_at_hand self }
@@ -236,17 +280,9 @@ impl HistoryReading {
             return Err(FaultKind::Order);
         }
         let pass = pass_row(row, self.passes)?;
-        let threads = self.extent.threads as usize;
-        let seen = Vec::with_capacity(self.alloc, threads)?;
-        let rooms = Vec::with_capacity(self.alloc, threads)?;
+        let entry = OpenEntry::begin(self.alloc, self.extent.threads, pass)?;
         let closed = self.close();
-        self.at_hand = Some(OpenEntry {
-            now: pass.now,
-            bandwidth: pass.bandwidth,
-            seen,
-            rooms,
-            actions: Vec::new(self.alloc),
-        });
+        self.at_hand = Some(entry);
         self.passes += 1;
         Ok(closed)
     }
@@ -279,11 +315,10 @@ impl HistoryReading {
     {
         let thread = self.next_thread()?;
         let looked = seen_row(row, look, thread)?;
-        if let Some(entry) = &mut self.at_hand {
-            entry.seen.push(looked.seen)?;
-            entry.rooms.push(looked.room)?;
+        match &mut self.at_hand {
+            Some(entry) => entry.add_look(looked),
+            None => Ok(()),
         }
-        Ok(())
     }
 
     fn take_action(&mut self, row: &ByteRecord, action: ActionForm) -> Result<(), FaultKind>
@@ -297,12 +332,7 @@ impl HistoryReading {
     {
         match &mut self.at_hand {
             Some(entry) if entry.seen.len() == self.extent.threads as usize => {
-                let action = action_row(row, action, self.extent)?;
-                if entry.actions.len() >= MOST_ACTIONS {
-                    return Err(FaultKind::Range);
-                }
-                entry.actions.push(action)?;
-                Ok(())
+                entry.add_action(action_row(row, action, self.extent)?)
             }
             _ => Err(FaultKind::Order),
         }

@@ -80,7 +80,7 @@ ghost use Rattle.std.specs.Prelude.{List};
 ghost use Rattle.cal_machine.specs.declared.request.Request.{Request};
 
 /// How many entries of a journal tell of a command taken, a record published, a request served.
-#[derive(Clone, Copy, Debug, PartialEq, Eq)]
+#[derive(Clone, Copy)]
 struct Tally {
     taken: usize,
     published: usize,

@@ -17,7 +17,7 @@ use csv::ByteRecord;
 pub const MOST_PASSES: usize = 1_048_576;
 
 /// The clock and the bandwidth figure of a pass row.
-#[derive(Clone, Copy, Debug, PartialEq, Eq)]
+#[derive(Clone, Copy)]
 pub(crate) struct PassRow {
     /// The clock, in ticks.
     pub now: u64,
@@ -26,7 +26,7 @@ pub(crate) struct PassRow {
 }
 
 /// A row of a look that found a whole record.
-#[derive(Clone, Copy, Debug, PartialEq, Eq)]
+#[derive(Clone, Copy)]
 pub(crate) struct WholeRow {
     /// Whether the thread's command ring had room.
     pub room: bool,
@@ -35,7 +35,7 @@ pub(crate) struct WholeRow {
 }
 
 /// A row of a look that found a page busy.
-#[derive(Clone, Copy, Debug, PartialEq, Eq)]
+#[derive(Clone, Copy)]
 pub(crate) struct BusyRow {
     /// Whether the thread's command ring had room.
     pub room: bool,
@@ -70,7 +70,7 @@ fn names_thread(row: &ByteRecord, thread: usize) -> bool
 }
 
 /// The numbers of a row of a whole record.
-#[derive(Clone, Copy, Debug, PartialEq, Eq)]
+#[derive(Clone, Copy)]
 struct WholeNumbers {
     thread: u64,
     room: u64,

@@ -8,7 +8,7 @@ use crate::rows::fields::{is_row, is_word_at};
 use csv::ByteRecord;
 
 /// The version of a file of signals or of a history.
-#[derive(Clone, Copy, Debug, PartialEq, Eq)]
+#[derive(Clone, Copy)]
 pub enum Version {
     /// Records have seven words, and `paused` and `since` are 0. It is read, and not written.
     One,

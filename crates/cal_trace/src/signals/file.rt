@@ -10,7 +10,7 @@ ghost use Rattle.cal_trace.specs.declared.signals.SignalPass.{SignalPass};
 
 use crate::fault::{FaultKind, TraceFault};
 use crate::rows::Rows;
-use crate::rows::header::take_header;
+use crate::rows::header::open_under;
 use crate::signals::reading::SignalReading;
 use crate::signals::{SignalPass, SignalPasses, Signals};
 use cal_machine::Config;
@@ -42,8 +42,7 @@ impl<'a> SignalRows<'a> {
             (λ fault. Decided fault.kind
             (signals_of (threads_in config.now.tasks) (rows_of text.now) ≡ Err fault)) }
     {
-        let mut rows = Rows::open(alloc, text);
-        let version = take_header(&mut rows, b"caladan-signals".as_slice())?;
+        let (rows, version) = open_under(alloc, text, b"caladan-signals".as_slice())?;
         match SignalReading::new(alloc, version, config.threads()) {
             Ok(reading) => Ok(SignalRows { rows, reading }),
             Err(kind) => Err(TraceFault { row: 1, kind }),
@@ -98,7 +97,28 @@ pub fn read_signals(alloc: Global, config: &Config, text: &[u8]) -> Result<Signa
         (signals_of (threads_in config.now.tasks) (rows_of text.now)) }
 {
     let mut signals = SignalRows::open(alloc, config, text)?;
+    all_passes(alloc, &mut signals)
+}
+
+/// All passes of a file of which none was given.
+fn all_passes(alloc: Global, signals: &mut SignalRows) -> Result<Signals, TraceFault>
+    requires { IsOpen signals.old }
+    ensures { (threads : ℕ) (text : List ℕ) → HasGiven threads text [] signals.old →
+        Gives (λ signals. signals.passes) result (signals_of threads (rows_of text)) }
+{
     let mut passes = Vec::new(alloc);
+    push_passes(signals, &mut passes)?;
+    Ok(Signals {
+        passes: SignalPasses::new(passes),
+    })
+}
+
+/// Adds the passes still to come to those that were given.
+fn push_passes(signals: &mut SignalRows, passes: &mut Vec<SignalPass>) -> Result<(), TraceFault>
+    requires { IsOpen signals.old }
+    ensures { (threads : ℕ) (text : List ℕ) → HasGiven threads text passes.old.items signals.old →
+        Gives (λ _. passes.new.items) result (signals_of threads (rows_of text)) }
+{
     while let Some(pass) = signals.next()? {
         let Ok(()) = passes.push(pass) else {
             return Err(TraceFault {
@@ -107,7 +127,5 @@ pub fn read_signals(alloc: Global, config: &Config, text: &[u8]) -> Result<Signa
             });
         };
     }
-    Ok(Signals {
-        passes: SignalPasses::new(passes),
-    })
+    Ok(())
 }

@@ -15,7 +15,7 @@ use csv::ByteRecord;
 use std::alloc::Global;
 
 /// What a row of a file of signals is, by its first field and its number of fields.
-#[derive(Clone, Copy, Debug, PartialEq, Eq)]
+#[derive(Clone, Copy)]
 pub(crate) enum Form {
     /// The header once more, which cannot stand here.
     Header,
