@@ -1,25 +1,26 @@
--- One more of what was recorded.
-use Rattle.std.proofs.Common.{◌≡◌, ◌++◌, ◌∷◌, [], List, map}
-use Rattle.std.proofs.lemmas.List.{map-append}
-use Rattle.cal_policy.specs.History.Looks.{look_of}
-use Rattle.cal_policy.specs.declared.history.look.Seen.{Seen}
-use Rattle.cal_policy.specs.declared.history.action.Action.{Action}
-use Rattle.caladan_c.specs.Found.{look_in}
-use Rattle.caladan_c.specs.Recorded.{room_in}
-use Rattle.caladan_c.specs.Told.{judgement_of, told_of}
-use Rattle.caladan_c.specs.declared.found.Found.{Found}
+-- One more of what was recorded, read back at the end of a list.
+use Rattle.std.proofs.Common.{◌≡◌, ℕ, ◌+◌, ◌<◌, ◌++◌, ◌∷◌, [], List, length, map, take, get_or, sym, ap, ◌∙◌}
+use Rattle.std.proofs.lemmas.List.{map-append, map_more, take_more}
 
-pub looks_more : (seen : List Seen) (one : Seen) → map look_of (seen ++ one ∷ []) ≡ map look_of seen ++ look_of one ∷ []
-looks_more seen one = map-append look_of seen (one ∷ [])
+-- the new one tells what the next one is
+pub image_more : {A B C : Type 0} (f : A → B) (g : C → B) (xs : List C) (i : ℕ) (d : C) (old new : List A) (one : A)
+    → i < length xs → map f old ≡ map g (take i xs) → f one ≡ g (get_or xs i d) → new ≡ old ++ one ∷ []
+    → map f new ≡ map g (take (i + 1) xs)
+image_more f g xs i d old new one lt before is pushed =
+    ap (map f) pushed ∙ map-append f old (one ∷ []) ∙ ap (λ l. l ++ f one ∷ []) before
+    ∙ ap (λ b. map g (take i xs) ++ b ∷ []) is ∙ sym (map_more g xs i d lt)
 
-pub found_looks_more : (looks : List Found) (one : Found) → map look_in (looks ++ one ∷ []) ≡ map look_in looks ++ look_in one ∷ []
-found_looks_more looks one = map-append look_in looks (one ∷ [])
+-- the new one is what the next one tells
+pub told_more : {A B : Type 0} (f : A → B) (xs : List A) (i : ℕ) (d : A) (old new : List B) (one : B)
+    → i < length xs → old ≡ map f (take i xs) → one ≡ f (get_or xs i d) → new ≡ old ++ one ∷ []
+    → new ≡ map f (take (i + 1) xs)
+told_more f xs i d old new one lt before is pushed =
+    pushed ∙ ap (λ l. l ++ one ∷ []) before ∙ ap (λ b. map f (take i xs) ++ b ∷ []) is ∙ sym (map_more f xs i d lt)
 
-pub judged_more : (seen : List Seen) (one : Seen) → map judgement_of (seen ++ one ∷ []) ≡ map judgement_of seen ++ judgement_of one ∷ []
-judged_more seen one = map-append judgement_of seen (one ∷ [])
-
-pub rooms_more : (looks : List Found) (one : Found) → map room_in (looks ++ one ∷ []) ≡ map room_in looks ++ room_in one ∷ []
-rooms_more looks one = map-append room_in looks (one ∷ [])
-
-pub actions_more : (actions : List Action) (one : Action) → map told_of (actions ++ one ∷ []) ≡ map told_of actions ++ told_of one ∷ []
-actions_more actions one = map-append told_of actions (one ∷ [])
+-- the new one tells the next one
+pub taken_more : {A B : Type 0} (f : A → B) (xs : List B) (i : ℕ) (d : B) (old new : List A) (one : A)
+    → i < length xs → map f old ≡ take i xs → f one ≡ get_or xs i d → new ≡ old ++ one ∷ []
+    → map f new ≡ take (i + 1) xs
+taken_more f xs i d old new one lt before is pushed =
+    ap (map f) pushed ∙ map-append f old (one ∷ []) ∙ ap (λ l. l ++ f one ∷ []) before
+    ∙ ap (λ b. take i xs ++ b ∷ []) is ∙ sym (take_more xs i d lt)

@@ -1,6 +1,6 @@
 -- What a pass makes of a scheduler.
 use Rattle.std.proofs.Common.{◌≡◌, ℕ, ◌+◌, ◌<◌, ◌≤◌, ◌++◌, ◌∷◌, [], Bool, List, length, map, take, get_or, refl, sym, ap, subst, ◌∙◌, arith}
-use Rattle.std.proofs.lemmas.List.{map-append, length-map, length-take-le, take_more}
+use Rattle.std.proofs.lemmas.List.{map-append, map_more, length-map, length-take-le, take_more}
 use Rattle.cal_lists.proofs.Last.{slice_get-last}
 use Rattle.cal_machine.specs.Table.{Table, IsTable}
 use Rattle.cal_policy.specs.declared.book.Book.{Book}
@@ -10,7 +10,7 @@ use Rattle.cal_policy.specs.declared.history.action.Action.{Action}
 use Rattle.cal_policy.specs.declared.history.entry.PassEntry.{PassEntry}
 use Rattle.cal_policy.specs.declared.history.input.Input.{Input}
 use Rattle.cal_policy.specs.Book.{AgreesWith}
-use Rattle.cal_policy.specs.Judgement.OpenInput.{judged_looks, rooms_found}
+use Rattle.cal_policy.specs.Judgement.OpenInput.{IsOfFound, OpenView, judged_looks, rooms_found}
 use Rattle.cal_policy.specs.History.{actions_of}
 use Rattle.cal_policy.specs.Judgement.Judging.{IsInput, judged}
 use Rattle.cal_policy.proofs.JudgementLemmas.OpenInput.{judged_looks-append, rooms_found-append}
@@ -23,8 +23,16 @@ use Rattle.caladan_c.specs.Passing.{StandsAfter, IsPassed, passed}
 use Rattle.caladan_c.specs.Standing.{Standing}
 
 -- one more was found
-pub founds_more : (looks : List Found) (one : Found) → map found_of (looks ++ one ∷ []) ≡ map found_of looks ++ found_of one ∷ []
+founds_more : (looks : List Found) (one : Found) → map found_of (looks ++ one ∷ []) ≡ map found_of looks ++ found_of one ∷ []
 founds_more looks one = map-append found_of looks (one ∷ [])
+
+-- the next look was taken
+pub found_taken : (table : Table) (h : List PassEntry) (looks : List Found) (k : ℕ) (d : Found) (f : FoundLook) (new : OpenView)
+    → k < length looks → f ≡ found_of (get_or looks k d) → IsOfFound table h (map found_of (take k looks) ++ f ∷ []) new
+    → IsOfFound table h (map found_of (take (k + 1) looks)) new
+found_taken table h looks k d f new lt is given =
+    subst (λ (xs : List FoundLook). IsOfFound table h xs new)
+    (ap (λ (g : FoundLook). map found_of (take k looks) ++ g ∷ []) is ∙ sym (map_more found_of looks k d lt)) given
 
 -- one more was found and judged
 pub judged_more : (table : Table) (h : List PassEntry) (looks : List Found) (one : Found)

@@ -1,11 +1,14 @@
 //! What a call answers.
 
-ghost use Rattle.std.specs.Prelude.{◌≡◌};
+ghost use Rattle.std.specs.Prelude.{◌≡◌, ◌≢◌};
+ghost use Rattle.caladan_c.specs.declared.answer.Refusal.TheVariants.{Memory, NoAction};
+ghost use Rattle.caladan_c.specs.declared.answer.Refusal.TheVariants.{NoJudgement, NoRoom, Unfit};
+ghost use Rattle.caladan_c.specs.declared.answer.Refusal.TheVariants.{WrongCount};
 
 use std::alloc::AllocError;
 
 /// Why a call did nothing. `refusal as u8` is its number.
-#[derive(Clone, Copy, Debug, PartialEq, Eq)]
+#[derive(Clone, Copy)]
 pub enum Refusal {
     /// Memory was refused.
     Memory = 9,
@@ -27,9 +30,26 @@ pub enum Refusal {
     NoJudgement = 19,
 }
 
-impl From<AllocError> for Refusal {
-    ghost use Rattle.caladan_c.specs.declared.answer.Refusal.TheVariants.{Memory};
+impl Refusal {
+    /// Its number, which is none that a call answers where it did something.
+    pub fn number(self) -> u8
+        ensures refused { result ≢ 0 }
+        ensures not_stopped { result ≢ 18 }
+        ensures memory { self ≡ Memory → result ≡ 9 }
+        ensures wrong_count { self ≡ WrongCount → result ≡ 13 }
+        ensures no_room { self ≡ NoRoom → result ≡ 14 }
+        ensures unfit { self ≡ Unfit → result ≡ 15 }
+        ensures no_action { self ≡ NoAction → result ≡ 17 }
+        ensures no_judgement { self ≡ NoJudgement → result ≡ 19 }
+        ensures of_15 { result ≡ 15 → self ≡ Unfit }
+        ensures of_17 { result ≡ 17 → self ≡ NoAction }
+        ensures of_19 { result ≡ 19 → self ≡ NoJudgement }
+    {
+        self as u8
+    }
+}
 
+impl From<AllocError> for Refusal {
     ghost from_gives = { λ _ e. e ≡ Memory };
 
     fn from(_e: AllocError) -> Refusal {

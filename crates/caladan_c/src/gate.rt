@@ -19,7 +19,7 @@ ghost use Rattle.std.specs.Option.{is_some, IfSome};
 use crate::answer::Refusal;
 use crate::found::{Found, found_look};
 use crate::recorded::read_actions;
-use crate::scheduler::nothing;
+use crate::scheduler::{nothing, with_room};
 use crate::told::Told;
 use crate::told::counts::Counts;
 use crate::told::judgement::tell_judgements;
@@ -83,6 +83,25 @@ fn judge_looks(
     })
 }
 
+/// Makes of the last pass's input that of the next one.
+fn judge_again(
+    input: &mut Input,
+    alloc: Global,
+    config: &Config,
+    guard: &Guard,
+    now: u64,
+    bandwidth: u64,
+    looks: &[Found],
+) -> Result<(), AllocError>
+    requires { length looks.now ≡ threads_of_table config.now }
+    ensures { IfOk result (λ _. (h : List PassEntry) → Keeps guard.now h →
+        input.new ≡ input_of config.now h now bandwidth looks.now) }
+{
+    let used = mem::replace(input, nothing(alloc));
+    *input = judge_looks(used, config, guard, now, bandwidth, looks)?;
+    Ok(())
+}
+
 ghost use Rattle.caladan_c.specs.Gated.{GuardsAfter, WentThrough, WasStopped};
 ghost use Rattle.caladan_c.specs.declared.answer.Refusal.TheVariants.{Memory, Unfit, NoAction};
 
@@ -96,14 +115,7 @@ impl Gate {
         let config = Config::read(alloc, table)?;
         let guard = Guard::open(alloc, &config)?;
         let chosen = Vec::with_capacity(alloc, MOST_ACTIONS)?;
-        let seen = Vec::with_capacity(alloc, config.threads())?;
-        let rooms = Vec::with_capacity(alloc, config.threads())?;
-        let used = Input {
-            now: 0,
-            bandwidth: 0,
-            seen: SeenList::new(seen),
-            rooms: Rooms::new(rooms),
-        };
+        let used = with_room(alloc, config.threads())?;
         Ok(Gate {
             config,
             guard,
@@ -184,25 +196,16 @@ impl Gate {
         ensures refused { OnErr result ((self.new ≡ self.old) × (judged.new ≡ judged.old)) }
     {
         read_actions(&mut self.chosen, told)?;
-        let used = mem::replace(&mut self.used, nothing(alloc));
-        let input = judge_looks(used, &self.config, &self.guard, now, bandwidth, looks)?;
-        if !self.guard.fits(&self.config, &input) {
-            self.used = input;
+        let (config, guard) = (&self.config, &self.guard);
+        judge_again(&mut self.used, alloc, config, guard, now, bandwidth, looks)?;
+        if !self.guard.fits(&self.config, &self.used) {
             return Err(Refusal::Unfit);
         }
-        match self
-            .guard
-            .step(&self.config, &input, self.chosen.as_slice())
-        {
-            Ok(()) => {
-                tell_judgements(input.seen.as_slice(), judged);
-                self.used = input;
-                Ok(None)
-            }
-            Err(refused) => {
-                self.used = input;
-                Ok(Some(refused))
-            }
+        let chosen = self.chosen.as_slice();
+        if let Err(refused) = self.guard.step(&self.config, &self.used, chosen) {
+            return Ok(Some(refused));
         }
+        tell_judgements(self.used.seen.as_slice(), judged);
+        Ok(None)
     }
 }

@@ -172,19 +172,50 @@ pub extern "C" fn caladan_pass(
     match handle.take(alloc) {
         None => Refusal::Closed as u8,
         Some(mut kept) => {
-            let answer = pass(
+            let answer = answer_pass(
                 &mut kept, alloc, now, bandwidth, looks, judged, actions, made,
             );
             *handle = Handle::of(kept);
-            match answer {
-                Ok(()) => 0,
-                Err(refusal) => refusal as u8,
-            }
+            answer
         }
     }
 }
 
 /// The same of an open handle's scheduler.
+fn answer_pass(
+    kept: &mut Scheduler,
+    alloc: Global,
+    now: u64,
+    bandwidth: u64,
+    looks: &[Found],
+    judged: &mut [u8],
+    actions: &mut [Told],
+    made: &mut usize,
+) -> u8
+    requires { made.old ≡ 0 }
+    ensures passed { result ≡ 0 → (h : List PassEntry) → StandsAfter kept.old h →
+        IsPassed kept.old h (input_of kept.old.table h now bandwidth looks.now) kept.new
+        × AreTold kept.new.made made.new actions.new }
+    ensures judged { result ≡ 0 → (h : List PassEntry) → StandsAfter kept.old h →
+        AreJudgements (input_of kept.old.table h now bandwidth looks.now).seen judged.new }
+    ensures unfit { result ≡ 15 → (h : List PassEntry) → StandsAfter kept.old h →
+        IsInput kept.old.table h (input_of kept.old.table h now bandwidth looks.now) → ⊥ }
+    ensures wrong_count { length looks.now ≢ threads_of_table kept.old.table → result ≡ 13 }
+    ensures no_room { length looks.now ≡ threads_of_table kept.old.table →
+        IsShort (threads_of_table kept.old.table) judged.old actions.old → result ≡ 14 }
+    ensures answers { length looks.now ≡ threads_of_table kept.old.table →
+        HasRoom (threads_of_table kept.old.table) judged.old actions.old →
+        (result ≡ 0) ⊎ (result ≡ 15) ⊎ (result ≡ 9) }
+    ensures refused { result ≢ 0 → (kept.new ≡ kept.old)
+        × (actions.new ≡ actions.old) × (judged.new ≡ judged.old) × (made.new ≡ 0) }
+{
+    match pass(kept, alloc, now, bandwidth, looks, judged, actions, made) {
+        Ok(()) => 0,
+        Err(refusal) => refusal.number(),
+    }
+}
+
+/// The same, with why it did nothing.
 fn pass(
     kept: &mut Scheduler,
     alloc: Global,
@@ -373,7 +404,7 @@ pub extern "C" fn caladan_audit_pass(
             *handle = AuditHandle::of(kept);
             match answer {
                 Ok(()) => 0,
-                Err(refusal) => refusal as u8,
+                Err(refusal) => refusal.number(),
             }
         }
     }
@@ -529,21 +560,58 @@ pub extern "C" fn caladan_guard_pass(
     match handle.take(alloc) {
         None => Refusal::Closed as u8,
         Some(mut kept) => {
-            let said = guarded_pass(&mut kept, alloc, now, bandwidth, looks, judged, actions);
+            let answer = answer_guarded_pass(
+                &mut kept, alloc, now, bandwidth, looks, judged, actions, refused,
+            );
             *handle = GateHandle::of(kept);
-            match said {
-                Ok(None) => 0,
-                Ok(Some(first)) => {
-                    *refused = tell_refused(first);
-                    18
-                }
-                Err(refusal) => refusal as u8,
-            }
+            answer
         }
     }
 }
 
 /// The same of an open handle's gate.
+fn answer_guarded_pass(
+    kept: &mut Gate,
+    alloc: Global,
+    now: u64,
+    bandwidth: u64,
+    looks: &[Found],
+    judged: &mut [u8],
+    actions: &[Told],
+    refused: &mut ToldRefused,
+) -> u8
+    ensures through { result ≡ 0 → (h : List PassEntry) → GuardsAfter kept.old h →
+        WentThrough kept.old h (input_of kept.old.table h now bandwidth looks.now) actions.now
+        kept.new }
+    ensures judged { result ≡ 0 → (h : List PassEntry) → GuardsAfter kept.old h →
+        AreJudgements (input_of kept.old.table h now bandwidth looks.now).seen judged.new }
+    ensures stopped { result ≡ 18 → (h : List PassEntry) → GuardsAfter kept.old h →
+        WasStoppedAt kept.old h (input_of kept.old.table h now bandwidth looks.now) actions.now
+        refused.new }
+    ensures unfit { result ≡ 15 → (h : List PassEntry) → GuardsAfter kept.old h →
+        IsInput kept.old.table h (input_of kept.old.table h now bandwidth looks.now) → ⊥ }
+    ensures no_action { result ≡ 17 → (chosen : List Action) →
+        map told_of chosen ≡ actions.now → ⊥ }
+    ensures wrong_count { length looks.now ≢ threads_of_table kept.old.table → result ≡ 13 }
+    ensures no_room { length looks.now ≡ threads_of_table kept.old.table →
+        length judged.old < threads_of_table kept.old.table → result ≡ 14 }
+    ensures answers { length looks.now ≡ threads_of_table kept.old.table →
+        threads_of_table kept.old.table ≤ length judged.old →
+        (result ≡ 0) ⊎ (result ≡ 18) ⊎ (result ≡ 15) ⊎ (result ≡ 17) ⊎ (result ≡ 9) }
+    ensures unchanged { result ≢ 0 → (kept.new ≡ kept.old) × (judged.new ≡ judged.old) }
+    ensures told { result ≢ 18 → refused.new ≡ refused.old }
+{
+    match guarded_pass(kept, alloc, now, bandwidth, looks, judged, actions) {
+        Ok(None) => 0,
+        Ok(Some(first)) => {
+            *refused = tell_refused(first);
+            18
+        }
+        Err(refusal) => refusal.number(),
+    }
+}
+
+/// The same, with the first action that is not permitted, or why it did nothing.
 fn guarded_pass(
     kept: &mut Gate,
     alloc: Global,

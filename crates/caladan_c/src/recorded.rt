@@ -43,7 +43,6 @@ fn seen_of(found: &Found, judged: u8) -> Option<Seen>
 }
 
 /// The judged looks.
-#[tactic(auto, using(crate::proofs::OneMore::looks_more, crate::proofs::OneMore::found_looks_more, crate::proofs::OneMore::judged_more))]
 fn seen_in(alloc: Global, looks: &[Found], judged: &[u8]) -> Result<SeenList, Refusal>
     requires { length looks.now ≡ length judged.now }
     ensures looks { IfOk result (λ seen. map look_of seen ≡ map look_in looks.now) }
@@ -65,14 +64,20 @@ fn seen_in(alloc: Global, looks: &[Found], judged: &[u8]) -> Result<SeenList, Re
     Ok(SeenList::new(seen))
 }
 
+/// Whether its ring had room.
+fn had_room(found: &Found) -> bool
+    ensures { result ≡ room_in found.now }
+{
+    found.room != 0
+}
+
 /// Which rings had room.
-#[tactic(auto, using(crate::proofs::OneMore::rooms_more))]
 fn rooms_in(alloc: Global, looks: &[Found]) -> Result<Rooms, AllocError>
     ensures { IfOk result (λ rooms. rooms ≡ map room_in looks.now) }
 {
     let mut rooms = Vec::with_capacity(alloc, looks.len())?;
     for one in looks {
-        rooms.push(one.room != 0)?;
+        rooms.push(had_room(one))?;
     }
     Ok(Rooms::new(rooms))
 }
@@ -141,7 +146,6 @@ fn action_in(told: &Told) -> Option<Action>
 
 /// Reads the actions into a list that is used again. It takes memory only where that has too little
 /// room.
-#[tactic(auto, using(crate::proofs::OneMore::actions_more))]
 pub fn read_actions(actions: &mut Vec<Action>, told: &[Told]) -> Result<(), Refusal>
     ensures actions { IfOk result (λ _. map told_of actions.new.items ≡ told.now) }
     ensures none { result ≡ Err NoAction → (actions : List Action) →

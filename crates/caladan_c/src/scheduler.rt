@@ -59,8 +59,19 @@ pub fn nothing(alloc: Global) -> Input {
     }
 }
 
+/// An input of nothing, with room for so many looks.
+pub fn with_room(alloc: Global, threads: usize) -> Result<Input, AllocError> {
+    let seen = Vec::with_capacity(alloc, threads)?;
+    let rooms = Vec::with_capacity(alloc, threads)?;
+    Ok(Input {
+        now: 0,
+        bandwidth: 0,
+        seen: SeenList::new(seen),
+        rooms: Rooms::new(rooms),
+    })
+}
+
 /// The input of the next pass of a book, of what was found, in the memory of one that is used up.
-#[tactic(auto, using(crate::proofs::Passed::founds_more))]
 fn judge_looks(
     used: Input,
     config: &Config,
@@ -81,6 +92,26 @@ fn judge_looks(
     Ok(open.finish(now, bandwidth))
 }
 
+/// Makes of the last pass's input that of the next one.
+fn judge_again(
+    input: &mut Input,
+    alloc: Global,
+    config: &Config,
+    book: &Book,
+    now: u64,
+    bandwidth: u64,
+    looks: &[Found],
+) -> Result<(), AllocError>
+    requires { length looks.now ≡ threads_of_table config.now }
+    ensures judged { IfOk result (λ _. (h : List PassEntry) → AgreesWith book.now h →
+        input.new ≡ input_of config.now h now bandwidth looks.now) }
+    ensures sizes { IfOk result (λ _. HasSizes config.now input.new) }
+{
+    let used = mem::replace(input, nothing(alloc));
+    *input = judge_looks(used, config, book, now, bandwidth, looks)?;
+    Ok(())
+}
+
 ghost use Rattle.caladan_c.specs.Passing.{StandsAfter, IsPassed};
 ghost use Rattle.caladan_c.specs.Told.{AreJudgements};
 ghost use Rattle.caladan_c.specs.declared.answer.Refusal.TheVariants.{Memory, Unfit};
@@ -95,14 +126,7 @@ impl Scheduler {
         let config = Config::read(alloc, table)?;
         let book = Book::open(alloc, &config)?;
         let made = Actions::reserved(alloc)?;
-        let seen = Vec::with_capacity(alloc, config.threads())?;
-        let rooms = Vec::with_capacity(alloc, config.threads())?;
-        let used = Input {
-            now: 0,
-            bandwidth: 0,
-            seen: SeenList::new(seen),
-            rooms: Rooms::new(rooms),
-        };
+        let used = with_room(alloc, config.threads())?;
         Ok(Scheduler {
             config,
             book,
@@ -184,19 +208,17 @@ impl Scheduler {
         ensures why { IfErr result (λ why. (why ≡ Unfit) ⊎ (why ≡ Memory)) }
         ensures refused { OnErr result ((self.new ≡ self.old) × (judged.new ≡ judged.old)) }
     {
-        let used = mem::replace(&mut self.used, nothing(alloc));
-        let input = judge_looks(used, &self.config, &self.book, now, bandwidth, looks)?;
-        if !self.book.made_fits(&self.config, &input) {
-            self.used = input;
+        let (config, book) = (&self.config, &self.book);
+        judge_again(&mut self.used, alloc, config, book, now, bandwidth, looks)?;
+        if !self.book.made_fits(&self.config, &self.used) {
             return Err(Refusal::Unfit);
         }
         self.config.limits();
         legal_is_short();
         one_pass_more_is_legal();
         self.made.clear();
-        self.book.step(&self.config, &input, &mut self.made);
-        tell_judgements(input.seen.as_slice(), judged);
-        self.used = input;
+        self.book.step(&self.config, &self.used, &mut self.made);
+        tell_judgements(self.used.seen.as_slice(), judged);
         Ok(())
     }
 }

@@ -1,11 +1,21 @@
-use Rattle.std.proofs.Common.{◌<◌, length, arith, refl, ap, ◌∙◌}
+use Rattle.std.proofs.Common.{rules, ◌≡◌, ◌<◌, ◌++◌, ◌∷◌, [], length, arith, refl, ap, ◌∙◌}
 use Rattle.std.specs.Option.{option_map}
 use Rattle.std.proofs.lemmas.Option.{slice_get-get_or, slice_get-map}
 use Rattle.cal_policy.specs.History.Looks.{look_of}
 use Rattle.caladan_c.specs.Found.{look_in}
 use Rattle.caladan_c.specs.Told.{judgement_of}
 use Rattle.caladan_c.proofs.NoneSuch.{none_such_both}
+use Rattle.caladan_c.proofs.OneMore.{image_more, taken_more}
 use Rattle.caladan_c.proofs.recorded.seen_in.Goals as goal
+
+pub loop-k-preserved : goal.loop-k-preserved
+loop-k-preserved c =
+    let within : c.loop-k.k < length c.args.judged.now = omega (arith, c.requires, c.loop-k-test.true) in
+    let pushed : c.push.new.self.items ≡ c.loop-k.seen.items ++ c.in-Some.look ∷ [] = search rules in
+    record {
+      looks = image_more look_of look_in c.args.looks.now c.loop-k.k _ _ _ c.in-Some.look c.loop-k-test.true c.loop-k.invariant.looks (c.in-Some.ensures.some).0 pushed;
+      judged = taken_more judgement_of c.args.judged.now c.loop-k.k _ _ _ c.in-Some.look within c.loop-k.invariant.judged (c.in-Some.ensures.some).1 pushed;
+    }
 
 pub returns-in-None-clause-none : goal.returns-in-None-clause-none
 returns-in-None-clause-none c = λ _ seen e d.
