@@ -3,7 +3,7 @@
 use super::run;
 use cal_command::Command;
 use cal_kthread::Entry;
-use cal_policy::{Action, Cause, Seen};
+use cal_policy::{Action, Cause, PassEntry, Seen};
 use cal_run::{Outcome, SimFault};
 use cal_threads::Gate;
 use std::sync::atomic::{AtomicU64, Ordering};
@@ -105,26 +105,44 @@ impl Gate for InStep {
     }
 }
 
-fn grant(core: u8, thread: u8, class: u8) -> Action {
-    Action::Grant {
+fn grant(core: u8, thread: u8, class: u8) -> Option<Action> {
+    Some(Action::Grant {
         core,
         thread,
         class,
-    }
+    })
+}
+
+/// Whether these are all the actions of a pass.
+fn are_all(actions: &[Action], first: Option<Action>, second: Option<Action>) -> bool {
+    actions.len() < 3 && actions.first().copied() == first && actions.get(1).copied() == second
 }
 
 /// Whether these are the actions of the first passes.
-fn begins_with(outcome: &Outcome, passes: &[&[Action]]) -> bool {
-    let history = outcome.history.as_slice();
-    if history.len() < passes.len() {
-        return false;
-    }
-    for (entry, actions) in history.iter().zip(passes.iter()) {
-        if entry.actions.as_slice() != *actions {
+fn begins_with(history: &[PassEntry], passes: &[(Option<Action>, Option<Action>)]) -> bool {
+    for (entry, (first, second)) in history.iter().zip(passes.iter()) {
+        if !are_all(entry.actions.as_slice(), *first, *second) {
             return false;
         }
     }
-    true
+    history.len() >= passes.len()
+}
+
+/// Whether the best-effort task has both cores, is preempted on the first and has it back.
+fn is_preempted(outcome: &Outcome) -> bool {
+    let core = 0;
+    let cause = Cause::Preempt { task: 0 };
+    let (free, revoke) = (Action::Free { core }, Action::Revoke { core, cause });
+    let passes = [
+        (None, None),
+        (grant(0, 1, 3), None),
+        (grant(1, 2, 1), None),
+        (Some(revoke), None),
+        (Some(free), grant(0, 0, 3)),
+        (None, None),
+        (Some(free), grant(0, 1, 1)),
+    ];
+    begins_with(outcome.history.as_slice(), &passes)
 }
 
 // With `workers_on_one_thread` pass 1 waits in vain.
@@ -134,18 +152,7 @@ fn passes_and_turns_in_step(rt: HostRuntime) -> Result<(), Fail> {
         asked: Asked::new(),
     };
     let outcome = run(&rt, rt.alloc(), PREEMPTION_TABLE, PREEMPTION, &gate)??;
-    let free = Action::Free { core: 0 };
-    let cause = Cause::Preempt { task: 0 };
-    let passes: [&[Action]; 7] = [
-        &[],
-        &[grant(0, 1, 3)],
-        &[grant(1, 2, 1)],
-        &[Action::Revoke { core: 0, cause }],
-        &[free, grant(0, 0, 3)],
-        &[],
-        &[free, grant(0, 1, 1)],
-    ];
-    assert!(rt; begins_with(&outcome, &passes));
+    assert!(rt; is_preempted(&outcome));
     Ok(())
 }
 

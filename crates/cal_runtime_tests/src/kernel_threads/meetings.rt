@@ -1,6 +1,7 @@
 //! Two kernel threads of a task, each in a thread of its own, steal from a third at the same time.
-ghost use Rattle.std.specs.Prelude.{◌≡◌, [], ◌∷◌, IfOk, IfSome};
-ghost use Rattle.cal_kthread.specs.Team.{place_of};
+ghost use Rattle.std.specs.Prelude.{◌≡◌, [], ◌∷◌, IfOk, IfSome, length, map};
+ghost use Rattle.cal_kthread.specs.Team.{IsTeam, place_of};
+ghost use Rattle.cal_machine.specs.Tasks.{threads_in};
 
 use super::{THREE_THREADS, add_names, ends_of, left_of_all, request, send, turn};
 use cal_command::{Command, Sender};
@@ -18,13 +19,15 @@ fn three_of(threads: Vec<KernelThread>) -> Option<(KernelThread, KernelThread, K
     ensures { IfSome result (λ three. threads.items ≡ three.0 ∷ three.1 ∷ three.2 ∷ []) }
 {
     let mut threads = threads;
-    let third = threads.pop()?;
-    let second = threads.pop()?;
-    let first = threads.pop()?;
-    if threads.is_empty() {
-        return Some((first, second, third));
+    match (
+        threads.pop(),
+        threads.pop(),
+        threads.pop(),
+        threads.is_empty(),
+    ) {
+        (Some(third), Some(second), Some(first), true) => Some((first, second, third)),
+        _ => None,
     }
-    None
 }
 
 /// The three threads as one list.
@@ -96,6 +99,20 @@ fn stand_once(
     Ok(served > 0 && arrived.len() as u64 == REQUESTS && arrived == stood)
 }
 
+/// The same of a team at its end.
+fn stand_once_at_end(
+    alloc: Global,
+    config: &Config,
+    threads: Vec<KernelThread>,
+) -> Result<bool, AllocError>
+    requires count { length threads.items ≡ threads_in config.now.tasks }
+    requires team { IsTeam (map (λ t. place_of t.thread) threads.items) }
+{
+    let mut ends = ends_of(alloc, threads)?;
+    let lefts = left_of_all(alloc, config, ends.as_mut_slice())?;
+    stand_once(alloc, &ends, &lefts)
+}
+
 /// Each of the two takes a Run again after a theft that found the other in its way. What they
 /// served and what the third had left are then the requests that came, each once.
 #[test]
@@ -126,8 +143,6 @@ fn two_threads_steal_at_once(rt: HostRuntime) -> Result<(), Fail> {
         { idle_turns(second, 2 * REQUESTS) },
     );
     let threads = list_of(rt.alloc(), first, second, third)?;
-    let mut ends = ends_of(rt.alloc(), threads)?;
-    let lefts = left_of_all(rt.alloc(), &config, ends.as_mut_slice())?;
-    assert!(rt; stand_once(rt.alloc(), &ends, &lefts)?);
+    assert!(rt; stand_once_at_end(rt.alloc(), &config, threads)?);
     Ok(())
 }

@@ -1,9 +1,11 @@
 //! A turn's search for work: first in its own queue, then with each other thread of its task, from
 //! the next one on.
+ghost use Rattle.std.specs.Prelude.{map};
+ghost use Rattle.cal_kthread.specs.Team.{IsTeam, place_of};
 
 use super::{Step, THREE_THREADS, all_steps, record, request};
-use cal_command::Command;
-use cal_kthread::{Entry, open_threads};
+use cal_command::{Command, Sender};
+use cal_kthread::{Entry, KernelThread, open_threads};
 use cal_machine::Config;
 use std::test::Fail;
 
@@ -12,12 +14,10 @@ fn published(place: u64, running: u64, misses: u64, stamp: u64) -> Entry {
     Entry::Published(place, record([1, running, 0, 0, 0, misses, stamp, 0, 0]))
 }
 
-/// Bodies that are refused here: a thread that tries to steal before it looks into its own queue,
-/// one that tries the last of the others first, and one that tries the first of them alone.
-#[test]
-fn own_queue_then_the_next_thread_first(rt: HostRuntime) -> Result<(), Fail> {
-    let config = Config::read(rt.alloc(), THREE_THREADS)?;
-    let mut team = open_threads(rt.alloc(), &config)?;
+/// The steps of a team of three, of which the last steals.
+fn are_made(threads: &mut Vec<KernelThread>, senders: &mut Vec<Sender>) -> bool
+    requires { IsTeam (map (λ t. place_of t.thread) threads.old.items) }
+{
     let steps = [
         // Of each, the first request becomes the front; the second one stays in the queue.
         Step::Arrive(0, 10, 10, 1),
@@ -34,7 +34,12 @@ fn own_queue_then_the_next_thread_first(rt: HostRuntime) -> Result<(), Fail> {
         Step::Turn(2, 70),
         Step::Turn(2, 80),
     ];
-    assert!(rt; all_steps(&mut team.threads, &mut team.senders, &steps));
+    all_steps(threads, senders, &steps)
+}
+
+/// Whether the last of three stole from the first, then from the second, and again from the first
+/// once it had served its own.
+fn last_stole_in_turn(threads: &[KernelThread]) -> bool {
     let journal = [
         Entry::Took(1, Command::Run(3)),
         Entry::Stole { from: 0, id: 11 },
@@ -52,9 +57,19 @@ fn own_queue_then_the_next_thread_first(rt: HostRuntime) -> Result<(), Fail> {
         Entry::Yielded,
         published(5, 0, 12, 80),
     ];
-    let Some(last) = team.threads.pop() else {
-        return Err(Fail::new("there is no thread"));
-    };
-    assert!(rt; last.journal()[..] == journal[..]);
+    match threads {
+        [_, _, last] => last.journal()[..] == journal[..],
+        _ => false,
+    }
+}
+
+/// Bodies that are refused here: a thread that tries to steal before it looks into its own queue,
+/// one that tries the last of the others first, and one that tries the first of them alone.
+#[test]
+fn own_queue_then_the_next_thread_first(rt: HostRuntime) -> Result<(), Fail> {
+    let config = Config::read(rt.alloc(), THREE_THREADS)?;
+    let mut team = open_threads(rt.alloc(), &config)?;
+    assert!(rt; are_made(&mut team.threads, &mut team.senders));
+    assert!(rt; last_stole_in_turn(team.threads.as_slice()));
     Ok(())
 }

@@ -1,9 +1,12 @@
 //! A team: it opens, a thread steals from another, and what arrived is served or handed out at the
 //! end.
+ghost use Rattle.std.specs.Prelude.{◌≡◌, length, map};
+ghost use Rattle.cal_kthread.specs.Team.{IsTeam, place_of};
+ghost use Rattle.cal_machine.specs.Tasks.{threads_in};
 
 use super::{Step, TWO_THREADS, add_names, all_steps, ends_of, left_of_all};
 use cal_command::Command;
-use cal_kthread::{KernelEnd, Request, Team, open_threads};
+use cal_kthread::{KernelEnd, KernelThread, Request, RequestList, Team, open_threads};
 use cal_machine::Config;
 use std::alloc::{AllocError, Global};
 use std::test::Fail;
@@ -25,6 +28,31 @@ fn have_come(alloc: Global, ends: &[KernelEnd]) -> Result<bool, AllocError> {
         add_names(end.journal.as_slice(), &mut arrived, &mut served)?;
     }
     Ok(matches!(arrived.as_slice(), [7, 8, 9, 10, 11, 12]) && matches!(served.as_slice(), [7, 8]))
+}
+
+/// Whether the first of two has 9, 10 and 11 left and the second 12, with their first works.
+fn are_left_by_each(lefts: &[RequestList]) -> bool {
+    match lefts {
+        [first, second] => {
+            are_left(first.as_slice(), &[(9, 2), (10, 1), (11, 1)])
+                && are_left(second.as_slice(), &[(12, 3)])
+        }
+        _ => false,
+    }
+}
+
+/// Whether a team comes to that end.
+fn end_as_meant(
+    alloc: Global,
+    config: &Config,
+    threads: Vec<KernelThread>,
+) -> Result<bool, AllocError>
+    requires count { length threads.items ≡ threads_in config.now.tasks }
+    requires team { IsTeam (map (λ t. place_of t.thread) threads.items) }
+{
+    let mut ends = ends_of(alloc, threads)?;
+    let lefts = left_of_all(alloc, config, ends.as_mut_slice())?;
+    Ok(are_left_by_each(&lefts) && have_come(alloc, &ends)?)
 }
 
 /// The second thread steals 8, the oldest request in the first one's queue, and serves it, and is
@@ -50,11 +78,6 @@ fn arrived_is_served_or_left(rt: HostRuntime) -> Result<(), Fail> {
         Step::Arrive(1, 70, 12, 3),
     ];
     assert!(rt; all_steps(&mut threads, &mut senders, &steps));
-    let mut ends = ends_of(rt.alloc(), threads)?;
-    let lefts = left_of_all(rt.alloc(), &config, ends.as_mut_slice())?;
-    assert!(rt; lefts.len() == 2);
-    assert!(rt; are_left(lefts[0].as_slice(), &[(9, 2), (10, 1), (11, 1)]));
-    assert!(rt; are_left(lefts[1].as_slice(), &[(12, 3)]));
-    assert!(rt; have_come(rt.alloc(), &ends)?);
+    assert!(rt; end_as_meant(rt.alloc(), &config, threads)?);
     Ok(())
 }

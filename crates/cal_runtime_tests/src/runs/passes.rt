@@ -7,7 +7,7 @@ use crate::kernel_threads::turn;
 use cal_kthread::{KernelThread, Request};
 use cal_machine::Config;
 use cal_policy::{Action, Holder, Placement, Seen};
-use cal_run::{Parts, open_parts};
+use cal_run::{Parts, Worker, open_parts};
 use cal_sched::Scheduler;
 use cal_trace::read_arrivals;
 use std::alloc::Global;
@@ -29,19 +29,34 @@ fn open(alloc: Global) -> Result<Opened, Fail>
     if config.tasks() != 1 || config.machine().cores() != 2 {
         return Err(Fail::new("another table was read"));
     }
-    let arrivals = read_arrivals(alloc, &config, b"caladan-arrivals,1\nend,0\n")?;
+    open_over(alloc, &config)
+}
+
+/// The same, over this table.
+fn open_over(alloc: Global, config: &Config) -> Result<Opened, Fail>
+    ensures { IfOk result (λ opened. opened.scheduler.table ≡ config.now) }
+{
+    let arrivals = read_arrivals(alloc, config, b"caladan-arrivals,1\nend,0\n")?;
     let Parts {
         scheduler,
-        mut workers,
+        workers,
         ..
-    } = open_parts(alloc, &config, &arrivals)?;
-    let Some(worker) = workers.pop() else {
-        return Err(Fail::new("there is no thread"));
-    };
-    Ok(Opened {
-        scheduler,
-        thread: worker.thread,
-    })
+    } = open_parts(alloc, config, &arrivals)?;
+    with_last(scheduler, workers)
+}
+
+/// The scheduler, and the last of the threads.
+fn with_last(scheduler: Scheduler, workers: Vec<Worker>) -> Result<Opened, Fail>
+    ensures { IfOk result (λ opened. opened.scheduler ≡ scheduler) }
+{
+    let mut workers = workers;
+    match workers.pop() {
+        Some(worker) => Ok(Opened {
+            scheduler,
+            thread: worker.thread,
+        }),
+        None => Err(Fail::new("there is no thread")),
+    }
 }
 
 /// One pass, which finds the record with this number on the first thread's page. Whether it does
@@ -84,13 +99,12 @@ fn turned(thread: &mut KernelThread, now: u64, arriving: Option<Request>) -> boo
     turn(thread, now, arriving) == Ok(true)
 }
 
-// A thread has a request, is given a core, serves the request and yields.
-#[test]
-fn scheduler_and_thread(rt: HostRuntime) -> Result<(), Fail> {
-    let Opened {
-        mut scheduler,
-        mut thread,
-    } = open(rt.alloc())?;
+/// Whether the thread, to which a request comes, is granted core 0.
+fn is_granted(scheduler: &mut Scheduler, thread: &mut KernelThread) -> bool
+    requires task { 0 < length scheduler.old.table.tasks }
+    requires core { 0 < scheduler.old.table.cores }
+    ensures { scheduler.new.table ≡ scheduler.old.table }
+{
     let request = Request {
         id: 1,
         work: 2,
@@ -105,13 +119,32 @@ fn scheduler_and_thread(rt: HostRuntime) -> Result<(), Fail> {
         thread: 0,
         class: 3,
     };
-    assert!(rt; turned(&mut thread, 100, Some(request)));
-    assert!(rt; passes(&mut scheduler, 111, 1, Some(grant)));
-    assert!(rt; stands(&scheduler, 1, Holder::Held(held)));
-    assert!(rt; turned(&mut thread, 120, None));
-    assert!(rt; passes(&mut scheduler, 130, 2, None));
-    assert!(rt; turned(&mut thread, 140, None) && turned(&mut thread, 150, None));
-    assert!(rt; passes(&mut scheduler, 160, 4, Some(Action::Free { core: 0 })));
-    assert!(rt; stands(&scheduler, 0, Holder::Free));
+    turned(thread, 100, Some(request))
+        && passes(scheduler, 111, 1, Some(grant))
+        && stands(scheduler, 1, Holder::Held(held))
+}
+
+/// Whether the thread takes the core, serves the request and yields, and the core is free then.
+fn is_served(scheduler: &mut Scheduler, thread: &mut KernelThread) -> bool
+    requires task { 0 < length scheduler.old.table.tasks }
+    requires core { 0 < scheduler.old.table.cores }
+{
+    turned(thread, 120, None)
+        && passes(scheduler, 130, 2, None)
+        && turned(thread, 140, None)
+        && turned(thread, 150, None)
+        && passes(scheduler, 160, 4, Some(Action::Free { core: 0 }))
+        && stands(scheduler, 0, Holder::Free)
+}
+
+// A thread has a request, is given a core, serves the request and yields.
+#[test]
+fn scheduler_and_thread(rt: HostRuntime) -> Result<(), Fail> {
+    let Opened {
+        mut scheduler,
+        mut thread,
+    } = open(rt.alloc())?;
+    assert!(rt; is_granted(&mut scheduler, &mut thread));
+    assert!(rt; is_served(&mut scheduler, &mut thread));
     Ok(())
 }

@@ -48,6 +48,9 @@ fn grant(class: u8) -> Option<Action> {
 
 const FREE: Option<Action> = Some(Action::Free { core: 0 });
 
+/// The record that acknowledges a command that was not sent.
+const NOT_SENT: [u64; 9] = [5, 0, 1, 100, 0, 0, 120, 0, 0];
+
 /// Whether the thread, which shows three Runs taken and its core left, is granted the core each
 /// time, though its taker took none.
 fn is_believed(scheduler: &mut Scheduler, publisher: &mut Publisher) -> bool {
@@ -60,25 +63,42 @@ fn is_believed(scheduler: &mut Scheduler, publisher: &mut Publisher) -> bool {
     true
 }
 
+/// Whether the thread is believed once more, and not at its next record, which acknowledges a
+/// command that was not sent, since its ring is full.
+fn is_ahead(scheduler: &mut Scheduler, publisher: &mut Publisher) -> bool {
+    let number = 6;
+    let rec = rec(NOT_SENT);
+    publishes(publisher, 5, [4, 0, 1, 100, 0, 0, 118, 0, 0])
+        && passes(scheduler, 119, FREE, None)
+        && publishes(publisher, number, NOT_SENT)
+        && passes(scheduler, 121, None, None)
+        && saw(scheduler, Seen::Ahead { number, rec })
+}
+
+/// Whether the thread is granted a core, is believed while its ring has room, and no more.
+fn is_refused_ahead(scheduler: &mut Scheduler, publisher: &mut Publisher) -> bool {
+    publishes(publisher, 1, [0, 0, 1, 100, 0, 0, 100, 0, 0])
+        && passes(scheduler, 111, grant(3), None)
+        && is_believed(scheduler, publisher)
+        && is_ahead(scheduler, publisher)
+}
+
+/// Whether that record is believed once the command was sent.
+fn is_behind(scheduler: &mut Scheduler) -> bool {
+    let rec = rec(NOT_SENT);
+    passes(scheduler, 123, grant(2), None)
+        && passes(scheduler, 125, FREE, None)
+        && saw(scheduler, Seen::Whole { number: 6, rec })
+}
+
 /// What a thread acknowledges that was sent is believed, until its ring is full and it acknowledges
 /// a command that was not.
 #[test]
 fn false_records(rt: HostRuntime) -> Result<(), Fail> {
     let (mut scheduler, mut publisher, mut taker) = bare(&rt)?;
-    assert!(rt; publishes(&mut publisher, 1, [0, 0, 1, 100, 0, 0, 100, 0, 0]));
-    assert!(rt; passes(&mut scheduler, 111, grant(3), None));
-    assert!(rt; is_believed(&mut scheduler, &mut publisher));
-    assert!(rt; publishes(&mut publisher, 5, [4, 0, 1, 100, 0, 0, 118, 0, 0]));
-    assert!(rt; passes(&mut scheduler, 119, FREE, None));
-    let words = [5, 0, 1, 100, 0, 0, 120, 0, 0];
-    let (number, rec) = (6, rec(words));
-    assert!(rt; publishes(&mut publisher, 6, words));
-    assert!(rt; passes(&mut scheduler, 121, None, None));
-    assert!(rt; saw(&scheduler, Seen::Ahead { number, rec }));
+    assert!(rt; is_refused_ahead(&mut scheduler, &mut publisher));
     assert!(rt; matches!(taker.take(), Some((1, Command::Run(0)))));
-    assert!(rt; passes(&mut scheduler, 123, grant(2), None));
-    assert!(rt; passes(&mut scheduler, 125, FREE, None));
-    assert!(rt; saw(&scheduler, Seen::Whole { number, rec }));
+    assert!(rt; is_behind(&mut scheduler));
     Ok(())
 }
 

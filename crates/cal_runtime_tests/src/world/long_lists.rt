@@ -3,11 +3,11 @@
 
 use super::*;
 use cal_machine::Config;
-use cal_world::run_events;
+use cal_world::{Stopped, run_events};
 use std::test::Fail;
 
-/// So many records, each published and then watched.
-fn published_and_watched(alloc: Global, records: u16) -> Result<Vec<Event>, AllocError> {
+/// So many records, each published and then watched, and a last look of the watch at this place.
+fn published_and_watched(alloc: Global, records: u16, last: u64) -> Result<Vec<Event>, AllocError> {
     let mut events = Vec::new(alloc);
     for before in 0..records {
         let place = u64::from(before) + 1;
@@ -18,21 +18,21 @@ fn published_and_watched(alloc: Global, records: u16) -> Result<Vec<Event>, Allo
         events.push(Event::Publish(0, shown))?;
         events.push(Event::Watch(0, place))?;
     }
+    events.push(Event::Watch(0, last))?;
     Ok(events)
+}
+
+/// Where a new world is stopped by those events of 1,000 records, and why, if it is.
+fn stopped_by(alloc: Global, last: u64) -> Result<Option<Stopped>, Fail> {
+    let config = Config::read(alloc, TABLE)?;
+    let events = published_and_watched(alloc, 1_000, last)?;
+    Ok(run_events(alloc, &config, events.as_slice()).err())
 }
 
 #[test]
 fn two_thousand_events(rt: HostRuntime) -> Result<(), Fail> {
-    let config = Config::read(rt.alloc(), TABLE)?;
-    let mut events = published_and_watched(rt.alloc(), 1_000)?;
-    let Ok(world) = run_events(rt.alloc(), &config, events.as_slice()) else {
-        return Err(Fail::new("the list is legal"));
-    };
-    assert!(rt; world.history().is_empty());
-    events.push(Event::Watch(0, 1_001))?;
-    let Err(stopped) = run_events(rt.alloc(), &config, events.as_slice()) else {
-        return Err(Fail::new("the last place is 1,000"));
-    };
-    assert!(rt; stopped.at == 2_000 && stopped.why == Illegal::NoSuchPlace);
+    assert_eq!(rt; stopped_by(rt.alloc(), 1_000)?, None);
+    let (at, why) = (2_000, Illegal::NoSuchPlace);
+    assert_eq!(rt; stopped_by(rt.alloc(), 1_001)?, Some(Stopped { at, why }));
     Ok(())
 }
