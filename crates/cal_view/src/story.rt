@@ -215,6 +215,37 @@ impl Gathering {
         Ok(())
     }
 
+    /// Goes over the passes of a history to its end.
+    fn passes(
+        &mut self,
+        config: &Config,
+        history: &mut HistoryRows<'_>,
+        window: Window,
+    ) -> Result<(), RunFault>
+        requires { IsOpen history.old }
+    {
+        let mut pass = 0usize;
+        while let Some(entry) = history.next()? {
+            self.pass(config, window, pass, entry)?;
+            pass = pass.saturating_add(1);
+        }
+        self.close(config, window)?;
+        Ok(())
+    }
+
+    /// What was gathered.
+    fn story(self) -> Story {
+        Story {
+            spans: self.spans,
+            bans: self.bans,
+            shown: self.shown,
+            rows: self.rows,
+            slots: self.slots,
+            sums: self.sums,
+            last: self.last,
+        }
+    }
+
     /// Keeps what goes on at the end of the history.
     fn close(&mut self, config: &Config, window: Window) -> Result<(), AllocError> {
         for core in 0..config.machine().cores() {
@@ -240,20 +271,7 @@ impl Story {
         requires { IsOpen history }
     {
         let mut gathering = Gathering::new(alloc, config);
-        let mut pass = 0usize;
-        while let Some(entry) = history.next()? {
-            gathering.pass(config, window, pass, entry)?;
-            pass = pass.saturating_add(1);
-        }
-        gathering.close(config, window)?;
-        Ok(Story {
-            spans: gathering.spans,
-            bans: gathering.bans,
-            shown: gathering.shown,
-            rows: gathering.rows,
-            slots: gathering.slots,
-            sums: gathering.sums,
-            last: gathering.last,
-        })
+        gathering.passes(config, &mut history, window)?;
+        Ok(gathering.story())
     }
 }
