@@ -22,6 +22,7 @@ fn shown(seen: &[Seen], thread: u8) -> Option<Record> {
 }
 
 impl FirstCome {
+    /// The policy as it begins: no core is given to anybody.
     pub fn new() -> FirstCome {
         FirstCome { given: [None; 128] }
     }

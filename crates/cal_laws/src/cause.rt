@@ -8,8 +8,8 @@ use cal_policy::{
 
 /// Each revocation has its cause, at its own place.
 ///
-/// - For bandwidth: the figure is over the limit; the task that loses is a best-effort one above its
-///   guarantee, no candidate has had more misses since the pass before, none with as many has a
+/// - For bandwidth: the figure is over the limit; the task that loses is a best-effort one above
+///   its guarantee, no candidate has had more misses since the pass before, none with as many has a
 ///   lesser number, and no core that it could lose is higher.
 /// - For a task: it is latency-critical, congested, books less than its limit, and no core is being
 ///   left for it; no pair of class and core that is possible for it is less.

@@ -1,3 +1,5 @@
+//! A list is made of a vector, and gives its members and the vector back.
+
 use cal_lists::Listed;
 use std::alloc::{AllocError, Global};
 use std::process::Abort;

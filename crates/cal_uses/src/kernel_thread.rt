@@ -14,6 +14,7 @@ pub struct KernelThread {
 }
 
 impl KernelThread {
+    /// The kernel thread of these ends, to which no request came yet.
     pub fn new(number: usize, publisher: Publisher, taker: Taker) -> KernelThread {
         KernelThread {
             number,

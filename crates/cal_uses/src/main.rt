@@ -1,8 +1,8 @@
 //! A small runtime: one scheduler over two pages and two rings, for the kernel threads of a
 //! latency-critical and a best-effort task. What a kernel thread would do in a thread of its own,
 //! where it never waits for the scheduler, is done here in turn by one thread: it publishes a
-//! request that waits, takes its commands, and publishes what it does then. It prints what each pass
-//! did and what each thread took.
+//! request that waits, takes its commands, and publishes what it does then. It prints what each
+//! pass did and what each thread took.
 #![tactic(auto)]
 
 ghost use Rattle.std.specs.Prelude.{◌≡◌, length, IfOk};

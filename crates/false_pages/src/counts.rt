@@ -24,6 +24,7 @@ pub struct Counts {
 }
 
 impl Counts {
+    /// Of no run.
     pub const NONE: Counts = Counts {
         runs: 0,
         passes: 0,
@@ -51,6 +52,7 @@ impl Counts {
         }
     }
 
+    /// These and more, added up.
     pub fn with(self, more: Counts) -> Counts {
         Counts {
             runs: self.runs.saturating_add(more.runs),

@@ -20,6 +20,7 @@ enum Judged {
     Foreign,
 }
 
+/// A thread that publishes and takes as it is told, and may stop within a publication.
 #[derive(Drop)]
 pub struct Thread {
     page: Option<Page>,
@@ -35,6 +36,7 @@ pub struct Thread {
 }
 
 impl Thread {
+    /// The thread of these ends, which did nothing yet.
     pub fn new(publisher: Publisher, taker: Taker) -> Thread {
         Thread {
             page: Some(Page::Closed(publisher)),

@@ -20,6 +20,7 @@ pub struct Rates {
     pub waits: u64,
 }
 
+/// A thread by its ends; all else that it knows is its last record.
 #[derive(Drop)]
 pub struct Load {
     pub publisher: Publisher,

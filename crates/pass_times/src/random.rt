@@ -7,6 +7,7 @@ pub struct Random {
 }
 
 impl Random {
+    /// The source with the known seed.
     pub fn new() -> Random {
         Random {
             seed: 88_172_645_463_325_252,

@@ -8,6 +8,7 @@ use cal_world::Event;
 use std::io::Write;
 use std::{io, slice};
 
+/// The table.
 pub fn table(rt: &HostRuntime, given: &Given) -> io::Result<bool> {
     begin(rt)?;
     let Some(config) = answer(rt, given.config.copy(rt.alloc()))? else {

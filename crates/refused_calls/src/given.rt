@@ -23,6 +23,7 @@ pub struct Given<'a> {
 }
 
 impl<'a> Given<'a> {
+    /// The input that a text spells.
     pub fn of(alloc: Global, text: &'a [u8]) -> io::Result<Given<'a>> {
         let Some((table, trace)) = split(text) else {
             return Err(wrong());

@@ -8,6 +8,7 @@ use std::alloc::{AllocError, Global};
 use std::io;
 use std::io::Write;
 
+/// The audit of a whole history.
 pub fn audit_whole(rt: &HostRuntime, given: &Given) -> io::Result<bool> {
     let history = given.history(rt.alloc())?;
     begin(rt)?;

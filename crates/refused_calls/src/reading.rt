@@ -9,6 +9,7 @@ use std::alloc::Global;
 use std::io;
 use std::io::Write;
 
+/// The table.
 pub fn read_table(rt: &HostRuntime, given: &Given) -> io::Result<bool> {
     begin(rt)?;
     let Some(config) = answer(rt, Config::read(rt.alloc(), given.table))? else {
@@ -18,6 +19,7 @@ pub fn read_table(rt: &HostRuntime, given: &Given) -> io::Result<bool> {
     Ok(true)
 }
 
+/// The trace as arrivals.
 pub fn arrivals(rt: &HostRuntime, given: &Given) -> io::Result<bool> {
     begin(rt)?;
     let made = read_arrivals(rt.alloc(), &given.config, given.trace);
@@ -30,6 +32,7 @@ pub fn arrivals(rt: &HostRuntime, given: &Given) -> io::Result<bool> {
     Ok(true)
 }
 
+/// The trace as a history.
 pub fn history(rt: &HostRuntime, given: &Given) -> io::Result<bool> {
     begin(rt)?;
     let made = read_history(rt.alloc(), &given.config, given.trace);
@@ -40,6 +43,7 @@ pub fn history(rt: &HostRuntime, given: &Given) -> io::Result<bool> {
     Ok(true)
 }
 
+/// The trace as signals, all at once.
 pub fn signals(rt: &HostRuntime, given: &Given) -> io::Result<bool> {
     begin(rt)?;
     let made = read_signals(rt.alloc(), &given.config, given.trace);

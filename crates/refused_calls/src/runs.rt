@@ -11,6 +11,7 @@ use std::io::Write;
 use std::sync::Wait;
 use std::thread::Threads;
 
+/// A run on one thread.
 pub fn on_one_thread(rt: &HostRuntime, given: &Given) -> io::Result<bool> {
     let arrivals = given.arrivals(rt.alloc())?;
     begin(rt)?;
@@ -22,8 +23,8 @@ pub fn on_one_thread(rt: &HostRuntime, given: &Given) -> io::Result<bool> {
     Ok(true)
 }
 
-/// Each run in threads may come to another outcome, so what is written is the same of them all: that
-/// its history is legal, and how many passes it has.
+/// A run in threads, each of which may come to another outcome, so what is written is the same of
+/// them all: that its history is legal, and how many passes it has.
 pub fn in_threads<H: Threads + Wait + Sync>(
     host: &H,
     rt: &HostRuntime,

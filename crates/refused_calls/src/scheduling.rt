@@ -21,6 +21,7 @@ use std::io::Write;
 /// How many rounds a watch makes.
 const ROUNDS: u64 = 3;
 
+/// The kernel threads of the table.
 pub fn threads(rt: &HostRuntime, given: &Given) -> io::Result<bool> {
     begin(rt)?;
     let Some(team) = answer(rt, open_threads(rt.alloc(), &given.config))? else {

@@ -26,6 +26,7 @@ pub fn write_lists<T: Debug>(rt: &HostRuntime, lists: &[Listed<T>]) -> io::Resul
     Ok(())
 }
 
+/// A history, as a file.
 pub fn write_passes(rt: &HostRuntime, history: &[PassEntry]) -> io::Result<()> {
     match write_history(history, &mut rt.stdout()) {
         Ok(()) => Ok(()),
@@ -33,6 +34,7 @@ pub fn write_passes(rt: &HostRuntime, history: &[PassEntry]) -> io::Result<()> {
     }
 }
 
+/// What is written of each event.
 pub fn write_events(rt: &HostRuntime, events: &[Event]) -> io::Result<()> {
     for event in events {
         write_event(rt, event)?;
@@ -40,6 +42,7 @@ pub fn write_events(rt: &HostRuntime, events: &[Event]) -> io::Result<()> {
     Ok(())
 }
 
+/// A line of an event; of a Decide its pass, as a file.
 pub fn write_event(rt: &HostRuntime, event: &Event) -> io::Result<()> {
     match event {
         Event::Take(k) => write_step(rt, "take", *k, 0_u64),
@@ -56,6 +59,7 @@ fn write_step<T: Debug + Copy>(rt: &HostRuntime, kind: &str, k: u8, what: T) -> 
     writeln!(&mut rt.stdout(), "{kind} {k} {what:?}")
 }
 
+/// All that a run came to.
 pub fn write_outcome(rt: &HostRuntime, outcome: &Outcome) -> io::Result<()> {
     write_passes(rt, outcome.history.as_slice())?;
     write_lists(rt, outcome.journals.as_slice())?;

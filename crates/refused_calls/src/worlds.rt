@@ -7,6 +7,7 @@ use cal_world::{Event, World, run_events};
 use std::io;
 use std::io::Write;
 
+/// A world of no events.
 pub fn start(rt: &HostRuntime, given: &Given) -> io::Result<bool> {
     begin(rt)?;
     let Some(world) = answer(rt, World::start(rt.alloc(), &given.config))? else {
@@ -16,6 +17,7 @@ pub fn start(rt: &HostRuntime, given: &Given) -> io::Result<bool> {
     Ok(true)
 }
 
+/// A world that takes the events of a run one by one.
 pub fn steps(rt: &HostRuntime, given: &Given) -> io::Result<bool> {
     let outcome = given.run(rt.alloc())?;
     let mut world = World::start(rt.alloc(), &given.config)?;
@@ -33,6 +35,7 @@ fn step(rt: &HostRuntime, world: &mut World, event: &Event) -> io::Result<bool> 
     Ok(answer(rt, world.step(event))?.is_some())
 }
 
+/// A world that takes them all in one call.
 pub fn whole(rt: &HostRuntime, given: &Given) -> io::Result<bool> {
     let outcome = given.run(rt.alloc())?;
     begin(rt)?;

@@ -139,8 +139,9 @@ request = 50
 ";
 
 /// First passes, each in the place of those before it: where a ring is full; a core or a thread
-/// twice; a pair banned at once; a core freed that nobody left; two commands to one thread; a banned
-/// core granted; a task beyond its cap; a banned core held at the end, and a task beyond its cap.
+/// twice; a pair banned at once; a core freed that nobody left; two commands to one thread; a
+/// banned core granted; a task beyond its cap; a banned core held at the end, and a task beyond its
+/// cap.
 const FIRST_PASSES: &str = "\
 caladan-history,2
 pass,111,0

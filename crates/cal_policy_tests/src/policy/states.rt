@@ -190,7 +190,8 @@ end,4
 ",
 );
 
-/// A core that is being left counts too: at its cap, which rises by one, the task gets no other core.
+/// A core that is being left counts too: at its cap, which rises by one, the task gets no other
+/// core.
 const CAP_COUNTS_BOOKED: State = (
     "\
 cores = 4
@@ -237,8 +238,8 @@ end,3
 ",
 );
 
-/// Above the limit the first of two tasks with as many misses loses its highest core and gets a cap;
-/// at the limit its cap rises again.
+/// Above the limit the first of two tasks with as many misses loses its highest core and gets a
+/// cap; at the limit its cap rises again.
 const BANDWIDTH_VICTIM_AND_CAP_RECOVERS: State = (
     "\
 cores = 4

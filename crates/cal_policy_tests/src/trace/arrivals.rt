@@ -1,3 +1,5 @@
+//! A whole file of arrivals is read as it says.
+
 use super::tables::two_threads;
 use cal_machine::Request;
 use cal_trace::{Arrival, GivenPass, read_arrivals};

@@ -1,3 +1,5 @@
+//! A history with every kind of row is read, and written as it was.
+
 use super::tables::{EVERY_ROW, history_of};
 use cal_trace::{WriteFault, write_history};
 use std::test::Fail;

@@ -1,3 +1,5 @@
+//! The report of a history with every kind of action.
+
 use super::tables::history_of;
 use cal_policy::orderly;
 use cal_trace::{WriteFault, write_report};

@@ -1,3 +1,5 @@
+//! A file of signals is read as it says.
+
 use super::tables::one_thread;
 use cal_policy::{FoundLook, Look, Record};
 use cal_trace::{SignalPass, read_signals};

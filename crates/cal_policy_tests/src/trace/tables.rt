@@ -1,10 +1,12 @@
-// Tables, and a history for one of them.
+//! Tables, and a history for one of them.
+
 use cal_machine::{Config, ConfigFault};
 use cal_policy::PassEntry;
 use cal_trace::{FaultKind, read_history};
 use std::alloc::Global;
 use std::test::Fail;
 
+/// A task of one thread, on two cores.
 pub(crate) const ONE_THREAD: &[u8] = b"cores = 2
 bandwidth_limit = 1000
 
@@ -16,10 +18,12 @@ delay = 10
 request = 50
 ";
 
+/// The table of one thread.
 pub(crate) fn one_thread(alloc: Global) -> Result<Config, Fail> {
     Ok(Config::read(alloc, ONE_THREAD)?)
 }
 
+/// A latency-critical task and a best-effort one of a thread each, on four cores.
 pub(crate) const TWO_THREADS: &[u8] = b"cores = 4
 bandwidth_limit = 1000
 

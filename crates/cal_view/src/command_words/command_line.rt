@@ -26,8 +26,8 @@ pub enum Job {
 /// What the words after the program's name ask for; no words are `Job::Help`.
 ///
 /// The error is clap's own. A word that is not in the table is refused; a request for help is an
-/// error of the kind `DisplayHelp`, one for the version of the kind `DisplayVersion`, whose texts go
-/// to the standard output; want of memory has the kind `OutOfMemory`.
+/// error of the kind `DisplayHelp`, one for the version of the kind `DisplayVersion`, whose texts
+/// go to the standard output; want of memory has the kind `OutOfMemory`.
 pub fn words<'a>(alloc: Global, words: &'a [&'a str]) -> Result<Job, Error> {
     let matches = program(alloc)?.try_get_matches_from(words)?;
     Ok(job_of(&matches))

@@ -1,5 +1,5 @@
-//! The clocks of spans and bans, kept beside them, since no pass is kept that could be asked for its
-//! clock.
+//! The clocks of spans and bans, kept beside them, since no pass is kept that could be asked for
+//! its clock.
 
 use cal_policy::Action;
 use cal_spans::{BanSpan, Span};

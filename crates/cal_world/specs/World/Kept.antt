@@ -14,8 +14,8 @@ pub record IsWorld (table : Table) (events : List Event) (present : Present) : T
   pub legal : IsLegalList table events
   pub kept : IsPresent table events present
 
--- the events before this one are a legal list, and it is refused for this cause, or memory was; where
--- there is no such event, memory was refused before the first
+-- the events before this one are a legal list, and it is refused for this cause, or memory was;
+-- where there is no such event, memory was refused before the first
 pub record IsStopped (table : Table) (events : List Event) (stopped : Stopped) : Type 0 where
   pub before : IsLegalList table (take stopped.at events)
   pub place : (stopped.at < length events) ⊎ ((stopped.at ≡ 0) × (stopped.why ≡ Memory))
