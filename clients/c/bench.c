@@ -1,4 +1,5 @@
-/* Passes at 128 threads, over threads that take what they are sent, work, yield and ask again. Times each caladan_pass alone. */
+/* Passes at 128 threads, or as many as the last word says, over threads that take what they are sent, work,
+ * yield and ask again. Times each caladan_pass alone. */
 #define _GNU_SOURCE
 #include "caladan.h"
 #include <stdio.h>
