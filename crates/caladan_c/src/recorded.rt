@@ -166,7 +166,7 @@ pub fn read_actions(actions: &mut Vec<Action>, told: &[Told]) -> Result<(), Refu
     Ok(())
 }
 
-/// The actions.
+/// The actions of one recorded pass, in a list of their own.
 fn actions_in(alloc: Global, told: &[Told]) -> Result<ActionList, Refusal>
     ensures actions { IfOk result (λ actions. map told_of actions ≡ told.now) }
     ensures none { result ≡ Err NoAction → (actions : List Action) →
