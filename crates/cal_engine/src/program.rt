@@ -117,8 +117,9 @@ fn verdict_status(verdict: Verdict) -> u8
     }
 }
 
-/// Writes what `clap` says of the words, and answers the exit status: 0 for help, 2 for bad words.
-/// The faults are `Memory`, where the words were refused for want of it, and `Write`.
+/// Writes what `clap` says of the words, and answers the exit status: 0 for help and the version, 2
+/// for bad words. The faults are `Memory`, where the words were refused for want of it, and
+/// `Write`.
 pub fn refuse_words<W: Write, E: Write>(
     error: &Error,
     output: &mut W,
