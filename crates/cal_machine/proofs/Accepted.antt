@@ -9,7 +9,8 @@ use Rattle.cal_machine.specs.Outcome.{◌>>=◌}
 use Rattle.cal_machine.specs.Fields.{table_of, number_in, cores_in, kind_in}
 use Rattle.cal_machine.specs.Machine.{IsMachine, is_machine}
 use Rattle.cal_machine.specs.Reading.{TopFields, top_fields, Top, top_within, few_in, item_count, fair, task_values, TaskFields, task_fields, task_within, task_from, tasks_from, table_from, within_sums, text_of, document_from, table_in}
-use Rattle.cal_machine.specs.Table.{Table, IsTask, IsTable, most_ticks}
+use Rattle.cal_machine.specs.Table.{Table, IsTask, IsTable}
+use Rattle.cal_machine.specs.declared.task_table.TheConstants.{MOST_TICKS}
 use Rattle.cal_machine.specs.Tasks.{is_best_effort, threads_in, guaranteed_in}
 use Rattle.cal_machine.specs.declared.task.Task.{Task}
 use Rattle.cal_machine.specs.declared.task.Kind.TheVariants.{BestEffort}
@@ -54,15 +55,15 @@ few_within items got e =
     let p = and_parts (nat_le 1 (item_count items)) (nat_le (item_count items) 16) (t.0) in
     rw (← t.1) (leb-true 1 (item_count items) (p.0), leb-true (item_count items) 16 (p.1))
 
-pub top_is : (fields : TopFields) (top : Top) → top_within fields ≡ Ok top → IsMachine top.cores × (top.bandwidth_limit ≤ most_ticks) × (1 ≤ item_count top.tasks) × (item_count top.tasks ≤ 16)
+pub top_is : (fields : TopFields) (top : Top) → top_within fields ≡ Ok top → IsMachine top.cores × (top.bandwidth_limit ≤ MOST_TICKS) × (1 ≤ item_count top.tasks) × (item_count top.tasks ≤ 16)
 unfolding top_within
 top_is fields top e =
-    let cores = passed (cores_in fields.cores) (λ cores. number_in 0 most_ticks fields.bandwidth_limit >>= λ limit. few_in fields.tasks >>= λ tasks. Ok (record { cores = cores; bandwidth_limit = limit; tasks = tasks })) top e in
-    let limit = passed (number_in 0 most_ticks fields.bandwidth_limit) (λ limit. few_in fields.tasks >>= λ tasks. Ok (record { cores = cores.0; bandwidth_limit = limit; tasks = tasks })) top (cores.2) in
+    let cores = passed (cores_in fields.cores) (λ cores. number_in 0 MOST_TICKS fields.bandwidth_limit >>= λ limit. few_in fields.tasks >>= λ tasks. Ok (record { cores = cores; bandwidth_limit = limit; tasks = tasks })) top e in
+    let limit = passed (number_in 0 MOST_TICKS fields.bandwidth_limit) (λ limit. few_in fields.tasks >>= λ tasks. Ok (record { cores = cores.0; bandwidth_limit = limit; tasks = tasks })) top (cores.2) in
     let tasks = passed (few_in fields.tasks) (λ tasks. Ok (record { cores = cores.0; bandwidth_limit = limit.0; tasks = tasks })) top (limit.2) in
     let few = few_within fields.tasks (tasks.0) (tasks.1) in
     rw (← same_ok (record { cores = cores.0; bandwidth_limit = limit.0; tasks = tasks.0 }) top (tasks.2))
-    (cores_within fields.cores (cores.0) (cores.1), (number_within 0 most_ticks fields.bandwidth_limit (limit.0) (limit.1)).1, few.0, few.1)
+    (cores_within fields.cores (cores.0) (cores.1), (number_within 0 MOST_TICKS fields.bandwidth_limit (limit.0) (limit.1)).1, few.0, few.1)
 
 fair_is : (task got : Task) → fair task ≡ Ok got → (task ≡ got) × (task.kind ≡ BestEffort → task.guaranteed ≡ 0)
 fair_is task got e = go (is_best_effort task.kind && not (task.guaranteed == 0)) refl e
@@ -74,19 +75,19 @@ fair_is task got e = go (is_best_effort task.kind && not (task.guaranteed == 0))
 task_is : (fields : TaskFields) (task : Task) → task_within fields ≡ Ok task → IsTask task
 unfolding task_within
 task_is fields task e =
-    let kind = passed (kind_in fields.kind) (λ kind. number_in 1 16 fields.limit >>= λ limit. number_in 0 limit fields.guaranteed >>= λ guaranteed. number_in 0 most_ticks fields.delay >>= λ delay. number_in 0 most_ticks fields.request >>= λ request. fair (record { kind = kind; guaranteed = guaranteed; limit = limit; delay = delay; request = request })) task e in
-    let limit = passed (number_in 1 16 fields.limit) (λ limit. number_in 0 limit fields.guaranteed >>= λ guaranteed. number_in 0 most_ticks fields.delay >>= λ delay. number_in 0 most_ticks fields.request >>= λ request. fair (record { kind = kind.0; guaranteed = guaranteed; limit = limit; delay = delay; request = request })) task (kind.2) in
-    let guaranteed = passed (number_in 0 (limit.0) fields.guaranteed) (λ guaranteed. number_in 0 most_ticks fields.delay >>= λ delay. number_in 0 most_ticks fields.request >>= λ request. fair (record { kind = kind.0; guaranteed = guaranteed; limit = limit.0; delay = delay; request = request })) task (limit.2) in
-    let delay = passed (number_in 0 most_ticks fields.delay) (λ delay. number_in 0 most_ticks fields.request >>= λ request. fair (record { kind = kind.0; guaranteed = guaranteed.0; limit = limit.0; delay = delay; request = request })) task (guaranteed.2) in
-    let request = passed (number_in 0 most_ticks fields.request) (λ request. fair (record { kind = kind.0; guaranteed = guaranteed.0; limit = limit.0; delay = delay.0; request = request })) task (delay.2) in
+    let kind = passed (kind_in fields.kind) (λ kind. number_in 1 16 fields.limit >>= λ limit. number_in 0 limit fields.guaranteed >>= λ guaranteed. number_in 0 MOST_TICKS fields.delay >>= λ delay. number_in 0 MOST_TICKS fields.request >>= λ request. fair (record { kind = kind; guaranteed = guaranteed; limit = limit; delay = delay; request = request })) task e in
+    let limit = passed (number_in 1 16 fields.limit) (λ limit. number_in 0 limit fields.guaranteed >>= λ guaranteed. number_in 0 MOST_TICKS fields.delay >>= λ delay. number_in 0 MOST_TICKS fields.request >>= λ request. fair (record { kind = kind.0; guaranteed = guaranteed; limit = limit; delay = delay; request = request })) task (kind.2) in
+    let guaranteed = passed (number_in 0 (limit.0) fields.guaranteed) (λ guaranteed. number_in 0 MOST_TICKS fields.delay >>= λ delay. number_in 0 MOST_TICKS fields.request >>= λ request. fair (record { kind = kind.0; guaranteed = guaranteed; limit = limit.0; delay = delay; request = request })) task (limit.2) in
+    let delay = passed (number_in 0 MOST_TICKS fields.delay) (λ delay. number_in 0 MOST_TICKS fields.request >>= λ request. fair (record { kind = kind.0; guaranteed = guaranteed.0; limit = limit.0; delay = delay; request = request })) task (guaranteed.2) in
+    let request = passed (number_in 0 MOST_TICKS fields.request) (λ request. fair (record { kind = kind.0; guaranteed = guaranteed.0; limit = limit.0; delay = delay.0; request = request })) task (delay.2) in
     let last = fair_is (record { kind = kind.0; guaranteed = guaranteed.0; limit = limit.0; delay = delay.0; request = request.0 }) task (request.2) in
     let limits = number_within 1 16 fields.limit (limit.0) (limit.1) in
     rw (← last.0) (record {
       some_limit = limits.0;
       limit = limits.1;
       guaranteed = (number_within 0 (limit.0) fields.guaranteed (guaranteed.0) (guaranteed.1)).1;
-      delay = (number_within 0 most_ticks fields.delay (delay.0) (delay.1)).1;
-      request = (number_within 0 most_ticks fields.request (request.0) (request.1)).1;
+      delay = (number_within 0 MOST_TICKS fields.delay (delay.0) (delay.1)).1;
+      request = (number_within 0 MOST_TICKS fields.request (request.0) (request.1)).1;
       best_effort = last.1;
     })
 

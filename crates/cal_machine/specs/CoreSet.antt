@@ -2,6 +2,7 @@
 use Rattle.std.specs.Prelude.{◌≡◌, ◌<◌, ◌≤◌, ◌==◌, ℕ, Bool, true, false}
 use Rattle.std.specs.Int.{bit_at}
 use Rattle.cal_machine.specs.declared.core_set.CoreSet.{CoreSet}
+use Rattle.cal_machine.specs.declared.machine.TheConstants.{MOST_CORES}
 
 -- Whether the set has a core.
 unfoldable pub has : CoreSet → ℕ → Bool
@@ -9,19 +10,19 @@ has set core = bit_at set.bits core == 1
 
 -- This core is in the set, and none below it is.
 pub record IsLeastOf (set : CoreSet) (core : ℕ) : Type 0 where
-  pub within : core < 128
+  pub within : core < MOST_CORES
   pub member : has set core ≡ true
   pub none_below : (c : ℕ) → c < core → has set c ≡ false
 
 -- This core is in the set from the first one on, and none between them is.
 pub record IsLeastFrom (set : CoreSet) (first core : ℕ) : Type 0 where
   pub from : first ≤ core
-  pub within : core < 128
+  pub within : core < MOST_CORES
   pub member : has set core ≡ true
   pub none_between : (c : ℕ) → first ≤ c → c < core → has set c ≡ false
 
 -- This core is in the set, and none above it is.
 pub record IsGreatestOf (set : CoreSet) (core : ℕ) : Type 0 where
-  pub within : core < 128
+  pub within : core < MOST_CORES
   pub member : has set core ≡ true
   pub none_above : (c : ℕ) → core < c → has set c ≡ false

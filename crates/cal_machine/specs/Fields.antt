@@ -48,7 +48,7 @@ abbrev pub number_in : ℕ → ℕ → ℤ → Result ℕ ConfigFault
 number_in least most (pos n) = if nat_le least n && nat_le n most then Ok n else Err OutOfRange
 number_in least most (negsuc n) = Err OutOfRange
 
--- A number of cores: even, 2 to 128.
+-- A number of cores: even, 2 to MOST_CORES.
 abbrev pub cores_in : ℤ → Result ℕ ConfigFault
 cores_in (pos n) = if is_machine n then Ok n else Err OutOfRange
 cores_in (negsuc n) = Err OutOfRange

@@ -1,6 +1,7 @@
 pub mod CoreSet
 pub mod Fields
 pub mod Laws
+pub mod Limits
 pub mod Machine
 pub mod Numbering
 pub mod Outcome

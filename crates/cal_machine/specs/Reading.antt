@@ -8,7 +8,7 @@ use Rattle.toml.specs.Data.{Data, Items, no_items, item, Members}
 use Rattle.cal_machine.specs.Outcome.{◌>>=◌}
 use Rattle.cal_machine.specs.Fields.{known_keys, value_at, integer_of, string_of}
 use Rattle.cal_machine.specs.Fields.{items_of, table_of, number_in, cores_in, kind_in}
-use Rattle.cal_machine.specs.Table.{Table, most_ticks}
+use Rattle.cal_machine.specs.Table.{Table}
 use Rattle.cal_machine.specs.Tasks.{is_best_effort, threads_in, guaranteed_in}
 use Rattle.cal_machine.specs.declared.task.Task.{Task}
 use Rattle.cal_machine.specs.declared.fault.ConfigFault.{ConfigFault}
@@ -16,6 +16,8 @@ use Rattle.cal_machine.specs.declared.fault.ConfigFault.TheVariants.{NotToml, Ou
 use Rattle.cal_machine.specs.declared.fault.ConfigFault.TheVariants.{BestEffortGuarantee}
 use Rattle.cal_machine.specs.declared.fault.ConfigFault.TheVariants.{GuaranteesExceedCores}
 use Rattle.cal_machine.specs.declared.fault.ConfigFault.TheVariants.{TooManyThreads}
+use Rattle.cal_machine.specs.declared.numbering.TheConstants.{MOST_THREADS}
+use Rattle.cal_machine.specs.declared.task_table.TheConstants.{MOST_TASKS, MOST_LIMIT, MOST_TICKS}
 
 -- The numbers of the top table, and its tasks as they stand.
 pub record TopFields : Type 0 where
@@ -46,16 +48,16 @@ abbrev pub item_count : Items → ℕ
 item_count no_items = 0
 item_count (item first items) = item_count items + 1
 
--- 1 to 16 tasks.
+-- 1 to MOST_TASKS tasks.
 abbrev pub few_in : Items → Result Items ConfigFault
-few_in items = if nat_le 1 (item_count items) && nat_le (item_count items) 16 then Ok items
+few_in items = if nat_le 1 (item_count items) && nat_le (item_count items) MOST_TASKS then Ok items
     else Err OutOfRange
 
 -- The ranges of the top table.
 unfoldable pub top_within : TopFields → Result Top ConfigFault
 top_within fields = do
   cores ← cores_in fields.cores
-  bandwidth_limit ← number_in 0 most_ticks fields.bandwidth_limit
+  bandwidth_limit ← number_in 0 MOST_TICKS fields.bandwidth_limit
   tasks ← few_in fields.tasks
   Ok (record { cores = cores; bandwidth_limit = bandwidth_limit; tasks = tasks })
 
@@ -118,10 +120,10 @@ fair task = if is_best_effort task.kind && not (task.guaranteed == 0) then Err B
 unfoldable pub task_within : TaskFields → Result Task ConfigFault
 task_within fields = do
   kind ← kind_in fields.kind
-  limit ← number_in 1 16 fields.limit
+  limit ← number_in 1 MOST_LIMIT fields.limit
   guaranteed ← number_in 0 limit fields.guaranteed
-  delay ← number_in 0 most_ticks fields.delay
-  request ← number_in 0 most_ticks fields.request
+  delay ← number_in 0 MOST_TICKS fields.delay
+  request ← number_in 0 MOST_TICKS fields.request
   fair (record {
     kind = kind;
     guaranteed = guaranteed;
@@ -146,11 +148,11 @@ tasks_from (item value items) = do
   others ← tasks_from items
   Ok (first ∷ others)
 
--- No more cores are guaranteed than there are; then there are at most 128 kernel threads.
+-- No more cores are guaranteed than there are; then there are at most MOST_THREADS kernel threads.
 abbrev pub within_sums : Table → Result Table ConfigFault
 within_sums table =
     if nat_le (guaranteed_in table.tasks) table.cores
-    then (if nat_le (threads_in table.tasks) 128 then Ok table else Err TooManyThreads)
+    then (if nat_le (threads_in table.tasks) MOST_THREADS then Ok table else Err TooManyThreads)
     else Err GuaranteesExceedCores
 
 -- The task table of a TOML table: the top table, each task, the sums.

@@ -122,7 +122,7 @@ impl Config {
     pub fn tasks(&self) -> usize
         ensures count { result ≡ length self.now.tasks }
         ensures some { 1 ≤ result }
-        ensures few { result ≤ 16 }
+        ensures few { result ≤ MOST_TASKS }
     {
         self.tasks.len()
     }
@@ -131,7 +131,7 @@ impl Config {
     pub fn threads(&self) -> usize
         ensures count { result ≡ threads_in self.now.tasks }
         ensures some { 1 ≤ result }
-        ensures few { result ≤ 128 }
+        ensures few { result ≤ MOST_THREADS }
     {
         self.threads as usize
     }

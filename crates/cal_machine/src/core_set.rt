@@ -3,7 +3,9 @@
 ghost use Rattle.std.specs.Prelude.{◌≡◌, ◌<◌, ◌≤◌, ◌&&◌, ◌||◌, ◌==◌, ℕ, false, not, IfSome, IfNone};
 ghost use Rattle.cal_machine.specs.CoreSet.{has, IsLeastOf, IsLeastFrom, IsGreatestOf};
 
-/// A set of cores, each below 128.
+use crate::machine::MOST_CORES;
+
+/// A set of cores, each below `MOST_CORES`.
 ///
 /// Contracts see it by its members: `has set core`.
 #[derive(Clone, Copy, Debug, PartialEq, Eq)]
@@ -21,7 +23,7 @@ impl CoreSet {
 
     /// Adds a core; one that is there already stays.
     pub fn insert(&mut self, core: u8)
-        requires { core < 128 }
+        requires { core < MOST_CORES }
         ensures { (c : ℕ) → has self.new c ≡ (c == core || has self.old c) }
     {
         self.bits |= 1u128 << core;
@@ -29,7 +31,7 @@ impl CoreSet {
 
     /// Takes a core away; one that is not there changes nothing.
     pub fn remove(&mut self, core: u8)
-        requires { core < 128 }
+        requires { core < MOST_CORES }
         ensures { (c : ℕ) → has self.new c ≡ (not (c == core) && has self.old c) }
     {
         let bits = self.bits;
@@ -38,7 +40,7 @@ impl CoreSet {
 
     /// Whether a core is in the set.
     pub fn has(&self, core: u8) -> bool
-        requires { core < 128 }
+        requires { core < MOST_CORES }
         ensures { result ≡ has self.now core }
     {
         (self.bits >> core) & 1 == 1
@@ -62,7 +64,7 @@ impl CoreSet {
         ensures none { IfNone result ((core : ℕ) → first ≤ core → has self.now core ≡ false) }
     {
         let bits = self.bits;
-        if 128 <= first {
+        if MOST_CORES <= first as usize {
             return None;
         }
         let rest = bits >> first;

@@ -31,4 +31,4 @@ pub use machine::{MOST_CORES, Machine};
 pub use numbering::MOST_THREADS;
 pub use request::Request;
 pub use task::{Kind, Task};
-pub use task_table::MOST_TASKS;
+pub use task_table::{MOST_LIMIT, MOST_TASKS, MOST_TICKS};

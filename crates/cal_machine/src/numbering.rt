@@ -13,8 +13,8 @@ pub const MOST_THREADS: usize = 128;
 
 /// The first thread of each task.
 pub fn firsts_of(tasks: &[Task]) -> [u8; MOST_TASKS]
-    requires few { length tasks.now ≤ 16 }
-    requires threads { threads_in tasks.now ≤ 128 }
+    requires few { length tasks.now ≤ MOST_TASKS }
+    requires threads { threads_in tasks.now ≤ MOST_THREADS }
     ensures { AreFirsts tasks.now result }
 {
     let mut firsts = [0; MOST_TASKS];
@@ -28,8 +28,8 @@ pub fn firsts_of(tasks: &[Task]) -> [u8; MOST_TASKS]
 
 /// The task of each thread.
 pub fn owners_of(tasks: &[Task]) -> [u8; MOST_THREADS]
-    requires few { length tasks.now ≤ 16 }
-    requires threads { threads_in tasks.now ≤ 128 }
+    requires few { length tasks.now ≤ MOST_TASKS }
+    requires threads { threads_in tasks.now ≤ MOST_THREADS }
     ensures { AreOwners tasks.now result }
 {
     let mut owners = [0; MOST_THREADS];
@@ -45,7 +45,7 @@ pub fn owners_of(tasks: &[Task]) -> [u8; MOST_THREADS]
 /// Gives the threads from `first` up to `end` to a task.
 fn give(owners: &mut [u8; MOST_THREADS], first: usize, end: usize, task: u8)
     requires order { first ≤ end }
-    requires end { end ≤ 128 }
+    requires end { end ≤ MOST_THREADS }
     ensures { (k : ℕ) → slice_index owners.new k
         ≡ (if nat_le first k && nat_lt k end then task else slice_index owners.old k) }
 {
@@ -56,7 +56,7 @@ fn give(owners: &mut [u8; MOST_THREADS], first: usize, end: usize, task: u8)
 
 /// How many kernel threads the tasks have in all.
 pub fn threads_in(tasks: &[Task]) -> usize
-    requires { length tasks.now ≤ 16 }
+    requires { length tasks.now ≤ MOST_TASKS }
     ensures { result ≡ threads_in tasks.now }
 {
     let mut threads = 0;
@@ -68,7 +68,7 @@ pub fn threads_in(tasks: &[Task]) -> usize
 
 /// How many cores the tasks are guaranteed in all.
 pub fn guaranteed_in(tasks: &[Task]) -> usize
-    requires { length tasks.now ≤ 16 }
+    requires { length tasks.now ≤ MOST_TASKS }
     ensures { result ≡ guaranteed_in tasks.now }
 {
     let mut cores = 0;

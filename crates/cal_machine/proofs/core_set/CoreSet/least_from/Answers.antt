@@ -3,9 +3,9 @@ use Rattle.cal_machine.specs.CoreSet.{has}
 use Rattle.cal_machine.proofs.Bits.{none_beyond, none_from, lowest_from}
 use Rattle.cal_machine.proofs.core_set.CoreSet.least_from.Goals as goal
 
-pub returns-then-first-ge128-clause-none : goal.returns-then-first-ge128-clause-none
+pub returns-then-first-ge-MOST_CORES-clause-none : goal.returns-then-first-ge-MOST_CORES-clause-none
 unfolding has
-returns-then-first-ge128-clause-none c = λ core from. none_beyond c.args.self.now.bits core (search rules) (omega (arith, from, c.if-first-ge128.true))
+returns-then-first-ge-MOST_CORES-clause-none c = λ core from. none_beyond c.args.self.now.bits core (search rules) (omega (arith, from, c.if-first-ge-MOST_CORES.true))
 
 pub returns-then-rest-eq0-clause-none : goal.returns-then-rest-eq0-clause-none
 unfolding has
