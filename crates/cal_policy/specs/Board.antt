@@ -9,6 +9,9 @@ use Rattle.std.specs.Option.{IfSome}
 use Rattle.cal_machine.specs.Table.{Table}
 use Rattle.cal_machine.specs.declared.core_set.CoreSet.{CoreSet}
 use Rattle.cal_machine.specs.CoreSet.{has}
+use Rattle.cal_machine.specs.declared.machine.TheConstants.{MOST_CORES}
+use Rattle.cal_machine.specs.declared.numbering.TheConstants.{MOST_THREADS}
+use Rattle.cal_machine.specs.declared.task_table.TheConstants.{MOST_TASKS}
 use Rattle.cal_policy.specs.Tasks.{threads_of_table}
 use Rattle.cal_policy.specs.declared.history.action.Action.{Action}
 use Rattle.cal_policy.specs.declared.history.action.Action.TheVariants.{Free, Unban, Ban}
@@ -80,11 +83,11 @@ core_changed (Cap task cap) = None
 
 -- cores, threads and numbers of commands are as the actions x say
 pub record HoldingAgrees (h : Holding) (x : List Action) : Type 0 where
-  pub granted : (c : ℕ) → c < 128 →
+  pub granted : (c : ℕ) → c < MOST_CORES →
       slice_index_or h.granted c None ≡ option_map kept_placement (last_placement x c)
-  pub holders : (c : ℕ) → c < 128 →
+  pub holders : (c : ℕ) → c < MOST_CORES →
       slice_index_or h.holders c holders.Free ≡ kept_holder (holder_of x c)
-  pub sent : (k : ℕ) → k < 128 → slice_index h.sent k ≡ kept_number (sent_to x k)
+  pub sent : (k : ℕ) → k < MOST_THREADS → slice_index h.sent k ≡ kept_number (sent_to x k)
 
 -- threads are below this number, and numbers of commands at most 2^64
 pub record HoldingSound (threads : ℕ) (h : Holding) : Type 0 where
@@ -96,7 +99,7 @@ pub record HoldingSound (threads : ℕ) (h : Holding) : Type 0 where
 
 -- bans are as the actions x say
 pub record BansAgree (b : Bans) (x : List Action) : Type 0 where
-  pub bans : (c : ℕ) → c < 128 → slice_index_or b.bans c None ≡ ban_of x c
+  pub bans : (c : ℕ) → c < MOST_CORES → slice_index_or b.bans c None ≡ ban_of x c
 
 -- banned threads are below this number
 pub record BansSound (threads : ℕ) (b : Bans) : Type 0 where
@@ -104,24 +107,25 @@ pub record BansSound (threads : ℕ) (b : Bans) : Type 0 where
 
 -- caps are as the actions x say
 pub record CapsAgree (a : Caps) (x : List Action) : Type 0 where
-  pub caps : (t : ℕ) → t < 16 → slice_index_or a.caps t None ≡ last_cap x t
+  pub caps : (t : ℕ) → t < MOST_TASKS → slice_index_or a.caps t None ≡ last_cap x t
 
 -- records are as all looks so far say, those of the last pass included
 pub record KeepingAgrees (r : Keeping) (looks : List (List Seen)) : Type 0 where
-  pub kept : (k : ℕ) → k < 128 → slice_index_or r.kept k zero_record ≡ kept_by looks k
-  pub shown : (k : ℕ) → k < 128 → slice_index_or r.shown k nothing_shown ≡ last_shown looks k
+  pub kept : (k : ℕ) → k < MOST_THREADS → slice_index_or r.kept k zero_record ≡ kept_by looks k
+  pub shown : (k : ℕ) → k < MOST_THREADS →
+      slice_index_or r.shown k nothing_shown ≡ last_shown looks k
 
 -- the misses of the records kept after these looks, which are all but those of the last pass
 pub record KeepsBefore (r : Keeping) (looks : List (List Seen)) : Type 0 where
-  pub before : (k : ℕ) → k < 128 → slice_index r.before k ≡ (kept_by looks k).misses
+  pub before : (k : ℕ) → k < MOST_THREADS → slice_index r.before k ≡ (kept_by looks k).misses
 
--- cores are below this number, and threads below that one; tasks below 16
+-- cores are below this number, and threads below that one; tasks below MOST_TASKS
 abbrev pub NamesCores : ℕ → ℕ → Action → Type 0
 NamesCores cores threads (Free core) = core < cores
 NamesCores cores threads (Unban core) = core < cores
 NamesCores cores threads (Ban core thread started) = (core < cores) × (thread < threads)
 NamesCores cores threads (Revoke core cause) = core < cores
-NamesCores cores threads (Cap task cap) = task < 16
+NamesCores cores threads (Cap task cap) = task < MOST_TASKS
 NamesCores cores threads (Grant core thread class) = (core < cores) × (thread < threads)
 
 -- the board says of cores, bans and caps what the actions x say
@@ -143,22 +147,24 @@ NamesTable table action = NamesCores table.cores (threads_of_table table) action
 -- the board's threads are the table's, its counts are those of its cores, and its sets have each
 -- core where its holder says
 pub record IsReady (table : Table) (b : Board) : Type 0 where
-  pub sound : IsSound 128 b
+  pub sound : IsSound MOST_THREADS b
   pub own : IsSound (threads_of_table table) b
   pub counts : Surveys table (holder_in b.holding) b.survey
   pub sets : Sorts (holder_in b.holding) b.sets
 
 -- the set has the cores that were granted in this pass
 pub record IsFresh (granted : CoreSet) (acts : List Action) : Type 0 where
-  pub fresh : (c : ℕ) → c < 128 → has granted c ≡ is_granted_in acts c
+  pub fresh : (c : ℕ) → c < MOST_CORES → has granted c ≡ is_granted_in acts c
 
 -- the board stands in a pass, after the actions acts of it
 pub record Stands (b : Board) (s : Setting) (acts : List Action) : Type 0 where
   pub agrees : Agrees b (so_far s acts)
   pub fresh : IsFresh b.fresh acts
-  pub kept : (k : ℕ) → k < 128 → slice_index_or b.keeping.kept k zero_record ≡ kept_now s k
-  pub before : (k : ℕ) → k < 128 → slice_index b.keeping.before k ≡ (kept_before s k).misses
-  pub shown : (k : ℕ) → k < 128 →
+  pub kept : (k : ℕ) → k < MOST_THREADS →
+      slice_index_or b.keeping.kept k zero_record ≡ kept_now s k
+  pub before : (k : ℕ) → k < MOST_THREADS →
+      slice_index b.keeping.before k ≡ (kept_before s k).misses
+  pub shown : (k : ℕ) → k < MOST_THREADS →
       slice_index_or b.keeping.shown k nothing_shown
       ≡ last_shown (looks_of s.history ++ s.input.seen ∷ []) k
 

@@ -3,6 +3,7 @@ use Rattle.std.specs.Prelude.{◌≡◌, ℕ, ◌<◌, ◌≤◌, ◌↔◌, fal
 use Rattle.std.specs.Prelude.{length, take, Some, None, slice_get}
 use Rattle.std.specs.Option.{MatchOption, option_map, option_or, unwrap_or}
 use Rattle.cal_policy.specs.declared.history.action.Action.{Action}
+use Rattle.cal_policy.specs.declared.history.action_list.TheConstants.{MOST_ACTIONS}
 use Rattle.cal_policy.specs.declared.board.holders.Placement as placements
 use Rattle.cal_signal.specs.declared.record.Record.{Record}
 use Rattle.cal_signal.specs.declared.look.Look.{Look}
@@ -174,8 +175,8 @@ LegalIsApart = (table : Table) (history : List PassEntry) → IsTable table → 
     (p : ℕ) (entry : PassEntry) → slice_get history p ≡ Some entry →
     (i : ℕ) → NoPairBanned (so_far (setting_of table (take p history) entry) (take i entry.actions))
 
--- a pass of a legal history has at most 338 actions
+-- a pass of a legal history has at most MOST_ACTIONS actions
 abbrev pub LegalIsShort : Type 0
 LegalIsShort = (table : Table) (history : List PassEntry) → IsTable table → IsLegal table history →
     (p : ℕ) (entry : PassEntry) → slice_get history p ≡ Some entry →
-    length entry.actions ≤ 338
+    length entry.actions ≤ MOST_ACTIONS

@@ -5,6 +5,7 @@ pub mod Board
 pub mod Judgement
 pub mod Setting
 pub mod Laws
+pub mod Limits
 pub mod Book
 pub mod Verdict
 pub mod Auditor

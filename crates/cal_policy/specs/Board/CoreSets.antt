@@ -2,6 +2,7 @@
 use Rattle.std.specs.Prelude.{◌≡◌, ◌≢◌, ℕ, ◌<◌, false, not, List}
 use Rattle.cal_machine.specs.declared.core_set.CoreSet.{CoreSet}
 use Rattle.cal_machine.specs.CoreSet.{has}
+use Rattle.cal_machine.specs.declared.machine.TheConstants.{MOST_CORES}
 use Rattle.cal_policy.specs.declared.history.action.Action.{Action}
 use Rattle.cal_policy.specs.declared.board.holders.Holder.{Holder}
 use Rattle.cal_policy.specs.declared.board.core_sets.CoreSets.{CoreSets}
@@ -15,7 +16,7 @@ pub record IsSorted (core : ℕ) (holder : Holder) (sets : CoreSets) : Type 0 wh
 
 -- where `holder` says who has each core, each is in the sets that its holder says
 abbrev pub Sorts : (ℕ → Holder) → CoreSets → Type 0
-Sorts holder sets = (c : ℕ) → c < 128 → IsSorted c (holder c) sets
+Sorts holder sets = (c : ℕ) → c < MOST_CORES → IsSorted c (holder c) sets
 
 -- the core is among neither the free nor the taken ones
 pub record IsNowhere (core : ℕ) (sets : CoreSets) : Type 0 where
@@ -29,4 +30,4 @@ pub record IsSameBut (core : ℕ) (old new : CoreSets) : Type 0 where
 
 -- the set has the cores that are banned after the actions x
 pub record IsSetOfBanned (set : CoreSet) (x : List Action) : Type 0 where
-  pub banned : (c : ℕ) → c < 128 → has set c ≡ is_banned x c
+  pub banned : (c : ℕ) → c < MOST_CORES → has set c ≡ is_banned x c
