@@ -9,6 +9,7 @@ use Rattle.cal_policy.specs.declared.history.action.Action.{Action}
 use Rattle.cal_policy.specs.declared.history.action.Action.TheVariants.{Free, Revoke, Grant}
 use Rattle.cal_policy.specs.declared.history.action.Cause.{Cause}
 use Rattle.cal_policy.specs.declared.history.entry.PassEntry.{PassEntry}
+use Rattle.cal_policy.specs.declared.history.action_list.TheConstants.{MOST_ACTIONS}
 use Rattle.cal_policy.specs.History.{actions_of, holder_of, sent_to, sends, is_banned}
 use Rattle.cal_policy.specs.Board.Counts.{is_held, held_by, cap_of}
 use Rattle.cal_policy.specs.Setting.{kept_now, has_room}
@@ -98,7 +99,7 @@ ThreadsAreSentOneCommand = (here : Point) → IsPermittedPoint here → (k : ℕ
     sent_to (actions_at here) k ≤ sent_to (actions_of (take here.pass here.history)) k + 1
 
 abbrev pub PassesAreShort : Type 0
-PassesAreShort = (here : Point) → IsPermittedPoint here → length here.entry.actions ≤ 338
+PassesAreShort = (here : Point) → IsPermittedPoint here → length here.entry.actions ≤ MOST_ACTIONS
 
 abbrev pub KeptRecordsAreTrue : Type 0
 KeptRecordsAreTrue = (here : Point) → IsPermittedPoint here → (k : ℕ) →

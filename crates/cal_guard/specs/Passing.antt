@@ -3,7 +3,9 @@ use Rattle.std.specs.Prelude.{◌≡◌, ℕ, ◌<◌, ◌≤◌, true, List, le
 use Rattle.cal_machine.specs.Table.{Table}
 use Rattle.cal_machine.specs.declared.core_set.CoreSet.{CoreSet}
 use Rattle.cal_machine.specs.CoreSet.{has}
+use Rattle.cal_machine.specs.declared.numbering.TheConstants.{MOST_THREADS}
 use Rattle.cal_policy.specs.declared.history.action.Action.{Action}
+use Rattle.cal_policy.specs.declared.history.action_list.TheConstants.{MOST_ACTIONS}
 use Rattle.cal_policy.specs.History.{holder_of}
 use Rattle.cal_policy.specs.Board.Counts.{is_held}
 use Rattle.cal_policy.specs.Setting.{Setting, so_far}
@@ -13,7 +15,7 @@ use Rattle.cal_guard.specs.Refusals.{was_sent}
 
 -- the set has the threads that were sent a command in this pass
 pub record IsSetOfSent (set : CoreSet) (s : Setting) (acts : List Action) : Type 0 where
-  pub sent : (k : ℕ) → k < 128 → has set k ≡ was_sent s acts k
+  pub sent : (k : ℕ) → k < MOST_THREADS → has set k ≡ was_sent s acts k
 
 -- every core that is held is one of the machine's
 pub record HeldAreLow (table : Table) (x : List Action) : Type 0 where
@@ -24,5 +26,5 @@ pub record IsInside (passing : Passing) (s : Setting) (acts : List Action) : Typ
   pub stands : Stands passing.board s acts
   pub sent : IsSetOfSent passing.sent s acts
   pub made : passing.made ≡ length acts
-  pub few : length acts ≤ 338
+  pub few : length acts ≤ MOST_ACTIONS
   pub low : HeldAreLow s.table (so_far s acts)

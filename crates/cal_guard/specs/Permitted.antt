@@ -7,6 +7,7 @@ use Rattle.cal_policy.specs.declared.history.action.Action.{Action}
 use Rattle.cal_policy.specs.declared.history.action.Action.TheVariants.{Free, Unban, Ban}
 use Rattle.cal_policy.specs.declared.history.action.Action.TheVariants.{Revoke, Cap, Grant}
 use Rattle.cal_policy.specs.declared.history.entry.PassEntry.{PassEntry}
+use Rattle.cal_policy.specs.declared.history.action_list.TheConstants.{MOST_ACTIONS}
 use Rattle.cal_policy.specs.declared.board.holders.Placement as placements
 use Rattle.cal_policy.specs.declared.board.holders.Holder.TheVariants as holders
 use Rattle.cal_policy.specs.History.{actions_of, holder_of, sent_to, is_banned}
@@ -92,7 +93,7 @@ pub record IsSettled (s : Setting) (acts : List Action) : Type 0 where
 -- no ban and no cap is left undone
 pub record ArePermitted (s : Setting) (actions : List Action) : Type 0 where
   pub each : (i : ℕ) (a : Action) → slice_get actions i ≡ Some a → IsPermitted s (take i actions) a
-  pub short : length actions ≤ 338
+  pub short : length actions ≤ MOST_ACTIONS
   pub settled : IsSettled s actions
 
 -- an entry is a permitted pass after these, whoever chose its actions

@@ -9,6 +9,7 @@ use Rattle.cal_policy.specs.Tasks.{owner_of, limit_of, is_latency_critical}
 use Rattle.cal_policy.specs.declared.history.action.Action.{Action}
 use Rattle.cal_policy.specs.declared.history.action.Action.TheVariants.{Free, Unban, Ban}
 use Rattle.cal_policy.specs.declared.history.action.Action.TheVariants.{Revoke, Cap, Grant}
+use Rattle.cal_policy.specs.declared.history.action_list.TheConstants.{MOST_ACTIONS}
 use Rattle.cal_policy.specs.declared.board.holders.Holder.{Holder}
 use Rattle.cal_policy.specs.declared.board.holders.Holder.TheVariants as holders
 use Rattle.cal_policy.specs.History.{actions_of, holder_of, sent_to, is_banned}
@@ -96,7 +97,7 @@ left_undone table x revoked =
 -- what is wrong with an action after the actions acts of the pass
 abbrev pub wrong_with : Setting → List Action → Action → Option Why
 wrong_with s acts a =
-    option_or (unless (nat_lt (length acts) 338) TooMany)
+    option_or (unless (nat_lt (length acts) MOST_ACTIONS) TooMany)
     (option_or (unless (fits_state s.table (so_far s acts) a) DoesNotFit)
     (option_or (wrong_to_make s acts a) (left_undone s.table (so_far s acts) (core_revoked a))))
 
@@ -110,7 +111,7 @@ wrong_next s acts None = left_undone s.table (so_far s acts) None
 pub record MayFollow (s : Setting) (acts actions : List Action) : Type 0 where
   pub each : (i : ℕ) (a : Action) → slice_get actions i ≡ Some a →
       IsPermitted s (acts ++ take i actions) a
-  pub short : length acts + length actions ≤ 338
+  pub short : length acts + length actions ≤ MOST_ACTIONS
   pub settled : IsSettled s (acts ++ actions)
 
 -- those before its place are permitted, and this is what is wrong there

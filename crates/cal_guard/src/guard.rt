@@ -3,6 +3,7 @@
 
 ghost use Rattle.std.specs.Prelude.{◌≡◌, ◌<◌, ◌++◌, ◌↔◌, [], List, length};
 ghost use Rattle.std.specs.Prelude.{IsOk, IfOk, IfErr, OnErr, IsTrue};
+ghost use Rattle.cal_machine.specs.declared.machine.TheConstants.{MOST_CORES};
 ghost use Rattle.cal_policy.specs.Tasks.{threads_of_table};
 ghost use Rattle.cal_policy.specs.declared.history.action.Action.{Action};
 ghost use Rattle.cal_policy.specs.declared.history.entry.PassEntry.{PassEntry};
@@ -78,7 +79,7 @@ impl Guard {
 
     /// Who has a core after the history. A number is the least of the Run's and 2^64.
     pub fn holder(&self, core: u8) -> Holder
-        requires { core < 128 }
+        requires { core < MOST_CORES }
         ensures { (h : List PassEntry) → Keeps self.now h →
             result ≡ kept_holder (holder_of (actions_of h) core) }
     {

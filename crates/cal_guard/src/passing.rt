@@ -4,6 +4,8 @@ ghost use Rattle.std.specs.Prelude.{◌≡◌, ℕ, ◌+◌, ◌<◌, ◌≤◌,
 ghost use Rattle.std.specs.Prelude.{length, None, IsOk, IfNone, IfErr, OnOk, option_map};
 ghost use Rattle.std.specs.Option.{IfSome};
 ghost use Rattle.cal_machine.specs.Table.{Table, IsTable};
+ghost use Rattle.cal_machine.specs.declared.machine.TheConstants.{MOST_CORES};
+ghost use Rattle.cal_machine.specs.declared.numbering.TheConstants.{MOST_THREADS};
 ghost use Rattle.cal_policy.specs.declared.history.action.Action.{Action};
 ghost use Rattle.cal_policy.specs.declared.history.entry.PassEntry.{PassEntry};
 ghost use Rattle.cal_policy.specs.declared.history.input.Input.{Input};
@@ -46,7 +48,7 @@ fn unless(holds: bool, why: Why) -> Option<Why>
 
 /// What is wrong with sending the thread a command.
 fn wrong_to_send(input: &Input, sent: &CoreSet, thread: u8) -> Option<Why>
-    requires thread { thread < 128 }
+    requires thread { thread < MOST_THREADS }
     requires rooms { thread < length input.now.rooms }
     ensures { (s : Setting) (acts : List Action) → s.input ≡ input.entry.now →
         IsSetOfSent sent.now s acts → result ≡ refusals.wrong_to_send s acts thread }
@@ -178,7 +180,7 @@ fn is_core(revoked: Option<u8>, core: u8) -> bool
 
 /// Whether the core is banned and held, and is not the one that is revoked.
 fn is_left_held(board: &Board, revoked: Option<u8>, core: u8) -> bool
-    requires { core < 128 }
+    requires { core < MOST_CORES }
     ensures { (x : List Action) → Agrees board.now x →
         result ≡ refusals.is_left_held x revoked core }
 {
@@ -203,7 +205,7 @@ fn lowest_left_held(config: &Config, board: &Board, revoked: Option<u8>) -> Opti
 fn is_from(config: &Config, board: &Board, task: usize, revoked: Option<u8>) -> bool
     requires table { IsTable config.now }
     requires ready { IsReady config.now board.now }
-    requires core { IfSome revoked (λ core. core < 128) }
+    requires core { IfSome revoked (λ core. core < MOST_CORES) }
     ensures { (x : List Action) → Agrees board.now x →
         result ≡ refusals.is_from config.now x task revoked }
 {
@@ -217,7 +219,7 @@ fn is_from(config: &Config, board: &Board, task: usize, revoked: Option<u8>) -> 
 fn is_left_over(config: &Config, board: &Board, task: usize, revoked: Option<u8>) -> bool
     requires table { IsTable config.now }
     requires ready { IsReady config.now board.now }
-    requires core { IfSome revoked (λ core. core < 128) }
+    requires core { IfSome revoked (λ core. core < MOST_CORES) }
     requires task { task < length config.now.tasks }
     ensures { (x : List Action) → Agrees board.now x →
         result ≡ refusals.is_left_over config.now x revoked task }
@@ -231,7 +233,7 @@ fn is_left_over(config: &Config, board: &Board, task: usize, revoked: Option<u8>
 fn lowest_left_over(config: &Config, board: &Board, revoked: Option<u8>) -> Option<usize>
     requires table { IsTable config.now }
     requires ready { IsReady config.now board.now }
-    requires core { IfSome revoked (λ core. core < 128) }
+    requires core { IfSome revoked (λ core. core < MOST_CORES) }
     ensures lowest { (x : List Action) → Agrees board.now x →
         result ≡ lowest_below (refusals.is_left_over config.now x revoked)
         (length config.now.tasks) }
@@ -249,7 +251,7 @@ fn lowest_left_over(config: &Config, board: &Board, revoked: Option<u8>) -> Opti
 fn left_undone(config: &Config, board: &Board, revoked: Option<u8>) -> Option<Why>
     requires table { IsTable config.now }
     requires ready { IsReady config.now board.now }
-    requires core { IfSome revoked (λ core. core < 128) }
+    requires core { IfSome revoked (λ core. core < MOST_CORES) }
     ensures { (x : List Action) → Agrees board.now x →
         result ≡ refusals.left_undone config.now x revoked }
 {
@@ -312,7 +314,7 @@ impl Passing {
 
     /// Begins the pass on these looks.
     pub fn begin(&mut self, seen: &[Seen])
-        requires { length seen.now ≤ 128 }
+        requires { length seen.now ≤ MOST_THREADS }
         ensures inside { (table : Table) (h : List PassEntry) (input : Input) →
             seen.now ≡ input.seen → IsPermittedHistory table h →
             Agrees self.old.board (actions_of h) →
@@ -332,7 +334,7 @@ impl Passing {
         requires ready { IsReady config.now self.now.board }
         requires rooms { length input.now.rooms ≡ threads_of_table config.now }
         ensures names { IfNone result (NamesTable config.now action) }
-        ensures few { IfNone result (self.now.made < 338) }
+        ensures few { IfNone result (self.now.made < MOST_ACTIONS) }
         ensures wrong { (h : List PassEntry) (acts : List Action) →
             let s = setting config.now h input.entry.now in
             IsInside self.now s acts → result ≡ refusals.wrong_with s acts action }
@@ -353,7 +355,7 @@ impl Passing {
         requires table { IsTable config.now }
         requires ready { IsReady config.now self.old.board }
         requires names { NamesTable config.now action }
-        requires few { self.old.made < 338 }
+        requires few { self.old.made < MOST_ACTIONS }
         ensures inside { (h : List PassEntry) (input : Input) (acts : List Action) →
             let s = setting config.now h input in
             IsInside self.old s acts → IsPermitted s acts action →

@@ -1,6 +1,7 @@
 -- How much one pass sends.
 use Rattle.std.specs.Prelude.{◌≡◌, ◌≢◌, ℕ, ◌+◌, ◌<◌, ◌≤◌, true, length, take, Some, slice_get}
 use Rattle.cal_policy.specs.declared.history.action.Action.{Action}
+use Rattle.cal_policy.specs.declared.history.action_list.TheConstants.{MOST_ACTIONS}
 use Rattle.cal_policy.specs.History.{actions_of, sent_to, sends}
 use Rattle.cal_policy.specs.Setting.{has_room}
 use Rattle.cal_laws.specs.Point.{Point, IsPoint, setting_at, actions_at, next_at}
@@ -31,6 +32,6 @@ abbrev pub ThreadsAreSentOneCommand : Type 0
 ThreadsAreSentOneCommand = (here : Point) → IsPoint here → (k : ℕ) →
     sent_to (actions_at here) k ≤ sent_to (actions_of (take here.pass here.history)) k + 1
 
--- a pass has at most 338 actions
+-- a pass has at most MOST_ACTIONS actions
 abbrev pub PassesAreShort : Type 0
-PassesAreShort = (here : Point) → IsPoint here → length here.entry.actions ≤ 338
+PassesAreShort = (here : Point) → IsPoint here → length here.entry.actions ≤ MOST_ACTIONS
