@@ -6,6 +6,7 @@ pub mod Turns
 use Rattle.std.specs.Prelude.{◌≡◌, ℕ, ◌+◌, nat_eq, List, map}
 use mathlib.Core.Option.{some}
 use lib.ListN.{get_elem?}
+use Rattle.cal_kthread.specs.declared.queue.TheConstants.{QUEUE_SHARES}
 use Rattle.cal_kthread.specs.Places.{Each, one_if}
 use Rattle.cal_kthread.specs.Queue.{QueueId}
 use Rattle.cal_kthread.specs.Queue.Rule.{weigh}
@@ -47,10 +48,10 @@ lent k places = weigh (lent_to k) places
 abbrev pub queues_of : List Place → List QueueId
 queues_of = map (λ place. place.queue)
 
--- Each thief is at the queue of the thread that it is to steal from, and has one of that queue's 16
+-- Each thief is at the queue of the thread that it is to steal from, and has one of that queue's
 -- shares; the thread itself has the others.
 pub record IsTeam (places : List Place) : Type 0 where
   pub thieves : Each (λ place.
       Each (λ thief. get_elem? (queues_of places) thief.0 ≡ some thief.1) place.thieves) places
   pub shares : (k : ℕ) (place : Place) → get_elem? places k ≡ some place →
-      place.shares + lent k places ≡ 16
+      place.shares + lent k places ≡ QUEUE_SHARES

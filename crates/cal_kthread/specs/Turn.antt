@@ -15,6 +15,7 @@ use Rattle.cal_kthread.specs.declared.turn.current.Current.{Current}
 use Rattle.cal_kthread.specs.declared.journal.entry.Entry.{Entry}
 use Rattle.cal_kthread.specs.declared.journal.entry.Entry.TheVariants.{Arrived, Took, Stole}
 use Rattle.cal_kthread.specs.declared.journal.entry.Entry.TheVariants.{Served, Yielded, Published}
+use Rattle.cal_kthread.specs.declared.kernel_thread.TheConstants.{MOST_ENTRIES, TURN_ENTRIES}
 use Rattle.cal_kthread.specs.declared.queue.waiting.Waiting.{Waiting}
 use Rattle.cal_kthread.specs.declared.turn.victims.Victim.{Victim}
 use Rattle.cal_kthread.specs.Journal.{core_after, running_word}
@@ -214,10 +215,7 @@ turned now request answers k =
       thread = publication.0;
     }
 
--- A journal holds at most this many entries. A turn asks for room for six; it adds at most five.
-abbrev pub most_entries : ℕ
-most_entries = 1048576
-
--- fewer than six places are left
+-- Fewer places are left than a turn asks for. A journal holds at most MOST_ENTRIES entries; a turn
+-- asks for room for TURN_ENTRIES, and adds at most five.
 abbrev pub IsFull : List Entry → Type 0
-IsFull journal = most_entries < length journal + 6
+IsFull journal = MOST_ENTRIES < length journal + TURN_ENTRIES

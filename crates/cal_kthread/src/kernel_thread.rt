@@ -14,11 +14,11 @@ use crate::turn::thread::Thread;
 use cal_machine::Request;
 use std::marker::Model;
 
-/// How many entries a journal holds at most.
-const MOST_ENTRIES: usize = 1_048_576;
+/// The most entries of a journal.
+pub const MOST_ENTRIES: usize = 1_048_576;
 
 /// How many entries must fit before a turn begins. A turn adds at most five; one place is spare.
-const TURN_ENTRIES: usize = 6;
+pub const TURN_ENTRIES: usize = 6;
 
 /// A kernel thread. It may be moved to a thread of its own; no call of it waits.
 ///
@@ -38,7 +38,7 @@ impl Model for KernelThread {
     ghost use Rattle.std.specs.Prelude.{◌≤◌, length};
     ghost use Rattle.cal_kthread.specs.Turn.Thread.{KernelView};
     ghost use Rattle.cal_kthread.specs.Turn.Agreement.{Agrees};
-    ghost use Rattle.cal_kthread.specs.Turn.{most_entries};
+    ghost use Rattle.cal_kthread.specs.declared.kernel_thread.TheConstants.{MOST_ENTRIES};
 
     ghost Value = { KernelView };
 
@@ -49,7 +49,7 @@ impl Model for KernelThread {
     } };
 
     ghost invariant = { λ k. Agrees k.journal.items k.thread
-        × (length k.journal.items ≤ most_entries) };
+        × (length k.journal.items ≤ MOST_ENTRIES) };
 }
 
 impl KernelThread {

@@ -11,9 +11,14 @@ ghost use Rattle.cal_kthread.specs.Queue.Rule.{AllTaken, TookWhatCame};
 use crate::queue::knowledge::Knowledge;
 use crate::queue::rule::{Balance, HandingOut, OneShare, Pushing, Taking};
 use crate::queue::waiting::Waiting;
+use cal_machine::MOST_LIMIT;
 use crossbeam_deque::{Pass, Steal, Stealer, Worker};
 use std::alloc::{AllocError, Global};
 use std::marker::Model;
+
+/// The shares of a queue, which its own end and its thieves have together: one for each thread that
+/// a task can have.
+pub const QUEUE_SHARES: usize = MOST_LIMIT as usize;
 
 /// How many requests a new queue has room for. It grows.
 const FIRST_ROOM: usize = 4;
@@ -21,7 +26,7 @@ const FIRST_ROOM: usize = 4;
 /// The own end of a queue, first in first out. Its thread pushes at the back and pops at the front.
 /// (That threads of a task steal from one another is Caladan's; the shares are this project's own.)
 ///
-/// A contract sees which queue it is, how many of its 16 shares this end has, what it pushed, what
+/// A contract sees which queue it is, how many of its shares this end has, what it pushed, what
 /// it popped (or got back from thieves), and what it handed out at the end, which is nothing so
 /// far.
 #[derive(Drop)]
@@ -45,7 +50,7 @@ impl Model for OwnQueue {
 impl OwnQueue {
     /// An empty queue, with all of its shares. An error is want of memory.
     pub fn open(alloc: Global) -> Result<OwnQueue, AllocError>
-        ensures shares { IfOk result (λ q. q.shares ≡ 16) }
+        ensures shares { IfOk result (λ q. q.shares ≡ QUEUE_SHARES) }
         ensures empty { IfOk result (λ q. (q.pushed ≡ []) × (q.had ≡ []) × (q.handed ≡ [])) }
     {
         let worker = Worker::fifo_as(alloc, FIRST_ROOM)?;
@@ -121,16 +126,16 @@ impl Model for EndQueue {
 }
 
 impl EndQueue {
-    /// The request at the front, which is handed out at the end of a run; with all 16 shares, one
-    /// that was pushed and was neither taken nor handed out before. None where none was found: with
-    /// all 16 shares, all that was pushed was then taken or handed out.
+    /// The request at the front, which is handed out at the end of a run; with all of its shares,
+    /// one that was pushed and was neither taken nor handed out before. None where none was found:
+    /// with all of its shares, all that was pushed was then taken or handed out.
     pub fn hand_out(&mut self) -> Option<Waiting>
         ensures handed { MatchOption result (self.new ≡ self.old)
             (λ waiting. self.new ≡ record self.old { handed = self.old.handed ++ waiting ∷ [] }) }
-        ensures came { IfSome result (λ _. self.old.shares ≡ 16 →
+        ensures came { IfSome result (λ _. self.old.shares ≡ QUEUE_SHARES →
             TookWhatCame self.new.pushed self.new.had self.new.handed) }
         ensures empty { MatchOption result
-            (self.old.shares ≡ 16 → AllTaken self.old.pushed self.old.had self.old.handed)
+            (self.old.shares ≡ QUEUE_SHARES → AllTaken self.old.pushed self.old.had self.old.handed)
             (λ _. Unit {0}) }
     {
         self.worker.pop_as::<HandingOut>()

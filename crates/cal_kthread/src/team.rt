@@ -5,6 +5,7 @@ pub mod opening;
 
 ghost use Rattle.std.specs.Prelude.{◌≡◌, ◌≤◌, [], map, length, IfOk};
 ghost use Rattle.cal_machine.specs.Tasks.{threads_in};
+ghost use Rattle.cal_machine.specs.declared.numbering.TheConstants.{MOST_THREADS};
 ghost use Rattle.cal_kthread.specs.Team.Linking.{StoleNothing, unlinked};
 ghost use Rattle.cal_kthread.specs.Team.Opening.{AreOpened, AreLinked};
 ghost use Rattle.cal_kthread.specs.Places.{Each};
@@ -60,7 +61,7 @@ pub fn open_threads(alloc: Global, config: &Config) -> Result<Team, AllocError>
 
 /// That many threads, which have no thieves yet.
 fn open_each(alloc: Global, count: usize) -> Result<Team, AllocError>
-    requires { count ≤ 128 }
+    requires { count ≤ MOST_THREADS }
     ensures count { IfOk result (λ team. length team.threads.items ≡ count) }
     ensures opened { IfOk result (λ team.
         AreOpened team.threads.items team.observers.items team.senders.items team.watchers.items) }

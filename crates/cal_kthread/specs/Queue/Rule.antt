@@ -2,6 +2,7 @@
 use Rattle.std.specs.Prelude.{◌≡◌, ℕ, ◌+◌, ◌≤◌, List, [], ◌∷◌}
 use mathlib.Core.Option.{some}
 use lib.ListN.{get_elem?}
+use Rattle.cal_kthread.specs.declared.queue.TheConstants.{QUEUE_SHARES}
 use Rattle.cal_kthread.specs.declared.queue.knowledge.Knowledge.{Knowledge}
 use Rattle.cal_kthread.specs.declared.queue.waiting.Waiting.{Waiting}
 
@@ -26,10 +27,10 @@ abbrev pub IdleIsEmpty : List Knowledge → Type 0
 IdleIsEmpty views = (port : ℕ) (v : Knowledge) → get_elem? views port ≡ some v → v.shares ≡ 0
     → (v.pushed ≡ []) × (v.had ≡ []) × (v.handed ≡ [])
 
--- All ends have 16 shares. What was pushed is, each as often, what was taken and what the queue
--- holds: so it is however requests are weighed.
+-- All ends have QUEUE_SHARES shares. What was pushed is, each as often, what was taken and what the
+-- queue holds: so it is however requests are weighed.
 pub record Balanced (items : List Waiting) (views : List Knowledge) : Type 0 where
-  pub shares : weigh (λ v. v.shares) views ≡ 16
+  pub shares : weigh (λ v. v.shares) views ≡ QUEUE_SHARES
   pub account : (h : Waiting → ℕ) →
       weigh (pushed_weight h) views ≡ weigh (taken_weight h) views + weigh h items
   pub idle : IdleIsEmpty views

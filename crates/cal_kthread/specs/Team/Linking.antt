@@ -1,6 +1,7 @@
 -- Who steals from whom in a new team.
 use Rattle.std.specs.Prelude.{◌≡◌, ℕ, zero, suc, ◌+◌, ◌-◌, ◌<◌, ◌≤◌, ◌≢◌, nat_lt, if◌then◌else◌}
 use Rattle.std.specs.Prelude.{List, [], ◌∷◌, ◌++◌, map, slice_index, slice_index_or}
+use Rattle.cal_kthread.specs.declared.queue.TheConstants.{QUEUE_SHARES}
 use Rattle.cal_kthread.specs.declared.turn.victims.Victim.{Victim}
 use Rattle.cal_kthread.specs.Places.{Each}
 use Rattle.cal_kthread.specs.Team.{IsTeam, place_of}
@@ -21,7 +22,7 @@ shares_at k threads = slice_index (map (λ (t : KernelView). t.thread.queue.shar
 abbrev pub unlinked : KernelView → KernelView
 unlinked k = record k {
   thread = record k.thread {
-    queue = record k.thread.queue { shares = 16 };
+    queue = record k.thread.queue { shares = QUEUE_SHARES };
     victims = [];
   };
 }
@@ -68,4 +69,5 @@ others_of first count place = next_threads first count place (count - 1)
 pub record IsLinked (first count distance : ℕ) (threads : List KernelView) : Type 0 where
   pub numbers : (place : ℕ) → place < count →
       numbers_at (first + place) threads ≡ next_threads first count place distance
-  pub shares : (place : ℕ) → place < count → shares_at (first + place) threads + distance ≡ 16
+  pub shares : (place : ℕ) → place < count →
+      shares_at (first + place) threads + distance ≡ QUEUE_SHARES

@@ -5,6 +5,8 @@ use Rattle.cal_signal.specs.Ends.{PublisherView}
 use Rattle.cal_signal.specs.Pages.{last_of}
 use Rattle.cal_signal.specs.declared.record.Record.{Record}
 use Rattle.cal_machine.specs.declared.command.Command.{Command}
+use Rattle.cal_machine.specs.declared.machine.TheConstants.{MOST_CORES}
+use Rattle.cal_kthread.specs.declared.queue.TheConstants.{QUEUE_SHARES}
 use Rattle.cal_kthread.specs.declared.turn.current.Current.{Current}
 use Rattle.cal_kthread.specs.declared.journal.entry.Entry.{Entry}
 use Rattle.cal_kthread.specs.declared.queue.waiting.Waiting.{Waiting}
@@ -28,12 +30,12 @@ pub record KernelView : Type 0 where
   pub journal : List Entry
   pub thread : ThreadView
 
--- what its fields keep: the count is that of the commands taken, a core is below 128, the misses
--- stop at 2^56, and the last record has no more commands and misses than these
+-- what its fields keep: the count is that of the commands taken, a core is below MOST_CORES, the
+-- misses stop at 2^56, and the last record has no more commands and misses than these
 pub record IsThread (count : ℕ) (commands : List Command) (core : Option ℕ) (misses : ℕ)
     (published : List Record) : Type 0 where
   pub taken : count ≡ length commands
-  pub number : IfSome core (λ c. c < 128)
+  pub number : IfSome core (λ c. c < MOST_CORES)
   pub limit : misses ≤ 2 ^ 56
   pub shown_taken : (last_of published).taken ≤ count
   pub shown_misses : (last_of published).misses ≤ misses
@@ -43,7 +45,7 @@ pub record IsFresh (k : KernelView) : Type 0 where
   pub journal : k.journal ≡ []
   pub published : k.thread.publisher.published ≡ []
   pub taken : k.thread.taker.taken ≡ []
-  pub shares : k.thread.queue.shares ≡ 16
+  pub shares : k.thread.queue.shares ≡ QUEUE_SHARES
   pub pushed : k.thread.queue.pushed ≡ []
   pub had : k.thread.queue.had ≡ []
   pub handed : k.thread.queue.handed ≡ []

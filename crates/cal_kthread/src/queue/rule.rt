@@ -9,11 +9,12 @@ pub struct Balance;
 
 impl Protocol<Waiting, Knowledge> for Balance {
     ghost use Rattle.cal_kthread.specs.Queue.Rule.{Balanced, knows};
+    ghost use Rattle.cal_kthread.specs.declared.queue.TheConstants.{QUEUE_SHARES};
     ghost use Rattle.std.specs.Prelude.{[]};
 
     ghost holds = { Balanced };
 
-    ghost first = { knows 16 [] [] [] };
+    ghost first = { knows QUEUE_SHARES [] [] [] };
 
     ghost guest = { knows 0 [] [] [] };
 }
@@ -66,10 +67,11 @@ pub struct HandingOut;
 
 impl Outcome<Waiting, Knowledge> for HandingOut {
     ghost use Rattle.cal_kthread.specs.Queue.Rule.{knows, AllTaken, TookWhatCame};
+    ghost use Rattle.cal_kthread.specs.declared.queue.TheConstants.{QUEUE_SHARES};
     ghost use Rattle.std.specs.Prelude.{◌≡◌, ◌++◌};
 
     ghost then = { λ v xs w. (w ≡ knows v.shares v.pushed v.had (v.handed ++ xs))
-        × (v.shares ≡ 16 → TookWhatCame v.pushed v.had (v.handed ++ xs)) };
+        × (v.shares ≡ QUEUE_SHARES → TookWhatCame v.pushed v.had (v.handed ++ xs)) };
 
-    ghost empty = { λ v. v.shares ≡ 16 → AllTaken v.pushed v.had v.handed };
+    ghost empty = { λ v. v.shares ≡ QUEUE_SHARES → AllTaken v.pushed v.had v.handed };
 }

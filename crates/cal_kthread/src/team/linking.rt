@@ -1,6 +1,8 @@
 //! Each thread of a task gets a thief at the queue of each other.
 ghost use Rattle.std.specs.Prelude.{◌≡◌, ◌≢◌, ◌+◌, ◌-◌, ◌<◌, ◌≤◌, ℕ, [], ◌∷◌};
 ghost use Rattle.std.specs.Prelude.{◌++◌, map, length, IfOk, MatchResult};
+ghost use Rattle.cal_machine.specs.declared.numbering.TheConstants.{MOST_THREADS};
+ghost use Rattle.cal_machine.specs.declared.task_table.TheConstants.{MOST_LIMIT};
 ghost use Rattle.cal_kthread.specs.Team.Linking.{Lends, IsLinked, Links, shares_at, wrapped};
 ghost use Rattle.cal_kthread.specs.Team.{IsTeam, place_of};
 
@@ -72,7 +74,7 @@ impl KernelThread {
 fn link(threads: &mut [KernelThread], robber: usize, owner: usize) -> Result<(), AllocError>
     requires robber { robber < length threads.old }
     requires owner { owner < length threads.old }
-    requires few { length threads.old ≤ 128 }
+    requires few { length threads.old ≤ MOST_THREADS }
     requires share { 1 < shares_at owner threads.old }
     requires team { IsTeam (map (λ k. place_of k.thread) threads.old) }
     ensures { IfOk result (λ _. Lends robber owner threads.old threads.new) }
@@ -90,7 +92,7 @@ fn link(threads: &mut [KernelThread], robber: usize, owner: usize) -> Result<(),
 fn place_before(place: usize, distance: usize, count: usize) -> usize
     requires place { place < count }
     requires distance { distance < count }
-    requires few { count ≤ 16 }
+    requires few { count ≤ MOST_LIMIT }
     ensures within { result < count }
     ensures wraps { wrapped count (result + distance) ≡ place }
 {
@@ -109,9 +111,9 @@ fn link_round(
     count: usize,
     distance: usize,
 ) -> Result<(), AllocError>
-    requires few { length threads.old ≤ 128 }
+    requires few { length threads.old ≤ MOST_THREADS }
     requires task { first + count ≤ length threads.old }
-    requires count { count ≤ 16 }
+    requires count { count ≤ MOST_LIMIT }
     requires distance { (1 ≤ distance) × (distance < count) }
     requires linked { IsLinked first count (distance - 1) threads.old }
     requires team { IsTeam (map (λ k. place_of k.thread) threads.old) }
@@ -132,9 +134,9 @@ pub(crate) fn link_task(
     first: usize,
     count: usize,
 ) -> Result<(), AllocError>
-    requires few { length threads.old ≤ 128 }
+    requires few { length threads.old ≤ MOST_THREADS }
     requires task { first + count ≤ length threads.old }
-    requires count { count ≤ 16 }
+    requires count { count ≤ MOST_LIMIT }
     requires some { 1 ≤ count }
     requires linked { IsLinked first count 0 threads.old }
     requires team { IsTeam (map (λ k. place_of k.thread) threads.old) }
