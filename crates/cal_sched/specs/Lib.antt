@@ -1,3 +1,4 @@
+pub mod Limits
 pub mod Looking
 pub mod Spares
 pub mod Watching

@@ -8,6 +8,7 @@ use Rattle.cal_policy.specs.History.{actions_of, commands_to}
 use Rattle.cal_policy.specs.History.Found.{looks_at}
 use Rattle.cal_policy.specs.Pass.{IsLegal}
 use Rattle.cal_policy.specs.Tasks.{threads_of_table}
+use Rattle.cal_sched.specs.declared.scheduler.TheConstants.{MOST_PASSES}
 
 -- its table, its passes so far, and its end of each thread's page and of each thread's ring, in
 -- thread order
@@ -16,10 +17,6 @@ pub record SchedulerView : Type 0 where
   pub history : List PassEntry
   pub observers : List ObserverView
   pub senders : List SenderView
-
--- how many passes there may be
-abbrev pub most_passes : ℕ
-most_passes = 1048576
 
 -- none has found a record yet
 abbrev pub HaveSeenNothing : List ObserverView → Type 0
@@ -35,7 +32,7 @@ HaveSentNothing senders = (k : ℕ) (sender : SenderView) → slice_get senders 
 -- found, and what was sent on its ring are its commands.
 pub record IsKept (s : SchedulerView) : Type 0 where
   pub legal : IsLegal s.table s.history
-  pub few : length s.history ≤ most_passes
+  pub few : length s.history ≤ MOST_PASSES
   pub pages : length s.observers ≡ threads_of_table s.table
   pub rings : length s.senders ≡ threads_of_table s.table
   pub looks : (k : ℕ) (observer : ObserverView) → slice_get s.observers k ≡ Some observer →

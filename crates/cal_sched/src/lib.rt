@@ -20,5 +20,5 @@ mod sending;
 mod watch;
 
 pub use fault::PassFault;
-pub use scheduler::{NotMade, Scheduler, SchedulerEnd};
+pub use scheduler::{MOST_PASSES, NotMade, Scheduler, SchedulerEnd};
 pub use watch::{NotWatched, Watch};

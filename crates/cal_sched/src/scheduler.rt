@@ -6,7 +6,7 @@ ghost use Rattle.cal_policy.specs.History.{actions_of, holder_of};
 ghost use Rattle.cal_policy.specs.Tasks.{threads_of_table};
 ghost use Rattle.cal_sched.specs.declared.fault.PassFault.TheVariants.{HistoryFull};
 ghost use Rattle.cal_sched.specs.Passing.{IsPassed};
-ghost use Rattle.cal_sched.specs.Scheduler.{IsKept, HaveSeenNothing, HaveSentNothing, most_passes};
+ghost use Rattle.cal_sched.specs.Scheduler.{IsKept, HaveSeenNothing, HaveSentNothing};
 
 use crate::fault::PassFault;
 use crate::finding::find_each;
@@ -19,8 +19,8 @@ use cal_signal::Observer;
 use std::alloc::{AllocError, Global};
 use std::marker::Model;
 
-/// How many passes a history has at most.
-const MOST_PASSES: usize = 1_048_576;
+/// The most passes of a history.
+pub const MOST_PASSES: usize = 1_048_576;
 
 /// The scheduler of a table's kernel threads. It may be moved to a thread of its own; no call of it
 /// waits.
@@ -136,7 +136,7 @@ impl Scheduler {
     pub fn pass(&mut self, now: u64, bandwidth: u64) -> Result<(), PassFault>
         ensures passed { IfOk result (λ _. IsPassed now bandwidth self.old self.new) }
         ensures kept { IsKept self.new }
-        ensures full { (result ≡ Err HistoryFull) ↔ (most_passes ≤ length self.old.history) }
+        ensures full { (result ≡ Err HistoryFull) ↔ (MOST_PASSES ≤ length self.old.history) }
         ensures refused { IfErr result (λ _. self.new ≡ self.old) }
     {
         if self.history.len() >= MOST_PASSES {
