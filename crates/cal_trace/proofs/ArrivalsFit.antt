@@ -2,11 +2,13 @@
 use Rattle.std.proofs.Common.{◌≡◌, ◌<◌, ◌≤◌, ◌==◌, ◌&&◌, ◌⊎◌, inl, inr, not, nat_le, nat_lt, ℕ, Bool, true, false, List, [], ◌∷◌, ◌++◌, length, Option, Some, None, Result, Ok, Err, codes, refl, sym, subst, arith, length-append, unwrap_or, if◌then◌else◌, IfOk}
 use Rattle.std.proofs.lemmas.Bool.{and_parts, or_cases, or_parts, not-true, ltb-true, leb-true, eqb-true, eqb-false}
 use Rattle.cal_trace.specs.Rows.Answers.{Gives}
-use Rattle.cal_trace.specs.Arrivals.{SoFar, at_start, form_of, take_row, take_form, whole, most_turns, last_in, turn_row, comes_after, is_given, is_size, arrival_row, add_pass, add_turn, add_arrival, add_end, is_none_yet, rows_in, arrivals_of}
+use Rattle.cal_trace.specs.Arrivals.{SoFar, at_start, form_of, take_row, take_form, whole, last_in, turn_row, comes_after, is_given, is_size, arrival_row, add_pass, add_turn, add_arrival, add_end, is_none_yet, rows_in, arrivals_of}
+use Rattle.cal_trace.specs.declared.arrivals.reading.TheConstants.{MOST_TURNS}
 use Rattle.cal_trace.specs.Rows.RowFields.{has_numbers, number_at}
 use Rattle.cal_trace.specs.Arrivals.FitsTable.{IsArrival, ComesBefore, HaveTwoIds, Fits}
 use Rattle.cal_trace.specs.Rows.Header.{header_of, in_version_one}
-use Rattle.cal_trace.specs.Rows.LookRows.{most_passes, pass_row, end_row}
+use Rattle.cal_trace.specs.Rows.LookRows.{pass_row, end_row}
+use Rattle.cal_trace.specs.declared.rows.look_rows.TheConstants.{MOST_PASSES}
 use Rattle.cal_trace.specs.History.Ranges.{Each}
 use Rattle.cal_trace.specs.Rows.{Fields}
 use Rattle.cal_trace.specs.declared.arrivals.reading.Form.{Form}
@@ -29,7 +31,7 @@ abbrev given : SoFar → Arrivals
 given so_far = record { passes = so_far.passes; turns = so_far.turns; requests = so_far.requests }
 
 -- one more pass
-pass_fits : (threads : ℕ) (so_far next : SoFar) (row : Result PassRow FaultKind) → ((pass : PassRow) → row ≡ Ok pass → length so_far.passes < most_passes)
+pass_fits : (threads : ℕ) (so_far next : SoFar) (row : Result PassRow FaultKind) → ((pass : PassRow) → row ≡ Ok pass → length so_far.passes < MOST_PASSES)
     → Fits threads (given so_far) → add_pass so_far row ≡ Ok next → Fits threads (given next)
 pass_fits threads so_far next (Err k) room fits e = absurd (cc)
 pass_fits threads so_far next (Ok row) room fits e =
@@ -53,9 +55,9 @@ turn_fits threads so_far next fields (Err k) is none fits e = absurd (cc)
 turn_fits threads so_far next fields (Ok now) is none fits e =
     let turns = so_far.turns in
     let clock = number_at fields 1 in
-    let c = check_two (has_numbers fields) (nat_lt (length turns) most_turns && nat_le 1 clock && nat_le (unwrap_or (last_in turns) 0) clock) kind.Number kind.Range clock now (sym is) in
-    let p = and_three (nat_lt (length turns) most_turns) (nat_le 1 clock) (nat_le (unwrap_or (last_in turns) 0) clock) c.1 in
-    let room = ltb-true (length turns) most_turns p.0 in
+    let c = check_two (has_numbers fields) (nat_lt (length turns) MOST_TURNS && nat_le 1 clock && nat_le (unwrap_or (last_in turns) 0) clock) kind.Number kind.Range clock now (sym is) in
+    let p = and_three (nat_lt (length turns) MOST_TURNS) (nat_le 1 clock) (nat_le (unwrap_or (last_in turns) 0) clock) c.1 in
+    let room = ltb-true (length turns) MOST_TURNS p.0 in
     let least : 1 ≤ now = subst (λ (n : ℕ). 1 ≤ n) c.2 (leb-true 1 clock p.1) in
     let after : unwrap_or (last_in turns) 0 ≤ now = subst (λ (n : ℕ). unwrap_or (last_in turns) 0 ≤ n) c.2 (leb-true (unwrap_or (last_in turns) 0) clock p.2) in
     let below : Each (λ (n : ℕ). n ≤ now) turns =
@@ -155,9 +157,9 @@ none_at_all [] h = refl
 none_at_all (x ∷ xs) h = absurd (cc)
 
 -- a pass row that was read had room
-pass_room : (passes : ℕ) (fields : Fields) (pass : PassRow) → pass_row passes fields ≡ Ok pass → passes < most_passes
+pass_room : (passes : ℕ) (fields : Fields) (pass : PassRow) → pass_row passes fields ≡ Ok pass → passes < MOST_PASSES
 pass_room passes fields pass h =
-    ltb-true passes most_passes (check_two (has_numbers fields) (nat_lt passes most_passes) kind.Number kind.Range (record { now = number_at fields 1; bandwidth = number_at fields 2 }) pass h).1
+    ltb-true passes MOST_PASSES (check_two (has_numbers fields) (nat_lt passes MOST_PASSES) kind.Number kind.Range (record { now = number_at fields 1; bandwidth = number_at fields 2 }) pass h).1
 
 -- each row keeps what was read fitting
 row_fits : (threads : ℕ) (so_far next : SoFar) (row : Option Form) (fields : Fields) → Fits threads (given so_far) → take_form threads so_far row fields ≡ Ok next → Fits threads (given next)

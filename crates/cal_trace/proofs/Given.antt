@@ -2,7 +2,7 @@
 use Rattle.std.proofs.Common.{◌≡◌, ◌≤◌, ◌+◌, ℕ, List, [], ◌∷◌, ◌++◌, length, length-append, Option, Some, Ok, subst, ap, sym, ◌∙◌, codes, arith, lit≤}
 use Rattle.std.specs.Option.{option_map, option_to_list}
 use Rattle.cal_trace.specs.Rows.Header.{header_of}
-use Rattle.cal_trace.specs.Rows.LookRows.{most_passes}
+use Rattle.cal_trace.specs.declared.rows.look_rows.TheConstants.{MOST_PASSES}
 use Rattle.cal_trace.specs.Rows.Reading.{read_under}
 use Rattle.cal_trace.specs.Rows.{Fields, rest_of, rows_of}
 use Rattle.cal_trace.specs.Signals.{SoFar, at_start, last_shown, passes_of, take_row, whole, signals_of}
@@ -26,7 +26,7 @@ HasGiven-none threads text version rows signals header rest first same_threads s
   extent = same_threads;
   kept = kept;
   fit = rw start (start_fits threads);
-  few = subst (λ (s : SoFar). length (passes_of s) ≤ most_passes) (sym start) (lit≤ tt);
+  few = subst (λ (s : SoFar). length (passes_of s) ≤ MOST_PASSES) (sym start) (lit≤ tt);
   same = rw (start, same_version, first, rest) (sym (ap (read_under (take_row threads) whole at_start) header));
 }
 
@@ -64,7 +64,7 @@ IsKept-begun given closed old new pass kept is at empty count shown threads =
     }
 
 -- no more passes were given than a file may have
-pub few_given : (threads : ℕ) (text : List ℕ) (given : List SignalPass) (signals : SignalRows) → HasGiven threads text given signals → length given ≤ most_passes
+pub few_given : (threads : ℕ) (text : List ℕ) (given : List SignalPass) (signals : SignalRows) → HasGiven threads text given signals → length given ≤ MOST_PASSES
 few_given threads text given signals has =
     let hand = option_to_list (so_far given signals.reading).at_hand in
     omega (arith, has.few, length-append given hand)

@@ -13,6 +13,7 @@ use Rattle.cal_trace.specs.Rows.Reading.{read_under}
 use Rattle.cal_trace.specs.Rows.{Fields}
 use Rattle.cal_trace.specs.declared.arrivals.reading.Form.{Form}
 use Rattle.cal_trace.specs.declared.arrivals.reading.Form.TheVariants as form
+use Rattle.cal_trace.specs.declared.arrivals.reading.TheConstants.{MOST_TURNS}
 use Rattle.cal_trace.specs.declared.arrivals.Arrival.{Arrival}
 use Rattle.cal_trace.specs.declared.arrivals.Arrivals.{Arrivals}
 use Rattle.cal_trace.specs.declared.arrivals.GivenPass.{GivenPass}
@@ -46,10 +47,6 @@ at_start = record { passes = []; turns = []; requests = []; ended = false }
 abbrev pub rows_in : SoFar → ℕ
 rows_in so_far = length so_far.passes + length so_far.turns + length so_far.requests
 
--- the most turns that a file may have
-abbrev pub most_turns : ℕ
-most_turns = 174762
-
 -- the last of a list, if it has one
 abbrev pub last_in : {X : Type 0} → List X → Option X
 last_in xs = slice_get xs (length xs - 1)
@@ -58,7 +55,7 @@ last_in xs = slice_get xs (length xs - 1)
 abbrev pub turn_row : List ℕ → Fields → Result ℕ FaultKind
 turn_row turns fields =
     check (has_numbers fields) kind.Number (
-    check (nat_lt (length turns) most_turns && nat_le 1 (number_at fields 1) &&
+    check (nat_lt (length turns) MOST_TURNS && nat_le 1 (number_at fields 1) &&
     nat_le (unwrap_or (last_in turns) 0) (number_at fields 1)) kind.Range (
     Ok (number_at fields 1)))
 

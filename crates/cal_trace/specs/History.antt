@@ -9,6 +9,7 @@ use Rattle.std.specs.Option.{option_map, option_to_list}
 use Rattle.cal_policy.specs.declared.history.look.Seen.{Seen}
 use Rattle.cal_policy.specs.declared.history.look.Seen.TheVariants as seen
 use Rattle.cal_policy.specs.declared.history.action.Action.{Action}
+use Rattle.cal_policy.specs.declared.history.action_list.TheConstants.{MOST_ACTIONS}
 use Rattle.cal_policy.specs.declared.history.entry.PassEntry.{PassEntry}
 use Rattle.cal_trace.specs.History.ActionRows.{action_form, action_row}
 use Rattle.cal_trace.specs.Rows.RowFields.{is_row, record_fields}
@@ -157,14 +158,10 @@ abbrev pub add_look : SoFar → Result SeenRow FaultKind → Result SoFar FaultK
 add_look so_far (Err k) = Err k
 add_look so_far (Ok row) = Ok (one_more_look so_far row)
 
--- the most actions that a pass can have
-abbrev pub most_actions : ℕ
-most_actions = 338
-
 abbrev pub add_action : SoFar → PassEntry → Result Action FaultKind → Result SoFar FaultKind
 add_action so_far entry (Err k) = Err k
 add_action so_far entry (Ok action) =
-    check (nat_lt (length entry.actions) most_actions) kind.Range
+    check (nat_lt (length entry.actions) MOST_ACTIONS) kind.Range
     (Ok (one_more_action so_far entry action))
 
 -- a look row, where the next look is that of this thread, if one can stand here

@@ -5,7 +5,7 @@ use Rattle.cal_policy.specs.declared.history.entry.PassEntry.{PassEntry}
 use Rattle.cal_trace.specs.History.{at_start, entries_of, take_row, whole}
 use Rattle.cal_trace.specs.History.Reading.{entry_at_hand, file_of, so_far, still_gives, GivesNext, HasGiven, IsKept}
 use Rattle.cal_trace.specs.Rows.Header.{header_of}
-use Rattle.cal_trace.specs.Rows.LookRows.{most_passes}
+use Rattle.cal_trace.specs.declared.rows.look_rows.TheConstants.{MOST_PASSES}
 use Rattle.cal_trace.specs.Rows.Passes as passes
 use Rattle.cal_trace.specs.Rows.Passes.{with_closed}
 use Rattle.cal_trace.specs.Rows.Reading.{read_under}
@@ -25,7 +25,7 @@ count-at_hand f given None = refl
 count-at_hand f given (Some entry) = length-append given (f entry ∷ []) ∙ sym (length-append given (entry ∷ []))
 
 -- a pass begins, and the one before it is handed out
-pub IsKept-begun : (given : List PassEntry) (closed : Option PassEntry) (old new : HistoryReading) (entry : OpenEntry) → IsKept given old → old.passes < most_passes
+pub IsKept-begun : (given : List PassEntry) (closed : Option PassEntry) (old new : HistoryReading) (entry : OpenEntry) → IsKept given old → old.passes < MOST_PASSES
     → closed ≡ option_map entry_at_hand old.at_hand → new.at_hand ≡ Some entry → new.passes ≡ old.passes + 1 → IsKept (with_closed given closed) new
 IsKept-begun given closed old new entry kept below is at count =
     let before : List PassEntry = with_closed given closed in
@@ -63,7 +63,7 @@ given_next extent text given (Ok None) old new has file gives = sym has.same ∙
 given_next extent text given (Err fault) old new has file gives = decided fault.kind _ _ (λ e. sym has.same ∙ e) gives
 
 -- no more passes were given than a file may have
-pub few_given : (extent : Extent) (text : List ℕ) (given : List PassEntry) (history : HistoryRows) → HasGiven extent text given history → length given ≤ most_passes
+pub few_given : (extent : Extent) (text : List ℕ) (given : List PassEntry) (history : HistoryRows) → HasGiven extent text given history → length given ≤ MOST_PASSES
 few_given extent text given history has =
     let hand = option_to_list (so_far given history.reading).at_hand in
     omega (arith, has.kept.few, has.kept.passes, length-append given hand)

@@ -6,9 +6,10 @@ use Rattle.cal_policy.specs.declared.history.look.Seen.{Seen}
 use Rattle.cal_policy.specs.declared.history.action.Action.{Action}
 use Rattle.cal_policy.specs.declared.history.entry.PassEntry.{PassEntry}
 use Rattle.cal_trace.specs.Rows.Header.{header_of}
-use Rattle.cal_trace.specs.History.{SoFar, at_start, take_row, entries_of, is_between, next_thread, with_action, most_actions, whole, history_of}
+use Rattle.cal_trace.specs.History.{SoFar, at_start, take_row, entries_of, is_between, next_thread, with_action, whole, history_of}
+use Rattle.cal_policy.specs.declared.history.action_list.TheConstants.{MOST_ACTIONS}
 use Rattle.cal_trace.specs.History.Text.{look_fields, action_fields, look_rows, pass_fields, entry_rows, header_row, end_fields, history_text}
-use Rattle.cal_trace.specs.Rows.LookRows.{most_passes}
+use Rattle.cal_trace.specs.declared.rows.look_rows.TheConstants.{MOST_PASSES}
 use Rattle.cal_trace.specs.History.Ranges.{Each, HasLookWords, HasActionWord, IsLookInRange, IsActionInRange, IsEntryInRange, IsInRange}
 use Rattle.cal_trace.specs.Rows.Reading.{read_from, read_under}
 use Rattle.cal_trace.specs.Rows.{Fields, rows_of}
@@ -72,7 +73,7 @@ looks_more extent before now bandwidth rooms seen done (room ∷ left) (look ∷
 
 -- the rows of actions
 actions_more : (extent : Extent) (before : List PassEntry) (entry : PassEntry) (actions : List Action) (rest : List Fields) (history : List PassEntry) → IsExtent extent
-    → length entry.input.seen ≡ extent.threads → length entry.actions + length actions ≤ most_actions → Each HasActionWord actions → Each (IsActionInRange extent) actions
+    → length entry.input.seen ≡ extent.threads → length entry.actions + length actions ≤ MOST_ACTIONS → Each HasActionWord actions → Each (IsActionInRange extent) actions
     → IsReadAs extent (within before (acted entry (entry.actions ++ actions))) rest history
     → IsReadAs extent (within before entry) (map action_fields actions ++ rest) history
 actions_more extent before entry [] rest history few full most words ranges more =
@@ -80,19 +81,19 @@ actions_more extent before entry [] rest history few full most words ranges more
 actions_more extent before entry (action ∷ actions) rest history few full most words ranges more =
     let takes = action_taken extent before entry action few full (omega arith) (each_first HasActionWord action actions words) (each_first (IsActionInRange extent) action actions ranges) in
     let later = subst (λ (acts : List Action). IsReadAs extent (within before (acted entry acts)) rest history) (sym (append_assoc entry.actions (action ∷ []) actions)) more in
-    let room : length (entry.actions ++ action ∷ []) + length actions ≤ most_actions = omega (arith, length-append entry.actions (action ∷ [])) in
+    let room : length (entry.actions ++ action ∷ []) + length actions ≤ MOST_ACTIONS = omega (arith, length-append entry.actions (action ∷ [])) in
     row_more extent (within before entry) _ _ _ history takes
     (actions_more extent before (with_action action entry) actions rest history few full room (each_other HasActionWord action actions words) (each_other (IsActionInRange extent) action actions ranges) later)
 
 -- the rows of a pass
 entry_more : (extent : Extent) (so_far : SoFar) (entry : PassEntry) (rest : List Fields) (history : List PassEntry) → IsExtent extent → is_between extent so_far ≡ true
-    → length (entries_of so_far) < most_passes → IsEntryInRange extent entry → IsReadAs extent (within (entries_of so_far) entry) rest history
+    → length (entries_of so_far) < MOST_PASSES → IsEntryInRange extent entry → IsReadAs extent (within (entries_of so_far) entry) rest history
     → IsReadAs extent so_far (entry_rows entry ++ rest) history
 entry_more extent so_far entry rest history few between room r more =
     let input = entry.input in
     let before = entries_of so_far in
     let after = looked input.now input.bandwidth input.seen input.rooms in
-    let most : length after.actions + length entry.actions ≤ most_actions = omega (arith, r.most) in
+    let most : length after.actions + length entry.actions ≤ MOST_ACTIONS = omega (arith, r.most) in
     let acts = actions_more extent before after entry.actions rest history few r.looks most r.words.starts r.actions more in
     let looks = looks_more extent before input.now input.bandwidth input.rooms [] [] input.rooms input.seen 0 (map action_fields entry.actions ++ rest) history few.few_threads refl refl refl
     (r.rooms ∙ sym r.looks) (omega (arith, r.looks)) r.words.looks r.seen acts in
@@ -102,7 +103,7 @@ entry_more extent so_far entry rest history few between room r more =
 
 -- the passes and the end row
 entries_more : (extent : Extent) (so_far : SoFar) (history : List PassEntry) (count : ℕ) → IsExtent extent → is_between extent so_far ≡ true
-    → count ≡ length (entries_of so_far) + length history → count ≤ most_passes → Each (IsEntryInRange extent) history
+    → count ≡ length (entries_of so_far) + length history → count ≤ MOST_PASSES → Each (IsEntryInRange extent) history
     → IsReadAs extent so_far (flat_map entry_rows history ++ end_fields count ∷ []) (entries_of so_far ++ history)
 entries_more extent so_far [] count few between is most ranges =
     let done : IsReadAs extent (ended (entries_of so_far)) [] (entries_of so_far) = record { from = λ row. ends (take_row extent version.Two) whole (ended (entries_of so_far)) row } in

@@ -12,8 +12,10 @@ use Rattle.cal_policy.specs.declared.history.entry.PassEntry.{PassEntry}
 use Rattle.cal_trace.specs.History.ActionRows.{action_row, made, core_row, ban_row, revoke_row, revoke_for_bandwidth_row, cap_row, grant_row}
 use Rattle.cal_trace.specs.Rows.RowFields.{number_in, number_at, is_number_at, has_numbers}
 use Rattle.cal_trace.specs.Rows.Header.{header_of}
-use Rattle.cal_trace.specs.History.{SoFar, at_start, form_of, take_row, take_form, take_look, take_action, seen_row, judged_row, busy_look, add_pass, add_end, add_look, add_action, one_more_action, entries_of, is_full, is_between, next_thread, begun, with_look, with_action, most_actions, whole, history_of}
-use Rattle.cal_trace.specs.Rows.LookRows.{most_passes, pass_row, whole_row, busy_row, end_row}
+use Rattle.cal_trace.specs.History.{SoFar, at_start, form_of, take_row, take_form, take_look, take_action, seen_row, judged_row, busy_look, add_pass, add_end, add_look, add_action, one_more_action, entries_of, is_full, is_between, next_thread, begun, with_look, with_action, whole, history_of}
+use Rattle.cal_policy.specs.declared.history.action_list.TheConstants.{MOST_ACTIONS}
+use Rattle.cal_trace.specs.Rows.LookRows.{pass_row, whole_row, busy_row, end_row}
+use Rattle.cal_trace.specs.declared.rows.look_rows.TheConstants.{MOST_PASSES}
 use Rattle.cal_trace.specs.Rows.Number.{with_digit, digits_of, number_of}
 use Rattle.cal_trace.specs.History.Ranges.{Each, IsWord, AreWords, HasLookWords, HasActionWord, HasWords, IsLookInRange, IsActionInRange, IsEntryInRange, IsInRange}
 use Rattle.cal_trace.specs.Rows.{Fields}
@@ -208,7 +210,7 @@ action_fits act.Grant extent fields action h = grant_fits extent fields action h
 -- a pass at hand
 record IsPartRead (extent : Extent) (entry : PassEntry) : Type 0 where
   pub rooms : length entry.input.rooms ≡ length entry.input.seen
-  pub most : length entry.actions ≤ most_actions
+  pub most : length entry.actions ≤ MOST_ACTIONS
   pub words : HasWords entry
   pub seen : Each IsLookInRange entry.input.seen
   pub actions : Each (IsActionInRange extent) entry.actions
@@ -217,7 +219,7 @@ record IsPartRead (extent : Extent) (entry : PassEntry) : Type 0 where
 record IsSoFarRead (extent : Extent) (so_far : SoFar) : Type 0 where
   pub before : Each (IsEntryInRange extent) so_far.before
   pub part : (entry : PassEntry) → so_far.at_hand ≡ Some entry → IsPartRead extent entry
-  pub passes : length (entries_of so_far) ≤ most_passes
+  pub passes : length (entries_of so_far) ≤ MOST_PASSES
 
 -- a pass that has all its looks
 whole_entry : (extent : Extent) (entry : PassEntry) → length entry.input.seen ≡ extent.threads → IsPartRead extent entry → IsEntryInRange extent entry
@@ -246,7 +248,7 @@ just : {X : Type 0} (P : X → Type 0) (x : X) → P x → (y : X) → Some x �
 just P x p y e = let same : x ≡ y = cc in subst P same p
 
 pass_added : (extent : Extent) (so_far next : SoFar) (r : Result PassRow FaultKind) → Each (IsEntryInRange extent) (entries_of so_far)
-    → ((row : PassRow) → r ≡ Ok row → IsPartRead extent (begun row) × (length (entries_of so_far) < most_passes)) → add_pass so_far r ≡ Ok next → IsSoFarRead extent next
+    → ((row : PassRow) → r ≡ Ok row → IsPartRead extent (begun row) × (length (entries_of so_far) < MOST_PASSES)) → add_pass so_far r ≡ Ok next → IsSoFarRead extent next
 pass_added extent so_far next (Err k) fit h e = cc
 pass_added extent so_far next (Ok row) fit h e =
     let p = h row refl in
@@ -261,17 +263,17 @@ pass_fits : (extent : Extent) (so_far next : SoFar) (fields : Fields) → IsSoFa
 pass_fits extent so_far next fields r h =
     let c = check_one (is_between extent so_far) kind.Order (add_pass so_far (pass_row (length (entries_of so_far)) fields)) next h in
     pass_added extent so_far next (pass_row (length (entries_of so_far)) fields) (between_fit extent so_far c.0 r) (λ row e.
-    let d = check_two (has_numbers fields) (nat_lt (length (entries_of so_far)) most_passes) kind.Number kind.Range (record { now = number_at fields 1; bandwidth = number_at fields 2 }) row e in
-    (subst (λ (row : PassRow). IsPartRead extent (begun row)) d.2 (begun_fits extent fields), ltb-true (length (entries_of so_far)) most_passes d.1)) c.1
+    let d = check_two (has_numbers fields) (nat_lt (length (entries_of so_far)) MOST_PASSES) kind.Number kind.Range (record { now = number_at fields 1; bandwidth = number_at fields 2 }) row e in
+    (subst (λ (row : PassRow). IsPartRead extent (begun row)) d.2 (begun_fits extent fields), ltb-true (length (entries_of so_far)) MOST_PASSES d.1)) c.1
 
 -- the end row
-end_added : (extent : Extent) (so_far next : SoFar) (r : Result ℕ FaultKind) → Each (IsEntryInRange extent) (entries_of so_far) → length (entries_of so_far) ≤ most_passes
+end_added : (extent : Extent) (so_far next : SoFar) (r : Result ℕ FaultKind) → Each (IsEntryInRange extent) (entries_of so_far) → length (entries_of so_far) ≤ MOST_PASSES
     → add_end so_far r ≡ Ok next → IsSoFarRead extent next
 end_added extent so_far next (Err k) fit few e = cc
 end_added extent so_far next (Ok count) fit few e = subst (IsSoFarRead extent) (same_ok _ next e) (record {
   before = fit;
   part = λ entry e. cc;
-  passes = subst (λ (x : List PassEntry). length x ≤ most_passes) (sym (append-nil (entries_of so_far))) few;
+  passes = subst (λ (x : List PassEntry). length x ≤ MOST_PASSES) (sym (append-nil (entries_of so_far))) few;
 })
 
 end_fits : (extent : Extent) (so_far next : SoFar) (fields : Fields) → IsSoFarRead extent so_far → take_form extent so_far (Some form.End) fields ≡ Ok next → IsSoFarRead extent next
@@ -315,7 +317,7 @@ look_taken_fits extent so_far next look fields (Err k) r e = cc
 look_taken_fits extent so_far next look fields (Ok thread) r e = look_added extent so_far next (seen_row look thread fields) r (λ row e. look_fits look thread fields row e) e
 
 -- an action row
-action_part : (extent : Extent) (entry : PassEntry) (action : Action) → IsActionRead extent action → length entry.actions < most_actions → IsPartRead extent entry → IsPartRead extent (with_action action entry)
+action_part : (extent : Extent) (entry : PassEntry) (action : Action) → IsActionRead extent action → length entry.actions < MOST_ACTIONS → IsPartRead extent entry → IsPartRead extent (with_action action entry)
 action_part extent entry action read few part = record {
   rooms = part.rooms;
   most = omega (arith, length-append entry.actions (action ∷ []));
@@ -328,12 +330,12 @@ action_added : (extent : Extent) (so_far next : SoFar) (entry : PassEntry) (r : 
     → ((action : Action) → r ≡ Ok action → IsActionRead extent action) → add_action so_far entry r ≡ Ok next → IsSoFarRead extent next
 action_added extent so_far next entry (Err k) own r h e = cc
 action_added extent so_far next entry (Ok action) own r h e =
-    let c = check_one (nat_lt (length entry.actions) most_actions) kind.Range (Ok (one_more_action so_far entry action)) next e in
+    let c = check_one (nat_lt (length entry.actions) MOST_ACTIONS) kind.Range (Ok (one_more_action so_far entry action)) next e in
     let one = r.passes in
-    let few : length (so_far.before ++ entry ∷ []) ≤ most_passes = subst (λ (o : Option PassEntry). length (so_far.before ++ option_to_list o) ≤ most_passes) own one in
+    let few : length (so_far.before ++ entry ∷ []) ≤ MOST_PASSES = subst (λ (o : Option PassEntry). length (so_far.before ++ option_to_list o) ≤ MOST_PASSES) own one in
     subst (IsSoFarRead extent) (same_ok _ next c.1) (record {
       before = r.before;
-      part = just (IsPartRead extent) (with_action action entry) (action_part extent entry action (h action refl) (ltb-true (length entry.actions) most_actions c.0) (r.part entry own));
+      part = just (IsPartRead extent) (with_action action entry) (action_part extent entry action (h action refl) (ltb-true (length entry.actions) MOST_ACTIONS c.0) (r.part entry own));
       passes = omega (arith, length-append so_far.before (entry ∷ []), length-append so_far.before (with_action action entry ∷ []));
     })
 

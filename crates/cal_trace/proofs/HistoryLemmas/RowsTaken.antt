@@ -11,9 +11,11 @@ use Rattle.cal_policy.specs.declared.history.action.Cause.{Cause}
 use Rattle.cal_policy.specs.declared.history.action.Cause.TheVariants as causes
 use Rattle.cal_policy.specs.declared.history.entry.PassEntry.{PassEntry}
 use Rattle.cal_trace.specs.History.ActionRows.{action_row, made, core_row, ban_row, revoke_row, revoke_for_bandwidth_row, cap_row, grant_row}
-use Rattle.cal_trace.specs.History.{SoFar, form_of, take_row, take_form, take_look, seen_row, judged_row, busy_look, add_look, add_action, one_more_action, entries_of, is_between, next_thread, begun, with_look, with_action, most_actions}
+use Rattle.cal_trace.specs.History.{SoFar, form_of, take_row, take_form, take_look, seen_row, judged_row, busy_look, add_look, add_action, one_more_action, entries_of, is_between, next_thread, begun, with_look, with_action}
+use Rattle.cal_policy.specs.declared.history.action_list.TheConstants.{MOST_ACTIONS}
 use Rattle.cal_trace.specs.History.Text.{room_number, record_fields, look_fields, revocation_fields, action_fields, pass_fields, end_fields}
-use Rattle.cal_trace.specs.Rows.LookRows.{check, most_passes, whole_row, busy_row}
+use Rattle.cal_trace.specs.Rows.LookRows.{check, whole_row, busy_row}
+use Rattle.cal_trace.specs.declared.rows.look_rows.TheConstants.{MOST_PASSES}
 use Rattle.cal_trace.specs.History.Ranges.{IsWord, AreWords, HasLookWords, HasActionWord, IsLookInRange, IsCauseInRange, IsActionInRange}
 use Rattle.cal_trace.specs.Rows.{Fields}
 use Rattle.cal_signal.specs.Tests.{is_shaped, is_busy_pair}
@@ -43,17 +45,17 @@ abbrev pub ended : List PassEntry → SoFar
 ended before = record { before = before; at_hand = None; ended = true }
 
 -- a pass row
-pass_read : (extent : Extent) (so_far : SoFar) (a b : List ℕ) (now bandwidth : ℕ) → is_between extent so_far ≡ true → nat_lt (length (entries_of so_far)) most_passes ≡ true
+pass_read : (extent : Extent) (so_far : SoFar) (a b : List ℕ) (now bandwidth : ℕ) → is_between extent so_far ≡ true → nat_lt (length (entries_of so_far)) MOST_PASSES ≡ true
     → IsSpelled now a → IsSpelled bandwidth b
     → take_row extent version.Two so_far (codes "pass" ∷ a ∷ b ∷ []) ≡ Ok (within (entries_of so_far) (begun (record { now = now; bandwidth = bandwidth })))
 unfolding field_at
 pass_read extent so_far a b now bandwidth between few is_now is_bandwidth = rw (between, few, is_now.number, is_bandwidth.number) refl
 
-pub pass_taken : (extent : Extent) (so_far : SoFar) (entry : PassEntry) → is_between extent so_far ≡ true → length (entries_of so_far) < most_passes
+pub pass_taken : (extent : Extent) (so_far : SoFar) (entry : PassEntry) → is_between extent so_far ≡ true → length (entries_of so_far) < MOST_PASSES
     → IsWord entry.input.now → IsWord entry.input.bandwidth
     → take_row extent version.Two so_far (pass_fields entry) ≡ Ok (within (entries_of so_far) (begun (record { now = entry.input.now; bandwidth = entry.input.bandwidth })))
 pass_taken extent so_far entry between few now bandwidth =
-    pass_read extent so_far _ _ entry.input.now entry.input.bandwidth between (lt-ltb (length (entries_of so_far)) most_passes few) (spelled entry.input.now now) (spelled entry.input.bandwidth bandwidth)
+    pass_read extent so_far _ _ entry.input.now entry.input.bandwidth between (lt-ltb (length (entries_of so_far)) MOST_PASSES few) (spelled entry.input.now now) (spelled entry.input.bandwidth bandwidth)
 
 -- the end row
 end_read : (extent : Extent) (so_far : SoFar) (a : List ℕ) (count : ℕ) → is_between extent so_far ≡ true → IsSpelled count a → (count == length (entries_of so_far)) ≡ true
@@ -277,7 +279,7 @@ row_of_action extent (Grant core thread class) few w r = record {
 -- an action row, by its form and its value
 action_by : (extent : Extent) (before : List PassEntry) (entry : PassEntry) (shape : ActionForm) (fields : Fields) (action : Action)
     → form_of version.Two fields ≡ Some (form.Act shape) → (length entry.input.seen == extent.threads) ≡ true → action_row shape extent fields ≡ Ok action
-    → nat_lt (length entry.actions) most_actions ≡ true
+    → nat_lt (length entry.actions) MOST_ACTIONS ≡ true
     → take_row extent version.Two (within before entry) fields ≡ Ok (within before (with_action action entry))
 action_by extent before entry shape fields action is full value room =
     ap (λ f. take_form extent (within before entry) f fields) is
@@ -287,8 +289,8 @@ action_by extent before entry shape fields action is full value room =
 
 -- the row of an action
 pub action_taken : (extent : Extent) (before : List PassEntry) (entry : PassEntry) (action : Action) → IsExtent extent → length entry.input.seen ≡ extent.threads
-    → length entry.actions < most_actions → HasActionWord action → IsActionInRange extent action
+    → length entry.actions < MOST_ACTIONS → HasActionWord action → IsActionInRange extent action
     → take_row extent version.Two (within before entry) (action_fields action) ≡ Ok (within before (with_action action entry))
 action_taken extent before entry action few full room w r =
     let row = row_of_action extent action few w r in
-    action_by extent before entry row.shape (action_fields action) action row.is (eq-eqb (length entry.input.seen) extent.threads full) row.value (lt-ltb (length entry.actions) most_actions room)
+    action_by extent before entry row.shape (action_fields action) action row.is (eq-eqb (length entry.input.seen) extent.threads full) row.value (lt-ltb (length entry.actions) MOST_ACTIONS room)

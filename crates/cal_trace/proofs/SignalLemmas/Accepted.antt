@@ -6,7 +6,8 @@ use Rattle.std.proofs.lemmas.Option.{slice_get_past}
 use Rattle.std.specs.Option.{unwrap_or}
 use Rattle.std.specs.Result.{result_unwrap_or}
 use Rattle.cal_trace.specs.Rows.Header.{header_of}
-use Rattle.cal_trace.specs.Rows.LookRows.{check, most_passes, pass_row, whole_row, busy_row}
+use Rattle.cal_trace.specs.Rows.LookRows.{check, pass_row, whole_row, busy_row}
+use Rattle.cal_trace.specs.declared.rows.look_rows.TheConstants.{MOST_PASSES}
 use Rattle.cal_trace.specs.Rows.RowFields.{has_numbers, number_at}
 use Rattle.cal_trace.specs.Rows.{Fields}
 use Rattle.cal_trace.specs.Rows.Shown.{record_of}
@@ -196,13 +197,13 @@ fits_with_form threads before at_hand ended next (Some form.End) fields fit hand
     fits_with_end threads (record { before = before; at_hand = at_hand; ended = ended }) next _ (all_fit threads before at_hand fit hand full.1) passed.1
 
 -- a pass row that was taken is not one too many
-pub pass_below : (passes : ℕ) (fields : Fields) (row : PassRow) → pass_row passes fields ≡ Ok row → passes < most_passes
+pub pass_below : (passes : ℕ) (fields : Fields) (row : PassRow) → pass_row passes fields ≡ Ok row → passes < MOST_PASSES
 pass_below passes fields row e =
     let found : PassRow = record { now = number_at fields 1; bandwidth = number_at fields 2 } in
-    let in_range : Result PassRow FaultKind = check (nat_lt passes most_passes) kinds.Range (Ok found) in
+    let in_range : Result PassRow FaultKind = check (nat_lt passes MOST_PASSES) kinds.Range (Ok found) in
     let numbers = check_passed (has_numbers fields) kinds.Number in_range row e in
-    let range = check_passed (nat_lt passes most_passes) kinds.Range (Ok found) row numbers.1 in
-    ltb-true passes most_passes range.0
+    let range = check_passed (nat_lt passes MOST_PASSES) kinds.Range (Ok found) row numbers.1 in
+    ltb-true passes MOST_PASSES range.0
 
 -- one more look is no more passes
 pub count-with_look : (before : List SignalPass) (at_hand : Option SignalPass) (seen : FoundLook)
@@ -212,9 +213,9 @@ count-with_look before (Some pass) seen = length-append before (with_look seen p
 
 -- there are no more passes than a file may have
 abbrev IsFew : SoFar → Type 0
-IsFew so_far = length (passes_of so_far) ≤ most_passes
+IsFew so_far = length (passes_of so_far) ≤ MOST_PASSES
 
-few_with_pass : (so_far next : SoFar) (row : Result PassRow FaultKind) → ((r : PassRow) → row ≡ Ok r → length (passes_of so_far) < most_passes)
+few_with_pass : (so_far next : SoFar) (row : Result PassRow FaultKind) → ((r : PassRow) → row ≡ Ok r → length (passes_of so_far) < MOST_PASSES)
     → add_pass so_far row ≡ Ok next → IsFew next
 few_with_pass so_far next (Err k) below e = absurd (cc)
 few_with_pass so_far next (Ok row) below e =
@@ -267,8 +268,8 @@ pub row_fits : (threads : ℕ) (version : Version) (so_far next : SoFar) (fields
     → IsFittingSoFar threads next
 row_fits threads version so_far next fields fit e = fits_with_form threads so_far.before so_far.at_hand so_far.ended next (form_of version fields) fields fit.before fit.at_hand e
 
-pub row_few : (threads : ℕ) (version : Version) (so_far next : SoFar) (fields : Fields) → length (passes_of so_far) ≤ most_passes → take_row threads version so_far fields ≡ Ok next
-    → length (passes_of next) ≤ most_passes
+pub row_few : (threads : ℕ) (version : Version) (so_far next : SoFar) (fields : Fields) → length (passes_of so_far) ≤ MOST_PASSES → take_row threads version so_far fields ≡ Ok next
+    → length (passes_of next) ≤ MOST_PASSES
 row_few threads version so_far next fields few e = few_with_form threads so_far next (form_of version fields) fields few e
 
 pub start_fits : (threads : ℕ) → IsFittingSoFar threads at_start

@@ -2,8 +2,8 @@
 use Rattle.std.specs.Prelude.{◌≡◌, ◌<◌, ◌≤◌, ◌⊎◌, ℕ, List, length, Some, slice_get}
 use Rattle.cal_machine.specs.Table.{Table}
 use Rattle.cal_machine.specs.Tasks.{threads_in}
-use Rattle.cal_trace.specs.Arrivals.{most_turns}
-use Rattle.cal_trace.specs.Rows.LookRows.{most_passes}
+use Rattle.cal_trace.specs.declared.arrivals.reading.TheConstants.{MOST_TURNS}
+use Rattle.cal_trace.specs.declared.rows.look_rows.TheConstants.{MOST_PASSES}
 use Rattle.cal_trace.specs.History.Ranges.{Each}
 use Rattle.cal_trace.specs.declared.arrivals.Arrival.{Arrival}
 use Rattle.cal_trace.specs.declared.arrivals.Arrivals.{Arrivals}
@@ -32,8 +32,8 @@ HaveTwoIds a b = a.request.id ≡ b.request.id → ⊥
 
 -- arrivals for these many threads
 pub record Fits (threads : ℕ) (arrivals : Arrivals) : Type 0 where
-  pub few_passes : length arrivals.passes ≤ most_passes
-  pub few_turns : length arrivals.turns ≤ most_turns
+  pub few_passes : length arrivals.passes ≤ MOST_PASSES
+  pub few_turns : length arrivals.turns ≤ MOST_TURNS
   pub clocks : Each (λ now. 1 ≤ now) arrivals.turns
   pub never_fall : EachLater (λ now later. now ≤ later) arrivals.turns
   pub each : Each (IsArrival threads (length arrivals.turns)) arrivals.requests

@@ -3,8 +3,9 @@ use Rattle.std.specs.Prelude.{◌≡◌, ◌≤◌, ℕ}
 use Rattle.std.specs.BTreeSet as sets
 use Rattle.std.specs.Ordering.{nat_cmp}
 use Rattle.std.specs.Vec.{vec_len}
-use Rattle.cal_trace.specs.Arrivals.{SoFar, is_given, most_turns}
-use Rattle.cal_trace.specs.Rows.LookRows.{most_passes}
+use Rattle.cal_trace.specs.Arrivals.{SoFar, is_given}
+use Rattle.cal_trace.specs.declared.arrivals.reading.TheConstants.{MOST_TURNS}
+use Rattle.cal_trace.specs.declared.rows.look_rows.TheConstants.{MOST_PASSES}
 use Rattle.cal_trace.specs.declared.arrivals.reading.ArrivalReading.{ArrivalReading}
 
 -- what the rows so far have given
@@ -20,5 +21,5 @@ so_far reading = record {
 -- file may have
 pub record IsKept (reading : ArrivalReading) : Type 0 where
   pub ids : (id : ℕ) → sets.contains nat_cmp reading.ids id ≡ is_given id reading.requests.items
-  pub few_passes : vec_len reading.passes ≤ most_passes
-  pub few_turns : vec_len reading.turns ≤ most_turns
+  pub few_passes : vec_len reading.passes ≤ MOST_PASSES
+  pub few_turns : vec_len reading.turns ≤ MOST_TURNS

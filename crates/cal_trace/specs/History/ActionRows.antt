@@ -2,6 +2,7 @@
 use Rattle.std.specs.Prelude.{◌&&◌, nat_le, nat_lt, ℕ, Bool, codes, Option, Some, None, Result, Ok}
 use Rattle.std.specs.Prelude.{Err, if◌then◌else◌}
 use Rattle.csv.specs.Records.{field_at}
+use Rattle.cal_machine.specs.declared.task_table.TheConstants.{MOST_LIMIT}
 use Rattle.cal_policy.specs.declared.history.action.Action.{Action}
 use Rattle.cal_policy.specs.declared.history.action.Action.TheVariants.{Free, Unban, Ban, Revoke}
 use Rattle.cal_policy.specs.declared.history.action.Action.TheVariants.{Cap, Grant}
@@ -71,7 +72,8 @@ revoke_for_bandwidth_row extent fields =
 abbrev pub cap_row : Extent → Fields → Result Action FaultKind
 cap_row extent fields =
     check (has_numbers fields) kind.Number (
-    check (nat_lt (number_at fields 1) extent.tasks && nat_le (number_at fields 2) 16) kind.Range (
+    check (nat_lt (number_at fields 1) extent.tasks &&
+    nat_le (number_at fields 2) MOST_LIMIT) kind.Range (
     Ok (Cap (number_at fields 1) (number_at fields 2))))
 
 abbrev pub grant_row : Extent → Fields → Result Action FaultKind

@@ -1,5 +1,6 @@
 -- Histories that a file can hold, for a table: each number is in its range.
 use Rattle.std.specs.Prelude.{◌≡◌, ◌<◌, ◌≤◌, ◌^◌, ⊤, ℕ, List, length, Some, slice_get}
+use Rattle.cal_machine.specs.declared.task_table.TheConstants.{MOST_LIMIT}
 use Rattle.cal_signal.specs.declared.record.Record.{Record}
 use Rattle.cal_policy.specs.declared.history.look.Seen.{Seen}
 use Rattle.cal_policy.specs.declared.history.look.Seen.TheVariants as seen
@@ -9,8 +10,8 @@ use Rattle.cal_policy.specs.declared.history.action.Action.TheVariants.{Cap, Gra
 use Rattle.cal_policy.specs.declared.history.action.Cause.{Cause}
 use Rattle.cal_policy.specs.declared.history.action.Cause.TheVariants as causes
 use Rattle.cal_policy.specs.declared.history.entry.PassEntry.{PassEntry}
-use Rattle.cal_trace.specs.History.{most_actions}
-use Rattle.cal_trace.specs.Rows.LookRows.{most_passes}
+use Rattle.cal_policy.specs.declared.history.action_list.TheConstants.{MOST_ACTIONS}
+use Rattle.cal_trace.specs.declared.rows.look_rows.TheConstants.{MOST_PASSES}
 use Rattle.cal_signal.specs.Looks.{IsBusyPair}
 use Rattle.cal_signal.specs.Records.{IsShaped}
 use Rattle.cal_trace.specs.declared.history.action_rows.Extent.{Extent}
@@ -71,13 +72,14 @@ IsCauseInRange extent (causes.Ban by) = by < extent.cores
 IsCauseInRange extent causes.Bandwidth = ⊤
 IsCauseInRange extent (causes.Preempt task) = task < extent.tasks
 
--- an action names cores, threads and tasks of the table, a cap of at most 16, a class from 1 to 5
+-- an action names cores, threads and tasks of the table, a cap of at most MOST_LIMIT, a class from
+-- 1 to 5
 abbrev pub IsActionInRange : Extent → Action → Type 0
 IsActionInRange extent (Free core) = core < extent.cores
 IsActionInRange extent (Unban core) = core < extent.cores
 IsActionInRange extent (Ban core thread started) = (core < extent.cores) × (thread < extent.threads)
 IsActionInRange extent (Revoke core cause) = (core < extent.cores) × IsCauseInRange extent cause
-IsActionInRange extent (Cap task cap) = (task < extent.tasks) × (cap ≤ 16)
+IsActionInRange extent (Cap task cap) = (task < extent.tasks) × (cap ≤ MOST_LIMIT)
 IsActionInRange extent (Grant core thread class) =
     (core < extent.cores) × (thread < extent.threads) × (1 ≤ class) × (class ≤ 5)
 
@@ -86,17 +88,17 @@ IsActionInRange extent (Grant core thread class) =
 pub record IsEntryInRange (extent : Extent) (entry : PassEntry) : Type 0 where
   pub looks : length entry.input.seen ≡ extent.threads
   pub rooms : length entry.input.rooms ≡ extent.threads
-  pub most : length entry.actions ≤ most_actions
+  pub most : length entry.actions ≤ MOST_ACTIONS
   pub words : HasWords entry
   pub seen : Each IsLookInRange entry.input.seen
   pub actions : Each (IsActionInRange extent) entry.actions
 
 -- a history: no more passes than a file can have, and each in range
 pub record IsInRange (extent : Extent) (history : List PassEntry) : Type 0 where
-  pub passes : length history ≤ most_passes
+  pub passes : length history ≤ MOST_PASSES
   pub each : Each (IsEntryInRange extent) history
 
 -- a history that a file can hold: not too many passes, and numbers that fields can spell
 pub record IsSized (history : List PassEntry) : Type 0 where
-  pub passes : length history ≤ most_passes
+  pub passes : length history ≤ MOST_PASSES
   pub words : Each HasWords history

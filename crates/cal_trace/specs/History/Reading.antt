@@ -5,7 +5,7 @@ use Rattle.cal_machine.specs.Table.{Table}
 use Rattle.cal_machine.specs.Tasks.{threads_in}
 use Rattle.cal_policy.specs.declared.history.entry.PassEntry.{PassEntry}
 use Rattle.cal_trace.specs.History.{SoFar, entries_of, take_row, whole, history_of}
-use Rattle.cal_trace.specs.Rows.LookRows.{most_passes}
+use Rattle.cal_trace.specs.declared.rows.look_rows.TheConstants.{MOST_PASSES}
 use Rattle.cal_trace.specs.Rows.Passes as passes
 use Rattle.cal_trace.specs.Rows.Reading.{read_from}
 use Rattle.cal_trace.specs.Rows.{IsReading, rest_of, rows_of}
@@ -40,7 +40,7 @@ so_far given reading = record {
 -- have
 pub record IsKept (given : List PassEntry) (reading : HistoryReading) : Type 0 where
   pub passes : reading.passes ≡ length (entries_of (so_far given reading))
-  pub few : reading.passes ≤ most_passes
+  pub few : reading.passes ≤ MOST_PASSES
 
 -- what the rows are read by
 abbrev pub file_of : HistoryReading → Extent × Version

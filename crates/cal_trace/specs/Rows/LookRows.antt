@@ -10,20 +10,17 @@ use Rattle.cal_trace.specs.declared.fault.FaultKind.TheVariants as kind
 use Rattle.cal_trace.specs.declared.rows.look_rows.WholeRow.{WholeRow}
 use Rattle.cal_trace.specs.declared.rows.look_rows.BusyRow.{BusyRow}
 use Rattle.cal_trace.specs.declared.rows.look_rows.PassRow.{PassRow}
+use Rattle.cal_trace.specs.declared.rows.look_rows.TheConstants.{MOST_PASSES}
 
 -- a check, and what comes after it
 abbrev pub check : {X : Type 0} → Bool → FaultKind → Result X FaultKind → Result X FaultKind
 check holds k more = if holds then more else Err k
 
--- the most passes that a file may have
-abbrev pub most_passes : ℕ
-most_passes = 1048576
-
 -- a pass row after so many passes
 abbrev pub pass_row : ℕ → Fields → Result PassRow FaultKind
 pass_row passes fields =
     check (has_numbers fields) kind.Number (
-    check (nat_lt passes most_passes) kind.Range (
+    check (nat_lt passes MOST_PASSES) kind.Range (
     Ok (record { now = number_at fields 1; bandwidth = number_at fields 2 })))
 
 -- a row of a whole record, where the next look is this thread's

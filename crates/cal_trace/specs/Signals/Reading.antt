@@ -6,7 +6,7 @@ use Rattle.std.specs.Vec.{vec_len}
 use Rattle.cal_signal.specs.Shown.{nothing_shown}
 use Rattle.cal_trace.specs.Rows.Answers.{Decided}
 use Rattle.cal_trace.specs.Signals.Fitting.{IsFittingSoFar}
-use Rattle.cal_trace.specs.Rows.LookRows.{most_passes}
+use Rattle.cal_trace.specs.declared.rows.look_rows.TheConstants.{MOST_PASSES}
 use Rattle.cal_trace.specs.Rows.Reading.{read_from}
 use Rattle.cal_trace.specs.Rows.{IsReading, rest_of, rows_of}
 use Rattle.cal_trace.specs.Signals.{SoFar, passes_of, last_shown, take_row, whole, signals_of}
@@ -64,7 +64,7 @@ pub record HasGiven (threads : ℕ) (text : List ℕ) (given : List SignalPass)
   pub extent : signals.reading.threads ≡ threads
   pub kept : IsKept given signals.reading
   pub fit : IsFittingSoFar threads (so_far given signals.reading)
-  pub few : length (passes_of (so_far given signals.reading)) ≤ most_passes
+  pub few : length (passes_of (so_far given signals.reading)) ≤ MOST_PASSES
   pub same : read_from (take_row threads signals.reading.version) whole
       (so_far given signals.reading) signals.rows.number (rest_of signals.rows) ≡
       signals_of threads (rows_of text)

@@ -10,6 +10,7 @@ ghost use Rattle.csv.specs.Records.{field_at, fields_of};
 
 use crate::fault::FaultKind;
 use crate::rows::fields::{has_numbers, is_number_at, is_row, is_word_at, number_at};
+use cal_machine::MOST_LIMIT;
 use cal_policy::{Action, Cause};
 use csv::ByteRecord;
 
@@ -194,7 +195,7 @@ fn cap_row(row: &ByteRecord, extent: Extent) -> Result<Action, FaultKind>
     }
     let task = number_at(row, 1);
     let cap = number_at(row, 2);
-    if task >= extent.tasks as u64 || cap > 16 {
+    if task >= extent.tasks as u64 || cap > MOST_LIMIT as u64 {
         return Err(FaultKind::Range);
     }
     Ok(Action::Cap {

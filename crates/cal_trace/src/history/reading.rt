@@ -128,7 +128,7 @@ struct OpenEntry {
 
 impl OpenEntry {
     ghost use Rattle.std.specs.Prelude.{◌≡◌, nat_lt, length, Ok, OnOk, IfOk, IfErr};
-    ghost use Rattle.cal_trace.specs.History.{begun, most_actions, with_action, with_look};
+    ghost use Rattle.cal_trace.specs.History.{begun, with_action, with_look};
     ghost use Rattle.cal_trace.specs.History.Reading.{entry_at_hand};
     ghost use Rattle.cal_trace.specs.Rows.Answers.{Takes};
     ghost use Rattle.cal_trace.specs.Rows.LookRows.{check};
@@ -164,7 +164,7 @@ impl OpenEntry {
     // One more action, where the pass has not too many.
     fn add_action(&mut self, action: Action) -> Result<(), FaultKind>
         ensures { Takes (λ _. entry_at_hand self.new) result
-            (check (nat_lt (length (entry_at_hand self.old).actions) most_actions) kind.Range
+            (check (nat_lt (length (entry_at_hand self.old).actions) MOST_ACTIONS) kind.Range
             (Ok (with_action action (entry_at_hand self.old)))) }
     {
         if self.actions.len() >= MOST_ACTIONS {

@@ -1,6 +1,6 @@
 use Rattle.std.proofs.Common.{◌<◌, ◌+◌, refl, ap, sym}
 use Rattle.csv.specs.Records.{fields_of}
-use Rattle.cal_trace.specs.Rows.LookRows.{most_passes}
+use Rattle.cal_trace.specs.declared.rows.look_rows.TheConstants.{MOST_PASSES}
 use Rattle.cal_trace.specs.declared.history.reading.HistoryReading.{HistoryReading}
 use Rattle.cal_trace.proofs.HistoryLemmas.GivenPasses.{IsKept-begun}
 use Rattle.cal_trace.proofs.SignalLemmas.Accepted.{pass_below}
@@ -9,5 +9,5 @@ use Rattle.cal_trace.proofs.history.reading.HistoryReading.take_pass.Goals as go
 pub returns-clause-kept : goal.returns-clause-kept
 returns-clause-kept c = λ given kept.
     let old = c.args.self.now in
-    let below : old.passes < most_passes = pass_below old.passes (fields_of c.args.row.now) c.in_ok-pass.pass (sym c.in_ok-pass.ensures) in
+    let below : old.passes < MOST_PASSES = pass_below old.passes (fields_of c.args.row.now) c.in_ok-pass.pass (sym c.in_ok-pass.ensures) in
     IsKept-begun given c.close-closed.result old _ _ kept below c.close-closed.ensures.closed refl (ap (λ (r : HistoryReading). r.passes + 1) c.close-closed.ensures.left)
