@@ -2,6 +2,7 @@
 //! journal.
 
 ghost use Rattle.std.specs.Prelude.{◌≡◌, ◌≤◌, ◌++◌, [], length, IfOk};
+ghost use Rattle.cal_machine.specs.declared.numbering.TheConstants.{MOST_THREADS};
 ghost use Rattle.cal_policy.specs.History.Lists.{each_of};
 ghost use Rattle.cal_linear.specs.Reads.{furthest, after_looks};
 ghost use Rattle.cal_linear.specs.Linear.{looks_from, pass_events, rests_from, passes_and_rests};
@@ -20,7 +21,7 @@ fn append_looks(
     fronts: &mut [Front],
     looks: &[Seen],
 ) -> Result<(), AllocError>
-    requires threads { length journals.now ≤ 128 }
+    requires threads { length journals.now ≤ MOST_THREADS }
     requires sizes { length fronts.old ≡ length journals.now }
     requires looks { length looks.now ≤ length journals.now }
     requires begun { AreFronts journals.now fronts.old }
@@ -45,7 +46,7 @@ fn append_passes(
     fronts: &mut [Front],
     history: &[PassEntry],
 ) -> Result<(), AllocError>
-    requires threads { length journals.now ≤ 128 }
+    requires threads { length journals.now ≤ MOST_THREADS }
     requires sizes { length fronts.old ≡ length journals.now }
     requires looks { HaveAtMost (length journals.now) history.now }
     requires begun { AreFronts journals.now fronts.old }
@@ -69,7 +70,7 @@ fn append_rests(
     journals: &[Journal],
     fronts: &[Front],
 ) -> Result<(), AllocError>
-    requires threads { length journals.now ≤ 128 }
+    requires threads { length journals.now ≤ MOST_THREADS }
     requires sizes { length fronts.now ≡ length journals.now }
     requires begun { AreFronts journals.now fronts.now }
     ensures { IfOk result (λ done. events.new.items ≡
@@ -90,7 +91,7 @@ pub(crate) fn append_run(
     fronts: &mut [Front],
     history: &[PassEntry],
 ) -> Result<(), AllocError>
-    requires threads { length journals.now ≤ 128 }
+    requires threads { length journals.now ≤ MOST_THREADS }
     requires sizes { length fronts.old ≡ length journals.now }
     requires looks { HaveAtMost (length journals.now) history.now }
     requires begun { AreFronts journals.now fronts.old }

@@ -2,6 +2,7 @@
 
 ghost use Rattle.std.specs.Prelude.{◌≡◌, ◌≤◌, ◌++◌, ◌∷◌, [], ℕ, List};
 ghost use Rattle.std.specs.Prelude.{length, Some, slice_get, IfOk};
+ghost use Rattle.cal_machine.specs.declared.numbering.TheConstants.{MOST_THREADS};
 ghost use Rattle.cal_signal.specs.declared.look.Look.{Look};
 ghost use Rattle.cal_linear.specs.Linear.{whole_looks_from, whole_looks_of, watch_events};
 
@@ -22,7 +23,7 @@ fn append_watch(events: &mut Vec<Event>, thread: u8, look: Look) -> Result<(), A
 
 /// Appends a Watch for each whole look of a round.
 fn append_round(events: &mut Vec<Event>, looks: &[Look]) -> Result<(), AllocError>
-    requires { length looks.now ≤ 128 }
+    requires { length looks.now ≤ MOST_THREADS }
     ensures { IfOk result (λ done. events.new.items ≡
         events.old.items ++ watch_events (whole_looks_from 0 looks.now)) }
 {
@@ -35,7 +36,7 @@ fn append_round(events: &mut Vec<Event>, looks: &[Look]) -> Result<(), AllocErro
 /// Appends the Watches of all rounds, in order.
 pub(crate) fn append_watches(events: &mut Vec<Event>, watched: &[Round]) -> Result<(), AllocError>
     requires { (r : ℕ) (round : List Look) →
-        slice_get watched.now r ≡ Some round → length round ≤ 128 }
+        slice_get watched.now r ≡ Some round → length round ≤ MOST_THREADS }
     ensures { IfOk result (λ done. events.new.items ≡
         events.old.items ++ watch_events (whole_looks_of watched.now)) }
 {
