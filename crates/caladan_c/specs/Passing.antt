@@ -1,6 +1,7 @@
 -- When a scheduler stands after a history, and what a pass makes of it.
 use Rattle.std.specs.Prelude.{◌≡◌, ℕ, ◌<◌, ◌≤◌, ◌⊎◌, List, [], ◌∷◌, ◌++◌, length}
 use Rattle.cal_machine.specs.Table.{Table}
+use Rattle.cal_policy.specs.declared.history.action_list.TheConstants.{MOST_ACTIONS}
 use Rattle.cal_policy.specs.declared.history.entry.PassEntry.{PassEntry}
 use Rattle.cal_policy.specs.declared.history.input.Input.{Input}
 use Rattle.cal_policy.specs.Book.{AgreesWith}
@@ -26,14 +27,14 @@ pub record IsPassed (old : Standing) (history : List PassEntry) (given : Input) 
     : Type 0 where
   pub input : IsInput old.table history given
   pub actions : new.made ≡ pass_of (setting old.table history given)
-  pub short : length new.made ≤ 338
+  pub short : length new.made ≤ MOST_ACTIONS
   pub table : new.table ≡ old.table
   pub after : StandsAfter new (history ++ passed old.table history given ∷ [])
 
 -- room for a judgement of each look, and for the most actions that a pass has
 abbrev pub HasRoom : ℕ → List ℕ → List Told → Type 0
-HasRoom threads judged actions = (threads ≤ length judged) × (338 ≤ length actions)
+HasRoom threads judged actions = (threads ≤ length judged) × (MOST_ACTIONS ≤ length actions)
 
 -- too little room for one of them
 abbrev pub IsShort : ℕ → List ℕ → List Told → Type 0
-IsShort threads judged actions = (length judged < threads) ⊎ (length actions < 338)
+IsShort threads judged actions = (length judged < threads) ⊎ (length actions < MOST_ACTIONS)

@@ -1,6 +1,7 @@
 //! The parts of a run are opened.
 
 ghost use Rattle.std.specs.Prelude.{◌≡◌, ◌≤◌, length, map, IfOk, IfErr};
+ghost use Rattle.cal_machine.specs.declared.numbering.TheConstants.{MOST_THREADS};
 ghost use Rattle.cal_kthread.specs.Turn.Thread.{KernelView};
 ghost use Rattle.cal_trace.specs.Arrivals.FitsTable.{FitsTable};
 ghost use Rattle.cal_run.specs.declared.fault.SimFault.TheVariants.{Memory};
@@ -58,7 +59,7 @@ fn open_workers(
     arrivals: &Arrivals,
 ) -> Result<Vec<Worker>, AllocError>
     requires fits { FitSomeTable arrivals.now }
-    requires few { length threads.items ≤ 128 }
+    requires few { length threads.items ≤ MOST_THREADS }
     requires fresh { HaveMadeNoTurn threads.items }
     ensures threads { IfOk result (λ workers.
         map (λ (w : Worker). w.thread) workers.items ≡ threads.items) }
