@@ -6,7 +6,7 @@ pub mod Survey
 use Rattle.std.specs.Prelude.{◌≡◌, ℕ, ◌<◌, ◌≤◌, ◌^◌, List, min, Option, Some, None}
 use Rattle.std.specs.Prelude.{slice_index, slice_index_or, option_map, [], ◌∷◌, ◌++◌, length}
 use Rattle.std.specs.Option.{IfSome}
-use Rattle.cal_machine.specs.Table.{Table}
+use Rattle.cal_machine.specs.Table.{Table, IsTable}
 use Rattle.cal_machine.specs.declared.core_set.CoreSet.{CoreSet}
 use Rattle.cal_machine.specs.CoreSet.{has}
 use Rattle.cal_machine.specs.declared.machine.TheConstants.{MOST_CORES}
@@ -177,3 +177,9 @@ pub record AgreesAfter (b : Board) (history : List PassEntry) (entry : PassEntry
 pub record HasSizes (table : Table) (input : Input) : Type 0 where
   pub looks : length input.seen ≡ threads_of_table table
   pub rooms : length input.rooms ≡ threads_of_table table
+
+-- what a pass is decided by: an accepted table, its board, and an input of its size
+pub record IsOfTable (table : Table) (input : Input) (b : Board) : Type 0 where
+  pub accepted : IsTable table
+  pub ready : IsReady table b
+  pub sizes : HasSizes table input

@@ -1,5 +1,6 @@
 -- A pass, and legal histories.
 pub mod Among
+pub mod AtHand
 pub mod Bandwidth
 pub mod Bans
 pub mod Choice

@@ -20,3 +20,18 @@ when_not_first false b x y e = refl
 pub when_not_second : {X : Type 0} (a b : Bool) (x y : X) → false ≡ b → y ≡ cond (a && b) x y
 when_not_second true b x y e = when_false b x y e
 when_not_second false b x y e = refl
+
+-- the first and the last of four tests hold, or not
+pub outer_hold : (a b c d : Bool) → true ≡ a && d → b && c ≡ a && b && c && d
+outer_hold true true true true e = refl
+outer_hold true true false true e = refl
+outer_hold true false c true e = refl
+outer_hold true b c false e = cc
+outer_hold false b c d e = cc
+
+pub outer_fail : (a b c d : Bool) → false ≡ a && d → false ≡ a && b && c && d
+outer_fail true b c true e = cc
+outer_fail true true true false e = refl
+outer_fail true true false false e = refl
+outer_fail true false c false e = refl
+outer_fail false b c d e = refl

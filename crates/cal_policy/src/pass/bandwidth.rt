@@ -4,15 +4,14 @@
 ghost use Rattle.std.specs.Prelude.{◌≡◌, ℕ, true, ◌+◌, ◌<◌, ◌≤◌, ◌++◌, List, length};
 ghost use Rattle.std.specs.Prelude.{option_to_list, slice_index_or, replicate, if◌then◌else◌};
 ghost use Rattle.std.specs.Option.{IfSome};
-ghost use Rattle.cal_machine.specs.Table.{IsTable};
-ghost use Rattle.cal_policy.specs.Tasks.{threads_of_table};
 ghost use Rattle.cal_policy.specs.declared.history.action.Action.{Action};
 ghost use Rattle.cal_policy.specs.declared.history.entry.PassEntry.{PassEntry};
 ghost use Rattle.cal_policy.specs.Pass.Choice.{lowest_below};
-ghost use Rattle.cal_policy.specs.Setting.{Setting, setting, so_far};
+ghost use Rattle.cal_policy.specs.Setting.{setting, so_far};
 ghost use Rattle.cal_policy.specs.Pass.Bandwidth as rules;
 ghost use Rattle.cal_policy.specs.Board.Counts.{is_held_for};
-ghost use Rattle.cal_policy.specs.Board.{Stands, IsReady, NamesTable, holder_in};
+ghost use Rattle.cal_policy.specs.Board.{Stands, IsReady, IsOfTable, NamesTable, holder_in};
+ghost use Rattle.cal_policy.specs.Pass.AtHand.{IsAtHand, StandsIn, setting_in};
 ghost use Rattle.cal_policy.specs.Board.Losing.{HoldsCore};
 ghost use Rattle.cal_policy.specs.Pass.Coupled.{both_of, BothName};
 
@@ -22,37 +21,11 @@ use crate::board::holders::Holder;
 use crate::history::action::{Action, Cause};
 use crate::history::action_list::Actions;
 use crate::history::input::Input;
+use crate::pass::Pass;
 use crate::pass::choice::{Candidate, greater};
 use crate::pass::coupled::{Coupled, make_both, neither};
 use crate::tasks::is_latency_critical;
 use cal_machine::{Config, MOST_TASKS};
-
-/// The task that can lose the core: the one whose thread holds it, where the thread's ring has
-/// room.
-fn task_that_can_lose(config: &Config, input: &Input, board: &Board, core: u8) -> Option<usize>
-    requires table { IsTable config.now }
-    requires ready { IsReady config.now board.now }
-    requires rooms { length input.now.rooms ≡ threads_of_table config.now }
-    requires core { core < config.now.cores }
-    ensures lose { (h : List PassEntry) (acts : List Action) →
-        let s = setting config.now h input.entry.now in Stands board.now s acts →
-        (t : ℕ) → rules.can_lose s (so_far s acts) t core ≡ rules.is_number t result }
-    ensures task { IfSome result (λ t. t < length config.now.tasks) }
-    ensures held { IfSome result (λ t.
-        is_held_for config.now t (holder_in board.now.holding core) ≡ true) }
-{
-    match board.holding.holders[core as usize] {
-        Holder::Held(placement) => {
-            let thread = placement.thread as usize;
-            if input.rooms.as_slice()[thread] {
-                Some(config.task_of(thread))
-            } else {
-                None
-            }
-        }
-        Holder::Free | Holder::Leaving(..) => None,
-    }
-}
 
 fn no_cores() -> [Option<u8>; MOST_TASKS]
     ensures { result ≡ replicate 16 None }
@@ -72,198 +45,213 @@ fn note(highest: &mut [Option<u8>; MOST_TASKS], task: Option<usize>, core: u8)
     }
 }
 
-/// For each task the highest core that it can lose.
-fn cores_to_lose(config: &Config, input: &Input, board: &Board) -> [Option<u8>; MOST_TASKS]
-    requires table { IsTable config.now }
-    requires ready { IsReady config.now board.now }
-    requires rooms { length input.now.rooms ≡ threads_of_table config.now }
-    ensures lose { (h : List PassEntry) (acts : List Action) →
-        let s = setting config.now h input.entry.now in Stands board.now s acts →
-        (t : ℕ) → t < 16 → slice_index_or result t None ≡ rules.core_to_lose s (so_far s acts) t }
-    ensures held { (t : ℕ) → t < 16 →
-        HoldsCore config.now board.now t (slice_index_or result t None) }
-{
-    let mut highest = no_cores();
-    for core in 0..config.machine().cores() {
-        let task = task_that_can_lose(config, input, board, core);
-        note(&mut highest, task, core);
-    }
-    highest
-}
-
-/// The misses of a thread since the pass before.
-fn new_misses(board: &Board, thread: usize) -> u64
-    requires { thread < 128 }
-    ensures { (s : Setting) (acts : List Action) → Stands board.now s acts →
-        result ≡ rules.new_misses s thread }
-{
-    let before = board.keeping.before[thread];
-    board.keeping.kept[thread].misses.saturating_sub(before)
-}
-
-/// The misses of all threads of a task since the pass before.
-fn task_misses(config: &Config, board: &Board, task: usize) -> u128
-    requires table { IsTable config.now }
-    requires task { task < length config.now.tasks }
-    ensures { (s : Setting) (acts : List Action) → s.table ≡ config.now → Stands board.now s acts →
-        result ≡ rules.task_misses s task }
-{
-    let (first, count) = config.threads_of(task);
-    let mut misses = 0u128;
-    for j in 0..count {
-        misses += u128::from(new_misses(board, first + j));
-    }
-    misses
-}
-
-/// The misses of a best-effort task with a core that it can lose.
-fn victim_rank(
-    config: &Config,
-    board: &Board,
-    highest: &[Option<u8>; MOST_TASKS],
-    task: usize,
-) -> Option<u128>
-    requires table { IsTable config.now }
-    requires task { task < length config.now.tasks }
-    ensures { (s : Setting) (acts : List Action) → s.table ≡ config.now → Stands board.now s acts →
-        slice_index_or highest.now task None ≡ rules.core_to_lose s (so_far s acts) task →
-        result ≡ rules.victim_rank s (so_far s acts) task }
-{
-    if is_latency_critical(config, task) {
-        return None;
-    }
-    match highest[task] {
-        None => None,
-        Some(_) => Some(task_misses(config, board, task)),
-    }
-}
-
-/// The task with the most misses, of those with as many the one with the least number.
-fn victim(config: &Config, board: &Board, highest: &[Option<u8>; MOST_TASKS]) -> Option<Candidate>
-    requires table { IsTable config.now }
-    ensures victim { (s : Setting) (acts : List Action) → s.table ≡ config.now →
-        Stands board.now s acts →
-        ((t : ℕ) → t < 16 → slice_index_or highest.now t None
-        ≡ rules.core_to_lose s (so_far s acts) t) → result ≡ rules.victim_of s (so_far s acts) }
-    ensures task { IfSome result (λ best. best.number < length config.now.tasks) }
-{
-    let mut best: Option<Candidate> = None;
-    for t in 0..config.tasks() {
-        let rank = victim_rank(config, board, highest, t);
-        best = greater(best, rank, t as u8);
-    }
-    best
-}
-
-/// The cap of a task one below what it holds, and the revocation of the core that it loses.
-fn cut(config: &Config, board: &Board, task: u8, core: Option<u8>) -> Coupled
-    requires ready { IsReady config.now board.now }
-    requires task { task < 16 }
-    requires core { HoldsCore config.now board.now task core }
-    ensures cut { (s : Setting) (acts : List Action) → s.table ≡ config.now →
-        Stands board.now s acts →
-        both_of result ≡ rules.cut_at s (so_far s acts) task core }
-    ensures names { BothName config.now result }
-{
-    let Some(core) = core else { return neither() };
-    let held = held_by(config, board, task as usize);
-    Coupled {
-        first: Some(Action::Cap {
-            task,
-            cap: held - 1,
-        }),
-        second: Some(Action::Revoke {
-            core,
-            cause: Cause::Bandwidth,
-        }),
-    }
-}
-
-/// What the victim loses.
-fn cut_victim(config: &Config, input: &Input, board: &Board) -> Coupled
-    requires table { IsTable config.now }
-    requires ready { IsReady config.now board.now }
-    requires rooms { length input.now.rooms ≡ threads_of_table config.now }
-    ensures cut { (h : List PassEntry) (acts : List Action) →
-        let s = setting config.now h input.entry.now in Stands board.now s acts →
-        both_of result ≡ rules.cut_of s (so_far s acts) (rules.victim_of s (so_far s acts)) }
-    ensures names { BothName config.now result }
-{
-    let highest = cores_to_lose(config, input, board);
-    match victim(config, board, &highest) {
-        None => neither(),
-        Some(victim) => cut(
-            config,
-            board,
-            victim.number,
-            highest[victim.number as usize],
-        ),
-    }
-}
-
-/// A cap one higher, where the task is a best-effort one below its limit by its cap.
-fn rise(config: &Config, board: &Board, task: usize) -> Option<Action>
-    requires table { IsTable config.now }
-    requires task { task < length config.now.tasks }
-    ensures rise { (s : Setting) (acts : List Action) → s.table ≡ config.now →
-        Stands board.now s acts →
-        option_to_list result ≡ rules.rise_of s (so_far s acts)
-        (if rules.is_capped s (so_far s acts) task then Some task else None) }
-    ensures names { IfSome result (NamesTable config.now) }
-{
-    let cap = cap_of(config, board, task);
-    if is_latency_critical(config, task) || cap >= config.task(task).limit {
-        None
-    } else {
-        Some(Action::Cap {
-            task: task as u8,
-            cap: cap + 1,
-        })
-    }
-}
-
-/// The rise of the least-numbered capped task.
-fn first_rise(config: &Config, board: &Board) -> Option<Action>
-    requires table { IsTable config.now }
-    ensures rise { (s : Setting) (acts : List Action) → s.table ≡ config.now →
-        Stands board.now s acts →
-        option_to_list result ≡ rules.rise_of s (so_far s acts)
-        (lowest_below (rules.is_capped s (so_far s acts)) (length config.now.tasks)) }
-    ensures names { IfSome result (NamesTable config.now) }
-{
-    for t in 0..config.tasks() {
-        if let Some(action) = rise(config, board, t) {
-            return Some(action);
+impl Pass<'_> {
+    /// The task that can lose the core: the one whose thread holds it, where the thread's ring has
+    /// room.
+    fn task_that_can_lose(&self, core: u8) -> Option<usize>
+        requires at_hand { IsAtHand self.now }
+        requires core { core < self.now.config.now.cores }
+        ensures lose { (h : List PassEntry) (acts : List Action) → StandsIn self.now h acts →
+            let s = setting_in self.now h in
+            (t : ℕ) → rules.can_lose s (so_far s acts) t core ≡ rules.is_number t result }
+        ensures task { IfSome result (λ t. t < length self.now.config.now.tasks) }
+        ensures held { IfSome result (λ t.
+            is_held_for self.now.config.now t (holder_in self.now.board.now.holding core)
+            ≡ true) }
+    {
+        match self.board.holding.holders[core as usize] {
+            Holder::Held(placement) => {
+                let thread = placement.thread as usize;
+                if self.input.rooms.as_slice()[thread] {
+                    Some(self.config.task_of(thread))
+                } else {
+                    None
+                }
+            }
+            Holder::Free | Holder::Leaving(..) => None,
         }
     }
-    None
-}
 
-/// What is due for the bandwidth.
-fn bandwidth_due(config: &Config, input: &Input, board: &Board) -> Coupled
-    requires table { IsTable config.now }
-    requires ready { IsReady config.now board.now }
-    requires rooms { length input.now.rooms ≡ threads_of_table config.now }
-    ensures due { (h : List PassEntry) (acts : List Action) →
-        let s = setting config.now h input.entry.now in Stands board.now s acts →
-        both_of result ≡ rules.bandwidth_part s acts }
-    ensures names { BothName config.now result }
-{
-    if input.bandwidth > config.bandwidth_limit() {
-        cut_victim(config, input, board)
-    } else {
+    /// For each task the highest core that it can lose.
+    fn cores_to_lose(&self) -> [Option<u8>; MOST_TASKS]
+        requires at_hand { IsAtHand self.now }
+        ensures lose { (h : List PassEntry) (acts : List Action) → StandsIn self.now h acts →
+            let s = setting_in self.now h in
+            (t : ℕ) → t < 16 →
+            slice_index_or result t None ≡ rules.core_to_lose s (so_far s acts) t }
+        ensures held { (t : ℕ) → t < 16 →
+            HoldsCore self.now.config.now self.now.board.now t (slice_index_or result t None) }
+    {
+        let mut highest = no_cores();
+        for core in 0..self.config.machine().cores() {
+            let task = self.task_that_can_lose(core);
+            note(&mut highest, task, core);
+        }
+        highest
+    }
+
+    /// The misses of a thread since the pass before.
+    fn new_misses(&self, thread: usize) -> u64
+        requires at_hand { IsAtHand self.now }
+        requires thread { thread < 128 }
+        ensures { (h : List PassEntry) (acts : List Action) → StandsIn self.now h acts →
+            result ≡ rules.new_misses (setting_in self.now h) thread }
+    {
+        let before = self.board.keeping.before[thread];
+        self.board.keeping.kept[thread].misses.saturating_sub(before)
+    }
+
+    /// The misses of all threads of a task since the pass before.
+    fn task_misses(&self, task: usize) -> u128
+        requires at_hand { IsAtHand self.now }
+        requires task { task < length self.now.config.now.tasks }
+        ensures { (h : List PassEntry) (acts : List Action) → StandsIn self.now h acts →
+            result ≡ rules.task_misses (setting_in self.now h) task }
+    {
+        let (first, count) = self.config.threads_of(task);
+        let mut misses = 0u128;
+        for j in 0..count {
+            misses += u128::from(self.new_misses(first + j));
+        }
+        misses
+    }
+
+    /// The misses of a best-effort task with a core that it can lose.
+    fn victim_rank(&self, highest: &[Option<u8>; MOST_TASKS], task: usize) -> Option<u128>
+        requires at_hand { IsAtHand self.now }
+        requires task { task < length self.now.config.now.tasks }
+        ensures { (h : List PassEntry) (acts : List Action) → StandsIn self.now h acts →
+            let s = setting_in self.now h in
+            slice_index_or highest.now task None ≡ rules.core_to_lose s (so_far s acts) task →
+            result ≡ rules.victim_rank s (so_far s acts) task }
+    {
+        if is_latency_critical(self.config, task) {
+            return None;
+        }
+        match highest[task] {
+            None => None,
+            Some(_) => Some(self.task_misses(task)),
+        }
+    }
+
+    /// The task with the most misses, of those with as many the one with the least number.
+    fn victim(&self, highest: &[Option<u8>; MOST_TASKS]) -> Option<Candidate>
+        requires at_hand { IsAtHand self.now }
+        ensures victim { (h : List PassEntry) (acts : List Action) → StandsIn self.now h acts →
+            let s = setting_in self.now h in
+            ((t : ℕ) → t < 16 →
+            slice_index_or highest.now t None ≡ rules.core_to_lose s (so_far s acts) t) →
+            result ≡ rules.victim_of s (so_far s acts) }
+        ensures task { IfSome result (λ best.
+            best.number < length self.now.config.now.tasks) }
+    {
+        let mut best: Option<Candidate> = None;
+        for t in 0..self.config.tasks() {
+            let rank = self.victim_rank(highest, t);
+            best = greater(best, rank, t as u8);
+        }
+        best
+    }
+
+    /// The cap of a task one below what it holds, and the revocation of the core that it loses.
+    fn cut(&self, task: u8, core: Option<u8>) -> Coupled
+        requires at_hand { IsAtHand self.now }
+        requires task { task < 16 }
+        requires core { HoldsCore self.now.config.now self.now.board.now task core }
+        ensures cut { (h : List PassEntry) (acts : List Action) → StandsIn self.now h acts →
+            let s = setting_in self.now h in
+            both_of result ≡ rules.cut_at s (so_far s acts) task core }
+        ensures names { BothName self.now.config.now result }
+    {
+        let Some(core) = core else { return neither() };
+        let held = held_by(self.config, self.board, task as usize);
         Coupled {
-            first: first_rise(config, board),
-            second: None,
+            first: Some(Action::Cap {
+                task,
+                cap: held - 1,
+            }),
+            second: Some(Action::Revoke {
+                core,
+                cause: Cause::Bandwidth,
+            }),
+        }
+    }
+
+    /// What the victim loses.
+    fn cut_victim(&self) -> Coupled
+        requires at_hand { IsAtHand self.now }
+        ensures cut { (h : List PassEntry) (acts : List Action) → StandsIn self.now h acts →
+            let s = setting_in self.now h in
+            both_of result ≡ rules.cut_of s (so_far s acts) (rules.victim_of s (so_far s acts)) }
+        ensures names { BothName self.now.config.now result }
+    {
+        let highest = self.cores_to_lose();
+        match self.victim(&highest) {
+            None => neither(),
+            Some(victim) => self.cut(victim.number, highest[victim.number as usize]),
+        }
+    }
+
+    /// A cap one higher, where the task is a best-effort one below its limit by its cap.
+    fn rise(&self, task: usize) -> Option<Action>
+        requires at_hand { IsAtHand self.now }
+        requires task { task < length self.now.config.now.tasks }
+        ensures rise { (h : List PassEntry) (acts : List Action) → StandsIn self.now h acts →
+            let s = setting_in self.now h in
+            option_to_list result ≡ rules.rise_of s (so_far s acts)
+            (if rules.is_capped s (so_far s acts) task then Some task else None) }
+        ensures names { IfSome result (NamesTable self.now.config.now) }
+    {
+        let cap = cap_of(self.config, self.board, task);
+        if is_latency_critical(self.config, task) || cap >= self.config.task(task).limit {
+            None
+        } else {
+            Some(Action::Cap {
+                task: task as u8,
+                cap: cap + 1,
+            })
+        }
+    }
+
+    /// The rise of the least-numbered capped task.
+    fn first_rise(&self) -> Option<Action>
+        requires at_hand { IsAtHand self.now }
+        ensures rise { (h : List PassEntry) (acts : List Action) → StandsIn self.now h acts →
+            let s = setting_in self.now h in
+            option_to_list result ≡ rules.rise_of s (so_far s acts)
+            (lowest_below (rules.is_capped s (so_far s acts))
+            (length self.now.config.now.tasks)) }
+        ensures names { IfSome result (NamesTable self.now.config.now) }
+    {
+        for t in 0..self.config.tasks() {
+            if let Some(action) = self.rise(t) {
+                return Some(action);
+            }
+        }
+        None
+    }
+
+    /// What is due for the bandwidth.
+    fn bandwidth_due(&self) -> Coupled
+        requires at_hand { IsAtHand self.now }
+        ensures due { (h : List PassEntry) (acts : List Action) → StandsIn self.now h acts →
+            both_of result ≡ rules.bandwidth_part (setting_in self.now h) acts }
+        ensures names { BothName self.now.config.now result }
+    {
+        if self.input.bandwidth > self.config.bandwidth_limit() {
+            self.cut_victim()
+        } else {
+            Coupled {
+                first: self.first_rise(),
+                second: None,
+            }
         }
     }
 }
 
 /// Takes a core from the victim where the bandwidth is over its limit, else lets one cap rise.
 pub fn keep_bandwidth(config: &Config, input: &Input, board: &mut Board, out: &mut Actions)
-    requires table { IsTable config.now }
-    requires ready { IsReady config.now board.old }
-    requires rooms { length input.now.rooms ≡ threads_of_table config.now }
+    requires of_table { IsOfTable config.now input.now board.old }
     requires room { length out.old + 2 ≤ 338 }
     ensures acts { (h : List PassEntry) → let s = setting config.now h input.entry.now in
         Stands board.old s out.old →
@@ -271,6 +259,11 @@ pub fn keep_bandwidth(config: &Config, input: &Input, board: &mut Board, out: &m
     ensures ready { IsReady config.now board.new }
     ensures length { length out.new ≤ length out.old + 2 }
 {
-    let both = bandwidth_due(config, input, board);
+    let pass = Pass {
+        config,
+        input,
+        board,
+    };
+    let both = pass.bandwidth_due();
     make_both(config, board, out, both);
 }

@@ -3,7 +3,6 @@
 ghost use Rattle.std.specs.Prelude.{◌≡◌, ◌*◌, ◌+◌, ◌<◌, ◌≤◌, ◌++◌, ◌∷◌, []};
 ghost use Rattle.std.specs.Prelude.{List, length, option_to_list, if◌then◌else◌};
 ghost use Rattle.std.specs.Option.{IfSome};
-ghost use Rattle.cal_machine.specs.Table.{Table, IsTable};
 ghost use Rattle.cal_policy.specs.Tasks.{threads_of_table};
 ghost use Rattle.cal_policy.specs.declared.history.action.Action.{Action};
 ghost use Rattle.cal_policy.specs.declared.history.action.Action.TheVariants.{Revoke};
@@ -12,9 +11,10 @@ ghost use Rattle.cal_policy.specs.declared.history.entry.PassEntry.{PassEntry};
 ghost use Rattle.cal_policy.specs.History.Lists.{in_pair};
 ghost use Rattle.cal_policy.specs.History.{holder_of};
 ghost use Rattle.cal_policy.specs.Board.Counts.{is_held};
-ghost use Rattle.cal_policy.specs.Setting.{Setting, setting, so_far};
+ghost use Rattle.cal_policy.specs.Setting.{setting, so_far};
 ghost use Rattle.cal_policy.specs.Pass.Bans as rules;
-ghost use Rattle.cal_policy.specs.Board.{Stands, IsReady, NamesTable};
+ghost use Rattle.cal_policy.specs.Board.{Stands, IsReady, IsOfTable, NamesTable};
+ghost use Rattle.cal_policy.specs.Pass.AtHand.{IsAtHand, StandsIn, setting_in};
 ghost use Rattle.cal_policy.specs.Pass.Coupled.{both_of, BothName};
 
 use crate::board::Board;
@@ -23,6 +23,7 @@ use crate::board::holders::Holder;
 use crate::history::action::{Action, Cause};
 use crate::history::action_list::Actions;
 use crate::history::input::Input;
+use crate::pass::Pass;
 use crate::pass::coupled::{Coupled, make_both, neither};
 use crate::tasks::is_latency_critical;
 use cal_machine::Config;
@@ -38,156 +39,148 @@ fn runs_too_long(clock: u64, rec: &Record, core: u8, limit: u64) -> bool
         && limit < clock - rec.started
 }
 
-/// The thread that holds the core for a latency-critical task, where its request runs too long.
-fn too_long_on(config: &Config, input: &Input, board: &Board, core: u8) -> Option<u8>
-    requires table { IsTable config.now }
-    requires ready { IsReady config.now board.now }
-    requires core { core < config.now.cores }
-    ensures due { (h : List PassEntry) (acts : List Action) →
-        let s = setting config.now h input.entry.now in
-        Stands board.now s acts →
-        result ≡ rules.too_long_on s core (holder_of (so_far s acts) core) }
-    ensures thread { IfSome result (λ thread. thread < threads_of_table config.now) }
-{
-    match board.holding.holders[core as usize] {
-        Holder::Held(placement) => {
-            let task = config.task_of(placement.thread as usize);
-            let rec = &board.keeping.kept[placement.thread as usize];
-            let limit = config.task(task).request;
-            if is_latency_critical(config, task) && runs_too_long(input.now, rec, core, limit) {
-                Some(placement.thread)
-            } else {
-                None
+impl Pass<'_> {
+    /// The thread that holds the core for a latency-critical task, where its request runs too long.
+    fn too_long_on(&self, core: u8) -> Option<u8>
+        requires at_hand { IsAtHand self.now }
+        requires core { core < self.now.config.now.cores }
+        ensures due { (h : List PassEntry) (acts : List Action) → StandsIn self.now h acts →
+            let s = setting_in self.now h in
+            result ≡ rules.too_long_on s core (holder_of (so_far s acts) core) }
+        ensures thread { IfSome result (λ thread.
+            thread < threads_of_table self.now.config.now) }
+    {
+        match self.board.holding.holders[core as usize] {
+            Holder::Held(placement) => {
+                let task = self.config.task_of(placement.thread as usize);
+                let rec = &self.board.keeping.kept[placement.thread as usize];
+                let limit = self.config.task(task).request;
+                if is_latency_critical(self.config, task)
+                    && runs_too_long(self.input.now, rec, core, limit)
+                {
+                    Some(placement.thread)
+                } else {
+                    None
+                }
+            }
+            Holder::Free | Holder::Leaving(..) => None,
+        }
+    }
+
+    /// Whether the core may be emptied: it is free, being left, or held by a thread whose ring has
+    /// room and whose task is over.
+    fn may_be_emptied(&self, core: u8) -> bool
+        requires at_hand { IsAtHand self.now }
+        requires core { core < self.now.config.now.cores }
+        ensures { (h : List PassEntry) (acts : List Action) → StandsIn self.now h acts →
+            let s = setting_in self.now h in
+            result ≡ rules.may_be_emptied s (so_far s acts) (holder_of (so_far s acts) core) }
+    {
+        match self.board.holding.holders[core as usize] {
+            Holder::Free | Holder::Leaving(..) => true,
+            Holder::Held(placement) => {
+                let thread = placement.thread as usize;
+                let task = self.config.task_of(thread);
+                self.input.rooms.as_slice()[thread] && is_over(self.config, self.board, task)
             }
         }
-        Holder::Free | Holder::Leaving(..) => None,
     }
-}
 
-/// Whether the core may be emptied: it is free, being left, or held by a thread whose ring has room
-/// and whose task is over.
-fn may_be_emptied(config: &Config, input: &Input, board: &Board, core: u8) -> bool
-    requires table { IsTable config.now }
-    requires ready { IsReady config.now board.now }
-    requires rooms { length input.now.rooms ≡ threads_of_table config.now }
-    requires core { core < config.now.cores }
-    ensures { (h : List PassEntry) (acts : List Action) →
-        let s = setting config.now h input.entry.now in
-        Stands board.now s acts →
-        result ≡ rules.may_be_emptied s (so_far s acts) (holder_of (so_far s acts) core) }
-{
-    match board.holding.holders[core as usize] {
-        Holder::Free | Holder::Leaving(..) => true,
-        Holder::Held(placement) => {
-            let thread = placement.thread as usize;
-            input.rooms.as_slice()[thread] && is_over(config, board, config.task_of(thread))
+    /// Whether neither the core nor its sibling is banned, and the sibling may be emptied.
+    fn may_ban_beside(&self, core: u8) -> bool
+        requires at_hand { IsAtHand self.now }
+        requires core { core < self.now.config.now.cores }
+        ensures { (h : List PassEntry) (acts : List Action) → StandsIn self.now h acts →
+            let s = setting_in self.now h in result ≡ rules.may_ban_beside s (so_far s acts) core }
+    {
+        let beside = self.config.machine().sibling(core);
+        self.board.bans.bans[core as usize].is_none()
+            && self.board.bans.bans[beside as usize].is_none()
+            && self.may_be_emptied(beside)
+    }
+
+    /// The thread for whose request on the core the sibling is to be banned, where a ban is due.
+    fn ban_due(&self, core: u8) -> Option<u8>
+        requires at_hand { IsAtHand self.now }
+        requires core { core < self.now.config.now.cores }
+        ensures due { (h : List PassEntry) (acts : List Action) → StandsIn self.now h acts →
+            let s = setting_in self.now h in result ≡ rules.ban_due s (so_far s acts) core }
+        ensures thread { IfSome result (λ thread.
+            thread < threads_of_table self.now.config.now) }
+    {
+        let thread = self.too_long_on(core)?;
+        if self.may_ban_beside(core) {
+            Some(thread)
+        } else {
+            None
         }
     }
-}
 
-/// Whether neither the core nor its sibling is banned, and the sibling may be emptied.
-fn may_ban_beside(config: &Config, input: &Input, board: &Board, core: u8) -> bool
-    requires table { IsTable config.now }
-    requires ready { IsReady config.now board.now }
-    requires rooms { length input.now.rooms ≡ threads_of_table config.now }
-    requires core { core < config.now.cores }
-    ensures { (h : List PassEntry) (acts : List Action) →
-        let s = setting config.now h input.entry.now in
-        Stands board.now s acts → result ≡ rules.may_ban_beside s (so_far s acts) core }
-{
-    let beside = config.machine().sibling(core);
-    board.bans.bans[core as usize].is_none()
-        && board.bans.bans[beside as usize].is_none()
-        && may_be_emptied(config, input, board, beside)
-}
-
-/// The thread for whose request on the core the sibling is to be banned, where a ban is due.
-fn ban_due(config: &Config, input: &Input, board: &Board, core: u8) -> Option<u8>
-    requires table { IsTable config.now }
-    requires ready { IsReady config.now board.now }
-    requires rooms { length input.now.rooms ≡ threads_of_table config.now }
-    requires core { core < config.now.cores }
-    ensures due { (h : List PassEntry) (acts : List Action) →
-        let s = setting config.now h input.entry.now in
-        Stands board.now s acts → result ≡ rules.ban_due s (so_far s acts) core }
-    ensures thread { IfSome result (λ thread. thread < threads_of_table config.now) }
-{
-    let thread = too_long_on(config, input, board, core)?;
-    if may_ban_beside(config, input, board, core) {
-        Some(thread)
-    } else {
-        None
+    /// The revocation of a core that is banned for core `by`, where it is held.
+    fn ban_revocation(&self, core: u8, by: u8) -> Option<Action>
+        requires at_hand { IsAtHand self.now }
+        requires core { core < self.now.config.now.cores }
+        ensures due { (h : List PassEntry) (acts : List Action) → StandsIn self.now h acts →
+            option_to_list result
+            ≡ (if is_held (holder_of (so_far (setting_in self.now h) acts) core)
+            then Revoke core (causes.Ban by) ∷ [] else []) }
+        ensures names { IfSome result (NamesTable self.now.config.now) }
+    {
+        match self.board.holding.holders[core as usize] {
+            Holder::Held(_) => Some(Action::Revoke {
+                core,
+                cause: Cause::Ban { by },
+            }),
+            Holder::Free | Holder::Leaving(..) => None,
+        }
     }
-}
 
-/// The revocation of a core that is banned for core `by`, where it is held.
-fn revocation(board: &Board, core: u8, by: u8) -> Option<Action>
-    requires { core < 128 }
-    ensures due { (s : Setting) (acts : List Action) → Stands board.now s acts →
-        option_to_list result ≡ (if is_held (holder_of (so_far s acts) core)
-        then Revoke core (causes.Ban by) ∷ [] else []) }
-    ensures names { (table : Table) → core < table.cores → IfSome result (NamesTable table) }
-{
-    match board.holding.holders[core as usize] {
-        Holder::Held(_) => Some(Action::Revoke {
-            core,
-            cause: Cause::Ban { by },
-        }),
-        Holder::Free | Holder::Leaving(..) => None,
+    /// The ban that a core gives rise to, and where the banned core is held its revocation.
+    fn ban_beside(&self, core: u8) -> Coupled
+        requires at_hand { IsAtHand self.now }
+        requires core { core < self.now.config.now.cores }
+        ensures due { (h : List PassEntry) (acts : List Action) → StandsIn self.now h acts →
+            let s = setting_in self.now h in both_of result ≡ rules.ban_at s acts core }
+        ensures names { BothName self.now.config.now result }
+        ensures alone { result.first ≡ None → result.second ≡ None }
+    {
+        let beside = self.config.machine().sibling(core);
+        let Some(thread) = self.ban_due(core) else {
+            return neither();
+        };
+        let ban = Action::Ban {
+            core: beside,
+            thread,
+            started: self.board.keeping.kept[thread as usize].started,
+        };
+        Coupled {
+            first: Some(ban),
+            second: self.ban_revocation(beside, core),
+        }
     }
-}
 
-/// The ban that a core gives rise to, and where the banned core is held its revocation.
-fn ban_beside(config: &Config, input: &Input, board: &Board, core: u8) -> Coupled
-    requires table { IsTable config.now }
-    requires ready { IsReady config.now board.now }
-    requires rooms { length input.now.rooms ≡ threads_of_table config.now }
-    requires core { core < config.now.cores }
-    ensures due { (h : List PassEntry) (acts : List Action) →
-        let s = setting config.now h input.entry.now in
-        Stands board.now s acts → both_of result ≡ rules.ban_at s acts core }
-    ensures names { BothName config.now result }
-    ensures alone { result.first ≡ None → result.second ≡ None }
-{
-    let beside = config.machine().sibling(core);
-    let Some(thread) = ban_due(config, input, board, core) else {
-        return neither();
-    };
-    let ban = Action::Ban {
-        core: beside,
-        thread,
-        started: board.keeping.kept[thread as usize].started,
-    };
-    Coupled {
-        first: Some(ban),
-        second: revocation(board, beside, core),
-    }
-}
-
-/// What the cores of this pair give rise to: once the one bans the other, that one bans nothing.
-fn ban_in_pair(config: &Config, input: &Input, board: &Board, pair: u8) -> Coupled
-    requires table { IsTable config.now }
-    requires ready { IsReady config.now board.now }
-    requires rooms { length input.now.rooms ≡ threads_of_table config.now }
-    requires pair { 2 * pair + 1 < config.now.cores }
-    ensures due { (h : List PassEntry) (acts : List Action) →
-        let s = setting config.now h input.entry.now in
-        Stands board.now s acts → both_of result ≡ in_pair (rules.ban_at s) acts pair }
-    ensures names { BothName config.now result }
-{
-    let lower = ban_beside(config, input, board, 2 * pair);
-    match lower.first {
-        Some(_) => lower,
-        None => ban_beside(config, input, board, 2 * pair + 1),
+    /// What the cores of this pair give rise to: once the one bans the other, that one bans
+    /// nothing.
+    fn ban_in_pair(&self, pair: u8) -> Coupled
+        requires at_hand { IsAtHand self.now }
+        requires pair { 2 * pair + 1 < self.now.config.now.cores }
+        ensures due { (h : List PassEntry) (acts : List Action) → StandsIn self.now h acts →
+            let s = setting_in self.now h in
+            both_of result ≡ in_pair (rules.ban_at s) acts pair }
+        ensures names { BothName self.now.config.now result }
+    {
+        let lower = self.ban_beside(2 * pair);
+        match lower.first {
+            Some(_) => lower,
+            None => self.ban_beside(2 * pair + 1),
+        }
     }
 }
 
 /// Bans the sibling of each core on which a request runs too long, and revokes it where it is held.
 /// The cores are gone over upwards, pair by pair, and a pair gives at most one ban.
 pub fn ban_siblings(config: &Config, input: &Input, board: &mut Board, out: &mut Actions)
-    requires table { IsTable config.now }
-    requires ready { IsReady config.now board.old }
-    requires rooms { length input.now.rooms ≡ threads_of_table config.now }
+    requires of_table { IsOfTable config.now input.now board.old }
     requires room { length out.old + 128 ≤ 338 }
     ensures acts { (h : List PassEntry) → let s = setting config.now h input.entry.now in
         Stands board.old s out.old →
@@ -196,7 +189,12 @@ pub fn ban_siblings(config: &Config, input: &Input, board: &mut Board, out: &mut
     ensures length { length out.new ≤ length out.old + 128 }
 {
     for pair in 0..config.machine().cores() / 2 {
-        let both = ban_in_pair(config, input, board, pair);
+        let pass = Pass {
+            config,
+            input,
+            board,
+        };
+        let both = pass.ban_in_pair(pair);
         make_both(config, board, out, both);
     }
 }

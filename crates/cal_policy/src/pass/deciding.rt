@@ -1,15 +1,14 @@
 //! A pass, from its parts in their order.
 
 ghost use Rattle.std.specs.Prelude.{◌≡◌, ◌≤◌, [], length, List};
-ghost use Rattle.cal_machine.specs.Table.{Table, IsTable};
-ghost use Rattle.cal_policy.specs.Tasks.{threads_of_table};
+ghost use Rattle.cal_machine.specs.Table.{Table};
 ghost use Rattle.cal_policy.specs.declared.history.entry.PassEntry.{PassEntry};
 ghost use Rattle.cal_policy.specs.Setting.{setting};
 ghost use Rattle.cal_policy.specs.History.{actions_of, looks_of};
 ghost use Rattle.cal_policy.specs.Pass.Bans.{NoPairBanned};
 ghost use Rattle.cal_policy.specs.Pass.{pass_of};
 ghost use Rattle.cal_policy.specs.Board.{Agrees, KeepingAgrees, Stands};
-ghost use Rattle.cal_policy.specs.Board.{IsReady, AgreesAfter, HasSizes};
+ghost use Rattle.cal_policy.specs.Board.{IsReady, IsOfTable, AgreesAfter, HasSizes};
 
 use crate::board::Board;
 use crate::history::action_list::Actions;
@@ -34,9 +33,7 @@ fn begin(board: &mut Board, input: &Input)
 
 /// Makes the parts of a pass, each after the one before.
 fn make_parts(config: &Config, input: &Input, board: &mut Board, out: &mut Actions)
-    requires table { IsTable config.now }
-    requires ready { IsReady config.now board.old }
-    requires rooms { length input.now.rooms ≡ threads_of_table config.now }
+    requires of_table { IsOfTable config.now input.now board.old }
     requires empty { out.old ≡ [] }
     ensures acts { (h : List PassEntry) → NoPairBanned (actions_of h) →
         Stands board.old (setting config.now h input.entry.now) [] →
@@ -45,7 +42,7 @@ fn make_parts(config: &Config, input: &Input, board: &mut Board, out: &mut Actio
     ensures ready { IsReady config.now board.new }
 {
     free_left(config, input, board, out);
-    end_bans(config, board, out);
+    end_bans(config, input, board, out);
     ban_siblings(config, input, board, out);
     keep_bandwidth(config, input, board, out);
     critical_grants(config, input, board, out);

@@ -1,16 +1,12 @@
 //! How long requests have waited, as the kept records show it.
 
 ghost use Rattle.std.specs.Prelude.{◌≡◌, ◌<◌, List, length};
-ghost use Rattle.cal_machine.specs.Table.{Table, IsTable};
 ghost use Rattle.cal_policy.specs.declared.history.action.Action.{Action};
 ghost use Rattle.cal_policy.specs.declared.history.entry.PassEntry.{PassEntry};
-ghost use Rattle.cal_policy.specs.Setting.{setting};
-ghost use Rattle.cal_policy.specs.Board.{Stands};
+ghost use Rattle.cal_policy.specs.Pass.AtHand.{IsAtHand, StandsIn, setting_in};
 ghost use Rattle.cal_policy.specs.Pass.Grants as grants;
 
-use crate::board::Board;
-use crate::history::input::Input;
-use cal_machine::Config;
+use crate::pass::Pass;
 use cal_signal::Record;
 
 /// How long something that came at `came` has waited, where there is something; in clock ticks as
@@ -35,40 +31,40 @@ fn record_delay(clock: u64, rec: &Record) -> u64
     queued.max(paused)
 }
 
-/// The delay of a thread, by its kept record.
-pub fn thread_delay(input: &Input, board: &Board, thread: usize) -> u64
-    requires { thread < 128 }
-    ensures { (table : Table) (h : List PassEntry) (acts : List Action) →
-        Stands board.now (setting table h input.entry.now) acts →
-        result ≡ grants.thread_delay (setting table h input.entry.now) thread }
-{
-    record_delay(input.now, &board.keeping.kept[thread])
-}
-
-/// The delay of a task: the greatest of its threads'.
-fn task_delay(config: &Config, input: &Input, board: &Board, task: usize) -> u64
-    requires table { IsTable config.now }
-    requires task { task < length config.now.tasks }
-    ensures { (h : List PassEntry) (acts : List Action) →
-        Stands board.now (setting config.now h input.entry.now) acts →
-        result ≡ grants.task_delay (setting config.now h input.entry.now) task }
-{
-    let (first, count) = config.threads_of(task);
-    let mut greatest: u64 = 0;
-    for j in 0..count {
-        let delay = thread_delay(input, board, first + j);
-        greatest = greatest.max(delay);
+impl Pass<'_> {
+    /// The delay of a thread, by its kept record.
+    pub fn thread_delay(&self, thread: usize) -> u64
+        requires at_hand { IsAtHand self.now }
+        requires thread { thread < 128 }
+        ensures { (h : List PassEntry) (acts : List Action) → StandsIn self.now h acts →
+            result ≡ grants.thread_delay (setting_in self.now h) thread }
+    {
+        record_delay(self.input.now, &self.board.keeping.kept[thread])
     }
-    greatest
-}
 
-/// Whether the task's delay is strictly above its threshold.
-pub fn is_congested(config: &Config, input: &Input, board: &Board, task: usize) -> bool
-    requires table { IsTable config.now }
-    requires task { task < length config.now.tasks }
-    ensures { (h : List PassEntry) (acts : List Action) →
-        Stands board.now (setting config.now h input.entry.now) acts →
-        result ≡ grants.is_congested (setting config.now h input.entry.now) task }
-{
-    task_delay(config, input, board, task) > config.task(task).delay
+    /// The delay of a task: the greatest of its threads'.
+    fn task_delay(&self, task: usize) -> u64
+        requires at_hand { IsAtHand self.now }
+        requires task { task < length self.now.config.now.tasks }
+        ensures { (h : List PassEntry) (acts : List Action) → StandsIn self.now h acts →
+            result ≡ grants.task_delay (setting_in self.now h) task }
+    {
+        let (first, count) = self.config.threads_of(task);
+        let mut greatest: u64 = 0;
+        for j in 0..count {
+            let delay = self.thread_delay(first + j);
+            greatest = greatest.max(delay);
+        }
+        greatest
+    }
+
+    /// Whether the task's delay is strictly above its threshold.
+    pub fn is_congested(&self, task: usize) -> bool
+        requires at_hand { IsAtHand self.now }
+        requires task { task < length self.now.config.now.tasks }
+        ensures { (h : List PassEntry) (acts : List Action) → StandsIn self.now h acts →
+            result ≡ grants.is_congested (setting_in self.now h) task }
+    {
+        self.task_delay(task) > self.config.task(task).delay
+    }
 }

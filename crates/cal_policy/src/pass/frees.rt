@@ -2,13 +2,13 @@
 
 ghost use Rattle.std.specs.Prelude.{◌≡◌, ℕ, ◌+◌, ◌<◌, ◌≤◌, ◌++◌, List, length, option_to_list};
 ghost use Rattle.std.specs.Option.{IfSome};
-ghost use Rattle.cal_machine.specs.Table.{IsTable};
 ghost use Rattle.cal_policy.specs.declared.history.action.Action.{Action};
 ghost use Rattle.cal_policy.specs.declared.history.entry.PassEntry.{PassEntry};
 ghost use Rattle.cal_policy.specs.Setting.{setting, so_far, kept_now};
 ghost use Rattle.cal_policy.specs.Pass.Frees.{has_left, shows_left, free_at, frees};
 ghost use Rattle.cal_policy.specs.History.{holder_of};
-ghost use Rattle.cal_policy.specs.Board.{Stands, IsReady, NamesTable, kept_number};
+ghost use Rattle.cal_policy.specs.Pass.AtHand.{IsAtHand, StandsIn, setting_in};
+ghost use Rattle.cal_policy.specs.Board.{Stands, IsReady, IsOfTable, NamesTable, kept_number};
 
 use crate::board::Board;
 use crate::board::core_sets::next_core;
@@ -16,6 +16,7 @@ use crate::board::holders::Holder;
 use crate::history::action::Action;
 use crate::history::action_list::Actions;
 use crate::history::input::Input;
+use crate::pass::Pass;
 use crate::pass::appending::make;
 use cal_machine::Config;
 use cal_signal::Record;
@@ -49,27 +50,26 @@ pub fn is_left(config: &Config, input: &Input, board: &Board, core: u8) -> bool
     }
 }
 
-/// The Free of a core whose thread has left it.
-fn free_due(config: &Config, input: &Input, board: &Board, core: u8) -> Option<Action>
-    requires table { IsTable config.now }
-    requires ready { IsReady config.now board.now }
-    requires core { core < config.now.cores }
-    ensures due { (h : List PassEntry) (acts : List Action) →
-        Stands board.now (setting config.now h input.entry.now) acts →
-        option_to_list result ≡ free_at (setting config.now h input.entry.now) acts core }
-    ensures names { IfSome result (NamesTable config.now) }
-{
-    if is_left(config, input, board, core) {
-        Some(Action::Free { core })
-    } else {
-        None
+impl Pass<'_> {
+    /// The Free of a core whose thread has left it.
+    fn free_due(&self, core: u8) -> Option<Action>
+        requires at_hand { IsAtHand self.now }
+        requires core { core < self.now.config.now.cores }
+        ensures due { (h : List PassEntry) (acts : List Action) → StandsIn self.now h acts →
+            option_to_list result ≡ free_at (setting_in self.now h) acts core }
+        ensures names { IfSome result (NamesTable self.now.config.now) }
+    {
+        if is_left(self.config, self.input, self.board, core) {
+            Some(Action::Free { core })
+        } else {
+            None
+        }
     }
 }
 
 /// Frees each core whose thread has left it, upwards. Only those that are taken are gone over.
 pub fn free_left(config: &Config, input: &Input, board: &mut Board, out: &mut Actions)
-    requires table { IsTable config.now }
-    requires ready { IsReady config.now board.old }
+    requires of_table { IsOfTable config.now input.now board.old }
     requires room { length out.old + config.now.cores ≤ 338 }
     ensures acts { (h : List PassEntry) →
         Stands board.old (setting config.now h input.entry.now) out.old →
@@ -80,7 +80,12 @@ pub fn free_left(config: &Config, input: &Input, board: &mut Board, out: &mut Ac
 {
     let mut first = 0;
     while let Some(core) = next_core(config, &board.sets.taken, first) {
-        let action = free_due(config, input, board, core);
+        let pass = Pass {
+            config,
+            input,
+            board,
+        };
+        let action = pass.free_due(core);
         make(config, board, out, action);
         first = core + 1;
     }

@@ -3,111 +3,103 @@
 ghost use Rattle.std.specs.Prelude.{◌≡◌, ◌+◌, ◌<◌, ◌≤◌, ◌++◌, not, List};
 ghost use Rattle.std.specs.Prelude.{length, option_to_list, if◌then◌else◌};
 ghost use Rattle.std.specs.Option.{IfSome};
-ghost use Rattle.cal_machine.specs.Table.{IsTable};
 ghost use Rattle.cal_policy.specs.declared.history.action.Action.{Action};
 ghost use Rattle.cal_policy.specs.declared.history.entry.PassEntry.{PassEntry};
-ghost use Rattle.cal_policy.specs.declared.history.input.Input.{Input};
 ghost use Rattle.cal_policy.specs.Tasks as tasks;
-ghost use Rattle.cal_policy.specs.Tasks.{threads_of_table, limit_of};
+ghost use Rattle.cal_policy.specs.Tasks.{limit_of};
 ghost use Rattle.cal_policy.specs.Setting.{setting, so_far};
-ghost use Rattle.cal_policy.specs.History.{holder_of};
 ghost use Rattle.cal_policy.specs.Pass.Grants as rules;
 ghost use Rattle.cal_policy.specs.Pass.Grants.{grant_of, grant_at, grant_critical_at};
 ghost use Rattle.cal_policy.specs.Pass.Grants.{grant_best_effort_at, best_effort_tasks};
-ghost use Rattle.cal_policy.specs.Board.{Stands, IsReady, NamesTable};
-ghost use Rattle.cal_policy.specs.Board.Survey.{Surveys};
+ghost use Rattle.cal_policy.specs.Board.{Stands, IsReady, IsOfTable, NamesTable};
+ghost use Rattle.cal_policy.specs.Pass.AtHand.{IsAtHand, StandsIn, setting_in};
 
 use crate::board::Board;
 use crate::board::counts::cap_of;
-use crate::board::survey::{Survey, survey_of};
+use crate::board::survey::survey_of;
 use crate::history::action::{Action, Cause};
 use crate::history::action_list::Actions;
 use crate::history::input::Input;
+use crate::pass::Pass;
 use crate::pass::appending::make;
 use crate::pass::choice::Candidate;
-use crate::pass::core_choice::choose_core;
-use crate::pass::delays::is_congested;
-use crate::pass::thread_choice::choose_thread;
 use crate::tasks::is_latency_critical;
 use cal_machine::Config;
 
-/// Whether the task may book one more core: it books fewer than its limit and, if it is
-/// best-effort, fewer than its cap.
-fn may_book(config: &Config, board: &Board, survey: &Survey, task: usize) -> bool
-    requires table { IsTable config.now }
-    requires task { task < length config.now.tasks }
-    ensures { (h : List PassEntry) (input : Input) (acts : List Action) →
-        let s = setting config.now h input in
-        Stands board.now s acts → Surveys config.now (holder_of (so_far s acts)) survey.now →
-        result ≡ rules.may_book s (so_far s acts) task }
-{
-    let booked = survey.booked[task];
-    let below_cap = is_latency_critical(config, task) || booked < cap_of(config, board, task);
-    booked < config.task(task).limit && below_cap
-}
+impl Pass<'_> {
+    /// Whether the task may book one more core: it books fewer than its limit and, if it is
+    /// best-effort, fewer than its cap.
+    fn may_book(&self, task: usize) -> bool
+        requires at_hand { IsAtHand self.now }
+        requires task { task < length self.now.config.now.tasks }
+        ensures { (h : List PassEntry) (acts : List Action) → StandsIn self.now h acts →
+            let s = setting_in self.now h in result ≡ rules.may_book s (so_far s acts) task }
+    {
+        let booked = survey_of(self.config, self.board).booked[task];
+        let below_cap = is_latency_critical(self.config, task)
+            || booked < cap_of(self.config, self.board, task);
+        booked < self.config.task(task).limit && below_cap
+    }
 
-/// What was chosen for the task: a core of class 1 to 3 is granted, one of another class is revoked
-/// for it.
-fn chosen(
-    config: &Config,
-    task: usize,
-    thread: Option<Candidate>,
-    core: Option<Candidate>,
-) -> Option<Action>
-    requires table { IsTable config.now }
-    requires task { task < length config.now.tasks }
-    requires thread { IfSome thread (λ best. best.number < limit_of config.now task) }
-    requires core { IfSome core (λ best. (best.number < config.now.cores) × (best.rank < 256)) }
-    ensures chosen { (h : List PassEntry) (input : Input) →
-        option_to_list result ≡ grant_of (setting config.now h input) task thread core }
-    ensures names { IfSome result (NamesTable config.now) }
-{
-    let thread = thread?;
-    let core = core?;
-    if core.rank >= 4 {
-        let cause = Cause::Preempt { task: task as u8 };
-        return Some(Action::Revoke {
+    /// What was chosen for the task: a core of class 1 to 3 is granted, one of another class is
+    /// revoked for it.
+    fn chosen(
+        &self,
+        task: usize,
+        thread: Option<Candidate>,
+        core: Option<Candidate>,
+    ) -> Option<Action>
+        requires at_hand { IsAtHand self.now }
+        requires task { task < length self.now.config.now.tasks }
+        requires thread { IfSome thread
+            (λ best. best.number < limit_of self.now.config.now task) }
+        requires core { IfSome core (λ best.
+            (best.number < self.now.config.now.cores) × (best.rank < 256)) }
+        ensures chosen { (h : List PassEntry) →
+            option_to_list result ≡ grant_of (setting_in self.now h) task thread core }
+        ensures names { IfSome result (NamesTable self.now.config.now) }
+    {
+        let thread = thread?;
+        let core = core?;
+        if core.rank >= 4 {
+            let cause = Cause::Preempt { task: task as u8 };
+            return Some(Action::Revoke {
+                core: core.number,
+                cause,
+            });
+        }
+        let (first, _) = self.config.threads_of(task);
+        Some(Action::Grant {
             core: core.number,
-            cause,
-        });
+            thread: first as u8 + thread.number,
+            class: core.rank as u8,
+        })
     }
-    let (first, _) = config.threads_of(task);
-    Some(Action::Grant {
-        core: core.number,
-        thread: first as u8 + thread.number,
-        class: core.rank as u8,
-    })
-}
 
-/// What the task gets, if it is congested and may book one more core.
-fn grant_due(config: &Config, input: &Input, board: &Board, task: usize) -> Option<Action>
-    requires table { IsTable config.now }
-    requires ready { IsReady config.now board.now }
-    requires task { task < length config.now.tasks }
-    requires rooms { length input.now.rooms ≡ threads_of_table config.now }
-    ensures due { (h : List PassEntry) (acts : List Action) →
-        Stands board.now (setting config.now h input.entry.now) acts →
-        option_to_list result ≡ grant_at (setting config.now h input.entry.now) acts task }
-    ensures names { IfSome result (NamesTable config.now) }
-{
-    if !is_congested(config, input, board, task) {
-        return None;
+    /// What the task gets, if it is congested and may book one more core.
+    fn grant_due(&self, task: usize) -> Option<Action>
+        requires at_hand { IsAtHand self.now }
+        requires task { task < length self.now.config.now.tasks }
+        ensures due { (h : List PassEntry) (acts : List Action) → StandsIn self.now h acts →
+            option_to_list result ≡ grant_at (setting_in self.now h) acts task }
+        ensures names { IfSome result (NamesTable self.now.config.now) }
+    {
+        if !self.is_congested(task) {
+            return None;
+        }
+        if !self.may_book(task) {
+            return None;
+        }
+        let thread = self.choose_thread(task);
+        let core = self.choose_core(task);
+        self.chosen(task, thread, core)
     }
-    let survey = survey_of(config, board);
-    if !may_book(config, board, survey, task) {
-        return None;
-    }
-    let thread = choose_thread(config, input, board, survey, task);
-    let core = choose_core(config, input, board, survey, task);
-    chosen(config, task, thread, core)
 }
 
 /// Gives a latency-critical task what it gets, and another nothing.
 fn grant_critical(config: &Config, input: &Input, board: &mut Board, out: &mut Actions, task: usize)
-    requires table { IsTable config.now }
-    requires ready { IsReady config.now board.old }
+    requires of_table { IsOfTable config.now input.now board.old }
     requires task { task < length config.now.tasks }
-    requires rooms { length input.now.rooms ≡ threads_of_table config.now }
     requires room { length out.old + (if tasks.is_latency_critical config.now task then 1 else 0)
         ≤ 338 }
     ensures acts { (h : List PassEntry) →
@@ -119,7 +111,12 @@ fn grant_critical(config: &Config, input: &Input, board: &mut Board, out: &mut A
         ≤ length out.old + (if tasks.is_latency_critical config.now task then 1 else 0) }
 {
     if is_latency_critical(config, task) {
-        let action = grant_due(config, input, board, task);
+        let pass = Pass {
+            config,
+            input,
+            board,
+        };
+        let action = pass.grant_due(task);
         make(config, board, out, action);
     }
 }
@@ -132,10 +129,8 @@ fn grant_best_effort(
     out: &mut Actions,
     task: usize,
 )
-    requires table { IsTable config.now }
-    requires ready { IsReady config.now board.old }
+    requires of_table { IsOfTable config.now input.now board.old }
     requires task { task < length config.now.tasks }
-    requires rooms { length input.now.rooms ≡ threads_of_table config.now }
     requires room { length out.old + (if not (tasks.is_latency_critical config.now task) then 1
         else 0) ≤ 338 }
     ensures acts { (h : List PassEntry) →
@@ -147,7 +142,12 @@ fn grant_best_effort(
         ≤ length out.old + (if not (tasks.is_latency_critical config.now task) then 1 else 0) }
 {
     if !is_latency_critical(config, task) {
-        let action = grant_due(config, input, board, task);
+        let pass = Pass {
+            config,
+            input,
+            board,
+        };
+        let action = pass.grant_due(task);
         make(config, board, out, action);
     }
 }
@@ -155,9 +155,7 @@ fn grant_best_effort(
 /// Gives each latency-critical task, by number, what it gets. Room is left for the best-effort
 /// ones.
 pub fn critical_grants(config: &Config, input: &Input, board: &mut Board, out: &mut Actions)
-    requires table { IsTable config.now }
-    requires ready { IsReady config.now board.old }
-    requires rooms { length input.now.rooms ≡ threads_of_table config.now }
+    requires of_table { IsOfTable config.now input.now board.old }
     requires room { length out.old + 16 ≤ 338 }
     ensures acts { (h : List PassEntry) →
         Stands board.old (setting config.now h input.entry.now) out.old →
@@ -173,9 +171,7 @@ pub fn critical_grants(config: &Config, input: &Input, board: &mut Board, out: &
 
 /// Gives each best-effort task, by number, what it gets.
 pub fn best_effort_grants(config: &Config, input: &Input, board: &mut Board, out: &mut Actions)
-    requires table { IsTable config.now }
-    requires ready { IsReady config.now board.old }
-    requires rooms { length input.now.rooms ≡ threads_of_table config.now }
+    requires of_table { IsOfTable config.now input.now board.old }
     requires room { length out.old + best_effort_tasks config.now ≤ 338 }
     ensures acts { (h : List PassEntry) →
         Stands board.old (setting config.now h input.entry.now) out.old →

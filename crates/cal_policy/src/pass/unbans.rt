@@ -2,17 +2,20 @@
 
 ghost use Rattle.std.specs.Prelude.{◌≡◌, ◌*◌, ◌+◌, ◌<◌, ◌≤◌, ◌++◌, List, length, option_to_list};
 ghost use Rattle.std.specs.Option.{IfSome};
-ghost use Rattle.cal_machine.specs.Table.{IsTable};
 ghost use Rattle.cal_policy.specs.declared.history.action.Action.{Action};
+ghost use Rattle.cal_policy.specs.declared.history.entry.PassEntry.{PassEntry};
 ghost use Rattle.cal_policy.specs.History.Lists.{in_pair};
-ghost use Rattle.cal_policy.specs.Setting.{Setting, so_far};
+ghost use Rattle.cal_policy.specs.Setting.{setting, so_far};
 ghost use Rattle.cal_policy.specs.Pass.Bans.{NoPairBanned, still_shows, unban_at, unbans};
-ghost use Rattle.cal_policy.specs.Board.{Stands, IsReady, NamesTable};
+ghost use Rattle.cal_policy.specs.Board.{Stands, IsReady, IsOfTable, NamesTable};
+ghost use Rattle.cal_policy.specs.Pass.AtHand.{IsAtHand, StandsIn, setting_in};
 
 use crate::board::Board;
 use crate::board::core_sets::next_core;
 use crate::history::action::Action;
 use crate::history::action_list::Actions;
+use crate::history::input::Input;
+use crate::pass::Pass;
 use crate::pass::appending::make;
 use cal_machine::Config;
 use cal_signal::Record;
@@ -24,51 +27,49 @@ fn shows_still(rec: &Record, core: u8, started: u64) -> bool
     rec.running == u64::from(core) + 1 && rec.started == started
 }
 
-/// The end of the core's ban, where it has one that ends.
-fn unban_due(config: &Config, board: &Board, core: u8) -> Option<Action>
-    requires ready { IsReady config.now board.now }
-    requires core { core < config.now.cores }
-    ensures due { (s : Setting) (acts : List Action) → Stands board.now s acts →
-        option_to_list result ≡ unban_at s acts core }
-    ensures names { IfSome result (NamesTable config.now) }
-{
-    let beside = config.machine().sibling(core);
-    let ban = board.bans.bans[core as usize]?;
-    if shows_still(
-        &board.keeping.kept[ban.thread as usize],
-        beside,
-        ban.started,
-    ) {
-        None
-    } else {
-        Some(Action::Unban { core })
+impl Pass<'_> {
+    /// The end of the core's ban, where it has one that ends.
+    fn unban_due(&self, core: u8) -> Option<Action>
+        requires at_hand { IsAtHand self.now }
+        requires core { core < self.now.config.now.cores }
+        ensures due { (h : List PassEntry) (acts : List Action) → StandsIn self.now h acts →
+            option_to_list result ≡ unban_at (setting_in self.now h) acts core }
+        ensures names { IfSome result (NamesTable self.now.config.now) }
+    {
+        let beside = self.config.machine().sibling(core);
+        let ban = self.board.bans.bans[core as usize]?;
+        let rec = &self.board.keeping.kept[ban.thread as usize];
+        if shows_still(rec, beside, ban.started) {
+            None
+        } else {
+            Some(Action::Unban { core })
+        }
     }
-}
 
-/// The end of the ban on a core of this pair. At most one of the two cores is banned.
-fn unban_in_pair(config: &Config, board: &Board, pair: u8) -> Option<Action>
-    requires table { IsTable config.now }
-    requires ready { IsReady config.now board.now }
-    requires pair { 2 * pair + 1 < config.now.cores }
-    ensures due { (s : Setting) (acts : List Action) → NoPairBanned (so_far s acts) →
-        Stands board.now s acts →
-        option_to_list result ≡ in_pair (unban_at s) acts pair }
-    ensures names { IfSome result (NamesTable config.now) }
-{
-    match unban_due(config, board, 2 * pair) {
-        Some(action) => Some(action),
-        None => unban_due(config, board, 2 * pair + 1),
+    /// The end of the ban on a core of this pair. At most one of the two cores is banned.
+    fn unban_in_pair(&self, pair: u8) -> Option<Action>
+        requires at_hand { IsAtHand self.now }
+        requires pair { 2 * pair + 1 < self.now.config.now.cores }
+        ensures due { (h : List PassEntry) (acts : List Action) →
+            let s = setting_in self.now h in
+            NoPairBanned (so_far s acts) → StandsIn self.now h acts →
+            option_to_list result ≡ in_pair (unban_at s) acts pair }
+        ensures names { IfSome result (NamesTable self.now.config.now) }
+    {
+        match self.unban_due(2 * pair) {
+            Some(action) => Some(action),
+            None => self.unban_due(2 * pair + 1),
+        }
     }
 }
 
 /// Ends each ban whose thread no longer shows the core beside and the request that it was for. The
 /// banned cores are gone over upwards, pair by pair, and a pair gives at most one action.
-pub fn end_bans(config: &Config, board: &mut Board, out: &mut Actions)
-    requires table { IsTable config.now }
-    requires ready { IsReady config.now board.old }
+pub fn end_bans(config: &Config, input: &Input, board: &mut Board, out: &mut Actions)
+    requires of_table { IsOfTable config.now input.now board.old }
     requires room { length out.old + 64 ≤ 338 }
-    ensures acts { (s : Setting) → s.table ≡ config.now → NoPairBanned (so_far s out.old) →
-        Stands board.old s out.old →
+    ensures acts { (h : List PassEntry) → let s = setting config.now h input.entry.now in
+        NoPairBanned (so_far s out.old) → Stands board.old s out.old →
         (out.new ≡ out.old ++ unbans s out.old) × Stands board.new s out.new }
     ensures ready { IsReady config.now board.new }
     ensures length { length out.new ≤ length out.old + 64 }
@@ -76,7 +77,12 @@ pub fn end_bans(config: &Config, board: &mut Board, out: &mut Actions)
     let mut next = 0;
     while let Some(core) = next_core(config, &board.sets.banned, 2 * next) {
         let pair = core / 2;
-        let action = unban_in_pair(config, board, pair);
+        let pass = Pass {
+            config,
+            input,
+            board,
+        };
+        let action = pass.unban_in_pair(pair);
         make(config, board, out, action);
         next = pair + 1;
     }

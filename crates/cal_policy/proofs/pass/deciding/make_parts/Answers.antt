@@ -1,5 +1,5 @@
 -- Each part begins where the one before ended.
-use Rattle.std.proofs.Common.{List, refl, sym, subst}
+use Rattle.std.proofs.Common.{List, sym, subst}
 use Rattle.cal_policy.specs.declared.history.action.Action.{Action}
 use Rattle.cal_policy.specs.Setting.{Setting, setting}
 use Rattle.cal_policy.specs.Board.{Stands}
@@ -11,7 +11,7 @@ returns-clause-acts c = λ h apart st.
     let s : Setting = setting c.args.config.now h c.args.input.now in
     let P : List Action → Type 0 = λ o. Stands c.args.board.now s o in
     let r1 = c.free_left.ensures.acts h (subst P (sym c.requires.empty) st) in
-    let r2 = c.end_bans.ensures.acts s refl (freed_apart s _ _ c.requires.empty r1.0 apart) r1.1 in
+    let r2 = c.end_bans.ensures.acts h (freed_apart s _ _ c.requires.empty r1.0 apart) r1.1 in
     let r3 = c.ban_siblings.ensures.acts h r2.1 in
     let r4 = c.keep_bandwidth.ensures.acts h r3.1 in
     let r5 = c.critical_grants.ensures.acts h r4.1 in

@@ -9,7 +9,7 @@ use Rattle.cal_policy.proofs.pass.frees.free_left.Goals as goal
 pub loop-core-preserved : goal.loop-core-preserved
 loop-core-preserved c =
     let core = c.in-Some.core in
-    let few : core < 128 = omega (arith, c.requires.table.machine.most, c.in-Some.ensures.next.1) in
+    let few : core < 128 = omega (arith, c.requires.of_table.accepted.machine.most, c.in-Some.ensures.next.1) in
     record {
       acts = λ h st.
           let s = setting c.args.config.now h c.args.input.now in
@@ -27,6 +27,6 @@ pub returns-clause-acts : goal.returns-clause-acts
 returns-clause-acts c = λ h st.
     let s = setting c.args.config.now h c.args.input.now in
     let r = c.loop-core.invariant.acts h st in
-    let few = c.requires.table.machine.most in
+    let few = c.requires.of_table.accepted.machine.most in
     Reached_skip (free_at s) s c.args.out.now _ c.loop-core.board c.loop-core.first c.args.config.now.cores c.loop-core.invariant.first
     (λ k a b. free_not_taken c.loop-core.board s c.loop-core.out r.1 c.loop-core.invariant.ready.sets k (omega (arith, b, few)) (c.in_default.ensures.none k a b)) r

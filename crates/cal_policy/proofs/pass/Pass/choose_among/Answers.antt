@@ -1,0 +1,37 @@
+-- The cores between the set's members have no class.
+use Rattle.std.proofs.Common.{◌<◌, None, cond, nat_lt, ap, sym, ◌∙◌, arith}
+use Rattle.cal_policy.specs.Setting.{so_far}
+use Rattle.cal_policy.specs.Pass.Grants.{class_by, class_of}
+use Rattle.cal_policy.specs.Pass.Among.{class_among}
+use Rattle.cal_policy.specs.History.{holder_of}
+use Rattle.cal_policy.proofs.ListLemmas.OneNumberMore.{best_more}
+use Rattle.cal_policy.proofs.BoardLemmas.AsKept.{class_as_kept}
+use Rattle.cal_policy.proofs.BoardLemmas.TwoSets.{best_skip}
+use Rattle.cal_policy.specs.Pass.AtHand.{setting_in}
+use Rattle.cal_policy.proofs.pass.Pass.choose_among.Goals as goal
+
+pub loop-core-preserved : goal.loop-core-preserved
+loop-core-preserved c = record {
+  choice = λ h acts s.
+      let at = setting_in c.args.self.now h in
+      let core = c.in-Some.core in
+      let class = class_of at acts c.args.task in
+      let low : core < 128 = omega (arith, c.requires.at_hand.accepted.machine.most, c.in-Some.ensures.next.1) in
+      c.lesser-best.ensures.better ∙ best_more nat_lt (class_among c.args.cores.now at acts c.args.task) core _ _
+      (c.loop-core.invariant.choice h acts s
+      ∙ best_skip nat_lt (class_among c.args.cores.now at acts c.args.task) c.loop-core.first core c.in-Some.ensures.next.0
+      (λ k a b. ap (λ w. cond w (class k) None) (c.in-Some.ensures.between k a b)))
+      (c.class_by_holder-class.ensures.class h acts s
+      ∙ ap (class_by at acts c.args.task core) (s.agrees.holding.holders core low)
+      ∙ class_as_kept at acts c.args.task core (holder_of (so_far at acts) core)
+      ∙ sym (ap (λ w. cond w (class core) None) c.in-Some.ensures.member));
+  below = c.lesser-best.ensures.below;
+  first = omega (arith, c.in-Some.ensures.next.1);
+}
+
+pub returns-clause-choice : goal.returns-clause-choice
+returns-clause-choice c = λ h acts s.
+    let at = setting_in c.args.self.now h in
+    c.loop-core.invariant.choice h acts s
+    ∙ best_skip nat_lt (class_among c.args.cores.now at acts c.args.task) c.loop-core.first c.args.self.now.config.now.cores c.loop-core.invariant.first
+    (λ k a b. ap (λ w. cond w (class_of at acts c.args.task k) None) (c.in_default.ensures.none k a b))

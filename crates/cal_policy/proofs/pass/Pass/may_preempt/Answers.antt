@@ -1,0 +1,25 @@
+-- One may be revoked at all by the first and the last test of the rule.
+use Rattle.std.proofs.Common.{◌≡◌, ◌<◌, ◌&&◌, not, true, false, get_or, ap, sym, ◌∙◌, arith}
+use Rattle.cal_policy.specs.Tasks.{is_latency_critical}
+use Rattle.cal_policy.specs.Setting.{so_far, has_room}
+use Rattle.cal_policy.specs.Pass.Grants.{is_granted_in, none_leaves_for}
+use Rattle.cal_policy.specs.Pass.AtHand.{setting_in}
+use Rattle.cal_policy.proofs.PassLemmas.Branches.{outer_hold, outer_fail}
+use Rattle.cal_policy.proofs.pass.Pass.may_preempt.Goals as goal
+
+pub returns-then-not-may_have_revoked : goal.returns-then-not-may_have_revoked
+returns-then-not-may_have_revoked c = λ h acts s.
+    let at = setting_in c.args.self.now h in
+    outer_fail (is_latency_critical at.table c.args.task) (has_room at c.args.thread) (not (is_granted_in acts c.args.core))
+    (none_leaves_for at (so_far at acts) c.args.task) (c.if-not-may_have_revoked.ensures h acts s.agrees)
+
+pub returns-then-has_room : goal.returns-then-has_room
+returns-then-has_room c = λ h acts s.
+    let at = setting_in c.args.self.now h in
+    let low : c.args.core < 128 = omega (arith, c.requires.at_hand.accepted.machine.most) in
+    let fits : get_or c.args.self.now.input.now.rooms c.args.thread false ≡ true =
+        ap (λ rooms. get_or rooms c.args.thread false) (sym c.as_slice.ensures) ∙ c.if-has_room.true in
+    let fresh = not (is_granted_in acts c.args.core) in
+    ap not (c.has.ensures ∙ s.fresh.fresh c.args.core low) ∙ sym (ap (λ room. room && fresh) fits)
+    ∙ outer_hold (is_latency_critical at.table c.args.task) (has_room at c.args.thread) fresh
+    (none_leaves_for at (so_far at acts) c.args.task) (c.if-not-may_have_revoked.ensures h acts s.agrees)

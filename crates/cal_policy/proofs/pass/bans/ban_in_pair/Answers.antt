@@ -1,8 +1,0 @@
-use Rattle.cal_policy.specs.Setting.{setting}
-use Rattle.cal_policy.proofs.PassLemmas.Pairs.{ban_lower}
-use Rattle.cal_policy.proofs.pass.bans.ban_in_pair.Goals as goal
-
-pub returns-in-Some-clause-due : goal.returns-in-Some-clause-due
-returns-in-Some-clause-due c = λ h acts st.
-    let s = setting c.args.config.now h c.args.input.now in
-    rw c.in-Some.is (ban_lower s acts c.args.pair c.in-Some.field-0 _ (rw c.in-Some.is at (c.ban_beside-lower.ensures.due h acts st)))
