@@ -10,6 +10,7 @@ pub mod replay;
 pub mod survey;
 
 ghost use Rattle.std.specs.Prelude.{◌≡◌, ◌≤◌, ◌++◌, ◌∷◌, [], List, length};
+ghost use Rattle.cal_machine.specs.declared.numbering.TheConstants.{MOST_THREADS};
 ghost use Rattle.cal_policy.specs.declared.history.action.Action.{Action};
 ghost use Rattle.cal_policy.specs.declared.history.look.Seen.{Seen};
 ghost use Rattle.cal_machine.specs.Table.{Table, IsTable};
@@ -140,7 +141,7 @@ impl Board {
 
     /// Begins a pass with its looks: no core was granted in it yet.
     pub fn begin(&mut self, seen: &[Seen])
-        requires { length seen.now ≤ 128 }
+        requires { length seen.now ≤ MOST_THREADS }
         ensures agrees { (x : List Action) → Agrees self.old x → Agrees self.new x }
         ensures fresh { IsFresh self.new.fresh [] }
         ensures ready { (table : Table) → IsReady table self.old → IsReady table self.new }

@@ -3,6 +3,7 @@
 ghost use Rattle.std.specs.Prelude.{◌≡◌, ℕ, ◌<◌, ◌++◌, ◌∷◌, ◌↔◌, [], List, Some};
 ghost use Rattle.std.specs.Prelude.{length, take, slice_get, IfOk, IsTrue};
 ghost use Rattle.cal_machine.specs.Table.{Table, IsTable};
+ghost use Rattle.cal_machine.specs.declared.machine.TheConstants.{MOST_CORES};
 ghost use Rattle.cal_policy.specs.Tasks.{threads_of_table};
 ghost use Rattle.cal_policy.specs.declared.judgement.open_input.FoundLook.{FoundLook};
 ghost use Rattle.cal_policy.specs.declared.history.entry.PassEntry.{PassEntry};
@@ -109,7 +110,7 @@ impl Book {
 
     /// Who has a core after the history. A number is the least of the Run's and 2^64.
     pub fn holder(&self, core: u8) -> Holder
-        requires { core < 128 }
+        requires { core < MOST_CORES }
         ensures { (h : List PassEntry) → AgreesWith self.now h →
             result ≡ kept_holder (holder_of (actions_of h) core) }
     {

@@ -5,6 +5,7 @@ ghost use Rattle.std.specs.Prelude.{List, Some, ℕ, true, false, not, slice_ind
 ghost use Rattle.std.specs.Option.{IfSome, IfNone};
 ghost use Rattle.cal_machine.specs.Table.{Table, IsTable};
 ghost use Rattle.cal_machine.specs.CoreSet.{has, IsLeastFrom};
+ghost use Rattle.cal_machine.specs.declared.machine.TheConstants.{MOST_CORES};
 ghost use Rattle.cal_policy.specs.Tasks.{threads_of_table};
 ghost use Rattle.cal_policy.specs.declared.history.action.Action.{Action};
 ghost use Rattle.cal_policy.specs.declared.board.holders.Holder.{Holder};
@@ -44,7 +45,7 @@ pub fn next_core(config: &Config, cores: &CoreSet, first: u8) -> Option<u8>
 
 /// The set of all cores.
 fn all_cores() -> CoreSet
-    ensures { (core : ℕ) → core < 128 → has result core ≡ true }
+    ensures { (core : ℕ) → core < MOST_CORES → has result core ≡ true }
 {
     let mut cores = CoreSet::empty();
     for core in 0..128 {
@@ -72,7 +73,7 @@ fn note_banned(banned: &mut CoreSet, action: Action)
 impl CoreSets {
     /// The sets where every core is free and none is banned.
     pub fn new() -> CoreSets
-        ensures sorted { (core : ℕ) → core < 128 → IsSorted core Holder.Free result }
+        ensures sorted { (core : ℕ) → core < MOST_CORES → IsSorted core Holder.Free result }
         ensures banned { IsSetOfBanned result.banned [] }
     {
         CoreSets {
@@ -84,7 +85,7 @@ impl CoreSets {
 
     /// Takes a core out of the sets, which are as its holder says.
     fn take(&mut self, core: u8, holder: Holder)
-        requires core { core < 128 }
+        requires core { core < MOST_CORES }
         requires sorted { IsSorted core holder self.old }
         ensures nowhere { IsNowhere core self.new }
         ensures others { IsSameBut core self.old self.new }
@@ -99,7 +100,7 @@ impl CoreSets {
 
     /// Puts a core, which is in none of the sets, where its holder says.
     fn put(&mut self, core: u8, holder: Holder)
-        requires core { core < 128 }
+        requires core { core < MOST_CORES }
         requires nowhere { IsNowhere core self.old }
         ensures sorted { IsSorted core holder self.new }
         ensures others { IsSameBut core self.old self.new }
@@ -124,7 +125,7 @@ impl CoreSets {
 
     /// Moves a core, if there is one, from where one holder says to where the next one does.
     pub fn move_core(&mut self, core: Option<u8>, before: Holder, after: Holder)
-        requires core { IfSome core (λ c. c < 128) }
+        requires core { IfSome core (λ c. c < MOST_CORES) }
         requires sorted { IfSome core (λ c. IsSorted c before self.old) }
         ensures sorted { IfSome core (λ c. IsSorted c after self.new) }
         ensures others { (c : ℕ) (h : Holder) → core ≢ Some c → IsSorted c h self.old →

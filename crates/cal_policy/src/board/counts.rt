@@ -3,6 +3,7 @@
 ghost use Rattle.std.specs.Prelude.{◌≡◌, ℕ, ◌<◌, true, length, List};
 ghost use Rattle.std.specs.Option.{IfSome};
 ghost use Rattle.cal_machine.specs.Table.{IsTable};
+ghost use Rattle.cal_machine.specs.declared.task_table.TheConstants.{MOST_TASKS};
 ghost use Rattle.cal_policy.specs.Tasks.{threads_of_table};
 ghost use Rattle.cal_policy.specs.declared.history.action.Action.{Action};
 ghost use Rattle.cal_policy.specs.Board.Counts as counts;
@@ -28,7 +29,7 @@ pub fn holds_for(config: &Config, task: usize, holder: Holder) -> bool
 /// How many cores the task's threads hold.
 pub fn held_by(config: &Config, board: &Board, task: usize) -> u8
     requires ready { IsReady config.now board.now }
-    requires task { task < 16 }
+    requires task { task < MOST_TASKS }
     ensures held { (x : List Action) → Agrees board.now x →
         result ≡ counts.held_by config.now x task }
     ensures some { (core : ℕ) → core < config.now.cores →
@@ -41,7 +42,7 @@ pub fn held_by(config: &Config, board: &Board, task: usize) -> u8
 /// How many cores the task's threads hold or leave.
 pub fn booked_by(config: &Config, board: &Board, task: usize) -> u8
     requires ready { IsReady config.now board.now }
-    requires task { task < 16 }
+    requires task { task < MOST_TASKS }
     ensures { (x : List Action) → Agrees board.now x → result ≡ counts.booked_by config.now x task }
 {
     config.limits();

@@ -2,6 +2,8 @@
 
 ghost use Rattle.std.specs.Prelude.{◌≡◌, ◌≢◌, ℕ, ◌+◌, ◌<◌, ◌≤◌, ◌^◌, ◌++◌};
 ghost use Rattle.std.specs.Prelude.{◌∷◌, [], List, Some, min, replicate};
+ghost use Rattle.cal_machine.specs.declared.machine.TheConstants.{MOST_CORES};
+ghost use Rattle.cal_machine.specs.declared.numbering.TheConstants.{MOST_THREADS};
 ghost use Rattle.cal_policy.specs.declared.history.action.Action.{Action};
 ghost use Rattle.cal_policy.specs.declared.history.action.Action.TheVariants.{Revoke, Grant};
 ghost use Rattle.cal_policy.specs.Board.{HoldingAgrees, HoldingSound, NamesCores, granted_in};
@@ -138,7 +140,7 @@ impl Holding {
 
     /// Who has this core; of no core nobody.
     pub fn holder_at(&self, core: Option<u8>) -> Holder
-        requires { IfSome core (λ c. c < 128) }
+        requires { IfSome core (λ c. c < MOST_CORES) }
         ensures { result ≡ holder_at self.now core }
     {
         match core {
@@ -186,7 +188,7 @@ impl Holding {
     /// A core is revoked: the thread of its last grant is sent Park and is leaving.
     fn revoke(&mut self, core: u8, cause: Cause)
         requires sound { HoldingSound 128 self.old }
-        requires core { core < 128 }
+        requires core { core < MOST_CORES }
         ensures agrees { (x : List Action) → HoldingAgrees self.old x →
             HoldingAgrees self.new (x ++ Revoke core cause ∷ []) }
         ensures sound { (threads : ℕ) → HoldingSound threads self.old →
@@ -207,8 +209,8 @@ impl Holding {
     /// A core is granted: the thread is sent Run and holds it.
     fn grant(&mut self, core: u8, thread: u8, class: u8)
         requires sound { HoldingSound 128 self.old }
-        requires core { core < 128 }
-        requires thread { thread < 128 }
+        requires core { core < MOST_CORES }
+        requires thread { thread < MOST_THREADS }
         ensures agrees { (x : List Action) → HoldingAgrees self.old x →
             HoldingAgrees self.new (x ++ Grant core thread class ∷ []) }
         ensures sound { (threads : ℕ) → HoldingSound threads self.old → thread < threads →

@@ -3,6 +3,7 @@
 ghost use Rattle.std.specs.Prelude.{◌≡◌, ℕ, ◌<◌, ◌≤◌, ◌++◌, ◌∷◌, [], List, length};
 ghost use Rattle.std.specs.Prelude.{replicate, slice_index, slice_index_or};
 ghost use Rattle.std.specs.Option.{unwrap_or};
+ghost use Rattle.cal_machine.specs.declared.numbering.TheConstants.{MOST_THREADS};
 ghost use Rattle.cal_policy.specs.declared.history.look.Seen.{Seen};
 ghost use Rattle.cal_signal.specs.Records.{zero_record};
 ghost use Rattle.cal_signal.specs.Shown.{nothing_shown};
@@ -44,7 +45,7 @@ fn no_misses() -> [u64; MOST_THREADS]
 
 /// The misses of each kept record.
 fn misses_of(kept: &[Record; MOST_THREADS]) -> [u64; MOST_THREADS]
-    ensures { (k : ℕ) → k < 128 →
+    ensures { (k : ℕ) → k < MOST_THREADS →
         slice_index result k ≡ (slice_index_or kept.now k zero_record).misses }
 {
     let mut misses = no_misses();
@@ -56,8 +57,8 @@ fn misses_of(kept: &[Record; MOST_THREADS]) -> [u64; MOST_THREADS]
 
 /// Keeps the record of each whole look.
 fn keep(kept: &mut [Record; MOST_THREADS], seen: &[Seen])
-    requires { length seen.now ≤ 128 }
-    ensures { (k : ℕ) → k < 128 →
+    requires { length seen.now ≤ MOST_THREADS }
+    ensures { (k : ℕ) → k < MOST_THREADS →
         slice_index_or kept.new k zero_record ≡ unwrap_or (to_keep_at seen.now k)
         (slice_index_or kept.old k zero_record) }
 {
@@ -70,8 +71,8 @@ fn keep(kept: &mut [Record; MOST_THREADS], seen: &[Seen])
 
 /// Notes what each look with a record showed.
 fn note(shown: &mut [Shown; MOST_THREADS], seen: &[Seen])
-    requires { length seen.now ≤ 128 }
-    ensures { (k : ℕ) → k < 128 →
+    requires { length seen.now ≤ MOST_THREADS }
+    ensures { (k : ℕ) → k < MOST_THREADS →
         slice_index_or shown.new k nothing_shown ≡ unwrap_or (shown_at seen.now k)
         (slice_index_or shown.old k nothing_shown) }
 {
@@ -100,7 +101,7 @@ impl Keeping {
 
     /// Takes the looks of one more pass.
     pub fn look(&mut self, seen: &[Seen])
-        requires { length seen.now ≤ 128 }
+        requires { length seen.now ≤ MOST_THREADS }
         ensures agrees { (looks : List (List Seen)) → KeepingAgrees self.old looks →
             KeepingAgrees self.new (looks ++ seen.now ∷ []) }
         ensures before { (looks : List (List Seen)) → KeepingAgrees self.old looks →

@@ -3,6 +3,7 @@
 ghost use Rattle.std.specs.Prelude.{◌≡◌, ℕ, ◌-◌, ◌≤◌, ◌++◌, ◌∷◌, [], List, length, take};
 ghost use Rattle.std.specs.List.{All};
 ghost use Rattle.cal_machine.specs.Table.{IsTable};
+ghost use Rattle.cal_machine.specs.declared.numbering.TheConstants.{MOST_THREADS};
 ghost use Rattle.cal_policy.specs.declared.history.action.Action.{Action};
 ghost use Rattle.cal_policy.specs.declared.history.entry.PassEntry.{PassEntry};
 ghost use Rattle.cal_policy.specs.History.{actions_of, looks_of};
@@ -42,7 +43,7 @@ fn step_each(config: &Config, board: &mut Board, actions: &[Action])
 /// Brings the board up to one more pass.
 pub fn replay(config: &Config, board: &mut Board, entry: &PassEntry)
     requires ready { IsReady config.now board.old }
-    requires looks { length entry.now.input.seen ≤ 128 }
+    requires looks { length entry.now.input.seen ≤ MOST_THREADS }
     requires names { All (NamesTable config.now) entry.now.actions }
     ensures agrees { (h : List PassEntry) → Agrees board.old (actions_of h) →
         Agrees board.new (actions_of (h ++ entry.now ∷ [])) }

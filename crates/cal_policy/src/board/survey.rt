@@ -3,6 +3,8 @@
 ghost use Rattle.std.specs.Prelude.{◌≡◌, ◌==◌, true, ℕ, ◌+◌, ◌<◌, List, slice_index, if◌then◌else◌};
 ghost use Rattle.std.specs.Option.{IfSome};
 ghost use Rattle.cal_machine.specs.Table.{IsTable};
+ghost use Rattle.cal_machine.specs.declared.task_table.TheConstants.{MOST_TASKS};
+ghost use Rattle.cal_machine.specs.declared.numbering.TheConstants.{MOST_THREADS};
 ghost use Rattle.cal_policy.specs.Tasks.{threads_of_table};
 ghost use Rattle.cal_policy.specs.declared.history.action.Action.{Action};
 ghost use Rattle.cal_policy.specs.History.{holder_of};
@@ -30,9 +32,9 @@ pub struct Survey {
 
 /// One more core for a task.
 fn count_task(counts: &mut [u8; MOST_TASKS], task: usize)
-    requires task { task < 16 }
+    requires task { task < MOST_TASKS }
     requires few { slice_index counts.old task < 255 }
-    ensures { (t : ℕ) → t < 16 →
+    ensures { (t : ℕ) → t < MOST_TASKS →
         slice_index counts.new t ≡ slice_index counts.old t + (if task == t then 1 else 0) }
 {
     counts[task] += 1;
@@ -40,9 +42,9 @@ fn count_task(counts: &mut [u8; MOST_TASKS], task: usize)
 
 /// One core fewer for a task.
 fn uncount_task(counts: &mut [u8; MOST_TASKS], task: usize)
-    requires task { task < 16 }
+    requires task { task < MOST_TASKS }
     requires some { 0 < slice_index counts.old task }
-    ensures { (t : ℕ) → t < 16 →
+    ensures { (t : ℕ) → t < MOST_TASKS →
         slice_index counts.old t ≡ slice_index counts.new t + (if task == t then 1 else 0) }
 {
     counts[task] -= 1;
@@ -50,9 +52,9 @@ fn uncount_task(counts: &mut [u8; MOST_TASKS], task: usize)
 
 /// One more core for a thread.
 fn count_thread(counts: &mut [u8; MOST_THREADS], thread: usize)
-    requires thread { thread < 128 }
+    requires thread { thread < MOST_THREADS }
     requires few { slice_index counts.old thread < 255 }
-    ensures { (k : ℕ) → k < 128 →
+    ensures { (k : ℕ) → k < MOST_THREADS →
         slice_index counts.new k ≡ slice_index counts.old k + (if thread == k then 1 else 0) }
 {
     counts[thread] += 1;
@@ -60,9 +62,9 @@ fn count_thread(counts: &mut [u8; MOST_THREADS], thread: usize)
 
 /// One core fewer for a thread.
 fn uncount_thread(counts: &mut [u8; MOST_THREADS], thread: usize)
-    requires thread { thread < 128 }
+    requires thread { thread < MOST_THREADS }
     requires some { 0 < slice_index counts.old thread }
-    ensures { (k : ℕ) → k < 128 →
+    ensures { (k : ℕ) → k < MOST_THREADS →
         slice_index counts.old k ≡ slice_index counts.new k + (if thread == k then 1 else 0) }
 {
     counts[thread] -= 1;
@@ -70,8 +72,8 @@ fn uncount_thread(counts: &mut [u8; MOST_THREADS], thread: usize)
 
 /// One more core that is being left, where it is for a task.
 fn count_awaited(counts: &mut [u8; MOST_TASKS], placement: Placement, cause: Cause)
-    requires few { (t : ℕ) → t < 16 → slice_index counts.old t < 255 }
-    ensures { (t : ℕ) → t < 16 →
+    requires few { (t : ℕ) → t < MOST_TASKS → slice_index counts.old t < 255 }
+    ensures { (t : ℕ) → t < MOST_TASKS →
         slice_index counts.new t
         ≡ slice_index counts.old t + (if leaves_for t (Holder.Leaving placement cause) then 1
         else 0) }
@@ -86,9 +88,9 @@ fn count_awaited(counts: &mut [u8; MOST_TASKS], placement: Placement, cause: Cau
 
 /// One core fewer that is being left, where it is for a task.
 fn uncount_awaited(counts: &mut [u8; MOST_TASKS], placement: Placement, cause: Cause)
-    requires some { (t : ℕ) → t < 16 → leaves_for t (Holder.Leaving placement cause) ≡ true →
-        0 < slice_index counts.old t }
-    ensures { (t : ℕ) → t < 16 →
+    requires some { (t : ℕ) → t < MOST_TASKS →
+        leaves_for t (Holder.Leaving placement cause) ≡ true → 0 < slice_index counts.old t }
+    ensures { (t : ℕ) → t < MOST_TASKS →
         slice_index counts.old t
         ≡ slice_index counts.new t + (if leaves_for t (Holder.Leaving placement cause) then 1
         else 0) }

@@ -1,6 +1,7 @@
 //! Lists of actions: one that a pass was, and one with room for all that a pass can be.
 
 ghost use Rattle.std.specs.Prelude.{◌≡◌, ◌<◌, ◌++◌, ◌∷◌, [], length, IfOk};
+ghost use Rattle.cal_policy.specs.declared.history.action_list.TheConstants.{MOST_ACTIONS};
 
 use crate::history::action::Action;
 use cal_lists::Listed;
@@ -24,12 +25,13 @@ impl Model for Actions {
     ghost use Rattle.std.specs.Prelude.{List, ◌≤◌};
     ghost use Rattle.std.specs.Vec.{vec_capacity};
     ghost use Rattle.cal_policy.specs.declared.history.action.Action.{Action};
+    ghost use Rattle.cal_policy.specs.declared.history.action_list.TheConstants.{MOST_ACTIONS};
 
     ghost Value = { List Action };
 
     ghost view = { λ list. list.items.items };
 
-    ghost invariant = { λ list. 338 ≤ vec_capacity list.items };
+    ghost invariant = { λ list. MOST_ACTIONS ≤ vec_capacity list.items };
 }
 
 impl Actions {
@@ -43,7 +45,7 @@ impl Actions {
 
     /// Puts an action at the end, in room that is there.
     pub fn push(&mut self, action: Action)
-        requires { length self.old < 338 }
+        requires { length self.old < MOST_ACTIONS }
         ensures { self.new ≡ self.old ++ action ∷ [] }
     {
         self.items.push_reserved(action);

@@ -2,6 +2,8 @@
 
 ghost use Rattle.std.specs.Prelude.{◌≡◌, ℕ, ◌<◌, ◌≤◌, ◌==◌, ◌&&◌, ◌↔◌, nat_le};
 ghost use Rattle.std.specs.Prelude.{List, length, IsTrue, Some, slice_get};
+ghost use Rattle.cal_machine.specs.declared.machine.TheConstants.{MOST_CORES};
+ghost use Rattle.cal_machine.specs.declared.numbering.TheConstants.{MOST_THREADS};
 ghost use Rattle.cal_policy.specs.declared.history.action.Action.{Action};
 ghost use Rattle.cal_policy.specs.declared.history.entry.PassEntry.{PassEntry};
 ghost use Rattle.cal_policy.specs.declared.history.look.Seen.{Seen};
@@ -45,7 +47,7 @@ fn is_acknowledged(holder: Holder, k: usize, rec: &Record) -> bool
 /// Whether the record shows thread `k` on a core that it does not have by a Run that the record
 /// acknowledges.
 fn is_elsewhere(holding: &Holding, cores: u8, k: usize, rec: Record) -> bool
-    requires { cores ≤ 128 }
+    requires { cores ≤ MOST_CORES }
     ensures { (x : List Action) → HoldingAgrees holding.now x → result ≡ is_foreign cores x k rec }
 {
     if rec.running == 0 {
@@ -59,8 +61,8 @@ fn is_elsewhere(holding: &Holding, cores: u8, k: usize, rec: Record) -> bool
 
 /// What a look at thread `k` comes to.
 pub fn judged_by(board: &Board, cores: u8, k: usize, look: Look) -> Seen
-    requires cores { cores ≤ 128 }
-    requires thread { k < 128 }
+    requires cores { cores ≤ MOST_CORES }
+    requires thread { k < MOST_THREADS }
     ensures { (x : List Action) → Agrees board.now x → result ≡ judged cores x k look }
 {
     match look {
@@ -111,7 +113,7 @@ fn is_fit_look(last: &Shown, look: Seen) -> bool
 
 /// Whether each look fits what was shown of its thread before.
 fn each_fits(keeping: &Keeping, seen: &[Seen]) -> bool
-    requires { length seen.now ≤ 128 }
+    requires { length seen.now ≤ MOST_THREADS }
     ensures { (looks : List (List Seen)) → KeepingAgrees keeping.now looks →
         IsTrue result ↔ ((k : ℕ) (look : Seen) → slice_get seen.now k ≡ Some look →
         IsFitLook (last_shown looks k) look) }
@@ -127,7 +129,7 @@ fn each_fits(keeping: &Keeping, seen: &[Seen]) -> bool
 /// Whether there is one look and one answer on room for each thread, and each look fits what was
 /// shown of its thread before.
 pub fn looks_fit(keeping: &Keeping, config: &Config, input: &Input) -> bool
-    ensures few { IsTrue result → length input.entry.now.seen ≤ 128 }
+    ensures few { IsTrue result → length input.entry.now.seen ≤ MOST_THREADS }
     ensures sizes { IsTrue result → HasSizes config.now input.entry.now }
     ensures fit { (h : List PassEntry) → KeepingAgrees keeping.now (looks_of h) → IsTrue result ↔
         AreFitLooks config.now h input.entry.now }
@@ -149,8 +151,8 @@ fn is_same_look(a: &Seen, b: &Seen) -> bool
 
 /// Whether a look says what is judged of it.
 fn is_as_judged(board: &Board, cores: u8, k: usize, look: Seen) -> bool
-    requires cores { cores ≤ 128 }
-    requires thread { k < 128 }
+    requires cores { cores ≤ MOST_CORES }
+    requires thread { k < MOST_THREADS }
     ensures { (x : List Action) → Agrees board.now x → IsTrue result ↔
         look ≡ judged cores x k (look_of look) }
 {
@@ -160,8 +162,8 @@ fn is_as_judged(board: &Board, cores: u8, k: usize, look: Seen) -> bool
 
 /// Whether each look says what is judged of it.
 fn each_as_judged(board: &Board, cores: u8, seen: &[Seen]) -> bool
-    requires cores { cores ≤ 128 }
-    requires looks { length seen.now ≤ 128 }
+    requires cores { cores ≤ MOST_CORES }
+    requires looks { length seen.now ≤ MOST_THREADS }
     ensures { (x : List Action) → Agrees board.now x →
         IsTrue result ↔ ((k : ℕ) (look : Seen) → slice_get seen.now k ≡ Some look →
         look ≡ judged cores x k (look_of look)) }

@@ -3,6 +3,8 @@
 ghost use Rattle.std.specs.Prelude.{◌≡◌, ℕ, ◌<◌, ◌≤◌, ◌==◌, ◌&&◌, not, ◌++◌};
 ghost use Rattle.std.specs.Prelude.{◌∷◌, [], ◌↔◌, List, length, IsTrue};
 ghost use Rattle.cal_machine.specs.Machine.{sibling_of};
+ghost use Rattle.cal_machine.specs.declared.machine.TheConstants.{MOST_CORES};
+ghost use Rattle.cal_machine.specs.declared.task_table.TheConstants.{MOST_TASKS};
 ghost use Rattle.cal_policy.specs.declared.history.action.Action.{Action};
 ghost use Rattle.cal_policy.specs.declared.history.action.Action.TheVariants.{Free, Unban, Ban};
 ghost use Rattle.cal_policy.specs.declared.history.action.Action.TheVariants.{Revoke, Cap, Grant};
@@ -25,7 +27,7 @@ use cal_machine::Config;
 
 /// Whether a core is free.
 fn is_free(board: &Board, core: u8) -> bool
-    requires { core < 128 }
+    requires { core < MOST_CORES }
     ensures { (x : List Action) → Agrees board.now x → result ≡ counts.is_free (holder_of x core) }
 {
     board.holding.holders[core as usize].is_free()
@@ -33,7 +35,7 @@ fn is_free(board: &Board, core: u8) -> bool
 
 /// Whether a core is held.
 pub fn is_held(board: &Board, core: u8) -> bool
-    requires { core < 128 }
+    requires { core < MOST_CORES }
     ensures { (x : List Action) → Agrees board.now x → result ≡ counts.is_held (holder_of x core) }
 {
     board.holding.holders[core as usize].is_held()
@@ -41,7 +43,7 @@ pub fn is_held(board: &Board, core: u8) -> bool
 
 /// Whether a core is banned.
 pub fn is_banned(board: &Board, core: u8) -> bool
-    requires { core < 128 }
+    requires { core < MOST_CORES }
     ensures { (x : List Action) → Agrees board.now x → result ≡ history.is_banned x core }
 {
     board.bans.bans[core as usize].is_some()
@@ -123,7 +125,7 @@ fn may_revoke(config: &Config, board: &Board, core: u8, cause: Cause) -> bool
 /// Whether a task may be capped.
 fn may_cap(config: &Config, task: u8, cap: u8) -> bool
     ensures fits { (x : List Action) → result ≡ fits_state config.now x (Cap task cap) }
-    ensures names { IsTrue result → task < 16 }
+    ensures names { IsTrue result → task < MOST_TASKS }
 {
     (task as usize) < config.tasks() && cap <= config.task(task as usize).limit
 }

@@ -3,6 +3,7 @@
 ghost use Rattle.std.specs.Prelude.{◌≡◌, ◌+◌, ◌<◌, ◌≤◌, ◌++◌, length, option_to_list};
 ghost use Rattle.std.specs.Option.{IfSome};
 ghost use Rattle.cal_machine.specs.Table.{IsTable};
+ghost use Rattle.cal_policy.specs.declared.history.action_list.TheConstants.{MOST_ACTIONS};
 ghost use Rattle.cal_policy.specs.Setting.{Setting};
 ghost use Rattle.cal_policy.specs.Board.{Stands, IsReady, NamesTable};
 
@@ -16,7 +17,7 @@ pub fn make(config: &Config, board: &mut Board, out: &mut Actions, action: Optio
     requires table { IsTable config.now }
     requires ready { IsReady config.now board.old }
     requires names { IfSome action (NamesTable config.now) }
-    requires room { length out.old < 338 }
+    requires room { length out.old < MOST_ACTIONS }
     ensures out { out.new ≡ out.old ++ option_to_list action }
     ensures stands { (s : Setting) → Stands board.old s out.old → Stands board.new s out.new }
     ensures ready { IsReady config.now board.new }

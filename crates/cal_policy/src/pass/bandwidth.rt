@@ -4,6 +4,9 @@
 ghost use Rattle.std.specs.Prelude.{◌≡◌, ℕ, true, ◌+◌, ◌<◌, ◌≤◌, ◌++◌, List, length};
 ghost use Rattle.std.specs.Prelude.{option_to_list, slice_index_or, replicate, if◌then◌else◌};
 ghost use Rattle.std.specs.Option.{IfSome};
+ghost use Rattle.cal_policy.specs.declared.history.action_list.TheConstants.{MOST_ACTIONS};
+ghost use Rattle.cal_machine.specs.declared.task_table.TheConstants.{MOST_TASKS};
+ghost use Rattle.cal_machine.specs.declared.numbering.TheConstants.{MOST_THREADS};
 ghost use Rattle.cal_policy.specs.declared.history.action.Action.{Action};
 ghost use Rattle.cal_policy.specs.declared.history.entry.PassEntry.{PassEntry};
 ghost use Rattle.cal_policy.specs.Pass.Choice.{lowest_below};
@@ -35,8 +38,8 @@ fn no_cores() -> [Option<u8>; MOST_TASKS]
 
 /// Notes that the task, if there is one, can lose the core.
 fn note(highest: &mut [Option<u8>; MOST_TASKS], task: Option<usize>, core: u8)
-    requires { IfSome task (λ t. t < 16) }
-    ensures { (t : ℕ) → t < 16 →
+    requires { IfSome task (λ t. t < MOST_TASKS) }
+    ensures { (t : ℕ) → t < MOST_TASKS →
         slice_index_or highest.new t None ≡ (if rules.is_number t task then Some core
         else slice_index_or highest.old t None) }
 {
@@ -77,9 +80,9 @@ impl Pass<'_> {
         requires at_hand { IsAtHand self.now }
         ensures lose { (h : List PassEntry) (acts : List Action) → StandsIn self.now h acts →
             let s = setting_in self.now h in
-            (t : ℕ) → t < 16 →
+            (t : ℕ) → t < MOST_TASKS →
             slice_index_or result t None ≡ rules.core_to_lose s (so_far s acts) t }
-        ensures held { (t : ℕ) → t < 16 →
+        ensures held { (t : ℕ) → t < MOST_TASKS →
             HoldsCore self.now.config.now self.now.board.now t (slice_index_or result t None) }
     {
         let mut highest = no_cores();
@@ -93,7 +96,7 @@ impl Pass<'_> {
     /// The misses of a thread since the pass before.
     fn new_misses(&self, thread: usize) -> u64
         requires at_hand { IsAtHand self.now }
-        requires thread { thread < 128 }
+        requires thread { thread < MOST_THREADS }
         ensures { (h : List PassEntry) (acts : List Action) → StandsIn self.now h acts →
             result ≡ rules.new_misses (setting_in self.now h) thread }
     {
@@ -139,7 +142,7 @@ impl Pass<'_> {
         requires at_hand { IsAtHand self.now }
         ensures victim { (h : List PassEntry) (acts : List Action) → StandsIn self.now h acts →
             let s = setting_in self.now h in
-            ((t : ℕ) → t < 16 →
+            ((t : ℕ) → t < MOST_TASKS →
             slice_index_or highest.now t None ≡ rules.core_to_lose s (so_far s acts) t) →
             result ≡ rules.victim_of s (so_far s acts) }
         ensures task { IfSome result (λ best.
@@ -156,7 +159,7 @@ impl Pass<'_> {
     /// The cap of a task one below what it holds, and the revocation of the core that it loses.
     fn cut(&self, task: u8, core: Option<u8>) -> Coupled
         requires at_hand { IsAtHand self.now }
-        requires task { task < 16 }
+        requires task { task < MOST_TASKS }
         requires core { HoldsCore self.now.config.now self.now.board.now task core }
         ensures cut { (h : List PassEntry) (acts : List Action) → StandsIn self.now h acts →
             let s = setting_in self.now h in
@@ -252,7 +255,7 @@ impl Pass<'_> {
 /// Takes a core from the victim where the bandwidth is over its limit, else lets one cap rise.
 pub fn keep_bandwidth(config: &Config, input: &Input, board: &mut Board, out: &mut Actions)
     requires of_table { IsOfTable config.now input.now board.old }
-    requires room { length out.old + 2 ≤ 338 }
+    requires room { length out.old + 2 ≤ MOST_ACTIONS }
     ensures acts { (h : List PassEntry) → let s = setting config.now h input.entry.now in
         Stands board.old s out.old →
         (out.new ≡ out.old ++ rules.bandwidth_part s out.old) × Stands board.new s out.new }

@@ -3,6 +3,8 @@
 ghost use Rattle.std.specs.Prelude.{◌≡◌, ◌*◌, ◌+◌, ◌<◌, ◌≤◌, ◌++◌, ◌∷◌, []};
 ghost use Rattle.std.specs.Prelude.{List, length, option_to_list, if◌then◌else◌};
 ghost use Rattle.std.specs.Option.{IfSome};
+ghost use Rattle.cal_policy.specs.declared.history.action_list.TheConstants.{MOST_ACTIONS};
+ghost use Rattle.cal_machine.specs.declared.machine.TheConstants.{MOST_CORES};
 ghost use Rattle.cal_policy.specs.Tasks.{threads_of_table};
 ghost use Rattle.cal_policy.specs.declared.history.action.Action.{Action};
 ghost use Rattle.cal_policy.specs.declared.history.action.Action.TheVariants.{Revoke};
@@ -181,12 +183,12 @@ impl Pass<'_> {
 /// The cores are gone over upwards, pair by pair, and a pair gives at most one ban.
 pub fn ban_siblings(config: &Config, input: &Input, board: &mut Board, out: &mut Actions)
     requires of_table { IsOfTable config.now input.now board.old }
-    requires room { length out.old + 128 ≤ 338 }
+    requires room { length out.old + MOST_CORES ≤ MOST_ACTIONS }
     ensures acts { (h : List PassEntry) → let s = setting config.now h input.entry.now in
         Stands board.old s out.old →
         (out.new ≡ out.old ++ rules.bans s out.old) × Stands board.new s out.new }
     ensures ready { IsReady config.now board.new }
-    ensures length { length out.new ≤ length out.old + 128 }
+    ensures length { length out.new ≤ length out.old + MOST_CORES }
 {
     for pair in 0..config.machine().cores() / 2 {
         let pass = Pass {

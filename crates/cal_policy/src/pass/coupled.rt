@@ -2,6 +2,7 @@
 
 ghost use Rattle.std.specs.Prelude.{◌≡◌, ◌+◌, ◌≤◌, ◌++◌, length};
 ghost use Rattle.cal_machine.specs.Table.{IsTable};
+ghost use Rattle.cal_policy.specs.declared.history.action_list.TheConstants.{MOST_ACTIONS};
 ghost use Rattle.cal_policy.specs.Setting.{Setting};
 ghost use Rattle.cal_policy.specs.Board.{Stands, IsReady};
 ghost use Rattle.cal_policy.specs.Pass.Coupled.{both_of, BothName};
@@ -34,7 +35,7 @@ pub fn make_both(config: &Config, board: &mut Board, out: &mut Actions, both: Co
     requires table { IsTable config.now }
     requires ready { IsReady config.now board.old }
     requires names { BothName config.now both }
-    requires room { length out.old + 2 ≤ 338 }
+    requires room { length out.old + 2 ≤ MOST_ACTIONS }
     ensures out { out.new ≡ out.old ++ both_of both }
     ensures stands { (s : Setting) → Stands board.old s out.old → Stands board.new s out.new }
     ensures ready { IsReady config.now board.new }

@@ -2,6 +2,7 @@
 
 ghost use Rattle.std.specs.Prelude.{◌≡◌, ◌≤◌, [], length, List};
 ghost use Rattle.cal_machine.specs.Table.{Table};
+ghost use Rattle.cal_machine.specs.declared.numbering.TheConstants.{MOST_THREADS};
 ghost use Rattle.cal_policy.specs.declared.history.entry.PassEntry.{PassEntry};
 ghost use Rattle.cal_policy.specs.Setting.{setting};
 ghost use Rattle.cal_policy.specs.History.{actions_of, looks_of};
@@ -22,7 +23,7 @@ use cal_machine::Config;
 
 /// Begins a pass with the looks of its input.
 fn begin(board: &mut Board, input: &Input)
-    requires { length input.now.seen ≤ 128 }
+    requires { length input.now.seen ≤ MOST_THREADS }
     ensures stands { (table : Table) (h : List PassEntry) → Agrees board.old (actions_of h) →
         KeepingAgrees board.old.keeping (looks_of h) →
         Stands board.new (setting table h input.entry.now) [] }

@@ -1,6 +1,7 @@
 //! How long requests have waited, as the kept records show it.
 
 ghost use Rattle.std.specs.Prelude.{◌≡◌, ◌<◌, List, length};
+ghost use Rattle.cal_machine.specs.declared.numbering.TheConstants.{MOST_THREADS};
 ghost use Rattle.cal_policy.specs.declared.history.action.Action.{Action};
 ghost use Rattle.cal_policy.specs.declared.history.entry.PassEntry.{PassEntry};
 ghost use Rattle.cal_policy.specs.Pass.AtHand.{IsAtHand, StandsIn, setting_in};
@@ -35,7 +36,7 @@ impl Pass<'_> {
     /// The delay of a thread, by its kept record.
     pub fn thread_delay(&self, thread: usize) -> u64
         requires at_hand { IsAtHand self.now }
-        requires thread { thread < 128 }
+        requires thread { thread < MOST_THREADS }
         ensures { (h : List PassEntry) (acts : List Action) → StandsIn self.now h acts →
             result ≡ grants.thread_delay (setting_in self.now h) thread }
     {

@@ -2,6 +2,8 @@
 
 ghost use Rattle.std.specs.Prelude.{◌≡◌, ℕ, ◌+◌, ◌<◌, ◌≤◌, ◌++◌, List, length, option_to_list};
 ghost use Rattle.std.specs.Option.{IfSome};
+ghost use Rattle.cal_policy.specs.declared.history.action_list.TheConstants.{MOST_ACTIONS};
+ghost use Rattle.cal_machine.specs.declared.machine.TheConstants.{MOST_CORES};
 ghost use Rattle.cal_policy.specs.declared.history.action.Action.{Action};
 ghost use Rattle.cal_policy.specs.declared.history.entry.PassEntry.{PassEntry};
 ghost use Rattle.cal_policy.specs.Setting.{setting, so_far, kept_now};
@@ -32,7 +34,7 @@ fn shows_run_left(rec: Record, number: u128) -> bool
 /// Whether the kept record of the core's thread shows that it left.
 pub fn is_left(config: &Config, input: &Input, board: &Board, core: u8) -> bool
     requires ready { IsReady config.now board.now }
-    requires core { core < 128 }
+    requires core { core < MOST_CORES }
     ensures { (h : List PassEntry) (acts : List Action) →
         Stands board.now (setting config.now h input.entry.now) acts →
         result ≡ shows_left (kept_now (setting config.now h input.entry.now))
@@ -70,7 +72,7 @@ impl Pass<'_> {
 /// Frees each core whose thread has left it, upwards. Only those that are taken are gone over.
 pub fn free_left(config: &Config, input: &Input, board: &mut Board, out: &mut Actions)
     requires of_table { IsOfTable config.now input.now board.old }
-    requires room { length out.old + config.now.cores ≤ 338 }
+    requires room { length out.old + config.now.cores ≤ MOST_ACTIONS }
     ensures acts { (h : List PassEntry) →
         Stands board.old (setting config.now h input.entry.now) out.old →
         (out.new ≡ out.old ++ frees (setting config.now h input.entry.now) out.old)

@@ -3,6 +3,8 @@
 ghost use Rattle.std.specs.Prelude.{◌≡◌, ◌+◌, ◌<◌, ◌≤◌, ◌++◌, not, List};
 ghost use Rattle.std.specs.Prelude.{length, option_to_list, if◌then◌else◌};
 ghost use Rattle.std.specs.Option.{IfSome};
+ghost use Rattle.cal_policy.specs.declared.history.action_list.TheConstants.{MOST_ACTIONS};
+ghost use Rattle.cal_machine.specs.declared.task_table.TheConstants.{MOST_TASKS};
 ghost use Rattle.cal_policy.specs.declared.history.action.Action.{Action};
 ghost use Rattle.cal_policy.specs.declared.history.entry.PassEntry.{PassEntry};
 ghost use Rattle.cal_policy.specs.Tasks as tasks;
@@ -101,7 +103,7 @@ fn grant_critical(config: &Config, input: &Input, board: &mut Board, out: &mut A
     requires of_table { IsOfTable config.now input.now board.old }
     requires task { task < length config.now.tasks }
     requires room { length out.old + (if tasks.is_latency_critical config.now task then 1 else 0)
-        ≤ 338 }
+        ≤ MOST_ACTIONS }
     ensures acts { (h : List PassEntry) →
         Stands board.old (setting config.now h input.entry.now) out.old →
         (out.new ≡ out.old ++ grant_critical_at (setting config.now h input.entry.now) out.old task)
@@ -132,7 +134,7 @@ fn grant_best_effort(
     requires of_table { IsOfTable config.now input.now board.old }
     requires task { task < length config.now.tasks }
     requires room { length out.old + (if not (tasks.is_latency_critical config.now task) then 1
-        else 0) ≤ 338 }
+        else 0) ≤ MOST_ACTIONS }
     ensures acts { (h : List PassEntry) →
         Stands board.old (setting config.now h input.entry.now) out.old →
         (out.new ≡ out.old ++ grant_best_effort_at (setting config.now h input.entry.now) out.old
@@ -156,13 +158,13 @@ fn grant_best_effort(
 /// ones.
 pub fn critical_grants(config: &Config, input: &Input, board: &mut Board, out: &mut Actions)
     requires of_table { IsOfTable config.now input.now board.old }
-    requires room { length out.old + 16 ≤ 338 }
+    requires room { length out.old + MOST_TASKS ≤ MOST_ACTIONS }
     ensures acts { (h : List PassEntry) →
         Stands board.old (setting config.now h input.entry.now) out.old →
         (out.new ≡ out.old ++ rules.critical_grants (setting config.now h input.entry.now) out.old)
         × Stands board.new (setting config.now h input.entry.now) out.new }
     ensures ready { IsReady config.now board.new }
-    ensures length { length out.new + best_effort_tasks config.now ≤ length out.old + 16 }
+    ensures length { length out.new + best_effort_tasks config.now ≤ length out.old + MOST_TASKS }
 {
     for task in 0..config.tasks() {
         grant_critical(config, input, board, out, task);
@@ -172,7 +174,7 @@ pub fn critical_grants(config: &Config, input: &Input, board: &mut Board, out: &
 /// Gives each best-effort task, by number, what it gets.
 pub fn best_effort_grants(config: &Config, input: &Input, board: &mut Board, out: &mut Actions)
     requires of_table { IsOfTable config.now input.now board.old }
-    requires room { length out.old + best_effort_tasks config.now ≤ 338 }
+    requires room { length out.old + best_effort_tasks config.now ≤ MOST_ACTIONS }
     ensures acts { (h : List PassEntry) →
         Stands board.old (setting config.now h input.entry.now) out.old →
         (out.new ≡ out.old ++ rules.best_effort_grants (setting config.now h input.entry.now)

@@ -2,6 +2,7 @@
 
 ghost use Rattle.std.specs.Prelude.{◌≡◌, ◌*◌, ◌+◌, ◌<◌, ◌≤◌, ◌++◌, List, length, option_to_list};
 ghost use Rattle.std.specs.Option.{IfSome};
+ghost use Rattle.cal_policy.specs.declared.history.action_list.TheConstants.{MOST_ACTIONS};
 ghost use Rattle.cal_policy.specs.declared.history.action.Action.{Action};
 ghost use Rattle.cal_policy.specs.declared.history.entry.PassEntry.{PassEntry};
 ghost use Rattle.cal_policy.specs.History.Lists.{in_pair};
@@ -67,7 +68,7 @@ impl Pass<'_> {
 /// banned cores are gone over upwards, pair by pair, and a pair gives at most one action.
 pub fn end_bans(config: &Config, input: &Input, board: &mut Board, out: &mut Actions)
     requires of_table { IsOfTable config.now input.now board.old }
-    requires room { length out.old + 64 ≤ 338 }
+    requires room { length out.old + 64 ≤ MOST_ACTIONS }
     ensures acts { (h : List PassEntry) → let s = setting config.now h input.entry.now in
         NoPairBanned (so_far s out.old) → Stands board.old s out.old →
         (out.new ≡ out.old ++ unbans s out.old) × Stands board.new s out.new }
