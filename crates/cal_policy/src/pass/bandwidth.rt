@@ -100,8 +100,8 @@ impl Pass<'_> {
         ensures { (h : List PassEntry) (acts : List Action) → StandsIn self.now h acts →
             result ≡ rules.new_misses (setting_in self.now h) thread }
     {
-        let before = self.board.keeping.before[thread];
-        self.board.keeping.kept[thread].misses.saturating_sub(before)
+        let misses = self.board.keeping.kept[thread].misses;
+        misses.saturating_sub(self.board.keeping.before[thread])
     }
 
     /// The misses of all threads of a task since the pass before.

@@ -18,7 +18,7 @@ returns-then-has_room c = λ h acts s.
     let at = setting_in c.args.self.now h in
     let low : c.args.core < 128 = omega (arith, c.requires.at_hand.accepted.machine.most) in
     let fits : get_or c.args.self.now.input.now.rooms c.args.thread false ≡ true =
-        ap (λ rooms. get_or rooms c.args.thread false) (sym c.as_slice.ensures) ∙ c.if-has_room.true in
+    ap (λ rooms. get_or rooms c.args.thread false) (sym c.as_slice.ensures) ∙ c.if-has_room.true in
     let fresh = not (is_granted_in acts c.args.core) in
     ap not (c.has.ensures ∙ s.fresh.fresh c.args.core low) ∙ sym (ap (λ room. room && fresh) fits)
     ∙ outer_hold (is_latency_critical at.table c.args.task) (has_room at c.args.thread) fresh
