@@ -1,50 +1,49 @@
 -- The choice among the free cores comes first, and where no core may be revoked, or no task may
 -- lose one, none of the others counts.
-use Rattle.std.proofs.Common.{◌≤◌, nat_lt, refl, ap, sym, ◌∙◌}
+use Rattle.std.proofs.Common.{◌≡◌, ℕ, List, Option, nat_lt, refl, ap, sym, ◌∙◌}
 use Rattle.std.specs.Option.{option_or}
+use Rattle.cal_policy.specs.declared.history.action.Action.{Action}
+use Rattle.cal_policy.specs.declared.history.entry.PassEntry.{PassEntry}
+use Rattle.cal_policy.specs.declared.pass.choice.Candidate.{Candidate}
+use Rattle.cal_policy.specs.declared.pass.Pass.{Pass}
 use Rattle.cal_policy.specs.Setting.{so_far}
 use Rattle.cal_policy.specs.Pass.Choice.{best_below}
 use Rattle.cal_policy.specs.Pass.Among.{class_among}
+use Rattle.cal_policy.specs.Pass.AtHand.{IsAtHand, StandsIn, setting_in}
+use Rattle.cal_policy.specs.Pass.Grants.{choice_of}
 use Rattle.cal_policy.proofs.BoardLemmas.TwoSets.{choice_joins, none_taken}
 use Rattle.cal_policy.proofs.PassLemmas.Losing.{none_lost}
-use Rattle.cal_policy.specs.Pass.AtHand.{setting_in}
 use Rattle.cal_policy.proofs.pass.Pass.choose_core.Goals as goal
+
+joined : (pass : Pass) (h : List PassEntry) (acts : List Action) (task : ℕ) (free : Option Candidate) →
+    IsAtHand pass → StandsIn pass h acts →
+    free ≡ best_below nat_lt (class_among pass.board.now.sets.free (setting_in pass h) acts task) pass.config.now.cores →
+    choice_of (setting_in pass h) acts task
+    ≡ option_or free (best_below nat_lt (class_among pass.board.now.sets.taken (setting_in pass h) acts task) pass.config.now.cores)
+joined pass h acts task free p st e =
+    let taken = best_below nat_lt (class_among pass.board.now.sets.taken (setting_in pass h) acts task) pass.config.now.cores in
+    choice_joins pass.board.now (setting_in pass h) acts task pass.config.now.cores p.accepted.machine.most st p.ready.sets
+    ∙ ap (λ o. option_or o taken) (sym e)
 
 pub returns-in-Some-clause-choice : goal.returns-in-Some-clause-choice
 returns-in-Some-clause-choice c = λ h acts s.
-    let table = c.args.self.now.config.now in
-    let at = setting_in c.args.self.now h in
-    let board = c.args.self.now.board.now in
-    let few : table.cores ≤ 128 = c.requires.at_hand.accepted.machine.most in
-    ap (λ o. option_or o (best_below nat_lt (class_among board.sets.taken at acts c.args.task) table.cores)) (c.in-Some.ensures.choice h acts s)
-    ∙ sym (choice_joins board at acts c.args.task table.cores few s c.requires.at_hand.ready.sets)
+    sym (joined c.args.self.now h acts c.args.task _ c.requires.at_hand s (c.in-Some.ensures.choice h acts s))
 
 pub returns-then-not-may_have_revoked-clause-choice : goal.returns-then-not-may_have_revoked-clause-choice
 returns-then-not-may_have_revoked-clause-choice c = λ h acts s.
-    let table = c.args.self.now.config.now in
-    let at = setting_in c.args.self.now h in
-    let board = c.args.self.now.board.now in
-    let few : table.cores ≤ 128 = c.requires.at_hand.accepted.machine.most in
-    sym (choice_joins board at acts c.args.task table.cores few s c.requires.at_hand.ready.sets
-    ∙ ap (λ o. option_or o (best_below nat_lt (class_among board.sets.taken at acts c.args.task) table.cores)) (sym (c.in_default.ensures.choice h acts s))
-    ∙ none_taken board at acts c.args.task table.cores few s c.requires.at_hand.ready.sets (sym (c.if-not-may_have_revoked.ensures h acts s.agrees)))
+    let p = c.requires.at_hand in
+    sym (joined c.args.self.now h acts c.args.task _ p s (c.in_default.ensures.choice h acts s)
+    ∙ none_taken c.args.self.now.board.now (setting_in c.args.self.now h) acts c.args.task _ p.accepted.machine.most s p.ready.sets
+    (sym (c.if-not-may_have_revoked.ensures h acts s.agrees)))
 
 pub returns-then-not-some_may_lose-clause-choice : goal.returns-then-not-some_may_lose-clause-choice
 returns-then-not-some_may_lose-clause-choice c = λ h acts s.
-    let table = c.args.self.now.config.now in
+    let p = c.requires.at_hand in
     let at = setting_in c.args.self.now h in
-    let board = c.args.self.now.board.now in
-    let few : table.cores ≤ 128 = c.requires.at_hand.accepted.machine.most in
-    sym (choice_joins board at acts c.args.task table.cores few s c.requires.at_hand.ready.sets
-    ∙ ap (λ o. option_or o (best_below nat_lt (class_among board.sets.taken at acts c.args.task) table.cores)) (sym (c.in_default.ensures.choice h acts s))
-    ∙ none_lost board at acts c.args.task few s c.requires.at_hand.ready (c.if-not-some_may_lose.ensures.none refl (so_far at acts) s.agrees))
+    sym (joined c.args.self.now h acts c.args.task _ p s (c.in_default.ensures.choice h acts s)
+    ∙ none_lost c.args.self.now.board.now at acts c.args.task p.accepted.machine.most s p.ready (c.if-not-some_may_lose.ensures.none refl (so_far at acts) s.agrees))
 
 pub returns-clause-choice : goal.returns-clause-choice
 returns-clause-choice c = λ h acts s.
-    let table = c.args.self.now.config.now in
-    let at = setting_in c.args.self.now h in
-    let board = c.args.self.now.board.now in
-    let few : table.cores ≤ 128 = c.requires.at_hand.accepted.machine.most in
     c.choose_among-2.ensures.choice h acts s
-    ∙ sym (choice_joins board at acts c.args.task table.cores few s c.requires.at_hand.ready.sets
-    ∙ ap (λ o. option_or o (best_below nat_lt (class_among board.sets.taken at acts c.args.task) table.cores)) (sym (c.in_default.ensures.choice h acts s)))
+    ∙ sym (joined c.args.self.now h acts c.args.task _ c.requires.at_hand s (c.in_default.ensures.choice h acts s))
