@@ -6,10 +6,9 @@ pub mod Turns
 use Rattle.std.specs.Prelude.{◌≡◌, ℕ, ◌+◌, nat_eq, List, map}
 use mathlib.Core.Option.{some}
 use lib.ListN.{get_elem?}
-use Rattle.cal_kthread.specs.declared.queue.TheConstants.{QUEUE_SHARES}
 use Rattle.cal_kthread.specs.Places.{Each, one_if}
 use Rattle.cal_kthread.specs.Queue.{QueueId}
-use Rattle.cal_kthread.specs.Queue.Rule.{weigh}
+use Rattle.cal_kthread.specs.Queue.Rule.{queue_shares, weigh}
 use Rattle.cal_kthread.specs.End.Rest.{RestView}
 use Rattle.cal_kthread.specs.Turn.Thread.{ThreadView}
 use Rattle.cal_kthread.specs.declared.turn.victims.Victim.{Victim}
@@ -54,4 +53,4 @@ pub record IsTeam (places : List Place) : Type 0 where
   pub thieves : Each (λ place.
       Each (λ thief. get_elem? (queues_of places) thief.0 ≡ some thief.1) place.thieves) places
   pub shares : (k : ℕ) (place : Place) → get_elem? places k ≡ some place →
-      place.shares + lent k places ≡ QUEUE_SHARES
+      place.shares + lent k places ≡ queue_shares

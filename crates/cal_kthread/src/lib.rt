@@ -30,6 +30,5 @@ pub use fault::TurnFault;
 pub use journal::Journal;
 pub use journal::entry::Entry;
 pub use kernel_thread::{KernelThread, MOST_ENTRIES, TURN_ENTRIES};
-pub use queue::QUEUE_SHARES;
 pub use queue::waiting::Waiting;
 pub use team::{Team, open_threads};

@@ -6,19 +6,14 @@ pub mod waiting;
 
 ghost use Rattle.std.specs.Prelude.{◌≡◌, ◌+◌, ◌-◌, ◌<◌, ◌≤◌, [], ◌∷◌, ◌++◌};
 ghost use Rattle.std.specs.Prelude.{IfOk, IfSome, MatchOption, MatchResult};
-ghost use Rattle.cal_kthread.specs.Queue.Rule.{AllTaken, TookWhatCame};
+ghost use Rattle.cal_kthread.specs.Queue.Rule.{queue_shares, AllTaken, TookWhatCame};
 
 use crate::queue::knowledge::Knowledge;
 use crate::queue::rule::{Balance, HandingOut, OneShare, Pushing, Taking};
 use crate::queue::waiting::Waiting;
-use cal_machine::MOST_LIMIT;
 use crossbeam_deque::{Pass, Steal, Stealer, Worker};
 use std::alloc::{AllocError, Global};
 use std::marker::Model;
-
-/// The shares of a queue, which its own end and its thieves have together: one for each thread that
-/// a task can have.
-pub const QUEUE_SHARES: usize = MOST_LIMIT as usize;
 
 /// How many requests a new queue has room for. It grows.
 const FIRST_ROOM: usize = 4;
@@ -50,7 +45,7 @@ impl Model for OwnQueue {
 impl OwnQueue {
     /// An empty queue, with all of its shares. An error is want of memory.
     pub fn open(alloc: Global) -> Result<OwnQueue, AllocError>
-        ensures shares { IfOk result (λ q. q.shares ≡ QUEUE_SHARES) }
+        ensures shares { IfOk result (λ q. q.shares ≡ queue_shares) }
         ensures empty { IfOk result (λ q. (q.pushed ≡ []) × (q.had ≡ []) × (q.handed ≡ [])) }
     {
         let worker = Worker::fifo_as(alloc, FIRST_ROOM)?;
@@ -132,10 +127,10 @@ impl EndQueue {
     pub fn hand_out(&mut self) -> Option<Waiting>
         ensures handed { MatchOption result (self.new ≡ self.old)
             (λ waiting. self.new ≡ record self.old { handed = self.old.handed ++ waiting ∷ [] }) }
-        ensures came { IfSome result (λ _. self.old.shares ≡ QUEUE_SHARES →
+        ensures came { IfSome result (λ _. self.old.shares ≡ queue_shares →
             TookWhatCame self.new.pushed self.new.had self.new.handed) }
         ensures empty { MatchOption result
-            (self.old.shares ≡ QUEUE_SHARES → AllTaken self.old.pushed self.old.had self.old.handed)
+            (self.old.shares ≡ queue_shares → AllTaken self.old.pushed self.old.had self.old.handed)
             (λ _. Unit {0}) }
     {
         self.worker.pop_as::<HandingOut>()

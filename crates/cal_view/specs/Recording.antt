@@ -1,5 +1,6 @@
 -- What is written of a run that was decided.
-use Rattle.std.specs.Prelude.{◌++◌, ℕ, List, [], Bool, true, false, codes, Option, Some, None, Result, Ok, Err}
+use Rattle.std.specs.Prelude.{◌++◌, ℕ, List, [], Bool, true, false, codes}
+use Rattle.std.specs.Prelude.{Option, Some, None, Result, Ok, Err}
 use Rattle.std.specs.Io.KnownBytes.{Appends}
 use Rattle.cal_engine.specs.Input.{input_parts}
 use Rattle.cal_engine.specs.Outcome.{Failed}
@@ -23,11 +24,13 @@ abbrev pub recorded_text : Bool → List ℕ → List PassEntry → List ℕ
 recorded_text table input history = front_of table input ++ history_text history
 
 -- there is a run, and it was written
-abbrev pub Recorded : Bool → List ℕ → Result Run RunFault → Option (List ℕ) → Option (List ℕ) → Type 0
+abbrev pub Recorded : Bool → List ℕ → Result Run RunFault →
+    Option (List ℕ) → Option (List ℕ) → Type 0
 Recorded table input (Err f) old new = ⊥
 Recorded table input (Ok run) old new = Appends old new (recorded_text table input run.history)
 
 -- the run of an input was written and nothing else, or the fault says what it must of the input
-abbrev pub Records : {T : Type 0} → Result T RunFault → Bool → List ℕ → Result Run RunFault → Option (List ℕ) → Option (List ℕ) → Type 0
+abbrev pub Records : {T : Type 0} → Result T RunFault → Bool → List ℕ → Result Run RunFault →
+    Option (List ℕ) → Option (List ℕ) → Type 0
 Records (Ok _) table input outcome old new = Recorded table input outcome old new
 Records (Err f) table input outcome old new = Failed f outcome

@@ -2,7 +2,6 @@
 use Rattle.std.specs.Prelude.{◌≡◌, ℕ, ◌+◌, nat_eq, List, [], map, slice_index_or, slice_set}
 use mathlib.Core.Option.{some}
 use lib.ListN.{get_elem?}
-use Rattle.cal_kthread.specs.declared.queue.TheConstants.{QUEUE_SHARES}
 use Rattle.cal_machine.specs.declared.request.Request.{Request}
 use Rattle.cal_kthread.specs.declared.journal.entry.Entry.{Entry}
 use Rattle.cal_kthread.specs.declared.end.kernel_end.KernelEnd.{KernelEnd}
@@ -10,7 +9,7 @@ use Rattle.cal_kthread.specs.declared.turn.victims.Victim.{Victim}
 use Rattle.cal_kthread.specs.declared.queue.waiting.Waiting.{Waiting}
 use Rattle.cal_kthread.specs.Journal.{arrivals_of, served_of}
 use Rattle.cal_kthread.specs.Places.{Each, Somewhere, one_if}
-use Rattle.cal_kthread.specs.Queue.Rule.{weigh, AllTaken}
+use Rattle.cal_kthread.specs.Queue.Rule.{queue_shares, weigh, AllTaken}
 use Rattle.cal_kthread.specs.End.Rest.{HandsOut}
 use Rattle.cal_kthread.specs.Team.{IsTeam, place_of_rest}
 
@@ -70,7 +69,7 @@ pub record IsSettled (ends : List KernelEnd) : Type 0 where
   pub arrived : Each (λ e. requests_of e.rest.queue.pushed ≡ arrivals_of e.journal) ends
   pub served : (p : ℕ → ℕ) → weigh p (waiting_names gone)
       ≡ weigh (λ e. weigh p (served_of e.journal)) ends
-  pub shares : Each (λ e. e.rest.queue.shares ≡ QUEUE_SHARES) ends
+  pub shares : Each (λ e. e.rest.queue.shares ≡ queue_shares) ends
   pub kept : (h : Waiting → ℕ) →
       weigh (λ e. weigh h e.rest.queue.had + handed_of h e) ends
       ≡ weigh h gone + weigh (kept_of h) ends

@@ -2,9 +2,14 @@
 use Rattle.std.specs.Prelude.{◌≡◌, ℕ, ◌+◌, ◌≤◌, List, [], ◌∷◌}
 use mathlib.Core.Option.{some}
 use lib.ListN.{get_elem?}
-use Rattle.cal_kthread.specs.declared.queue.TheConstants.{QUEUE_SHARES}
+use Rattle.cal_machine.specs.declared.task_table.TheConstants.{MOST_LIMIT}
 use Rattle.cal_kthread.specs.declared.queue.knowledge.Knowledge.{Knowledge}
 use Rattle.cal_kthread.specs.declared.queue.waiting.Waiting.{Waiting}
+
+-- the shares of a queue, which its own end and its thieves have together: one for each thread that
+-- a task can have
+abbrev pub queue_shares : ℕ
+queue_shares = MOST_LIMIT
 
 -- the weights of the members of a list, added up
 abbrev pub weigh : {T : Type 0} → (T → ℕ) → List T → ℕ
@@ -27,10 +32,10 @@ abbrev pub IdleIsEmpty : List Knowledge → Type 0
 IdleIsEmpty views = (port : ℕ) (v : Knowledge) → get_elem? views port ≡ some v → v.shares ≡ 0
     → (v.pushed ≡ []) × (v.had ≡ []) × (v.handed ≡ [])
 
--- All ends have QUEUE_SHARES shares. What was pushed is, each as often, what was taken and what the
--- queue holds: so it is however requests are weighed.
+-- All ends have the queue's shares together. What was pushed is, each as often, what was taken and
+-- what the queue holds: so it is however requests are weighed.
 pub record Balanced (items : List Waiting) (views : List Knowledge) : Type 0 where
-  pub shares : weigh (λ v. v.shares) views ≡ QUEUE_SHARES
+  pub shares : weigh (λ v. v.shares) views ≡ queue_shares
   pub account : (h : Waiting → ℕ) →
       weigh (pushed_weight h) views ≡ weigh (taken_weight h) views + weigh h items
   pub idle : IdleIsEmpty views

@@ -1,7 +1,7 @@
 -- Who steals from whom in a new team.
 use Rattle.std.specs.Prelude.{◌≡◌, ℕ, zero, suc, ◌+◌, ◌-◌, ◌<◌, ◌≤◌, ◌≢◌, nat_lt, if◌then◌else◌}
 use Rattle.std.specs.Prelude.{List, [], ◌∷◌, ◌++◌, map, slice_index, slice_index_or}
-use Rattle.cal_kthread.specs.declared.queue.TheConstants.{QUEUE_SHARES}
+use Rattle.cal_kthread.specs.Queue.Rule.{queue_shares}
 use Rattle.cal_kthread.specs.declared.turn.victims.Victim.{Victim}
 use Rattle.cal_kthread.specs.Places.{Each}
 use Rattle.cal_kthread.specs.Team.{IsTeam, place_of}
@@ -22,7 +22,7 @@ shares_at k threads = slice_index (map (λ (t : KernelView). t.thread.queue.shar
 abbrev pub unlinked : KernelView → KernelView
 unlinked k = record k {
   thread = record k.thread {
-    queue = record k.thread.queue { shares = QUEUE_SHARES };
+    queue = record k.thread.queue { shares = queue_shares };
     victims = [];
   };
 }
@@ -70,4 +70,4 @@ pub record IsLinked (first count distance : ℕ) (threads : List KernelView) : T
   pub numbers : (place : ℕ) → place < count →
       numbers_at (first + place) threads ≡ next_threads first count place distance
   pub shares : (place : ℕ) → place < count →
-      shares_at (first + place) threads + distance ≡ QUEUE_SHARES
+      shares_at (first + place) threads + distance ≡ queue_shares

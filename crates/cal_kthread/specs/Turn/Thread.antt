@@ -6,7 +6,7 @@ use Rattle.cal_signal.specs.Pages.{last_of}
 use Rattle.cal_signal.specs.declared.record.Record.{Record}
 use Rattle.cal_machine.specs.declared.command.Command.{Command}
 use Rattle.cal_machine.specs.declared.machine.TheConstants.{MOST_CORES}
-use Rattle.cal_kthread.specs.declared.queue.TheConstants.{QUEUE_SHARES}
+use Rattle.cal_kthread.specs.Queue.Rule.{queue_shares}
 use Rattle.cal_kthread.specs.declared.turn.current.Current.{Current}
 use Rattle.cal_kthread.specs.declared.journal.entry.Entry.{Entry}
 use Rattle.cal_kthread.specs.declared.queue.waiting.Waiting.{Waiting}
@@ -45,7 +45,7 @@ pub record IsFresh (k : KernelView) : Type 0 where
   pub journal : k.journal ≡ []
   pub published : k.thread.publisher.published ≡ []
   pub taken : k.thread.taker.taken ≡ []
-  pub shares : k.thread.queue.shares ≡ QUEUE_SHARES
+  pub shares : k.thread.queue.shares ≡ queue_shares
   pub pushed : k.thread.queue.pushed ≡ []
   pub had : k.thread.queue.had ≡ []
   pub handed : k.thread.queue.handed ≡ []

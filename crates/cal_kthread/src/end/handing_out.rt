@@ -3,7 +3,7 @@ ghost use Rattle.std.specs.Prelude.{◌≡◌, [], map, IfOk};
 ghost use Rattle.cal_kthread.specs.End.Account.{IsAccounted, IsDrained, IsSettled};
 ghost use Rattle.cal_kthread.specs.End.HandingOut.{HandedOutNothing, HandsOutSome, left_of, run_of};
 ghost use Rattle.cal_kthread.specs.Places.{Each};
-ghost use Rattle.cal_kthread.specs.declared.queue.TheConstants.{QUEUE_SHARES};
+ghost use Rattle.cal_kthread.specs.Queue.Rule.{queue_shares};
 
 use crate::end::kernel_end::KernelEnd;
 use crate::end::request_list::RequestList;
@@ -33,7 +33,7 @@ pub fn hand_out_all(alloc: Global, ends: &mut [KernelEnd]) -> Result<Vec<Request
 
 /// The requests that one thread had left.
 fn hand_out(alloc: Global, end: &mut KernelEnd) -> Result<RequestList, AllocError>
-    requires shares { end.old.rest.queue.shares ≡ QUEUE_SHARES }
+    requires shares { end.old.rest.queue.shares ≡ queue_shares }
     requires untouched { HandedOutNothing end.old }
     ensures same { run_of end.new ≡ run_of end.old }
     ensures moved { HandsOutSome end.old.rest end.new.rest }

@@ -4,8 +4,7 @@ ghost use Rattle.cal_kthread.specs.End.Account.{KeepsItsWork};
 ghost use Rattle.cal_kthread.specs.Turn.Agreement.{held};
 ghost use Rattle.cal_kthread.specs.Journal.{IsJournal, commands_of, records_of};
 ghost use Rattle.cal_kthread.specs.declared.turn.current.Current.{Current};
-ghost use Rattle.cal_kthread.specs.Queue.Rule.{AllTaken, TookWhatCame};
-ghost use Rattle.cal_kthread.specs.declared.queue.TheConstants.{QUEUE_SHARES};
+ghost use Rattle.cal_kthread.specs.Queue.Rule.{queue_shares, AllTaken, TookWhatCame};
 ghost use Rattle.cal_kthread.specs.End.Rest.{HandsOut, to_hand_out};
 ghost use Rattle.cal_kthread.specs.Team.{place_of, place_of_rest};
 ghost use Rattle.cal_kthread.specs.declared.queue.waiting.Waiting.{Waiting};
@@ -101,16 +100,16 @@ impl KernelEnd {
             (λ request. (waiting : Waiting) × (waiting.request ≡ request)
             × HandsOut waiting self.old.rest self.new.rest
             × (self.new ≡ record self.old { rest = self.new.rest })) }
-        ensures came { IfSome result (λ _. self.old.rest.queue.shares ≡ QUEUE_SHARES
+        ensures came { IfSome result (λ _. self.old.rest.queue.shares ≡ queue_shares
             → self.old.rest.held ≡ []
             → TookWhatCame self.new.rest.queue.pushed self.new.rest.queue.had
             self.new.rest.queue.handed) }
-        ensures fewer { IfSome result (λ _. self.old.rest.queue.shares ≡ QUEUE_SHARES
+        ensures fewer { IfSome result (λ _. self.old.rest.queue.shares ≡ queue_shares
             → to_hand_out self.new.rest + 1 ≡ to_hand_out self.old.rest) }
         ensures place { place_of_rest self.new.rest ≡ place_of_rest self.old.rest }
         ensures work { KeepsItsWork self.old → KeepsItsWork self.new }
         ensures none { MatchOption result
-            ((self.old.rest.held ≡ []) × (self.old.rest.queue.shares ≡ QUEUE_SHARES
+            ((self.old.rest.held ≡ []) × (self.old.rest.queue.shares ≡ queue_shares
             → AllTaken self.old.rest.queue.pushed self.old.rest.queue.had
             self.old.rest.queue.handed))
             (λ _. Unit {0}) }

@@ -1,7 +1,6 @@
 //! What is left of a kernel thread's work when its turns are over.
 ghost use Rattle.std.specs.Prelude.{◌≡◌, ◌+◌, ◌++◌, [], ◌∷◌, option_to_list, IfSome, MatchOption};
-ghost use Rattle.cal_kthread.specs.Queue.Rule.{AllTaken, TookWhatCame};
-ghost use Rattle.cal_kthread.specs.declared.queue.TheConstants.{QUEUE_SHARES};
+ghost use Rattle.cal_kthread.specs.Queue.Rule.{queue_shares, AllTaken, TookWhatCame};
 ghost use Rattle.cal_kthread.specs.End.Rest.{HandsOut};
 
 use crate::queue::waiting::Waiting;
@@ -71,10 +70,10 @@ impl Rest {
         ensures handed { MatchOption result
             ((self.new ≡ self.old) × (self.old.held ≡ []))
             (λ waiting. HandsOut waiting self.old self.new) }
-        ensures came { IfSome result (λ _. self.old.queue.shares ≡ QUEUE_SHARES → self.old.held ≡ []
+        ensures came { IfSome result (λ _. self.old.queue.shares ≡ queue_shares → self.old.held ≡ []
             → TookWhatCame self.new.queue.pushed self.new.queue.had self.new.queue.handed) }
         ensures none { MatchOption result
-            (self.old.queue.shares ≡ QUEUE_SHARES →
+            (self.old.queue.shares ≡ queue_shares →
             AllTaken self.old.queue.pushed self.old.queue.had self.old.queue.handed)
             (λ _. Unit {0}) }
     {

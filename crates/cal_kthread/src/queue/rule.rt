@@ -8,13 +8,12 @@ use crossbeam_deque::protocol::{Join, Outcome, Protocol, Split};
 pub struct Balance;
 
 impl Protocol<Waiting, Knowledge> for Balance {
-    ghost use Rattle.cal_kthread.specs.Queue.Rule.{Balanced, knows};
-    ghost use Rattle.cal_kthread.specs.declared.queue.TheConstants.{QUEUE_SHARES};
+    ghost use Rattle.cal_kthread.specs.Queue.Rule.{queue_shares, Balanced, knows};
     ghost use Rattle.std.specs.Prelude.{[]};
 
     ghost holds = { Balanced };
 
-    ghost first = { knows QUEUE_SHARES [] [] [] };
+    ghost first = { knows queue_shares [] [] [] };
 
     ghost guest = { knows 0 [] [] [] };
 }
@@ -66,12 +65,11 @@ impl Outcome<Waiting, Knowledge> for Taking {
 pub struct HandingOut;
 
 impl Outcome<Waiting, Knowledge> for HandingOut {
-    ghost use Rattle.cal_kthread.specs.Queue.Rule.{knows, AllTaken, TookWhatCame};
-    ghost use Rattle.cal_kthread.specs.declared.queue.TheConstants.{QUEUE_SHARES};
+    ghost use Rattle.cal_kthread.specs.Queue.Rule.{queue_shares, knows, AllTaken, TookWhatCame};
     ghost use Rattle.std.specs.Prelude.{◌≡◌, ◌++◌};
 
     ghost then = { λ v xs w. (w ≡ knows v.shares v.pushed v.had (v.handed ++ xs))
-        × (v.shares ≡ QUEUE_SHARES → TookWhatCame v.pushed v.had (v.handed ++ xs)) };
+        × (v.shares ≡ queue_shares → TookWhatCame v.pushed v.had (v.handed ++ xs)) };
 
-    ghost empty = { λ v. v.shares ≡ QUEUE_SHARES → AllTaken v.pushed v.had v.handed };
+    ghost empty = { λ v. v.shares ≡ queue_shares → AllTaken v.pushed v.had v.handed };
 }
