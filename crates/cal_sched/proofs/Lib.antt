@@ -1,5 +1,5 @@
 pub mod Lists
-pub mod Looked
+pub mod Below
 pub mod Watched
 pub mod Found
 pub mod Fitting

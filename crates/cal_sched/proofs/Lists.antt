@@ -1,5 +1,5 @@
 -- Lists by place, after a write and after one member more.
-use Rattle.std.proofs.Common.{◌≡◌, ◌≢◌, ℕ, zero, suc, ◌<◌, ◌-◌, ◌≤◌, List, [], ◌∷◌, ◌++◌, length, take, drop, set, Some, None, slice_get, refl, sym, ap, ◌∙◌, arith, length-append}
+use Rattle.std.proofs.Common.{◌≡◌, ◌≢◌, ℕ, zero, suc, ◌<◌, ◌-◌, ◌≤◌, List, [], ◌∷◌, ◌++◌, length, take, drop, set, Some, slice_get, refl, sym, ap, ◌∙◌, arith, length-append}
 use Rattle.std.proofs.lemmas.List.{take-append-le, take_all}
 use Rattle.std.proofs.Math.Seq.{take-append_seam}
 use Rattle.std.proofs.lemmas.Option.{slice_get_within}
@@ -33,12 +33,6 @@ taken_off P xs ys y is each = (
   λ i x e. each i x (rw is (slice_get_front ys (y ∷ []) i (slice_get_within ys i x e) ∙ e)),
 )
 
--- the next member of a list is its last, where it is cut off behind it
-pub take_next : {X : Type 0} (xs : List X) (i : ℕ) (x : X) → slice_get xs i ≡ Some x → take (suc i) xs ≡ take i xs ++ x ∷ []
-take_next [] i x e = absurd (cc)
-take_next (y ∷ ys) zero x e = ap (λ z. z ∷ []) (some_same y x e)
-take_next (y ∷ ys) (suc i) x e = ap (λ zs. y ∷ zs) (take_next ys i x e)
-
 -- two lists with one member more each are the same only where both parts are
 pub snoc_same : {X : Type 0} (xs ys : List X) (x y : X) → xs ++ x ∷ [] ≡ ys ++ y ∷ [] → (xs ≡ ys) × (x ≡ y)
 snoc_same xs ys x y e =
@@ -52,13 +46,3 @@ pub last_is : {X : Type 0} (whole front : List X) (x y : X) → whole ≡ front 
 last_is whole front x y is e =
     let long : length whole - 1 ≡ length front = omega (arith, ap length is, length-append front (x ∷ [])) in
     some_same y x (e ∙ ap (slice_get whole) long ∙ ap (λ zs. slice_get zs (length front)) is ∙ slice_get-last front x)
-
-pub none_last : {X : Type 0} (whole front : List X) (x : X) → whole ≡ front ++ x ∷ [] → None ≡ slice_get whole (length whole - 1) → ⊥
-none_last whole front x is e =
-    let long : length whole - 1 ≡ length front = omega (arith, ap length is, length-append front (x ∷ [])) in
-    let no : None ≡ Some x = e ∙ ap (slice_get whole) long ∙ ap (λ zs. slice_get zs (length front)) is ∙ slice_get-last front x in
-    cc
-
--- what comes before the last member
-pub take-last : {X : Type 0} (xs : List X) (x : X) → take (length xs) (xs ++ x ∷ []) ≡ xs
-take-last xs x = take-append_seam xs (x ∷ [])

@@ -1,5 +1,5 @@
 -- A number of commands is never above the number of passes, so it is kept as it is.
-use Rattle.std.proofs.Common.{◌≡◌, ℕ, zero, suc, ◌+◌, ◌<◌, ◌≤◌, ◌^◌, List, [], ◌∷◌, ◌++◌, length, take, Some, slice_get, refl, sym, ap, subst, ◌∙◌, arith, length-append}
+use Rattle.std.proofs.Common.{◌≡◌, ℕ, zero, suc, add-one, ◌+◌, ◌<◌, ◌≤◌, ◌^◌, List, [], ◌∷◌, ◌++◌, length, take, Some, slice_get, refl, sym, ap, subst, ◌∙◌, arith, length-append}
 use Rattle.std.proofs.lemmas.List.{take_all}
 use Rattle.cal_machine.specs.Table.{Table, IsTable}
 use Rattle.cal_machine.specs.declared.command.Command.{Command}
@@ -14,9 +14,8 @@ use Rattle.cal_policy.specs.Pass.{IsLegal}
 use Rattle.cal_laws.specs.Exclusion.{HoldersAreOfTheirLastRun, IsByLastRun, WasRun}
 use Rattle.cal_laws.specs.OneEach.{ThreadsAreSentOneCommand}
 use Rattle.cal_laws.specs.Point.{Point, IsPoint}
-use Rattle.cal_sched.proofs.Lists.{take_next}
+use Rattle.cal_laws.proofs.PointLemmas.EachAction.{actions_more}
 use Rattle.cal_lists.proofs.Places.{slice_get_at}
-use Rattle.cal_policy.proofs.BoardLemmas.Replayed.{actions_push}
 
 module _ (table : Table) (history : List PassEntry) (ok : IsTable table) (legal : IsLegal table history) where
   -- the end of a pass
@@ -32,8 +31,7 @@ module _ (table : Table) (history : List PassEntry) (ok : IsTable table) (legal 
   by_end p entry at =
       let le : length entry.actions ≤ length entry.actions = omega arith in
       ap (λ xs. actions_of (take p history) ++ xs) (take_all (length entry.actions) entry.actions le)
-      ∙ sym (actions_push (take p history) entry)
-      ∙ ap actions_of (sym (take_next history p entry at))
+      ∙ sym (actions_more history p entry at) ∙ ap (λ n. actions_of (take n history)) (add-one p)
 
   -- a thread is sent no more commands than there are passes
   sent_at_most : ThreadsAreSentOneCommand → (k p : ℕ) → p ≤ length history → sent_to (actions_of (take p history)) k ≤ p

@@ -1,6 +1,7 @@
 -- The commands of a pass, sent one action after the other.
-use Rattle.std.proofs.Common.{◌≡◌, ◌≢◌, ℕ, add-one, lit<, if◌then◌else◌, ◌+◌, ◌<◌, ◌≤◌, ◌⊎◌, inl, inr, Bool, true, false, eqb, List, [], ◌∷◌, ◌++◌, length, take, set, Option, Some, None, slice_get, slice_index_or, refl, sym, ap, subst, ◌∙◌, arith, length-append, append_assoc}
+use Rattle.std.proofs.Common.{◌≡◌, ◌≢◌, ℕ, lit<, if◌then◌else◌, ◌+◌, ◌<◌, ◌≤◌, ◌⊎◌, inl, inr, Bool, true, false, eqb, List, [], ◌∷◌, ◌++◌, length, take, set, Option, Some, None, slice_get, slice_index_or, refl, sym, ap, subst, ◌∙◌, arith, length-append, append_assoc}
 use Rattle.std.proofs.Math.ListN.{length-set}
+use Rattle.std.proofs.Math.Seq.{take-append_seam}
 use Rattle.std.proofs.lemmas.Bool.{eqb-true, eqb-false, eq-eqb}
 use Rattle.std.proofs.lemmas.List.{append-nil, take_all}
 use Rattle.std.proofs.lemmas.Option.{slice_get_within}
@@ -20,7 +21,8 @@ use Rattle.cal_laws.specs.OneEach.{CommandsGoWhereIsRoom, ThreadsAreSentOneComma
 use Rattle.cal_laws.specs.Point.{Point, IsPoint}
 use Rattle.cal_sched.specs.Passing.{HaveSent}
 use Rattle.cal_sched.specs.Sending.{MaySend}
-use Rattle.cal_sched.proofs.Lists.{slice_get-set_other, slice_get-set_same, take_next, take-last, snoc_same}
+use Rattle.cal_laws.proofs.PointLemmas.EachAction.{take_next}
+use Rattle.cal_sched.proofs.Lists.{slice_get-set_other, slice_get-set_same, snoc_same}
 use Rattle.cal_lists.proofs.Places.{slice_get_at}
 use Rattle.cal_lists.proofs.Last.{some_same, slice_get-last}
 use Rattle.cal_policy.proofs.BoardLemmas.Replayed.{actions_push}
@@ -62,8 +64,7 @@ module _ (before : List PassEntry) (last : PassEntry) (senders : List SenderView
 
   upto_next : (i : ℕ) (action : Action) → slice_get last.actions i ≡ Some action → upto (i + 1) ≡ upto i ++ action ∷ []
   upto_next i action at =
-      ap (λ n. actions_of before ++ take n last.actions) (add-one i)
-      ∙ ap (λ xs. actions_of before ++ xs) (take_next last.actions i action at)
+      ap (λ xs. actions_of before ++ xs) (take_next last.actions i action at)
       ∙ sym (append_assoc (actions_of before) (take i last.actions) (action ∷ []))
 
   -- one action more, and what it sends
@@ -107,7 +108,7 @@ module _ (before : List PassEntry) (last : PassEntry) (senders : List SenderView
   first_sent table i action k command ok legal one at exact =
       let within : i < length last.actions = slice_get_within last.actions i action at in
       let le : i + 1 ≤ length last.actions = omega arith in
-      let most : sent_to (upto (i + 1)) k ≤ sent_to (actions_of before) k + 1 = rw (take-last before last) at (one (point table (i + 1)) (is_point table (i + 1) ok legal le) k) in
+      let most : sent_to (upto (i + 1)) k ≤ sent_to (actions_of before) k + 1 = rw (take-append_seam before (last ∷ [])) at (one (point table (i + 1)) (is_point table (i + 1) ok legal le) k) in
       let next : sent_to (upto (i + 1)) k ≡ sent_to (upto i) k + 1 =
       ap length (commands_next i action k (Some (k, command)) at exact ∙ ap (λ cs. commands_to (upto i) k ++ cs) (to_itself k command))
       ∙ length-append (commands_to (upto i) k) (command ∷ []) in
@@ -127,7 +128,7 @@ module _ (before : List PassEntry) (last : PassEntry) (senders : List SenderView
       let first = first_sent table i action k command ok legal one at exact in
       let some : 0 < length (sends k (upto i) action) = rw (← exact, to_itself k command) (lit< tt) in
       let told : slice_index_or last.input.rooms k false ≡ true =
-      where_room (point table i) (is_point table i ok legal le) action at k (rw (take-last before last) some) in
+      where_room (point table i) (is_point table i ok legal le) action at k (rw (take-append_seam before (last ∷ [])) some) in
       elim (below.untouched k was.0 is was.1 here) [
         | inl same ↦ rw same (room k was.0 was.1 told)
         | inr more ↦ absurd (omega arith)

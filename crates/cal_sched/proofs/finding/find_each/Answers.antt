@@ -6,7 +6,8 @@ use Rattle.cal_policy.specs.Tasks.{threads_of_table}
 use Rattle.cal_policy.specs.declared.judgement.open_input.FoundLook.{FoundLook}
 use Rattle.cal_sched.specs.Looking.{HasLooked}
 use Rattle.cal_sched.specs.Passing.{HasAsked}
-use Rattle.cal_sched.proofs.Found.{FoundBelow, FoundBelow-none, FoundBelow-more, FoundBelow-all}
+use Rattle.cal_sched.proofs.Below.{Below-none, Below-more}
+use Rattle.cal_sched.proofs.Found.{Looks, Asks, FoundBelow, FoundBelow-all}
 use Rattle.cal_sched.proofs.finding.find_each.Goals as goal
 use Rattle.cal_lists.proofs.Last.{some_same}
 
@@ -14,7 +15,7 @@ pub loop-k-init : goal.loop-k-init
 loop-k-init c = record {
   threads = refl;
   count = ap length c.requires.empty;
-  found = ([], FoundBelow-none c.args.observers.now c.args.senders.now, λ h agrees. c.requires.none h);
+  found = ([], record { pages = Below-none Looks c.args.observers.now; rings = Below-none Asks c.args.senders.now }, λ h agrees. c.requires.none h);
 }
 
 pub loop-k-preserved : goal.loop-k-preserved
@@ -26,8 +27,8 @@ loop-k-preserved c =
     let rings : length c.args.senders.now ≡ threads_of_table c.args.config.now = c.requires.rings in
     let found = c.loop-k.invariant.found.0 in
     let below : FoundBelow k c.args.observers.now c.loop-k.observers c.args.senders.now c.loop-k.senders found = c.loop-k.invariant.found.1 in
-    let many_pages : length c.loop-k.observers ≡ length c.args.observers.now = below.pages in
-    let many_rings : length c.loop-k.senders ≡ length c.args.senders.now = below.rings in
+    let many_pages : length c.loop-k.observers ≡ length c.args.observers.now = below.pages.same_many in
+    let many_rings : length c.loop-k.senders ≡ length c.args.senders.now = below.rings.same_many in
     let low_page : k < length c.loop-k.observers = omega arith in
     let low_ring : k < length c.loop-k.senders = omega arith in
     let one : FoundLook = record { look = c.observe-look.result; room = c.room-room.result } in
@@ -51,8 +52,10 @@ loop-k-preserved c =
       count = c.look.ensures.one ∙ ap (λ n. n + 1) c.loop-k.invariant.count;
       found = (
         found ++ one ∷ [],
-        FoundBelow-more k c.args.observers.now c.loop-k.observers c.args.senders.now c.loop-k.senders found c.observe-look.new.self c.room-room.new.self one (omega arith) (omega arith) below
-            (λ w e. rw (some_same w was (sym e ∙ at)) looked) (λ w e. rw (some_same w had (sym e ∙ on)) asked),
+        record {
+          pages = Below-more Looks k c.args.observers.now c.loop-k.observers found c.observe-look.new.self one (omega arith) below.pages (λ w e. rw (some_same w was (sym e ∙ at)) looked);
+          rings = Below-more Asks k c.args.senders.now c.loop-k.senders found c.room-room.new.self one (omega arith) below.rings (λ w e. rw (some_same w had (sym e ∙ on)) asked);
+        },
         λ h agrees. c.look.ensures.found h found agrees (c.loop-k.invariant.found.2 h agrees),
       );
     }

@@ -2,13 +2,13 @@ use Rattle.std.proofs.Common.{◌≡◌, ◌<◌, Some, slice_get, refl, sym, �
 use Rattle.std.proofs.lemmas.Option.{slice_get_read}
 use Rattle.cal_signal.specs.Ends.{ObserverView}
 use Rattle.cal_sched.specs.Looking.{HasLooked}
-use Rattle.cal_sched.proofs.Looked.{LookedBelow-none, LookedBelow-more, LookedBelow-all}
+use Rattle.cal_sched.proofs.Below.{Below-none, Below-more}
 use Rattle.cal_sched.proofs.looking.look_at_each.Goals as goal
 use Rattle.cal_lists.proofs.Last.{some_same}
 
 pub loop-k-init : goal.loop-k-init
 loop-k-init c = record {
-  below = rw c.requires.empty (LookedBelow-none c.args.observers.now);
+  below = rw c.requires.empty (Below-none HasLooked c.args.observers.now);
   room = c.requires.room;
   same = refl;
 }
@@ -27,14 +27,18 @@ loop-k-preserved c =
       found = c.observe-look.ensures.found;
     }) in
     record {
-      below = rw c.push_reserved.ensures.items (LookedBelow-more k before now c.loop-k.looks.items c.observe-look.new.self c.observe-look.result c.loop-k-test.true c.loop-k.invariant.below
+      below = rw c.push_reserved.ensures.items (Below-more HasLooked k before now c.loop-k.looks.items c.observe-look.new.self c.observe-look.result c.loop-k-test.true c.loop-k.invariant.below
           (λ one e. rw (some_same one was (sym e ∙ at)) looked));
       room = omega (arith, c.loop-k.invariant.room, c.push_reserved.ensures.capacity);
       same = c.push_reserved.ensures.capacity ∙ c.loop-k.invariant.same;
     }
 
 pub returns : goal.returns
-returns c = record {
-  looked = LookedBelow-all c.loop-k.k c.args.observers.now c.loop-k.observers c.loop-k.looks.items c.loop-k-test.false (omega arith) c.loop-k.invariant.below;
-  capacity = c.loop-k.invariant.same;
-}
+returns c =
+    let below = c.loop-k.invariant.below in
+    let count : length c.loop-k.looks.items ≡ c.loop-k.k = below.count in
+    let ge = c.loop-k-test.false in
+    record {
+      looked = record { observers = below.same_many; one_each = omega arith; each = below.each };
+      capacity = c.loop-k.invariant.same;
+    }

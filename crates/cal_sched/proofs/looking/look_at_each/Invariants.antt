@@ -1,11 +1,12 @@
 use Rattle.std.proofs.Common.{◌≡◌, ◌≤◌, length}
 use Rattle.std.specs.Vec.{vec_capacity}
-use Rattle.cal_sched.proofs.Looked.{LookedBelow}
+use Rattle.cal_sched.specs.Looking.{HasLooked}
+use Rattle.cal_sched.proofs.Below.{Below}
 use Rattle.cal_sched.proofs.looking.look_at_each.Given as goal
 
 abbrev pub invariant-loop-k : goal.invariant-loop-k
 invariant-loop-k l = record {
-  below : LookedBelow l.k l.initial.observers l.observers l.looks.items;
+  below : Below HasLooked l.k l.initial.observers l.observers l.looks.items;
   room : length l.initial.observers ≤ vec_capacity l.looks;
   same : vec_capacity l.looks ≡ vec_capacity l.initial.looks;
 }
