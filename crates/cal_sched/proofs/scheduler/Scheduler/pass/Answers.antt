@@ -14,191 +14,134 @@ use Rattle.cal_sched.specs.Scheduler.{SchedulerView, IsKept}
 use Rattle.cal_sched.proofs.Lists.{written_whole}
 use Rattle.cal_sched.proofs.Passed.{is_input, pass_made, may_send, kept_after}
 use Rattle.cal_sched.proofs.scheduler.Scheduler.pass.Goals as goal
+use Rattle.cal_sched.proofs.scheduler.Scheduler.pass.Goals.{After-as_mut_slice-3, After-self-3-1}
+
+-- the scheduler as the pass begins
+abbrev start : After-as_mut_slice-3 → SchedulerView
+start c = record {
+  table = c.self.inside.config;
+  history = c.self.inside.history.items;
+  observers = c.self.inside.observers.items;
+  senders = c.self.inside.senders.items;
+}
+
+-- its history with the pass
+abbrev after : After-as_mut_slice-3 → List PassEntry
+after c =
+    let s = start c in
+    s.history ++ pass_on s.table s.history (judged_input s.table s.history c.args.now c.args.bandwidth c.find_each.ensures.found.0) ∷ []
+
+-- what was found, decided and entered, as the commands are to be sent
+record Entered (c : After-as_mut_slice-3) : Type 0 where
+  kept : IsKept (start c)
+  finds : HaveFound (start c).observers c.find_each.new.observers (start c).senders c.find_each.new.senders c.find_each.ensures.found.0
+  whole : c.push_reserved.new.self.items ≡ after c
+  agreed : AgreesWith c.step.new.self (after c)
+  rung : take c.self.inside.senders.len (c.find_each.new.senders ++ drop (length c.find_each.new.senders) c.self.inside.senders.items) ≡ c.find_each.new.senders
+
+entered : (c : After-as_mut_slice-3) → Entered c
+entered c =
+    let s : SchedulerView = start c in
+    let kept : IsKept s = c.self.invariant.0 in
+    let agrees : AgreesWith c.self.inside.book s.history = c.self.invariant.1 in
+    let looked : List ObserverView = c.find_each.new.observers in
+    let asked : List SenderView = c.find_each.new.senders in
+    let found = c.find_each.ensures.found.0 in
+    let pages : c.as_mut_slice.result.now ≡ s.observers = c.as_mut_slice.ensures.value in
+    let rings : c.as_mut_slice-2.result.now ≡ s.senders = c.as_mut_slice-2.ensures.value in
+    let finds : HaveFound s.observers looked s.senders asked found = rw (pages, rings) at c.find_each.ensures.found.1 in
+    let input : Input = c.finish-input.result in
+    let same : input ≡ judged_input s.table s.history c.args.now c.args.bandwidth found =
+    c.finish-input.ensures.judged s.table s.history found (c.find_each.ensures.found.2 s.history agrees) in
+    let fits : IsInput s.table s.history input =
+    subst (IsInput s.table s.history) (sym same) (is_input s c.args.now c.args.bandwidth looked asked found kept finds) in
+    let acts : c.step.new.out ≡ pass_of (setting s.table s.history input) = c.step.ensures.acts s.history kept.legal agrees fits in
+    let with : List Action → List PassEntry → List PassEntry = λ actions h. let e : PassEntry = record { input = input; actions = actions } in h ++ e ∷ [] in
+    let items : c.push_reserved.new.self.items ≡ with c.list-actions.result s.history = c.push_reserved.ensures.items ∙ ap (with c.list-actions.result) c.in_ok-reserve.ensures.items in
+    let whole : c.push_reserved.new.self.items ≡ after c =
+    pass_made s c.args.now c.args.bandwidth looked asked found input c.step.new.out c.list-actions.result c.push_reserved.new.self.items same acts c.list-actions.ensures items in
+    let ring_items = c.self.inside.senders in
+    let many_rings : length asked ≡ length ring_items.items = finds.rings in
+    record {
+      kept = kept;
+      finds = finds;
+      whole = whole;
+      agreed = subst (AgreesWith c.step.new.self) (ap (λ (l : List Action). with l s.history) (sym c.list-actions.ensures) ∙ sym items ∙ whole) (c.step.ensures.agrees s.history kept.legal agrees fits);
+      rung = written_whole ring_items.len asked ring_items.items ring_items.ok.0 many_rings;
+    }
 
 pub send_last-requires : goal.send_last-requires
 send_last-requires c =
-    let s : SchedulerView = record {
-      table = c.self.inside.config;
-      history = c.self.inside.history.items;
-      observers = c.self.inside.observers.items;
-      senders = c.self.inside.senders.items;
-    } in
-    let kept : IsKept s = c.self.invariant.0 in
-    let agrees : AgreesWith c.self.inside.book s.history = c.self.invariant.1 in
-    let looked : List ObserverView = c.find_each.new.observers in
-    let asked : List SenderView = c.find_each.new.senders in
-    let found = c.find_each.ensures.found.0 in
-    let pages : c.as_mut_slice.result.now ≡ s.observers = c.as_mut_slice.ensures.value in
-    let rings : c.as_mut_slice-2.result.now ≡ s.senders = c.as_mut_slice-2.ensures.value in
-    let finds : HaveFound s.observers looked s.senders asked found = rw (pages, rings) at c.find_each.ensures.found.1 in
-    let input : Input = c.finish-input.result in
-    let same : input ≡ judged_input s.table s.history c.args.now c.args.bandwidth found =
-    c.finish-input.ensures.judged s.table s.history found (c.find_each.ensures.found.2 s.history agrees) in
-    let fits : IsInput s.table s.history input =
-    subst (IsInput s.table s.history) (sym same) (is_input s c.args.now c.args.bandwidth looked asked found kept finds) in
-    let acts : c.step.new.out ≡ pass_of (setting s.table s.history input) = c.step.ensures.acts s.history kept.legal agrees fits in
-    let items : c.push_reserved.new.self.items ≡ s.history ++ record { input = input; actions = c.list-actions.result } ∷ [] =
-    c.push_reserved.ensures.items ∙ ap (λ (h : List PassEntry). let e : PassEntry = record { input = input; actions = c.list-actions.result } in h ++ e ∷ []) c.in_ok-reserve.ensures.items in
-    let whole : c.push_reserved.new.self.items ≡ s.history ++ pass_on s.table s.history (judged_input s.table s.history c.args.now c.args.bandwidth found) ∷ [] =
-    pass_made s c.args.now c.args.bandwidth looked asked found input c.step.new.out c.list-actions.result c.push_reserved.new.self.items same acts c.list-actions.ensures items in
-    let agreed : AgreesWith c.step.new.self (s.history ++ pass_on s.table s.history (judged_input s.table s.history c.args.now c.args.bandwidth found) ∷ []) =
-    subst (AgreesWith c.step.new.self) (ap (λ (l : List Action). let e : PassEntry = record { input = input; actions = l } in s.history ++ e ∷ []) (sym c.list-actions.ensures) ∙ sym items ∙ whole)
-    (c.step.ensures.agrees s.history kept.legal agrees fits) in
-    let ring_items = c.self.inside.senders in
-    let many_rings : length asked ≡ length ring_items.items = finds.rings in
-    let rung : take ring_items.len (asked ++ drop (length asked) ring_items.items) ≡ asked = written_whole ring_items.len asked ring_items.items ring_items.ok.0 many_rings in
-    rw (c.as_slice.ensures.value, whole, c.as_mut_slice-3.ensures.value, rung) (may_send s c.args.now c.args.bandwidth looked asked found c.step.new.self kept finds agreed)
+    let was = entered c in
+    rw (c.as_slice.ensures.value, was.whole, c.as_mut_slice-3.ensures.value, was.rung)
+    (may_send (start c) c.args.now c.args.bandwidth c.find_each.new.observers c.find_each.new.senders c.find_each.ensures.found.0 c.step.new.self was.kept was.finds was.agreed)
 
-pub invariant_of-self-2 : goal.invariant_of-self-2
-invariant_of-self-2 c =
-    let s : SchedulerView = record {
-      table = c.self.inside.config;
-      history = c.self.inside.history.items;
-      observers = c.self.inside.observers.items;
-      senders = c.self.inside.senders.items;
-    } in
-    let kept : IsKept s = c.self.invariant.0 in
-    let agrees : AgreesWith c.self.inside.book s.history = c.self.invariant.1 in
+-- the pass at the end, and as it began to send
+abbrev sending : After-self-3-1 → After-as_mut_slice-3
+sending c = (goal.at.invariant_of-self-2 c).After-as_mut_slice-3
+
+-- the scheduler as the pass ends
+abbrev end : After-self-3-1 → SchedulerView
+end c =
     let looked : List ObserverView = c.find_each.new.observers in
     let asked : List SenderView = c.find_each.new.senders in
-    let found = c.find_each.ensures.found.0 in
-    let pages : c.as_mut_slice.result.now ≡ s.observers = c.as_mut_slice.ensures.value in
-    let rings : c.as_mut_slice-2.result.now ≡ s.senders = c.as_mut_slice-2.ensures.value in
-    let finds : HaveFound s.observers looked s.senders asked found = rw (pages, rings) at c.find_each.ensures.found.1 in
-    let input : Input = c.finish-input.result in
-    let same : input ≡ judged_input s.table s.history c.args.now c.args.bandwidth found =
-    c.finish-input.ensures.judged s.table s.history found (c.find_each.ensures.found.2 s.history agrees) in
-    let fits : IsInput s.table s.history input =
-    subst (IsInput s.table s.history) (sym same) (is_input s c.args.now c.args.bandwidth looked asked found kept finds) in
-    let acts : c.step.new.out ≡ pass_of (setting s.table s.history input) = c.step.ensures.acts s.history kept.legal agrees fits in
-    let items : c.push_reserved.new.self.items ≡ s.history ++ record { input = input; actions = c.list-actions.result } ∷ [] =
-    c.push_reserved.ensures.items ∙ ap (λ (h : List PassEntry). let e : PassEntry = record { input = input; actions = c.list-actions.result } in h ++ e ∷ []) c.in_ok-reserve.ensures.items in
-    let whole : c.push_reserved.new.self.items ≡ s.history ++ pass_on s.table s.history (judged_input s.table s.history c.args.now c.args.bandwidth found) ∷ [] =
-    pass_made s c.args.now c.args.bandwidth looked asked found input c.step.new.out c.list-actions.result c.push_reserved.new.self.items same acts c.list-actions.ensures items in
-    let agreed : AgreesWith c.step.new.self (s.history ++ pass_on s.table s.history (judged_input s.table s.history c.args.now c.args.bandwidth found) ∷ []) =
-    subst (AgreesWith c.step.new.self) (ap (λ (l : List Action). let e : PassEntry = record { input = input; actions = l } in s.history ++ e ∷ []) (sym c.list-actions.ensures) ∙ sym items ∙ whole)
-    (c.step.ensures.agrees s.history kept.legal agrees fits) in
-    let ring_items = c.self.inside.senders in
-    let many_rings : length asked ≡ length ring_items.items = finds.rings in
-    let rung : take ring_items.len (asked ++ drop (length asked) ring_items.items) ≡ asked = written_whole ring_items.len asked ring_items.items ring_items.ok.0 many_rings in
-    let page_items = c.self.inside.observers in
-    let many_pages : length looked ≡ length page_items.items = finds.pages in
-    let paged : take page_items.len (looked ++ drop (length looked) page_items.items) ≡ looked = written_whole page_items.len looked page_items.items page_items.ok.0 many_pages in
     let sent : List SenderView = c.send_last.new.senders in
-    let given : c.as_mut_slice-3.result.now ≡ asked = c.as_mut_slice-3.ensures.value ∙ rung in
-    let after : c.as_slice.result.now ≡ s.history ++ pass_on s.table s.history (judged_input s.table s.history c.args.now c.args.bandwidth found) ∷ [] = c.as_slice.ensures.value ∙ whole in
-    let sends : HaveSent asked sent (s.history ++ pass_on s.table s.history (judged_input s.table s.history c.args.now c.args.bandwidth found) ∷ []) = rw (given, after) at c.send_last.ensures in
+    let pages = c.self.inside.observers in
+    let rings = c.self.inside.senders in record {
+      table = c.self.inside.config;
+      history = c.push_reserved.new.self.items;
+      observers = take pages.len (looked ++ drop (length looked) pages.items);
+      senders = take rings.len (sent ++ drop (length sent) (take rings.len (asked ++ drop (length asked) rings.items)));
+    }
+
+-- what was sent; the ends that looked and sent are those that are kept
+record Sent (c : After-self-3-1) : Type 0 where
+  was : Entered (sending c)
+  sends : HaveSent c.find_each.new.senders c.send_last.new.senders (after (sending c))
+  ends : end c ≡ record { table = c.self.inside.config; history = after (sending c); observers = c.find_each.new.observers; senders = c.send_last.new.senders }
+
+all_sent : (c : After-self-3-1) → Sent c
+all_sent c =
+    let was = entered (sending c) in
+    let looked : List ObserverView = c.find_each.new.observers in
+    let asked : List SenderView = c.find_each.new.senders in
+    let sent : List SenderView = c.send_last.new.senders in
+    let pages = c.self.inside.observers in
+    let rings = c.self.inside.senders in
+    let many_pages : length looked ≡ length pages.items = was.finds.pages in
+    let paged : take pages.len (looked ++ drop (length looked) pages.items) ≡ looked = written_whole pages.len looked pages.items pages.ok.0 many_pages in
+    let given : c.as_mut_slice-3.result.now ≡ asked = c.as_mut_slice-3.ensures.value ∙ was.rung in
+    let history : c.as_slice.result.now ≡ after (sending c) = c.as_slice.ensures.value ∙ was.whole in
+    let sends : HaveSent asked sent (after (sending c)) = rw (given, history) at c.send_last.ensures in
     let many_sent : length sent ≡ length asked = sends.rings in
-    let rung_again : take ring_items.len (sent ++ drop (length sent) asked) ≡ sent = written_whole ring_items.len sent asked (ring_items.ok.0 ∙ sym many_rings) many_sent in
+    let many_rings : length asked ≡ length rings.items = was.finds.rings in
+    let rung : take rings.len (sent ++ drop (length sent) asked) ≡ sent = written_whole rings.len sent asked (rings.ok.0 ∙ sym many_rings) many_sent in
+    record { was = was; sends = sends; ends = rw (was.whole, paged, was.rung, rung) refl }
+
+kept : (c : After-self-3-1) → IsKept (end c)
+kept c =
+    let all = all_sent c in
+    let s : SchedulerView = start (sending c) in
     let len : c.len.result ≡ length s.history = c.len.ensures ∙ c.self.inside.history.ok.0 in
     let room = c.if-len-ge-MOST_PASSES.false in
     let few : length s.history < 1048576 = omega (arith, len, room) in
-    rw (whole, paged, rung, rung_again) (kept_after s c.args.now c.args.bandwidth looked asked found sent kept few finds sends, agreed, c.step.ensures.of)
+    rw all.ends (kept_after s c.args.now c.args.bandwidth c.find_each.new.observers c.find_each.new.senders c.find_each.ensures.found.0 c.send_last.new.senders all.was.kept few all.was.finds all.sends)
+
+pub invariant_of-self-2 : goal.invariant_of-self-2
+invariant_of-self-2 c = let all = all_sent c in (kept c, rw all.was.whole all.was.agreed, c.step.ensures.of)
 
 pub returns-clause-passed : goal.returns-clause-passed
 returns-clause-passed c =
-    let s : SchedulerView = record {
-      table = c.self.inside.config;
-      history = c.self.inside.history.items;
-      observers = c.self.inside.observers.items;
-      senders = c.self.inside.senders.items;
-    } in
-    let kept : IsKept s = c.self.invariant.0 in
-    let agrees : AgreesWith c.self.inside.book s.history = c.self.invariant.1 in
-    let looked : List ObserverView = c.find_each.new.observers in
-    let asked : List SenderView = c.find_each.new.senders in
-    let found = c.find_each.ensures.found.0 in
-    let pages : c.as_mut_slice.result.now ≡ s.observers = c.as_mut_slice.ensures.value in
-    let rings : c.as_mut_slice-2.result.now ≡ s.senders = c.as_mut_slice-2.ensures.value in
-    let finds : HaveFound s.observers looked s.senders asked found = rw (pages, rings) at c.find_each.ensures.found.1 in
-    let input : Input = c.finish-input.result in
-    let same : input ≡ judged_input s.table s.history c.args.now c.args.bandwidth found =
-    c.finish-input.ensures.judged s.table s.history found (c.find_each.ensures.found.2 s.history agrees) in
-    let fits : IsInput s.table s.history input =
-    subst (IsInput s.table s.history) (sym same) (is_input s c.args.now c.args.bandwidth looked asked found kept finds) in
-    let acts : c.step.new.out ≡ pass_of (setting s.table s.history input) = c.step.ensures.acts s.history kept.legal agrees fits in
-    let items : c.push_reserved.new.self.items ≡ s.history ++ record { input = input; actions = c.list-actions.result } ∷ [] =
-    c.push_reserved.ensures.items ∙ ap (λ (h : List PassEntry). let e : PassEntry = record { input = input; actions = c.list-actions.result } in h ++ e ∷ []) c.in_ok-reserve.ensures.items in
-    let whole : c.push_reserved.new.self.items ≡ s.history ++ pass_on s.table s.history (judged_input s.table s.history c.args.now c.args.bandwidth found) ∷ [] =
-    pass_made s c.args.now c.args.bandwidth looked asked found input c.step.new.out c.list-actions.result c.push_reserved.new.self.items same acts c.list-actions.ensures items in
-    let agreed : AgreesWith c.step.new.self (s.history ++ pass_on s.table s.history (judged_input s.table s.history c.args.now c.args.bandwidth found) ∷ []) =
-    subst (AgreesWith c.step.new.self) (ap (λ (l : List Action). let e : PassEntry = record { input = input; actions = l } in s.history ++ e ∷ []) (sym c.list-actions.ensures) ∙ sym items ∙ whole)
-    (c.step.ensures.agrees s.history kept.legal agrees fits) in
-    let ring_items = c.self.inside.senders in
-    let many_rings : length asked ≡ length ring_items.items = finds.rings in
-    let rung : take ring_items.len (asked ++ drop (length asked) ring_items.items) ≡ asked = written_whole ring_items.len asked ring_items.items ring_items.ok.0 many_rings in
-    let page_items = c.self.inside.observers in
-    let many_pages : length looked ≡ length page_items.items = finds.pages in
-    let paged : take page_items.len (looked ++ drop (length looked) page_items.items) ≡ looked = written_whole page_items.len looked page_items.items page_items.ok.0 many_pages in
-    let sent : List SenderView = c.send_last.new.senders in
-    let given : c.as_mut_slice-3.result.now ≡ asked = c.as_mut_slice-3.ensures.value ∙ rung in
-    let after : c.as_slice.result.now ≡ s.history ++ pass_on s.table s.history (judged_input s.table s.history c.args.now c.args.bandwidth found) ∷ [] = c.as_slice.ensures.value ∙ whole in
-    let sends : HaveSent asked sent (s.history ++ pass_on s.table s.history (judged_input s.table s.history c.args.now c.args.bandwidth found) ∷ []) = rw (given, after) at c.send_last.ensures in
-    let many_sent : length sent ≡ length asked = sends.rings in
-    let rung_again : take ring_items.len (sent ++ drop (length sent) asked) ≡ sent = written_whole ring_items.len sent asked (ring_items.ok.0 ∙ sym many_rings) many_sent in
-    let is : s ≡ c.args.self.now = c.self.view_is in
-    let at_start : IsPassed c.args.now c.args.bandwidth s (record {
-      table = s.table;
-      history = c.push_reserved.new.self.items;
-      observers = take page_items.len (looked ++ drop (length looked) page_items.items);
-      senders = take ring_items.len (sent ++ drop (length sent) (take ring_items.len (asked ++ drop (length asked) ring_items.items)));
-    }) = record {
-      found = found;
-      asked = asked;
-      finds = rw paged finds;
-      history = whole;
-      sends = rw (rung, rung_again, whole) sends;
+    let all = all_sent c in
+    let at_start : IsPassed c.args.now c.args.bandwidth (start (sending c)) (end c) = rw all.ends (record {
+      found = c.find_each.ensures.found.0;
+      asked = c.find_each.new.senders;
+      finds = all.was.finds;
+      history = refl;
+      sends = all.sends;
       table = refl;
-    } in
-    subst (λ (before : SchedulerView). IsPassed c.args.now c.args.bandwidth before (record {
-      table = s.table;
-      history = c.push_reserved.new.self.items;
-      observers = take page_items.len (looked ++ drop (length looked) page_items.items);
-      senders = take ring_items.len (sent ++ drop (length sent) (take ring_items.len (asked ++ drop (length asked) ring_items.items)));
-    })) is at_start
+    }) in
+    subst (λ (before : SchedulerView). IsPassed c.args.now c.args.bandwidth before (end c)) c.self.view_is at_start
 
 pub returns-clause-kept : goal.returns-clause-kept
-returns-clause-kept c =
-    let s : SchedulerView = record {
-      table = c.self.inside.config;
-      history = c.self.inside.history.items;
-      observers = c.self.inside.observers.items;
-      senders = c.self.inside.senders.items;
-    } in
-    let kept : IsKept s = c.self.invariant.0 in
-    let agrees : AgreesWith c.self.inside.book s.history = c.self.invariant.1 in
-    let looked : List ObserverView = c.find_each.new.observers in
-    let asked : List SenderView = c.find_each.new.senders in
-    let found = c.find_each.ensures.found.0 in
-    let pages : c.as_mut_slice.result.now ≡ s.observers = c.as_mut_slice.ensures.value in
-    let rings : c.as_mut_slice-2.result.now ≡ s.senders = c.as_mut_slice-2.ensures.value in
-    let finds : HaveFound s.observers looked s.senders asked found = rw (pages, rings) at c.find_each.ensures.found.1 in
-    let input : Input = c.finish-input.result in
-    let same : input ≡ judged_input s.table s.history c.args.now c.args.bandwidth found =
-    c.finish-input.ensures.judged s.table s.history found (c.find_each.ensures.found.2 s.history agrees) in
-    let fits : IsInput s.table s.history input =
-    subst (IsInput s.table s.history) (sym same) (is_input s c.args.now c.args.bandwidth looked asked found kept finds) in
-    let acts : c.step.new.out ≡ pass_of (setting s.table s.history input) = c.step.ensures.acts s.history kept.legal agrees fits in
-    let items : c.push_reserved.new.self.items ≡ s.history ++ record { input = input; actions = c.list-actions.result } ∷ [] =
-    c.push_reserved.ensures.items ∙ ap (λ (h : List PassEntry). let e : PassEntry = record { input = input; actions = c.list-actions.result } in h ++ e ∷ []) c.in_ok-reserve.ensures.items in
-    let whole : c.push_reserved.new.self.items ≡ s.history ++ pass_on s.table s.history (judged_input s.table s.history c.args.now c.args.bandwidth found) ∷ [] =
-    pass_made s c.args.now c.args.bandwidth looked asked found input c.step.new.out c.list-actions.result c.push_reserved.new.self.items same acts c.list-actions.ensures items in
-    let agreed : AgreesWith c.step.new.self (s.history ++ pass_on s.table s.history (judged_input s.table s.history c.args.now c.args.bandwidth found) ∷ []) =
-    subst (AgreesWith c.step.new.self) (ap (λ (l : List Action). let e : PassEntry = record { input = input; actions = l } in s.history ++ e ∷ []) (sym c.list-actions.ensures) ∙ sym items ∙ whole)
-    (c.step.ensures.agrees s.history kept.legal agrees fits) in
-    let ring_items = c.self.inside.senders in
-    let many_rings : length asked ≡ length ring_items.items = finds.rings in
-    let rung : take ring_items.len (asked ++ drop (length asked) ring_items.items) ≡ asked = written_whole ring_items.len asked ring_items.items ring_items.ok.0 many_rings in
-    let page_items = c.self.inside.observers in
-    let many_pages : length looked ≡ length page_items.items = finds.pages in
-    let paged : take page_items.len (looked ++ drop (length looked) page_items.items) ≡ looked = written_whole page_items.len looked page_items.items page_items.ok.0 many_pages in
-    let sent : List SenderView = c.send_last.new.senders in
-    let given : c.as_mut_slice-3.result.now ≡ asked = c.as_mut_slice-3.ensures.value ∙ rung in
-    let after : c.as_slice.result.now ≡ s.history ++ pass_on s.table s.history (judged_input s.table s.history c.args.now c.args.bandwidth found) ∷ [] = c.as_slice.ensures.value ∙ whole in
-    let sends : HaveSent asked sent (s.history ++ pass_on s.table s.history (judged_input s.table s.history c.args.now c.args.bandwidth found) ∷ []) = rw (given, after) at c.send_last.ensures in
-    let many_sent : length sent ≡ length asked = sends.rings in
-    let rung_again : take ring_items.len (sent ++ drop (length sent) asked) ≡ sent = written_whole ring_items.len sent asked (ring_items.ok.0 ∙ sym many_rings) many_sent in
-    let len : c.len.result ≡ length s.history = c.len.ensures ∙ c.self.inside.history.ok.0 in
-    let room = c.if-len-ge-MOST_PASSES.false in
-    let few : length s.history < 1048576 = omega (arith, len, room) in
-    rw (whole, paged, rung, rung_again) (kept_after s c.args.now c.args.bandwidth looked asked found sent kept few finds sends)
+returns-clause-kept = kept
