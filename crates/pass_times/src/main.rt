@@ -3,13 +3,14 @@
 //!
 //! Its words: passes, and the five rates of `Rates` in order. Its input: a task table. It prints
 //! nanoseconds a pass: of a bare reading, of a pass, of a pass in the first and in the last tenth;
-//! and how many records were published and actions made a pass. bench/measure_passes runs it,
-//! and nothing is promised of what it prints.
+//! and how many records were published and actions made a pass. A pass that is refused ends it with
+//! an error: bench/measure_passes runs it, and nothing is promised of what it prints.
 #![tactic(auto)]
 
 mod load;
 mod random;
 
+use anyhow::bail;
 use cal_machine::Config;
 use cal_run::{Worker, open_parts};
 use cal_sched::Scheduler;
@@ -17,10 +18,9 @@ use cal_signal::Observer;
 use cal_trace::read_arrivals;
 use load::{Load, Rates};
 use random::Random;
+use std::env;
 use std::io::{Read, Write};
-use std::process::ExitCode;
 use std::time::Instant;
-use std::{env, io};
 
 /// What is added up over passes.
 #[derive(Clone, Copy)]
@@ -41,21 +41,10 @@ struct Machine {
     random: Random,
 }
 
-fn main(rt: HostRuntime) -> ExitCode {
-    match measure(&rt) {
-        Ok(()) => ExitCode::from(0),
-        Err(_) => ExitCode::from(2),
-    }
-}
-
-fn refused() -> io::Error {
-    io::Error::from(io::ErrorKind::InvalidInput)
-}
-
-fn measure(rt: &HostRuntime) -> io::Result<()> {
-    let words = given(rt)?;
+fn main(rt: HostRuntime) -> anyhow::Result<()> {
+    let words = given(&rt)?;
     let [passes, turns, yields, asks, begins, waits] = &words[..] else {
-        return Err(refused());
+        bail!("its words are six numbers");
     };
     let rates = Rates {
         turns: *turns,
@@ -65,11 +54,11 @@ fn measure(rt: &HostRuntime) -> io::Result<()> {
         waits: *waits,
     };
     let passes = *passes;
-    let mut machine = open(rt)?;
+    let mut machine = open(&rt)?;
     let tenth = passes / 10;
-    let first = machine.pass_often(rt, 0, tenth, rates)?;
-    let middle = machine.pass_often(rt, tenth, passes.saturating_sub(tenth), rates)?;
-    let last = machine.pass_often(rt, passes.saturating_sub(tenth), passes, rates)?;
+    let first = machine.pass_often(&rt, 0, tenth, rates)?;
+    let middle = machine.pass_often(&rt, tenth, passes.saturating_sub(tenth), rates)?;
+    let last = machine.pass_often(&rt, passes.saturating_sub(tenth), passes, rates)?;
     let all = first.with(middle).with(last);
     writeln!(
         &mut rt.stdout(),
@@ -80,14 +69,15 @@ fn measure(rt: &HostRuntime) -> io::Result<()> {
         each(last.passing, last.passes),
         each(all.published as u128 * 100, all.passes),
         each(all.actions as u128 * 100, all.passes),
-    )
+    )?;
+    Ok(())
 }
 
 /// The words after the program's name, as numbers.
-fn given(rt: &HostRuntime) -> io::Result<Vec<u64>> {
+fn given(rt: &HostRuntime) -> anyhow::Result<Vec<u64>> {
     let mut numbers = Vec::new(rt.alloc());
     for word in env::args(rt)?.skip(1) {
-        numbers.push(word.parse::<u64>().unwrap_or(0))?;
+        numbers.push(word.parse()?)?;
     }
     Ok(numbers)
 }
@@ -120,18 +110,12 @@ impl Sums {
 
 /// A scheduler over the table on the standard input, a second observer of each page, and what
 /// stands for each kernel thread.
-fn open(rt: &HostRuntime) -> io::Result<Machine> {
+fn open(rt: &HostRuntime) -> anyhow::Result<Machine> {
     let mut text = Vec::new(rt.alloc());
     rt.stdin().read_to_end(&mut text)?;
-    let Ok(config) = Config::read(rt.alloc(), text.as_slice()) else {
-        return Err(refused());
-    };
-    let Ok(arrivals) = read_arrivals(rt.alloc(), &config, b"caladan-arrivals,1\nend,0\n") else {
-        return Err(refused());
-    };
-    let Ok(parts) = open_parts(rt.alloc(), &config, &arrivals) else {
-        return Err(refused());
-    };
+    let config = Config::read(rt.alloc(), text.as_slice())?;
+    let arrivals = read_arrivals(rt.alloc(), &config, b"caladan-arrivals,1\nend,0\n")?;
+    let parts = open_parts(rt.alloc(), &config, &arrivals)?;
     let (observers, _) = parts.watch.end();
     Ok(Machine {
         scheduler: parts.scheduler,
@@ -141,7 +125,7 @@ fn open(rt: &HostRuntime) -> io::Result<Machine> {
     })
 }
 
-fn loads_of(rt: &HostRuntime, workers: Vec<Worker>) -> io::Result<Vec<Load>> {
+fn loads_of(rt: &HostRuntime, workers: Vec<Worker>) -> anyhow::Result<Vec<Load>> {
     let mut loads = Vec::new(rt.alloc());
     for worker in workers {
         let end = worker.thread.end();
@@ -161,13 +145,13 @@ impl Machine {
         from: u64,
         to: u64,
         rates: Rates,
-    ) -> io::Result<Sums> {
+    ) -> anyhow::Result<Sums> {
         let mut sums = Sums::new();
         for p in from..to {
             let now = p.saturating_mul(10).saturating_add(1000);
             let published = self.turn_each(now, rates);
             let begun = Instant::now(rt)?;
-            let _ = self.scheduler.pass(now.saturating_add(5), 0);
+            self.scheduler.pass(now.saturating_add(5), 0)?;
             let passed = Instant::now(rt)?;
             self.read_each();
             let read = Instant::now(rt)?;
