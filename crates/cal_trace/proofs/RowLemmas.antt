@@ -4,6 +4,7 @@ pub mod Conjunctions
 pub mod Digits
 pub mod LinesRead
 pub mod Numbers
+pub mod Passes
 pub mod Readings
 pub mod Refusals
 pub mod RowsLeft

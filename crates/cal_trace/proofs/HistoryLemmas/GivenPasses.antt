@@ -1,40 +1,28 @@
 -- Histories that are given pass by pass.
-use Rattle.std.proofs.Common.{◌≡◌, ◌<◌, ◌≤◌, ◌+◌, ◌∙◌, ℕ, List, [], ◌∷◌, ◌++◌, length, length-append, Option, Some, None, Result, Ok, Err, ap, sym, refl, codes, arith}
+use Rattle.std.proofs.Common.{◌≡◌, ◌<◌, ◌≤◌, ◌+◌, ◌∙◌, ℕ, List, [], length, length-append, Option, Some, Ok, ap, sym, codes, arith}
 use Rattle.std.specs.Option.{option_map, option_to_list}
 use Rattle.cal_policy.specs.declared.history.entry.PassEntry.{PassEntry}
-use Rattle.cal_trace.specs.History.{at_start, entries_of, take_row, whole}
-use Rattle.cal_trace.specs.History.Reading.{entry_at_hand, file_of, so_far, still_gives, GivesNext, HasGiven, IsKept}
+use Rattle.cal_trace.specs.History.{at_start, take_row, whole}
+use Rattle.cal_trace.specs.History.Reading.{entry_at_hand, file_of, so_far, HasGiven, IsKept}
 use Rattle.cal_trace.specs.Rows.Header.{header_of}
 use Rattle.cal_trace.specs.declared.rows.look_rows.TheConstants.{MOST_PASSES}
-use Rattle.cal_trace.specs.Rows.Passes as passes
 use Rattle.cal_trace.specs.Rows.Passes.{with_closed}
 use Rattle.cal_trace.specs.Rows.Reading.{read_under}
 use Rattle.cal_trace.specs.Rows.{Fields, rest_of, rows_of}
-use Rattle.cal_trace.specs.declared.fault.TraceFault.{TraceFault}
 use Rattle.cal_trace.specs.declared.history.action_rows.Extent.{Extent}
 use Rattle.cal_trace.specs.declared.history.file.HistoryRows.{HistoryRows}
 use Rattle.cal_trace.specs.declared.history.reading.HistoryReading.{HistoryReading}
 use Rattle.cal_trace.specs.declared.history.reading.OpenEntry.{OpenEntry}
 use Rattle.cal_trace.specs.declared.rows.version.Version.{Version}
-use Rattle.cal_trace.proofs.RowLemmas.Refusals.{decided}
-
--- one more look or action is no more passes
-pub count-at_hand : (f : PassEntry → PassEntry) (given : List PassEntry) (at_hand : Option PassEntry)
-    → length (given ++ option_to_list (option_map f at_hand)) ≡ length (given ++ option_to_list at_hand)
-count-at_hand f given None = refl
-count-at_hand f given (Some entry) = length-append given (f entry ∷ []) ∙ sym (length-append given (entry ∷ []))
+use Rattle.cal_trace.proofs.RowLemmas.Passes.{count-begun}
 
 -- a pass begins, and the one before it is handed out
 pub IsKept-begun : (given : List PassEntry) (closed : Option PassEntry) (old new : HistoryReading) (entry : OpenEntry) → IsKept given old → old.passes < MOST_PASSES
     → closed ≡ option_map entry_at_hand old.at_hand → new.at_hand ≡ Some entry → new.passes ≡ old.passes + 1 → IsKept (with_closed given closed) new
-IsKept-begun given closed old new entry kept below is at count =
-    let before : List PassEntry = with_closed given closed in
-    let same : entries_of (so_far given old) ≡ before = ap (λ (o : Option PassEntry). given ++ option_to_list o) (sym is) in
-    record {
-      passes = count ∙ ap (λ n. n + 1) (kept.passes ∙ ap length same) ∙ sym (length-append before (entry_at_hand entry ∷ []))
-          ∙ ap (λ (o : Option OpenEntry). length (before ++ option_to_list (option_map entry_at_hand o))) (sym at);
-      few = omega (arith, count, below);
-    }
+IsKept-begun given closed old new entry kept below is at count = record {
+  passes = count ∙ count-begun entry_at_hand given closed old.at_hand new.at_hand entry old.passes kept.passes is at;
+  few = omega (arith, count, below);
+}
 
 -- nothing was given yet
 pub HasGiven-none : (extent : Extent) (text : List ℕ) (version : Version) (rows : List Fields) (history : HistoryRows)
@@ -48,19 +36,6 @@ HasGiven-none extent text version rows history header rest first file start kept
       kept = kept;
       same = rw (start, is_extent, is_version, first, rest) (sym (ap (read_under (take_row extent) whole at_start) header));
     }
-
--- what is given next, for a table and a text
-pub given_next : (extent : Extent) (text : List ℕ) (given : List PassEntry) (result : Result (Option PassEntry) TraceFault) (old new : HistoryRows)
-    → HasGiven extent text given old → file_of new.reading ≡ file_of old.reading
-    → passes.GivesNext (λ all. IsKept all new.reading × (still_gives all new ≡ still_gives given old)) (still_gives given old) given result
-    → GivesNext extent text given result new
-given_next extent text given (Ok (Some entry)) old new has file gives = record {
-  of = ap (λ (f : Extent × Version). f.0) file ∙ has.of;
-  kept = gives.0;
-  same = gives.1 ∙ has.same;
-}
-given_next extent text given (Ok None) old new has file gives = sym has.same ∙ gives
-given_next extent text given (Err fault) old new has file gives = decided fault.kind _ _ (λ e. sym has.same ∙ e) gives
 
 -- no more passes were given than a file may have
 pub few_given : (extent : Extent) (text : List ℕ) (given : List PassEntry) (history : HistoryRows) → HasGiven extent text given history → length given ≤ MOST_PASSES

@@ -28,7 +28,6 @@ use Rattle.cal_policy.specs.declared.judgement.open_input.FoundLook.{FoundLook}
 use Rattle.cal_trace.specs.declared.signals.SignalPass.{SignalPass}
 use Rattle.cal_trace.specs.declared.signals.reading.Form.{Form}
 use Rattle.cal_trace.specs.declared.signals.reading.Form.TheVariants as form
-use Rattle.cal_trace.specs.declared.rows.version.Version.{Version}
 use Rattle.cal_trace.proofs.RowLemmas.Readings.{kept_under}
 use Rattle.cal_trace.specs.Signals.Fitting.{IsFitting, AreFitting, IsFittingPass, AreFittingPasses, IsHand, IsFittingSoFar}
 
@@ -196,6 +195,15 @@ fits_with_form threads before at_hand ended next (Some form.End) fields fit hand
     let full = both_true (not ended) (is_full threads at_hand) passed.0 in
     fits_with_end threads (record { before = before; at_hand = at_hand; ended = ended }) next _ (all_fit threads before at_hand fit hand full.1) passed.1
 
+-- after a row that was taken what was read so far fits
+pub row_fits : (threads : ℕ) (so_far next : SoFar) (form : Option Form) (fields : Fields) → IsFittingSoFar threads so_far → take_form threads so_far form fields ≡ Ok next
+    → IsFittingSoFar threads next
+row_fits threads so_far next form fields fit e = fits_with_form threads so_far.before so_far.at_hand so_far.ended next form fields fit.before fit.at_hand e
+
+-- before the first row it does
+pub start_fits : (threads : ℕ) → IsFittingSoFar threads at_start
+start_fits threads = record { before = AreFittingPasses-none threads; at_hand = tt }
+
 -- a pass row that was taken is not one too many
 pub pass_below : (passes : ℕ) (fields : Fields) (row : PassRow) → pass_row passes fields ≡ Ok row → passes < MOST_PASSES
 pass_below passes fields row e =
@@ -204,50 +212,6 @@ pass_below passes fields row e =
     let numbers = check_passed (has_numbers fields) kinds.Number in_range row e in
     let range = check_passed (nat_lt passes MOST_PASSES) kinds.Range (Ok found) row numbers.1 in
     ltb-true passes MOST_PASSES range.0
-
--- one more look is no more passes
-pub count-with_look : (before : List SignalPass) (at_hand : Option SignalPass) (seen : FoundLook)
-    → length (before ++ option_to_list (option_map (with_look seen) at_hand)) ≡ length (before ++ option_to_list at_hand)
-count-with_look before None seen = refl
-count-with_look before (Some pass) seen = length-append before (with_look seen pass ∷ []) ∙ sym (length-append before (pass ∷ []))
-
--- there are no more passes than a file may have
-abbrev IsFew : SoFar → Type 0
-IsFew so_far = length (passes_of so_far) ≤ MOST_PASSES
-
-few_with_pass : (so_far next : SoFar) (row : Result PassRow FaultKind) → ((r : PassRow) → row ≡ Ok r → length (passes_of so_far) < MOST_PASSES)
-    → add_pass so_far row ≡ Ok next → IsFew next
-few_with_pass so_far next (Err k) below e = absurd (cc)
-few_with_pass so_far next (Ok row) below e =
-    let begun : SignalPass = record { now = row.now; bandwidth = row.bandwidth; looks = [] } in
-    let opened : SoFar = record { before = passes_of so_far; at_hand = Some begun; ended = false } in
-    let lt = below row refl in
-    subst IsFew (ok_same opened next e) (omega (arith, lt, length-append (passes_of so_far) (begun ∷ [])))
-
-few_with_end : (so_far next : SoFar) (count : Result ℕ FaultKind) → IsFew so_far → add_end so_far count ≡ Ok next → IsFew next
-few_with_end so_far next (Err k) few e = absurd (cc)
-few_with_end so_far next (Ok n) few e =
-    let closed : SoFar = record { before = passes_of so_far; at_hand = None; ended = true } in
-    subst IsFew (ok_same closed next e) (rw (append-nil (passes_of so_far)) few)
-
-few_with_look : (so_far next : SoFar) (seen : Result FoundLook FaultKind) → IsFew so_far → add_look so_far seen ≡ Ok next → IsFew next
-few_with_look so_far next (Err k) few e = absurd (cc)
-few_with_look so_far next (Ok seen) few e =
-    subst IsFew (ok_same (one_more so_far seen) next e) (rw (count-with_look so_far.before so_far.at_hand seen) few)
-
-few_with_row : (so_far next : SoFar) (form : Form) (fields : Fields) (thread : Result ℕ FaultKind) → IsFew so_far
-    → take_look so_far form fields thread ≡ Ok next → IsFew next
-few_with_row so_far next form fields (Err k) few e = absurd (cc)
-few_with_row so_far next form fields (Ok thread) few e = few_with_look so_far next _ few e
-
-few_with_form : (threads : ℕ) (so_far next : SoFar) (form : Option Form) (fields : Fields) → IsFew so_far → take_form threads so_far form fields ≡ Ok next → IsFew next
-few_with_form threads so_far next None fields few e = absurd (cc)
-few_with_form threads so_far next (Some form.Header) fields few e = absurd (cc)
-few_with_form threads so_far next (Some form.Whole) fields few e = few_with_row so_far next form.Whole fields _ few e
-few_with_form threads so_far next (Some form.Busy) fields few e = few_with_row so_far next form.Busy fields _ few e
-few_with_form threads so_far next (Some form.Pass) fields few e =
-    few_with_pass so_far next _ (λ row. pass_below (length (passes_of so_far)) fields row) (check_passed _ _ _ next e).1
-few_with_form threads so_far next (Some form.End) fields few e = few_with_end so_far next _ few (check_passed _ _ _ next e).1
 
 -- the passes that the rows give in the end
 fits_at_end : (threads : ℕ) (ended : Bool) (before passes : List SignalPass) → AreFittingPasses threads before → (if ended then Some before else None) ≡ Some passes
@@ -259,21 +223,9 @@ fits_at_end threads false before passes fit e = absurd (cc)
 pub accepted_fit : (threads : ℕ) (rows : List Fields) (passes : List SignalPass) → signals_of threads rows ≡ Ok passes → AreFittingPasses threads passes
 accepted_fit threads rows passes e =
     kept_under (take_row threads) whole (IsFittingSoFar threads) (AreFittingPasses threads)
-    (λ version so_far next fields fit was. fits_with_form threads so_far.before so_far.at_hand so_far.ended next (form_of version fields) fields fit.before fit.at_hand was)
+    (λ version so_far next fields fit was. row_fits threads so_far next (form_of version fields) fields fit was)
     (λ so_far passes fit is. fits_at_end threads so_far.ended so_far.before passes fit.before is)
-    at_start (header_of (codes "caladan-signals") rows) passes (record { before = AreFittingPasses-none threads; at_hand = tt }) e
-
--- after a row that was taken what was read so far fits, and there are no more passes than a file may have
-pub row_fits : (threads : ℕ) (version : Version) (so_far next : SoFar) (fields : Fields) → IsFittingSoFar threads so_far → take_row threads version so_far fields ≡ Ok next
-    → IsFittingSoFar threads next
-row_fits threads version so_far next fields fit e = fits_with_form threads so_far.before so_far.at_hand so_far.ended next (form_of version fields) fields fit.before fit.at_hand e
-
-pub row_few : (threads : ℕ) (version : Version) (so_far next : SoFar) (fields : Fields) → length (passes_of so_far) ≤ MOST_PASSES → take_row threads version so_far fields ≡ Ok next
-    → length (passes_of next) ≤ MOST_PASSES
-row_few threads version so_far next fields few e = few_with_form threads so_far next (form_of version fields) fields few e
-
-pub start_fits : (threads : ℕ) → IsFittingSoFar threads at_start
-start_fits threads = record { before = AreFittingPasses-none threads; at_hand = tt }
+    at_start (header_of (codes "caladan-signals") rows) passes (start_fits threads) e
 
 -- the last of passes that fit fits those before it
 pub last_fits : (threads : ℕ) (passes : List SignalPass) (pass : SignalPass) → AreFittingPasses threads (passes ++ pass ∷ []) → IsFittingPass threads passes pass

@@ -7,7 +7,7 @@ use Rattle.cal_policy.specs.declared.history.entry.PassEntry.{PassEntry}
 use Rattle.cal_trace.specs.History.{SoFar, entries_of, take_row, whole, history_of}
 use Rattle.cal_trace.specs.declared.rows.look_rows.TheConstants.{MOST_PASSES}
 use Rattle.cal_trace.specs.Rows.Passes as passes
-use Rattle.cal_trace.specs.Rows.Reading.{read_from}
+use Rattle.cal_trace.specs.Rows.Reading.{read_on}
 use Rattle.cal_trace.specs.Rows.{IsReading, rest_of, rows_of}
 use Rattle.cal_trace.specs.declared.fault.TraceFault.{TraceFault}
 use Rattle.cal_trace.specs.declared.history.action_rows.Extent.{Extent}
@@ -65,8 +65,8 @@ rows_left history = length (rest_of history.rows)
 -- what these passes and the rows still to come give
 abbrev pub still_gives : List PassEntry → HistoryRows → Result (List PassEntry) TraceFault
 still_gives given history =
-    read_from (take_row history.reading.extent history.reading.version) whole
-    (so_far given history.reading) history.rows.number (rest_of history.rows)
+    read_on (take_row history.reading.extent history.reading.version) whole
+    (so_far given history.reading) history.rows
 
 -- These passes of a text were given, for a table of this extent: they and the rows still to come
 -- give what the whole text gives.

@@ -1,10 +1,11 @@
 -- Reading a file row by row: what its rows give one after the other, or the first of its checks
 -- that fails, with its row.
 use Rattle.std.specs.Prelude.{◌+◌, ℕ, List, [], ◌∷◌, Option, Some, None, Result, Ok, Err}
-use Rattle.cal_trace.specs.Rows.{Fields}
+use Rattle.cal_trace.specs.Rows.{Fields, rest_of}
 use Rattle.cal_trace.specs.declared.fault.FaultKind.{FaultKind}
 use Rattle.cal_trace.specs.declared.fault.FaultKind.TheVariants as kind
 use Rattle.cal_trace.specs.declared.fault.TraceFault.{TraceFault}
+use Rattle.cal_trace.specs.declared.rows.Rows.{Rows}
 use Rattle.cal_trace.specs.declared.rows.version.Version.{Version}
 
 -- after the last row, which has this number: a file ends with its end row
@@ -26,6 +27,11 @@ module _ {So Value : Type 0} where
   read_from take value so_far row [] = ending row (value so_far)
   read_from take value so_far row (fields ∷ rest) =
       and_then (row + 1) (take so_far fields) (λ next. read_from take value next (row + 1) rest)
+
+  -- the same, where these rows are still to come
+  abbrev pub read_on : (So → Fields → Result So FaultKind) → (So → Option Value) → So → Rows →
+      Result Value TraceFault
+  read_on take value so_far rows = read_from take value so_far rows.number (rest_of rows)
 
   -- what a file gives under its header, which is row 1 and names the version by which the rows
   -- after it are taken

@@ -9,12 +9,12 @@ ghost use Rattle.cal_trace.specs.History.Reading.{IsOpen};
 ghost use Rattle.cal_trace.specs.History.{history_of};
 ghost use Rattle.cal_trace.specs.declared.history.action_rows.Extent.{Extent};
 
-use crate::fault::{FaultKind, TraceFault};
+use crate::fault::TraceFault;
 use crate::history::action_rows::Extent;
 use crate::history::reading::HistoryReading;
 use crate::rows::Rows;
 use crate::rows::header::open_under;
-use crate::rows::passes::next_pass;
+use crate::rows::passes::{all_passes, next_pass};
 use cal_machine::Config;
 use cal_policy::PassEntry;
 use std::alloc::Global;
@@ -91,34 +91,9 @@ pub fn read_history(
     ensures { Gives (λ history. history.items) result
         (history_of (extent_of config.now) (rows_of text.now)) }
 {
-    let mut rows = HistoryRows::open(alloc, config, text)?;
-    all_passes(alloc, &mut rows)
-}
-
-/// All passes of a history of which none was given.
-fn all_passes(alloc: Global, rows: &mut HistoryRows) -> Result<Vec<PassEntry>, TraceFault>
-    requires { IsOpen rows.old }
-    ensures { (extent : Extent) (text : List ℕ) → HasGiven extent text [] rows.old →
-        Gives (λ history. history.items) result (history_of extent (rows_of text)) }
-{
-    let mut history = Vec::new(alloc);
-    push_passes(rows, &mut history)?;
-    Ok(history)
-}
-
-/// Adds the passes still to come to those that were given.
-fn push_passes(rows: &mut HistoryRows, history: &mut Vec<PassEntry>) -> Result<(), TraceFault>
-    requires { IsOpen rows.old }
-    ensures { (extent : Extent) (text : List ℕ) → HasGiven extent text history.old.items rows.old →
-        Gives (λ _. history.new.items) result (history_of extent (rows_of text)) }
-{
-    while let Some(entry) = rows.next()? {
-        let Ok(()) = history.push(entry) else {
-            return Err(TraceFault {
-                row: rows.rows.number(),
-                kind: FaultKind::Memory,
-            });
-        };
-    }
-    Ok(())
+    let HistoryRows {
+        mut rows,
+        mut reading,
+    } = HistoryRows::open(alloc, config, text)?;
+    all_passes(alloc, &mut rows, &mut reading)
 }

@@ -1,23 +1,24 @@
 //! Reading a file of passes row by row, whatever its rows are: each pass is handed out when its
 //! rows have come.
 
-ghost use Rattle.std.specs.Prelude.{◌≡◌, ◌<◌, List, length, Option, Some, None, Result, OnOk, IfOk};
-ghost use Rattle.std.specs.Prelude.{IfSome, if◌then◌else◌};
+ghost use Rattle.std.specs.Prelude.{◌≡◌, ◌<◌, List, [], length, Option, Some, None, Result};
+ghost use Rattle.std.specs.Prelude.{OnOk, IfOk, IfSome, if◌then◌else◌};
 ghost use Rattle.csv.specs.Records.{fields_of};
-ghost use Rattle.cal_trace.specs.Rows.Answers.{Takes};
+ghost use Rattle.cal_trace.specs.Rows.Answers.{Gives, Takes};
 ghost use Rattle.cal_trace.specs.Rows.Passes.{GivesNext, with_closed};
-ghost use Rattle.cal_trace.specs.Rows.Reading.{read_from};
+ghost use Rattle.cal_trace.specs.Rows.Reading.{read_on};
 ghost use Rattle.cal_trace.specs.Rows.{Fields, IsReading, rest_of};
 ghost use Rattle.cal_trace.specs.declared.fault.FaultKind.{FaultKind};
 
 use crate::fault::{FaultKind, TraceFault};
 use crate::rows::Rows;
 use csv::ByteRecord;
+use std::alloc::Global;
 
 /// What the rows of a file of passes so far have given, but for the passes that were handed out.
 pub(crate) trait PassReading: Sized + Drop {
     /// A pass of the file.
-    type Pass;
+    type Pass: Drop;
 
     // What the rows so far have given, as the file's definition has it.
     ghost SoFar: { Type 0 };
@@ -70,11 +71,10 @@ pub(crate) fn next_pass<R: PassReading>(
     // The passes handed out so far and those still to come are those of the rows, or their fault is
     // the one.
     ensures gives { (given : List R.Pass) → R.IsKept given reading.old →
-        let file = read_from (R.take (R.file reading.old)) R.whole (R.so_far given reading.old)
-        rows.old.number (rest_of rows.old) in
+        let file = read_on (R.take (R.file reading.old)) R.whole
+        (R.so_far given reading.old) rows.old in
         GivesNext (λ all. R.IsKept all reading.new ×
-        (read_from (R.take (R.file reading.new)) R.whole
-        (R.so_far all reading.new) rows.new.number (rest_of rows.new) ≡
+        (read_on (R.take (R.file reading.new)) R.whole (R.so_far all reading.new) rows.new ≡
         file)) file given result }
     ensures file { R.file reading.new ≡ R.file reading.old }
     ensures rows { IfOk result (λ pass. IfSome pass (λ _. IsReading rows.new)) }
@@ -102,4 +102,29 @@ pub(crate) fn next_pass<R: PassReading>(
             kind: FaultKind::Order,
         })
     }
+}
+
+/// All passes of a file of which none was handed out. The error is the first check that fails, or
+/// `Memory`.
+pub(crate) fn all_passes<R: PassReading>(
+    alloc: Global,
+    rows: &mut Rows,
+    reading: &mut R,
+) -> Result<Vec<R::Pass>, TraceFault>
+    requires rows { IsReading rows.old }
+    requires ready { R.IsReady reading.old }
+    requires kept { R.IsKept [] reading.old }
+    ensures { Gives (λ all. all.items) result
+        (read_on (R.take (R.file reading.old)) R.whole (R.so_far [] reading.old) rows.old) }
+{
+    let mut passes = Vec::new(alloc);
+    while let Some(pass) = next_pass(rows, reading)? {
+        let Ok(()) = passes.push(pass) else {
+            return Err(TraceFault {
+                row: rows.number(),
+                kind: FaultKind::Memory,
+            });
+        };
+    }
+    Ok(passes)
 }

@@ -3,8 +3,8 @@
 ghost use Rattle.std.specs.Prelude.{◌≡◌, Result, Option, OnOk, option_map};
 ghost use Rattle.csv.specs.Records.{fields_of};
 ghost use Rattle.cal_trace.specs.Rows.Answers.{Gives, Takes};
-ghost use Rattle.cal_trace.specs.Rows.Reading.{read_from};
-ghost use Rattle.cal_trace.specs.Rows.{Fields, IsReading, rest_of};
+ghost use Rattle.cal_trace.specs.Rows.Reading.{read_on};
+ghost use Rattle.cal_trace.specs.Rows.{Fields, IsReading};
 ghost use Rattle.cal_trace.specs.declared.fault.FaultKind.{FaultKind};
 
 use crate::fault::{FaultKind, TraceFault};
@@ -48,7 +48,7 @@ pub(crate) fn take_rows<R: Reading>(rows: &mut Rows, mut reading: R) -> Result<R
     requires rows { IsReading rows.old }
     requires kept { R.IsKept reading }
     ensures { Gives (λ value. value) result
-        (read_from (R.take reading) R.whole (R.so_far reading) rows.old.number (rest_of rows.old)) }
+        (read_on (R.take reading) R.whole (R.so_far reading) rows.old) }
 {
     while rows.step()? {
         if let Err(kind) = reading.take_row(rows.row()) {

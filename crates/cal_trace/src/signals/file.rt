@@ -8,9 +8,10 @@ ghost use Rattle.cal_trace.specs.Signals.{signals_of};
 ghost use Rattle.cal_trace.specs.Signals.Reading.{GivesNext, HasGiven, IsOpen, rows_left};
 ghost use Rattle.cal_trace.specs.declared.signals.SignalPass.{SignalPass};
 
-use crate::fault::{FaultKind, TraceFault};
+use crate::fault::TraceFault;
 use crate::rows::Rows;
 use crate::rows::header::open_under;
+use crate::rows::passes::{all_passes, next_pass};
 use crate::signals::reading::SignalReading;
 use crate::signals::{SignalPass, SignalPasses, Signals};
 use cal_machine::Config;
@@ -63,26 +64,7 @@ impl<'a> SignalRows<'a> {
         ensures fewer { IfOk result
             (λ pass. IfSome pass (λ _. rows_left self.new < rows_left self.old)) }
     {
-        while self.rows.step()? {
-            match self.reading.take_row(self.rows.row()) {
-                Ok(Some(pass)) => return Ok(Some(pass)),
-                Ok(None) => {}
-                Err(kind) => {
-                    return Err(TraceFault {
-                        row: self.rows.number(),
-                        kind,
-                    });
-                }
-            }
-        }
-        if self.reading.has_ended() {
-            Ok(None)
-        } else {
-            Err(TraceFault {
-                row: self.rows.number() + 1,
-                kind: FaultKind::Order,
-            })
-        }
+        next_pass(&mut self.rows, &mut self.reading)
     }
 }
 
@@ -96,36 +78,12 @@ pub fn read_signals(alloc: Global, config: &Config, text: &[u8]) -> Result<Signa
     ensures { Gives (λ signals. signals.passes) result
         (signals_of (threads_in config.now.tasks) (rows_of text.now)) }
 {
-    let mut signals = SignalRows::open(alloc, config, text)?;
-    all_passes(alloc, &mut signals)
-}
-
-/// All passes of a file of which none was given.
-fn all_passes(alloc: Global, signals: &mut SignalRows) -> Result<Signals, TraceFault>
-    requires { IsOpen signals.old }
-    ensures { (threads : ℕ) (text : List ℕ) → HasGiven threads text [] signals.old →
-        Gives (λ signals. signals.passes) result (signals_of threads (rows_of text)) }
-{
-    let mut passes = Vec::new(alloc);
-    push_passes(signals, &mut passes)?;
+    let SignalRows {
+        mut rows,
+        mut reading,
+    } = SignalRows::open(alloc, config, text)?;
+    let passes = all_passes(alloc, &mut rows, &mut reading)?;
     Ok(Signals {
         passes: SignalPasses::new(passes),
     })
-}
-
-/// Adds the passes still to come to those that were given.
-fn push_passes(signals: &mut SignalRows, passes: &mut Vec<SignalPass>) -> Result<(), TraceFault>
-    requires { IsOpen signals.old }
-    ensures { (threads : ℕ) (text : List ℕ) → HasGiven threads text passes.old.items signals.old →
-        Gives (λ _. passes.new.items) result (signals_of threads (rows_of text)) }
-{
-    while let Some(pass) = signals.next()? {
-        let Ok(()) = passes.push(pass) else {
-            return Err(TraceFault {
-                row: signals.rows.number(),
-                kind: FaultKind::Memory,
-            });
-        };
-    }
-    Ok(())
 }

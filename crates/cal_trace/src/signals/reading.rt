@@ -7,6 +7,7 @@ ghost use Rattle.csv.specs.Records.{fields_of};
 use crate::fault::FaultKind;
 use crate::rows::fields::is_row;
 use crate::rows::look_rows::{busy_row, end_row, pass_row, whole_row};
+use crate::rows::passes::PassReading;
 use crate::rows::version::Version;
 use crate::signals::{SignalLooks, SignalPass};
 use cal_policy::FoundLook;
@@ -73,10 +74,11 @@ impl SignalReading {
     ghost use Rattle.std.specs.Prelude.{◌≡◌, [], List, OnOk, IfOk, IfErr, Some, None, option_map};
     ghost use Rattle.csv.specs.Records.{fields_of};
     ghost use Rattle.cal_trace.specs.Rows.Answers.{Takes};
-    ghost use Rattle.cal_trace.specs.Signals.{at_start, is_between, next_thread, take_row};
-    ghost use Rattle.cal_trace.specs.Signals.{take_form, one_more};
-    ghost use Rattle.cal_trace.specs.Signals.Reading.{pass_at_hand, so_far, with_closed, HasPlaces};
-    ghost use Rattle.cal_trace.specs.Signals.Reading.{IsKept, IsSameFile};
+    ghost use Rattle.cal_trace.specs.Rows.Passes.{with_closed};
+    ghost use Rattle.cal_trace.specs.Signals.{at_start, is_between, next_thread, take_form};
+    ghost use Rattle.cal_trace.specs.Signals.{one_more};
+    ghost use Rattle.cal_trace.specs.Signals.Reading.{file_of, pass_at_hand, so_far};
+    ghost use Rattle.cal_trace.specs.Signals.Reading.{HasPlaces, IsKept};
     ghost use Rattle.cal_trace.specs.declared.fault.FaultKind.TheVariants as kind;
     ghost use Rattle.cal_trace.specs.declared.signals.reading.Form.TheVariants as form;
     ghost use Rattle.cal_trace.specs.declared.signals.SignalPass.{SignalPass};
@@ -90,8 +92,7 @@ impl SignalReading {
         ensures start { IfOk result (λ reading. so_far [] reading ≡ at_start) }
         ensures kept { IfOk result (IsKept []) }
         ensures places { IfOk result HasPlaces }
-        ensures version { IfOk result (λ reading. reading.version ≡ version) }
-        ensures threads { IfOk result (λ reading. reading.threads ≡ threads) }
+        ensures file { IfOk result (λ reading. file_of reading ≡ (threads, version)) }
         ensures memory { IfErr result (λ k. k ≡ kind.Memory) }
     {
         let shown = vec![in alloc; Shown::NOTHING; threads]?;
@@ -104,13 +105,6 @@ impl SignalReading {
             ended: false,
             shown,
         })
-    }
-
-    /// Whether the end row came.
-    pub(crate) fn has_ended(&self) -> bool
-        ensures { result ≡ self.now.ended }
-    {
-        self.ended
     }
 
     // Whether a pass row or the end row can stand here.
@@ -157,7 +151,7 @@ impl SignalReading {
         ensures kept { (given : List SignalPass) → IsKept given self.old →
             IfOk result (λ closed. IsKept (with_closed given closed) self.new) }
         ensures places { OnOk result (HasPlaces self.new) }
-        ensures file { IsSameFile self.old self.new }
+        ensures file { file_of self.new ≡ file_of self.old }
     {
         if !self.is_between() {
             return Err(FaultKind::Order);
@@ -183,7 +177,7 @@ impl SignalReading {
         ensures kept { (given : List SignalPass) → IsKept given self.old →
             IfOk result (λ closed. IsKept (with_closed given closed) self.new) }
         ensures places { OnOk result (HasPlaces self.new) }
-        ensures file { IsSameFile self.old self.new }
+        ensures file { file_of self.new ≡ file_of self.old }
     {
         if !self.is_between() {
             return Err(FaultKind::Order);
@@ -202,7 +196,7 @@ impl SignalReading {
         ensures kept { (given : List SignalPass) → IsKept given self.old →
             OnOk result (IsKept given self.new) }
         ensures places { OnOk result (HasPlaces self.new) }
-        ensures file { IsSameFile self.old self.new }
+        ensures file { file_of self.new ≡ file_of self.old }
     {
         let thread = self.next_thread()?;
         let whole = whole_row(row, thread)?;
@@ -229,7 +223,7 @@ impl SignalReading {
         ensures kept { (given : List SignalPass) → IsKept given self.old →
             OnOk result (IsKept given self.new) }
         ensures places { OnOk result (HasPlaces self.new) }
-        ensures file { IsSameFile self.old self.new }
+        ensures file { file_of self.new ≡ file_of self.old }
     {
         let thread = self.next_thread()?;
         let busy = busy_row(row, thread)?;
@@ -248,7 +242,7 @@ impl SignalReading {
             OnOk result (so_far given self.new ≡ one_more (so_far given self.old) look) }
         ensures shown { self.new.shown ≡ self.old.shown }
         ensures passes { self.new.passes ≡ self.old.passes }
-        ensures file { IsSameFile self.old self.new }
+        ensures file { file_of self.new ≡ file_of self.old }
         ensures memory { IfErr result (λ k. k ≡ kind.Memory) }
     {
         if let Some(pass) = &mut self.at_hand {
@@ -257,31 +251,65 @@ impl SignalReading {
         Ok(())
     }
 
-    /// Takes one more row, and hands out the pass that it ends, if it ends one.
-    pub(crate) fn take_row(&mut self, row: &ByteRecord) -> Result<Option<SignalPass>, FaultKind>
+    // Takes one more row of this form.
+    fn take_form(&mut self, row: &ByteRecord, form: Form) -> Result<Option<SignalPass>, FaultKind>
         requires { HasPlaces self.old }
         ensures takes { (given : List SignalPass) → IsKept given self.old →
             Takes (λ closed. so_far (with_closed given closed) self.new) result
-            (take_row self.old.threads self.old.version (so_far given self.old)
-            (fields_of row.now)) }
+            (take_form self.old.threads (so_far given self.old) (Some form) (fields_of row.now)) }
         ensures kept { (given : List SignalPass) → IsKept given self.old →
             IfOk result (λ closed. IsKept (with_closed given closed) self.new) }
         ensures places { OnOk result (HasPlaces self.new) }
-        ensures file { IsSameFile self.old self.new }
+        ensures file { file_of self.new ≡ file_of self.old }
     {
-        match form_of(row, self.version) {
-            None => Err(FaultKind::Fields),
-            Some(Form::Header) => Err(FaultKind::Order),
-            Some(Form::Pass) => self.take_pass(row),
-            Some(Form::End) => self.take_end(row),
-            Some(Form::Whole) => {
+        match form {
+            Form::Header => Err(FaultKind::Order),
+            Form::Pass => self.take_pass(row),
+            Form::End => self.take_end(row),
+            Form::Whole => {
                 self.take_whole(row)?;
                 Ok(None)
             }
-            Some(Form::Busy) => {
+            Form::Busy => {
                 self.take_busy(row)?;
                 Ok(None)
             }
         }
+    }
+}
+
+impl PassReading for SignalReading {
+    ghost use Rattle.std.specs.Prelude.{ℕ};
+    ghost use Rattle.cal_trace.specs.Signals.{SoFar, take_row, whole};
+    ghost use Rattle.cal_trace.specs.Signals.Reading.{file_of, so_far, HasPlaces, IsKeptFitting};
+    ghost use Rattle.cal_trace.specs.declared.rows.version.Version.{Version};
+
+    type Pass = SignalPass;
+
+    ghost SoFar = { SoFar };
+
+    ghost so_far = { so_far };
+
+    ghost File = { ℕ × Version };
+
+    ghost file = { file_of };
+
+    ghost take = { λ file. take_row file.0 file.1 };
+
+    ghost whole = { whole };
+
+    ghost IsReady = { HasPlaces };
+
+    ghost IsKept = { IsKeptFitting };
+
+    fn take_row(&mut self, row: &ByteRecord) -> Result<Option<SignalPass>, FaultKind> {
+        match form_of(row, self.version) {
+            None => Err(FaultKind::Fields),
+            Some(form) => self.take_form(row, form),
+        }
+    }
+
+    fn has_ended(&self) -> bool {
+        self.ended
     }
 }

@@ -1,5 +1,5 @@
 use Rattle.std.proofs.Common.{◌≡◌, length}
-use Rattle.cal_trace.specs.Rows.Reading.{read_from}
+use Rattle.cal_trace.specs.Rows.Reading.{read_on}
 use Rattle.cal_trace.specs.Rows.{IsReading, rest_of}
 use Rattle.cal_trace.proofs.rows.reading.take_rows.Given as goal
 
@@ -9,8 +9,8 @@ invariant-loop-reading g l = record {
   rows : IsReading l.rows;
   kept : g.R.Reading.IsKept l.reading;
   take : g.R.Reading.take l.reading ≡ g.R.Reading.take l.initial.reading;
-  same : read_from (g.R.Reading.take l.reading) g.R.Reading.whole (g.R.Reading.so_far l.reading) l.rows.number (rest_of l.rows)
-      ≡ read_from (g.R.Reading.take l.initial.reading) g.R.Reading.whole (g.R.Reading.so_far l.initial.reading) l.initial.rows.number (rest_of l.initial.rows);
+  same : read_on (g.R.Reading.take l.reading) g.R.Reading.whole (g.R.Reading.so_far l.reading) l.rows
+      ≡ read_on (g.R.Reading.take l.initial.reading) g.R.Reading.whole (g.R.Reading.so_far l.initial.reading) l.initial.rows;
 }
 
 abbrev pub decreases-loop-reading : goal.decreases-loop-reading

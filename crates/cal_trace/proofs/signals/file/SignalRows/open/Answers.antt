@@ -1,4 +1,4 @@
-use Rattle.std.proofs.Common.{◌∙◌, refl, codes}
+use Rattle.std.proofs.Common.{◌∙◌, ℕ, refl, ap, codes}
 use Rattle.std.proofs.lemmas.Result.{err_from_is_err_and}
 use Rattle.cal_machine.specs.Tasks.{threads_in}
 use Rattle.cal_trace.specs.Rows.Header.{header_of}
@@ -19,4 +19,4 @@ returns-in-Ok-clause-given c =
     let header = rw c.as_slice.ensures at c.in_ok-rows.ensures.gives in
     let start = c.in-Ok.ensures in
     HasGiven-none (threads_in c.args.config.now.tasks) c.args.text.now c.in_ok-rows.version (rest_of c.in_ok-rows.rows) _ header refl c.in_ok-rows.ensures.number
-    (start.threads ∙ c.threads.ensures.count) start.version start.start start.kept
+    (start.file ∙ ap (λ (n : ℕ). (n, c.in_ok-rows.version)) c.threads.ensures.count) start.start start.kept

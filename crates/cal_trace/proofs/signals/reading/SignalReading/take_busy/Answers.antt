@@ -6,8 +6,9 @@ use Rattle.cal_trace.specs.Signals.{SoFar, passes_of, last_shown, look_of_busy, 
 use Rattle.cal_trace.specs.Signals.Reading.{so_far}
 use Rattle.cal_trace.specs.declared.rows.look_rows.BusyRow.{BusyRow}
 use Rattle.cal_trace.specs.declared.signals.reading.Form.TheVariants as form
-use Rattle.cal_trace.proofs.SignalLemmas.Accepted.{count-with_look}
+use Rattle.cal_trace.proofs.RowLemmas.Passes.{count-at_hand}
 use Rattle.cal_trace.proofs.SignalLemmas.LastShown.{kept-busy}
+use Rattle.cal_trace.specs.declared.rows.version.Version.{Version}
 use Rattle.cal_trace.proofs.signals.reading.SignalReading.take_busy.Goals as goal
 
 -- what a row of a busy look says
@@ -25,11 +26,12 @@ returns-clause-takes c = λ given kept.
 pub returns-clause-kept : goal.returns-clause-kept
 returns-clause-kept c = λ given kept.
     let old = so_far given c.args.self.now in
-    let same = c.add_look.ensures.file in
+    let same = ap (λ (f : ℕ × Version). f.0) c.add_look.ensures.file in
     let added = c.in_ok-add_look.ensures.added given in
     record {
-      passes = c.add_look.ensures.passes ∙ kept.passes ∙ sym (count-with_look old.before old.at_hand _) ∙ ap (λ (s : SoFar). length (passes_of s)) (sym added);
-      shown = λ k lt. rw c.add_look.ensures.shown (kept.shown k (rw same.threads at lt)
+      passes = c.add_look.ensures.passes ∙ kept.passes ∙ sym (count-at_hand _ old.before old.at_hand) ∙ ap (λ (s : SoFar). length (passes_of s)) (sym added);
+      few = rw c.add_look.ensures.passes kept.few;
+      shown = λ k lt. rw c.add_look.ensures.shown (kept.shown k (rw same at lt)
           ∙ sym (kept-busy old c.args.self.now.threads c.in_ok-thread.thread k _ (sym c.in_ok-thread.ensures) refl)
           ∙ ap (λ (s : SoFar). last_shown k (passes_of s)) (sym added));
     }

@@ -1,12 +1,13 @@
-use Rattle.std.proofs.Common.{◌<◌, ◌∙◌, sym, ap, refl, length, []}
+use Rattle.std.proofs.Common.{◌<◌, ◌∙◌, ℕ, sym, ap, refl, length, []}
 use Rattle.std.proofs.lemmas.List.{get_or_default}
 use Rattle.csv.specs.Records.{fields_of}
 use Rattle.cal_signal.specs.Shown.{nothing_shown}
 use Rattle.cal_trace.specs.Signals.{SoFar, passes_of, last_shown}
 use Rattle.cal_trace.specs.Signals.Reading.{so_far}
-use Rattle.cal_trace.proofs.SignalLemmas.Accepted.{count-with_look}
+use Rattle.cal_trace.proofs.RowLemmas.Passes.{count-at_hand}
 use Rattle.cal_trace.proofs.SignalLemmas.LastShown.{next_below}
 use Rattle.cal_trace.proofs.SignalLemmas.WholeLooks.{takes-whole, keeps-whole}
+use Rattle.cal_trace.specs.declared.rows.version.Version.{Version}
 use Rattle.cal_trace.proofs.signals.reading.SignalReading.take_whole.Goals as goal
 
 pub index-requires : goal.index-requires
@@ -36,13 +37,14 @@ pub returns-clause-kept : goal.returns-clause-kept
 returns-clause-kept c = λ given kept.
     let old = c.args.self.now in
     let k = c.in_ok-thread.thread in
-    let same = c.add_look.ensures.file in
+    let same = ap (λ (f : ℕ × Version). f.0) c.add_look.ensures.file in
     let added = c.in_ok-add_look.ensures.added given in
     let below = next_below old.threads k (so_far given old).at_hand (sym c.in_ok-thread.ensures) in
     let within : k < length old.shown.items = rw (← c.requires, old.shown.ok.0) at below in
     record {
-      passes = c.add_look.ensures.passes ∙ kept.passes ∙ sym (count-with_look (so_far given old).before (so_far given old).at_hand _) ∙ ap (λ (s : SoFar). length (passes_of s)) (sym added);
+      passes = c.add_look.ensures.passes ∙ kept.passes ∙ sym (count-at_hand _ (so_far given old).before (so_far given old).at_hand) ∙ ap (λ (s : SoFar). length (passes_of s)) (sym added);
+      few = rw c.add_look.ensures.passes kept.few;
       shown = λ j lt. rw c.add_look.ensures.shown
-          (keeps-whole (so_far given old) old.threads k j _ c.in_ok-whole.whole.shown old.shown.items (sym c.in_ok-thread.ensures) refl within (kept.shown j (rw same.threads at lt))
+          (keeps-whole (so_far given old) old.threads k j _ c.in_ok-whole.whole.shown old.shown.items (sym c.in_ok-thread.ensures) refl within (kept.shown j (rw same at lt))
           ∙ ap (λ (s : SoFar). last_shown j (passes_of s)) (sym added));
     }
