@@ -15,7 +15,7 @@ use Rattle.cal_policy.proofs.PassLemmas.Apart.{apart_push}
 use Rattle.cal_laws.specs.Bans.{NoneHeld}
 use Rattle.cal_laws.specs.Point.{Point, setting_at, made_at, actions_at}
 use Rattle.cal_laws.proofs.PointLemmas.EachAction.{actions_more, after_passes}
-use Rattle.cal_guard.specs.Permitted.{IsPermitted, IsPermittedHistory, NoneOverCap, IsSettled}
+use Rattle.cal_guard.specs.Permitted.{IsPermitted, IsPermittedHistory, NoneOverCap, LeavesNothing}
 use Rattle.cal_guard.specs.Histories.{IsPermittedPoint}
 use Rattle.cal_guard.specs.Laws.{IsRevokedNext, IsLoweredNext}
 use Rattle.cal_guard.proofs.Steady.{each_permitted, permitted_at, at_point}
@@ -55,8 +55,8 @@ all_made here is past =
     ap (λ n. take n here.entry.actions) whole ∙ take-length here.entry.actions
 
 -- there no ban and no cap is left undone
-settled_at : (here : Point) → IsPermittedPoint here → length here.entry.actions ≤ here.made → IsSettled (setting_at here) (made_at here)
-settled_at here is past = subst (IsSettled (setting_at here)) (sym (all_made here is past)) (is.permitted.passes here.pass here.entry is.entry).actions.settled
+settled_at : (here : Point) → IsPermittedPoint here → length here.entry.actions ≤ here.made → LeavesNothing (setting_at here) (made_at here)
+settled_at here is past = subst (LeavesNothing (setting_at here)) (sym (all_made here is past)) (is.permitted.passes here.pass here.entry is.entry).actions.settled
 
 -- where a banned core is held an action comes next, which revokes it
 pub revoked_next : (here : Point) → IsPermittedPoint here → (core : ℕ) → is_banned (actions_at here) core ≡ true → is_held (holder_of (actions_at here) core) ≡ true → IsRevokedNext here core

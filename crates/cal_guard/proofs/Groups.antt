@@ -6,7 +6,7 @@ use Rattle.std.proofs.lemmas.Option.{slice_get_within}
 use Rattle.cal_policy.specs.declared.history.action.Action.{Action}
 use Rattle.cal_policy.specs.Setting.{Setting}
 use Rattle.cal_guard.specs.Permitted.{IsPermitted, ArePermitted}
-use Rattle.cal_guard.specs.Refusals.{MayFollow}
+use Rattle.cal_guard.specs.Refusals.{MayEndWith}
 use Rattle.cal_guard.specs.Guarded.{GroupsMakeAPass}
 use Rattle.cal_lists.proofs.Places.{slice_get_parts}
 
@@ -21,7 +21,7 @@ take_behind [] ys n i e = let same : n ≡ i = omega (arith, e) in ap (λ m. tak
 take_behind (x ∷ xs) ys zero i e = absurd (omega (arith, e))
 take_behind (x ∷ xs) ys (suc n) i e = ap (λ zs. x ∷ zs) (take_behind xs ys n i (omega (arith, e)))
 
-together : (s : Setting) (acts group : List Action) → ArePermitted s acts → MayFollow s acts group → ArePermitted s (acts ++ group)
+together : (s : Setting) (acts group : List Action) → ArePermitted s acts → MayEndWith s acts group → ArePermitted s (acts ++ group)
 together s acts group all may = record {
   each = λ i a e. ⊎_elim (λ old. earlier i a old) (λ new. later i new.0 a new.1 new.2) (slice_get_parts acts group i a e);
   short = (let sum = length-append acts group in let short = may.short in omega (arith, sum, short));
@@ -36,7 +36,7 @@ together s acts group all may = record {
     later : (i j : ℕ) (a : Action) → i ≡ length acts + j → slice_get group j ≡ Some a → IsPermitted s (take i (acts ++ group)) a
     later i j a at new = subst (λ before. IsPermitted s before a) (sym (take_behind acts group i j at)) (may.each j a new)
 
-apart : (s : Setting) (acts group : List Action) → ArePermitted s (acts ++ group) → MayFollow s acts group
+apart : (s : Setting) (acts group : List Action) → ArePermitted s (acts ++ group) → MayEndWith s acts group
 apart s acts group all = record {
   each = λ j a e.
       let at : length acts + j ≡ length acts + j = omega arith in

@@ -6,7 +6,7 @@ use Rattle.cal_policy.specs.declared.history.action.Action.{Action}
 use Rattle.cal_policy.specs.Setting.{Setting}
 use Rattle.cal_guard.specs.declared.passing.Passing.{Passing}
 use Rattle.cal_guard.specs.Permitted.{IsPermitted, ArePermitted}
-use Rattle.cal_guard.specs.Refusals.{MayFollow, wrong_with}
+use Rattle.cal_guard.specs.Refusals.{MayEndWith, wrong_with}
 use Rattle.cal_guard.specs.Passing.{IsInside}
 use Rattle.cal_guard.proofs.Wrong.{right_back}
 
@@ -16,7 +16,7 @@ pub record IsRun (s : Setting) (acts actions : List Action) (n : ℕ) (passing :
   pub inside : IsInside passing s (acts ++ take n actions)
 
 -- of actions that may follow, none is wrong
-pub none_wrong : (s : Setting) (acts actions : List Action) (n : ℕ) (a : Action) → n < length actions → MayFollow s acts actions → IsPermitted s (acts ++ take n actions) a →
+pub none_wrong : (s : Setting) (acts actions : List Action) (n : ℕ) (a : Action) → n < length actions → MayEndWith s acts actions → IsPermitted s (acts ++ take n actions) a →
     wrong_with s (acts ++ take n actions) a ≡ None
 none_wrong s acts actions n a lt may p =
     let sum = length-append acts (take n actions) in
@@ -25,8 +25,8 @@ none_wrong s acts actions n a lt may p =
     right_back s (acts ++ take n actions) a (omega (arith, sum, taken, short, lt)) p
 
 -- actions that may follow none are a pass's
-pub whole : (s : Setting) (actions : List Action) → MayFollow s [] actions → ArePermitted s actions
+pub whole : (s : Setting) (actions : List Action) → MayEndWith s [] actions → ArePermitted s actions
 whole s actions may = record { each = may.each; short = (let short = may.short in omega (arith, short)); settled = may.settled }
 
-pub whole_back : (s : Setting) (actions : List Action) → ArePermitted s actions → MayFollow s [] actions
+pub whole_back : (s : Setting) (actions : List Action) → ArePermitted s actions → MayEndWith s [] actions
 whole_back s actions all = record { each = all.each; short = (let short = all.short in omega (arith, short)); settled = all.settled }

@@ -22,7 +22,7 @@ use Rattle.cal_laws.proofs.ListLemmas.Below.{none_passes}
 use Rattle.cal_laws.proofs.ChoiceLemmas.Granted.{books}
 use Rattle.cal_guard.specs.declared.refusal.Why.{Why}
 use Rattle.cal_guard.specs.declared.refusal.Why.TheVariants.{TooMany, DoesNotFit, NotLeft, Banned, AtLimit, AtCap, AtGuarantee, NoRoom, SecondCommand, BannedHeld, OverCap}
-use Rattle.cal_guard.specs.Permitted.{MayBeSent, MayBeRevoked, MayBeGranted, MayBeMade, IsPermitted, IsSettled, core_revoked}
+use Rattle.cal_guard.specs.Permitted.{MayBeSent, MayBeRevoked, MayBeGranted, MayBeMade, IsPermitted, LeavesNothing, core_revoked}
 use Rattle.cal_guard.specs.Refusals.{unless, was_sent, wrong_to_send, wrong_to_revoke, wrong_to_book, wrong_to_grant, wrong_to_make, is_core, is_left_held, is_from, is_left_over, left_undone, wrong_with}
 use Rattle.cal_guard.specs.Passing.{HeldAreLow}
 use Rattle.cal_guard.proofs.Sent.{sent_grows}
@@ -238,7 +238,7 @@ right_back s acts a few p =
     }))))
 
 -- the pass may end where nothing is left undone
-pub settles : (s : Setting) (acts : List Action) → HeldAreLow s.table (so_far s acts) → left_undone s.table (so_far s acts) None ≡ None → IsSettled s acts
+pub settles : (s : Setting) (acts : List Action) → HeldAreLow s.table (so_far s acts) → left_undone s.table (so_far s acts) None ≡ None → LeavesNothing s acts
 settles s acts low e =
     let x : List Action = so_far s acts in
     let all = done s.table x None low e in record {
@@ -255,7 +255,7 @@ settles s acts low e =
     by c false e banned = refl
     by c true is banned = let no = (done s.table (so_far s acts) None low e).emptied c banned is in cc
 
-pub settles_back : (s : Setting) (acts : List Action) → IsSettled s acts → left_undone s.table (so_far s acts) None ≡ None
+pub settles_back : (s : Setting) (acts : List Action) → LeavesNothing s acts → left_undone s.table (so_far s acts) None ≡ None
 settles_back s acts h = done_back s.table (so_far s acts) None (record {
   emptied = λ c banned is. absurd (both_ways _ (h.emptied.empty c banned) is);
   lowered = λ t best over. absurd (let within = h.lowered.within t best in omega (arith, within, over));

@@ -9,7 +9,7 @@ use Rattle.cal_policy.specs.Setting.{Setting, setting}
 use Rattle.cal_policy.specs.Board.{Agrees, KeepingAgrees, IsReady}
 use Rattle.cal_guard.specs.declared.guard.Guard.{Guard}
 use Rattle.cal_guard.specs.Permitted.{ArePermitted}
-use Rattle.cal_guard.specs.Refusals.{MayFollow}
+use Rattle.cal_guard.specs.Refusals.{MayEndWith}
 use Rattle.cal_guard.specs.Passing.{IsInside}
 
 -- what the guard keeps is what the history says: of its actions, and of its looks
@@ -38,4 +38,4 @@ PassesAreKept = (guard : Guard) (table : Table) (history : List PassEntry) (inpu
 -- after a permitted pass a group of actions may follow just where with them it is a permitted pass
 abbrev pub GroupsMakeAPass : Type 0
 GroupsMakeAPass = (s : Setting) (acts group : List Action) → ArePermitted s acts →
-    MayFollow s acts group ↔ ArePermitted s (acts ++ group)
+    MayEndWith s acts group ↔ ArePermitted s (acts ++ group)

@@ -18,7 +18,7 @@ use Rattle.cal_laws.specs.Acknowledged.{HasBeenLeft}
 use Rattle.cal_laws.specs.Exclusion.{HaveOneCore, IsByLastRun, GoesToIdle}
 use Rattle.cal_laws.specs.Limits.{IsWithinLimit, MayBookMore, LeavesGuarantee}
 use Rattle.cal_laws.specs.Bans.{NoneHeld}
-use Rattle.cal_laws.specs.Kept.{IsTrueRecord, IsOnCore}
+use Rattle.cal_laws.specs.Kept.{IsTrueRecord, IsOnItsCore}
 use Rattle.cal_laws.specs.Runs.{RunsStand}
 use Rattle.cal_laws.specs.Ends.{IsSafeBetween}
 use Rattle.cal_guard.specs.Permitted.{IsPermittedHistory, core_revoked, RevokesFrom}
@@ -108,7 +108,7 @@ KeptRecordsAreTrue = (here : Point) → IsPermittedPoint here → (k : ℕ) →
 abbrev pub KeptThreadsAreOnCore : Type 0
 KeptThreadsAreOnCore = (here : Point) → IsPermittedPoint here → (k : ℕ) →
     (kept_now (setting_at here) k).running ≢ 0 →
-    IsOnCore here.table (actions_at here) k (kept_now (setting_at here) k)
+    IsOnItsCore here.table (actions_at here) k (kept_now (setting_at here) k)
 
 abbrev pub RunsStandUntilLeft : Type 0
 RunsStandUntilLeft = (here : Point) → IsPermittedPoint here →

@@ -85,7 +85,7 @@ pub record IsPermitted (s : Setting) (acts : List Action) (a : Action) : Type 0 
   pub lowers : LowersCapped s.table (so_far s acts) a
 
 -- after these actions of the pass no ban and no cap is left undone
-pub record IsSettled (s : Setting) (acts : List Action) : Type 0 where
+pub record LeavesNothing (s : Setting) (acts : List Action) : Type 0 where
   pub emptied : NoneHeld (so_far s acts)
   pub lowered : NoneOverCap s.table (so_far s acts)
 
@@ -94,7 +94,7 @@ pub record IsSettled (s : Setting) (acts : List Action) : Type 0 where
 pub record ArePermitted (s : Setting) (actions : List Action) : Type 0 where
   pub each : (i : ℕ) (a : Action) → slice_get actions i ≡ Some a → IsPermitted s (take i actions) a
   pub short : length actions ≤ MOST_ACTIONS
-  pub settled : IsSettled s actions
+  pub settled : LeavesNothing s actions
 
 -- an entry is a permitted pass after these, whoever chose its actions
 pub record IsPermittedPass (table : Table) (before : List PassEntry)

@@ -23,7 +23,7 @@ use Rattle.cal_guard.specs.declared.refusal.Why.TheVariants.{TooMany, DoesNotFit
 use Rattle.cal_guard.specs.declared.refusal.Why.TheVariants.{AtLimit, AtCap, AtGuarantee, NoRoom}
 use Rattle.cal_guard.specs.declared.refusal.Why.TheVariants.{SecondCommand, BannedHeld, OverCap}
 use Rattle.cal_guard.specs.declared.refusal.Refused.{Refused}
-use Rattle.cal_guard.specs.Permitted.{core_revoked, IsPermitted, IsSettled}
+use Rattle.cal_guard.specs.Permitted.{core_revoked, IsPermitted, LeavesNothing}
 
 -- this is wrong, unless the condition holds
 abbrev pub unless : Bool → Why → Option Why
@@ -108,11 +108,11 @@ wrong_next s acts None = left_undone s.table (so_far s acts) None
 
 -- these actions are permitted, each at its place, after the actions acts of the pass; with them
 -- they are not many; and the pass may end after them
-pub record MayFollow (s : Setting) (acts actions : List Action) : Type 0 where
+pub record MayEndWith (s : Setting) (acts actions : List Action) : Type 0 where
   pub each : (i : ℕ) (a : Action) → slice_get actions i ≡ Some a →
       IsPermitted s (acts ++ take i actions) a
   pub short : length acts + length actions ≤ MOST_ACTIONS
-  pub settled : IsSettled s (acts ++ actions)
+  pub settled : LeavesNothing s (acts ++ actions)
 
 -- those before its place are permitted, and this is what is wrong there
 pub record IsFirstWrong (s : Setting) (acts actions : List Action)

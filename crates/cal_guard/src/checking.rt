@@ -1,7 +1,7 @@
 //! Whether a history is permitted, whoever chose its actions: the reference, which walks the
 //! history.
 
-ghost use Rattle.std.specs.Prelude.{◌≡◌, ◌↔◌, IsTrue};
+ghost use Rattle.std.specs.Prelude.{◌↔◌, IsTrue};
 ghost use Rattle.cal_policy.specs.Setting.{setting};
 ghost use Rattle.cal_policy.specs.Judgement.Judging.{IsInput};
 ghost use Rattle.cal_guard.specs.Permitted.{ArePermitted, IsPermittedPass, IsPermittedHistory};

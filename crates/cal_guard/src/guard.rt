@@ -13,7 +13,7 @@ ghost use Rattle.cal_policy.specs.Judgement.Judging.{judged, IsInput};
 ghost use Rattle.cal_policy.specs.Setting.{setting};
 ghost use Rattle.cal_policy.specs.Board.{HasSizes, kept_holder};
 ghost use Rattle.cal_guard.specs.Permitted.{ArePermitted, IsPermittedHistory};
-ghost use Rattle.cal_guard.specs.Refusals.{MayFollow, IsFirstWrong};
+ghost use Rattle.cal_guard.specs.Refusals.{MayEndWith, IsFirstWrong};
 ghost use Rattle.cal_guard.specs.Guarded.{Keeps, IsWithin, IsGuardOf};
 ghost use Rattle.cal_guard.specs.Guarded.{PassesAreKept, GroupsMakeAPass, and_then};
 
@@ -143,7 +143,7 @@ impl Guard {
         requires sizes { HasSizes config.now input.now }
         ensures exact { (h : List PassEntry) (acts : List Action) →
             IsWithin self.old (setting config.now h input.entry.now) acts →
-            IsOk result ↔ MayFollow (setting config.now h input.entry.now) acts actions.now }
+            IsOk result ↔ MayEndWith (setting config.now h input.entry.now) acts actions.now }
         ensures taken { IsOk result → (h : List PassEntry) (acts : List Action) →
             IsWithin self.old (setting config.now h input.entry.now) acts →
             IsWithin self.new (setting config.now h input.entry.now) (acts ++ actions.now) }

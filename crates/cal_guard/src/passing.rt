@@ -1,7 +1,7 @@
 //! Inside a pass: what is wrong with the next action, and the state after it.
 
 ghost use Rattle.std.specs.Prelude.{◌≡◌, ℕ, ◌+◌, ◌<◌, ◌≤◌, ◌++◌, ◌∷◌, [], ◌↔◌, List, Option};
-ghost use Rattle.std.specs.Prelude.{length, None, IsOk, IfNone, IfErr, OnOk, option_map};
+ghost use Rattle.std.specs.Prelude.{length, None, IsOk, IfNone, IfErr};
 ghost use Rattle.std.specs.Option.{IfSome};
 ghost use Rattle.cal_machine.specs.Table.{Table, IsTable};
 ghost use Rattle.cal_machine.specs.declared.machine.TheConstants.{MOST_CORES};
@@ -14,10 +14,10 @@ ghost use Rattle.cal_policy.specs.Pass.Choice.{lowest_below};
 ghost use Rattle.cal_policy.specs.History.{actions_of, looks_of, holder_of};
 ghost use Rattle.cal_policy.specs.Setting.{Setting, setting, so_far};
 ghost use Rattle.cal_policy.specs.Board.{Agrees, KeepingAgrees, Stands, IsReady};
-ghost use Rattle.cal_policy.specs.Board.{HasSizes, NamesCores, NamesTable};
+ghost use Rattle.cal_policy.specs.Board.{NamesCores, NamesTable};
 ghost use Rattle.cal_guard.specs.Permitted.{IsPermitted, IsPermittedHistory, core_revoked};
 ghost use Rattle.cal_guard.specs.Refusals as refusals;
-ghost use Rattle.cal_guard.specs.Refusals.{MayFollow, IsFirstWrong};
+ghost use Rattle.cal_guard.specs.Refusals.{MayEndWith, IsFirstWrong};
 ghost use Rattle.cal_guard.specs.Passing.{IsSetOfSent, IsInside};
 
 use crate::refusal::{Refused, Why};
@@ -380,7 +380,7 @@ impl Passing {
         requires rooms { length input.now.rooms ≡ threads_of_table config.now }
         ensures exact { (h : List PassEntry) (acts : List Action) →
             let s = setting config.now h input.entry.now in
-            IsInside self.old s acts → IsOk result ↔ MayFollow s acts actions.now }
+            IsInside self.old s acts → IsOk result ↔ MayEndWith s acts actions.now }
         ensures inside { IsOk result → (h : List PassEntry) (acts : List Action) →
             let s = setting config.now h input.entry.now in
             IsInside self.old s acts → IsInside self.new s (acts ++ actions.now) }

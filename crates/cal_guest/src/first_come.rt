@@ -1,6 +1,6 @@
 //! First come, first served: another policy than this repository's, naive on purpose.
 
-use cal_machine::Config;
+use cal_machine::{Config, MOST_CORES, MOST_THREADS};
 use cal_policy::{Action, Cause, Record, Seen};
 use std::alloc::{AllocError, Global};
 
@@ -10,7 +10,7 @@ use std::alloc::{AllocError, Global};
 #[derive(Clone, Copy)]
 pub struct FirstCome {
     /// The thread to which it gave each core.
-    given: [Option<u8>; 128],
+    given: [Option<u8>; MOST_CORES],
 }
 
 /// The record of a whole look at the thread.
@@ -24,13 +24,15 @@ fn shown(seen: &[Seen], thread: u8) -> Option<Record> {
 impl FirstCome {
     /// The policy as it begins: no core is given to anybody.
     pub fn new() -> FirstCome {
-        FirstCome { given: [None; 128] }
+        FirstCome {
+            given: [None; MOST_CORES],
+        }
     }
 
     /// Each thread that waits and has no core, with since when, the longest wait first.
     fn waiting(&self, alloc: Global, seen: &[Seen]) -> Result<Vec<(u64, u8)>, AllocError> {
         let mut waiting = Vec::new(alloc);
-        for thread in 0..128 {
+        for thread in 0..MOST_THREADS as u8 {
             if let Some(rec) = shown(seen, thread) {
                 if rec.queued > 0 && !self.given.contains(&Some(thread)) {
                     waiting.push((rec.oldest, thread))?;
@@ -44,18 +46,27 @@ impl FirstCome {
     /// Notes an action as if it had been let through.
     pub fn note(&mut self, action: Action) {
         match action {
-            Action::Grant { core, thread, .. } if core < 128 => {
+            Action::Grant { core, thread, .. } if (core as usize) < MOST_CORES => {
                 self.given[core as usize] = Some(thread);
             }
-            Action::Free { core } if core < 128 => self.given[core as usize] = None,
+            Action::Free { core } if (core as usize) < MOST_CORES => {
+                self.given[core as usize] = None;
+            }
             _ => {}
+        }
+    }
+
+    /// Notes several actions, in their order.
+    fn note_all(&mut self, actions: &[Action]) {
+        for action in actions {
+            self.note(*action);
         }
     }
 
     /// Frees each core whose thread shows none.
     fn free(&self, alloc: Global, seen: &[Seen]) -> Result<Vec<Action>, AllocError> {
         let mut actions = Vec::new(alloc);
-        for core in 0..128 {
+        for core in 0..MOST_CORES as u8 {
             if let Some(thread) = self.given[core as usize] {
                 if shown(seen, thread).is_some_and(|rec| rec.running == 0) {
                     actions.push(Action::Free { core })?;
@@ -74,9 +85,7 @@ impl FirstCome {
     ) -> Result<Vec<Action>, AllocError> {
         let mut after = *self;
         let mut actions = after.free(alloc, seen)?;
-        for action in &actions {
-            after.note(*action);
-        }
+        after.note_all(actions.as_slice());
         for (_, thread) in after.waiting(alloc, seen)? {
             let free = (0..config.machine().cores()).find(
                 |core| after.given[*core as usize].is_none(),

@@ -1,12 +1,12 @@
 //! A kernel thread and its turns.
-ghost use Rattle.std.specs.Prelude.{◌≡◌, ◌+◌, ◌<◌, ◌≤◌, ◌↔◌, [], Err, IfOk, IfSome, MatchResult};
+ghost use Rattle.std.specs.Prelude.{◌≡◌, ◌+◌, ◌<◌, ◌≤◌, ◌↔◌, Err, IfOk, IfSome, MatchResult};
 ghost use Rattle.std.specs.Vec.{vec_len, vec_capacity};
 ghost use Rattle.cal_kthread.specs.declared.fault.TurnFault.TheVariants.{JournalFull};
 ghost use Rattle.cal_kthread.specs.Journal.{IsJournal, records_of, commands_of};
 ghost use Rattle.cal_kthread.specs.Team.{place_of};
 ghost use Rattle.cal_kthread.specs.Turn.{Answers, AreAnswers, IsFull, noted, turned};
 ghost use Rattle.cal_kthread.specs.Turn.Turns.{IsOneTurn};
-ghost use Rattle.cal_signal.specs.Pages.{last_of};
+ghost use Rattle.cal_signal.specs.Pages.{last_published};
 
 use crate::fault::TurnFault;
 use crate::journal::entry::Entry;
@@ -64,7 +64,7 @@ impl KernelThread {
     /// project's own.)
     pub fn turn(&mut self, now: u64, request: Option<Request>) -> Result<(), TurnFault>
         requires started { 1 ≤ now }
-        requires later { (last_of self.old.thread.publisher.published).stamp ≤ now }
+        requires later { (last_published self.old.thread.publisher.published).stamp ≤ now }
         requires work { IfSome request (λ arriving. 1 ≤ arriving.work) }
         ensures turned { MatchResult result
             (λ _. (answers : Answers) × AreAnswers answers self.old
@@ -77,7 +77,7 @@ impl KernelThread {
             × (self.new.thread.taker.ring ≡ self.old.thread.taker.ring) }
         ensures place { place_of self.new.thread ≡ place_of self.old.thread }
         ensures stamped { IfOk result (λ _.
-            (last_of self.new.thread.publisher.published).stamp ≡ now) }
+            (last_published self.new.thread.publisher.published).stamp ≡ now) }
         ensures journal { IsJournal self.new.journal }
         ensures page { records_of self.new.journal ≡ self.new.thread.publisher.published }
         ensures ring { commands_of self.new.journal ≡ self.new.thread.taker.taken }
@@ -102,7 +102,7 @@ impl KernelThread {
 
     /// The clock of its last turn, in ticks, or 0 before the first: no turn may have a lower one.
     pub fn clock(&self) -> u64
-        ensures { result ≡ (last_of self.now.thread.publisher.published).stamp }
+        ensures { result ≡ (last_published self.now.thread.publisher.published).stamp }
     {
         let (_, last) = self.thread.publisher.last();
         last.stamp

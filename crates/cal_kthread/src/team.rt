@@ -3,7 +3,7 @@
 pub mod linking;
 pub mod opening;
 
-ghost use Rattle.std.specs.Prelude.{◌≡◌, ◌≤◌, [], map, length, IfOk};
+ghost use Rattle.std.specs.Prelude.{◌≡◌, ◌≤◌, map, length, IfOk};
 ghost use Rattle.cal_machine.specs.Tasks.{threads_in};
 ghost use Rattle.cal_machine.specs.declared.numbering.TheConstants.{MOST_THREADS};
 ghost use Rattle.cal_kthread.specs.Team.Linking.{StoleNothing, unlinked};

@@ -13,7 +13,7 @@ use Rattle.cal_laws.specs.Point.{Point, IsPoint, setting_at, actions_at}
 
 -- after the actions x thread k holds or leaves the core that the record shows it on, by a Run that
 -- the record acknowledges
-pub record IsOnCore (table : Table) (x : List Action) (k : ℕ) (rec : Record) : Type 0 where
+pub record IsOnItsCore (table : Table) (x : List Action) (k : ℕ) (rec : Record) : Type 0 where
   pub low : rec.running ≤ table.cores
   pub place : placements.Placement
   pub there : placement_of (holder_of x (rec.running - 1)) ≡ Some place
@@ -28,7 +28,7 @@ pub record WasKeptOnCore (table : Table) (history : List PassEntry) (k : ℕ) (r
   pub is_pass : slice_get history pass ≡ Some entry
   pub number : ℕ
   pub whole : slice_get entry.input.seen k ≡ Some (Whole number rec)
-  pub on_core : IsOnCore table (actions_of (take pass history)) k rec
+  pub on_core : IsOnItsCore table (actions_of (take pass history)) k rec
 
 -- the record acknowledges no more than was sent; where it shows its thread on a core, it was kept
 -- in this pass or an earlier one, with the thread on that core
@@ -47,4 +47,4 @@ KeptRecordsAreTrue = (here : Point) → IsPoint here → (k : ℕ) →
 abbrev pub KeptThreadsAreOnCore : Type 0
 KeptThreadsAreOnCore = (here : Point) → IsPoint here → (k : ℕ) →
     (kept_now (setting_at here) k).running ≢ 0 →
-    IsOnCore here.table (actions_at here) k (kept_now (setting_at here) k)
+    IsOnItsCore here.table (actions_at here) k (kept_now (setting_at here) k)

@@ -37,7 +37,7 @@ use Rattle.cal_world.specs.declared.illegal.Illegal.{Illegal}
 use Rattle.cal_world.specs.declared.illegal.Illegal.TheVariants.{NoThread, NothingSent, NotOn, NotItsState, NoSuchPlace, OutOfTurn, NotThePass}
 use Rattle.cal_world.specs.Projections.{is_take_by, is_publish_by, takes_in, publishes_in, next_command, took, entries_for, journal_in}
 use Rattle.cal_world.specs.Threads.{page_in, place_read, place_watched, read_floor, watch_floor}
-use Rattle.cal_world.specs.Looks.{decided, since_decide, record_at, look_made, looks_since}
+use Rattle.cal_world.specs.Looks.{decided_at, since_decide, record_at, look_made, looks_since}
 use Rattle.cal_world.specs.World.{HasCommand, Passes, IsAllowed, IsLegalList}
 use Rattle.cal_linear.proofs.Lists.{last_from_push}
 use Rattle.cal_linear.proofs.OneMore.{journal_push, looks_push, floor_push, watches_push}
@@ -247,7 +247,7 @@ are_on_page es e [] was on here = (here, tt)
 are_on_page es e (x ∷ xs) was on here = (on_page_stays es e x was on.0, are_on_page es e xs was on.1 here)
 
 -- the looks since the last Decide, where the event is none
-looks_go_on : (es : List Event) (e : Event) (added : List Seen) → Agrees es → decided es e ≡ None → option_to_list (look_made (es ++ e ∷ []) e) ≡ added → looks_with (looks_along es) es e ≡ looks_along es ++ added →
+looks_go_on : (es : List Event) (e : Event) (added : List Seen) → Agrees es → decided_at es e ≡ None → option_to_list (look_made (es ++ e ∷ []) e) ≡ added → looks_with (looks_along es) es e ≡ looks_along es ++ added →
     looks_since (es ++ e ∷ []) ≡ looks_along (es ++ e ∷ [])
 looks_go_on es e added was none made with_added =
     ap (filter_map (look_made (es ++ e ∷ []))) (since_more es e none) ∙ filter_map-push (look_made (es ++ e ∷ [])) (since_decide es) e
@@ -273,7 +273,7 @@ looks_more table es (Skip thread seen) was may = looks_go_on es (Skip thread see
 looks_more table es (Decide entry) was may = ap (filter_map (look_made (es ++ Decide entry ∷ []))) (since_none es entry) ∙ sym (looks_push es (Decide entry))
 looks_more table es (Watch thread number) was may = looks_go_on es (Watch thread number) [] was refl refl (sym (append-nil (looks_along es)))
 
-page_goes_on : (es : List Event) (e : Event) → Agrees es → decided es e ≡ None → IsOnPage (es ++ e ∷ []) e → AreOnPage (es ++ e ∷ []) (since_decide (es ++ e ∷ []))
+page_goes_on : (es : List Event) (e : Event) → Agrees es → decided_at es e ≡ None → IsOnPage (es ++ e ∷ []) e → AreOnPage (es ++ e ∷ []) (since_decide (es ++ e ∷ []))
 page_goes_on es e was none here = let P : List Event → Type 0 = λ l. AreOnPage (es ++ e ∷ []) l in subst P (sym (since_more es e none)) (are_on_page es e (since_decide es) was was.on_page here)
 
 on_page_more : (table : Table) (es : List Event) (e : Event) → Agrees es → IsAllowedAlong table es e → AreOnPage (es ++ e ∷ []) (since_decide (es ++ e ∷ []))

@@ -2,7 +2,7 @@
 use Rattle.std.specs.Prelude.{◌≡◌, ℕ, ◌<◌, ◌≤◌, List, [], ◌∷◌, ◌++◌, length, IsSome}
 use Rattle.cal_machine.specs.Table.{Table}
 use Rattle.cal_signal.specs.declared.record.Record.{Record}
-use Rattle.cal_signal.specs.Pages.{last_of}
+use Rattle.cal_signal.specs.Pages.{last_published}
 use Rattle.cal_signal.specs.Records.{MayFollow}
 use Rattle.cal_policy.specs.Tasks.{threads_of_table}
 use Rattle.cal_policy.specs.History.{actions_of, sent_to}
@@ -20,7 +20,7 @@ state_along events k = state_after (journal_along events k)
 
 -- a record shows that state, and may be published after these ones
 abbrev pub MayBePublished : State → List Record → Record → Type 0
-MayBePublished state published rec = (rec.taken ≡ state.taken) × (rec.running ≡ running_word state.core) × MayFollow (last_of published) rec
+MayBePublished state published rec = (rec.taken ≡ state.taken) × (rec.running ≡ running_word state.core) × MayFollow (last_published published) rec
 
 -- after these events the scheduler looks at thread k next
 abbrev pub IsTurnOf : List Event → ℕ → Type 0

@@ -2,7 +2,7 @@
 use Rattle.std.specs.Option.{option_and_then}
 use Rattle.cal_policy.specs.History.Lists.{each_of}
 use Rattle.cal_policy.specs.declared.history.entry.PassEntry.{PassEntry}
-use Rattle.cal_linear.specs.Reads.{place_of, furthest, further, after_looks}
+use Rattle.cal_linear.specs.Reads.{place_found, furthest, further, after_looks}
 use Rattle.std.proofs.Common.{◌≡◌, ◌≢◌, ℕ, ◌+◌, ◌-◌, ◌<◌, ◌≤◌, zero, suc, Bool, true, false, eqb, List, [], ◌∷◌, ◌++◌, length, get_or, take, drop, refl, sym, ap, subst, ◌∙◌, append_assoc, arith, length-append, length-drop, max, set, replicate, get_or-set_other, get_or-set_same, slice_get, Option, Some, None}
 use mathlib.Core.Path.{fun_ext}
 use Rattle.std.proofs.Math.Seq.{take-length}
@@ -96,7 +96,7 @@ take_none [] (suc k) = refl
 take_none (x ∷ xs) (suc k) = take_none xs k
 
 place_first : (begun : ℕ → ℕ) (looks : List Seen) (k : ℕ) → after_looks begun (take k looks) k ≡ begun k
-place_first begun looks k = ap (λ (o : Option Seen). further (begun k) (option_and_then place_of o)) (take_none looks k)
+place_first begun looks k = ap (λ (o : Option Seen). further (begun k) (option_and_then place_found o)) (take_none looks k)
 
 take_here : {X : Type 0} (xs : List X) (k : ℕ) (d : X) → k < length xs → slice_get (take (suc k) xs) k ≡ Some (get_or xs k d)
 take_here [] k d lt = absurd (omega (arith, lt))
@@ -111,7 +111,7 @@ take_other (x ∷ xs) zero (suc j) ne = refl
 take_other (x ∷ xs) (suc k) zero ne = refl
 take_other (x ∷ xs) (suc k) (suc j) ne = take_other xs k j (λ e. ne (ap suc e))
 
-pub places_set : (begun : ℕ → ℕ) (fronts : List Front) (k : ℕ) (now : Front) (looks : List Seen) (d : Seen) → k < length fronts → k < length looks → now.place ≡ further (places_in fronts k) (place_of (get_or looks k d)) →
+pub places_set : (begun : ℕ → ℕ) (fronts : List Front) (k : ℕ) (now : Front) (looks : List Seen) (d : Seen) → k < length fronts → k < length looks → now.place ≡ further (places_in fronts k) (place_found (get_or looks k d)) →
     places_in fronts ≡ after_looks begun (take k looks) → places_in (set fronts k now) ≡ after_looks begun (take (k + 1) looks)
 places_set begun fronts k now looks d lt low e was = fun_ext (λ j. one j (eqb k j) refl) ∙ ap (λ n. after_looks begun (take n looks)) (let next : suc k ≡ k + 1 = omega arith in next)
   where
@@ -120,13 +120,13 @@ places_set begun fronts k now looks d lt low e was = fun_ext (λ j. one j (eqb k
         let other : j ≢ k = grind (arith, nat_tests) in
         let apart : k ≡ j → ⊥ = λ same. other (sym same) in
         ap (λ (l : Front). l.place) (get_or-set_other fronts k j now no_front other) ∙ ap (λ (f : ℕ → ℕ). f j) was
-        ∙ ap (λ (o : Option Seen). further (begun j) (option_and_then place_of o)) (sym (take_other looks k j apart))
+        ∙ ap (λ (o : Option Seen). further (begun j) (option_and_then place_found o)) (sym (take_other looks k j apart))
     one j true is =
         let P : ℕ → Type 0 = λ i. places_in (set fronts k now) i ≡ after_looks begun (take (suc k) looks) i in
         subst P (eqb-true k j is)
         (ap (λ (l : Front). l.place) (get_or-set_same fronts k now no_front lt) ∙ e
-        ∙ ap (λ n. further n (place_of (get_or looks k d))) (ap (λ (f : ℕ → ℕ). f k) was ∙ place_first begun looks k)
-        ∙ ap (λ (o : Option Seen). further (begun k) (option_and_then place_of o)) (sym (take_here looks k d low)))
+        ∙ ap (λ n. further n (place_found (get_or looks k d))) (ap (λ (f : ℕ → ℕ). f k) was ∙ place_first begun looks k)
+        ∙ ap (λ (o : Option Seen). further (begun k) (option_and_then place_found o)) (sym (take_here looks k d low)))
 
 pub fronts_set : (journals : List (List Entry)) (listed : List Front) (k : ℕ) (now : Front) → AreFronts journals listed → k < length listed → IsFront (journal_at journals k) now → AreFronts journals (set listed k now)
 fronts_set journals listed k now are lt is j = one (eqb k j) refl
@@ -151,7 +151,7 @@ pub record LookStep (journals : List (List Entry)) (begun : ℕ → ℕ) (fronts
   pub are : AreFronts journals fronts
 
 pub look_step : (journals : List (List Entry)) (begun : ℕ → ℕ) (fronts : List Front) (k : ℕ) (looks : List Seen) (d : Seen) (journal : List Entry) (now : Front) (es new all : List Event) →
-    k < length looks → k < length fronts → journal ≡ journal_at journals k → new ≡ es ++ look_events k journal (places_in fronts k) (get_or looks k d) → now.place ≡ further (places_in fronts k) (place_of (get_or looks k d)) →
+    k < length looks → k < length fronts → journal ≡ journal_at journals k → new ≡ es ++ look_events k journal (places_in fronts k) (get_or looks k d) → now.place ≡ further (places_in fronts k) (place_found (get_or looks k d)) →
     IsFront journal now → es ++ looks_from journals begun k (drop k looks) ≡ all → places_in fronts ≡ after_looks begun (take k looks) → AreFronts journals fronts →
     LookStep journals begun (set fronts k now) k looks new all
 look_step journals begun fronts k looks d journal now es new all low lt own next place is was places are =

@@ -6,11 +6,11 @@ use mathlib.Core.Path.{fun_ext}
 use Rattle.cal_policy.specs.declared.history.look.Seen.{Seen}
 use Rattle.cal_policy.specs.declared.history.entry.PassEntry.{PassEntry}
 use Rattle.cal_kthread.proofs.JournalLemmas.OneEntryMore.{filter_map-push}
-use Rattle.cal_linear.specs.Reads.{place_of, place_in, places_read, greatest, furthest, further, after_looks}
+use Rattle.cal_linear.specs.Reads.{place_found, place_in, places_read, greatest, furthest, further, after_looks}
 
 -- after one more look at a thread
 abbrev pub place_after : ℕ → Seen → ℕ
-place_after place seen = further place (place_of seen)
+place_after place seen = further place (place_found seen)
 
 -- of each thread, after a look at thread k
 abbrev pub with_look : (ℕ → ℕ) → ℕ → Seen → ℕ → ℕ

@@ -7,13 +7,13 @@ use Rattle.cal_policy.specs.declared.history.look.Seen.TheVariants.{Whole}
 use Rattle.cal_policy.specs.declared.history.entry.PassEntry.{PassEntry}
 
 -- the place that a look read; none where it is not whole
-abbrev pub place_of : Seen → Option ℕ
-place_of (Whole number rec) = Some number
-place_of _ = None
+abbrev pub place_found : Seen → Option ℕ
+place_found (Whole number rec) = Some number
+place_found _ = None
 
 -- the place that one of these looks, a look at each thread in order, read of thread k
 abbrev pub place_in : List Seen → ℕ → Option ℕ
-place_in seen k = option_and_then place_of (slice_get seen k)
+place_in seen k = option_and_then place_found (slice_get seen k)
 
 -- the places that these passes read of thread k, in order
 abbrev pub places_read : List PassEntry → ℕ → List ℕ

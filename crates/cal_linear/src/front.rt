@@ -3,7 +3,7 @@
 ghost use Rattle.std.specs.Prelude.{◌≡◌, ◌++◌, IfOk};
 ghost use Rattle.cal_kthread.specs.Journal.Entries.{past};
 ghost use Rattle.cal_linear.specs.Steps.{events_of};
-ghost use Rattle.cal_linear.specs.Reads.{further, place_of};
+ghost use Rattle.cal_linear.specs.Reads.{further, place_found};
 ghost use Rattle.cal_linear.specs.Linear.{look_events};
 ghost use Rattle.cal_linear.specs.Fronts.{IsFront};
 
@@ -34,7 +34,7 @@ pub(crate) fn append_look(
     requires { IsFront journal.now front }
     ensures appended { IfOk result (λ now. events.new.items ≡
         events.old.items ++ look_events thread journal.now front.place seen) }
-    ensures place { IfOk result (λ now. now.place ≡ further front.place (place_of seen)) }
+    ensures place { IfOk result (λ now. now.place ≡ further front.place (place_found seen)) }
     ensures listed { IfOk result (λ now. IsFront journal.now now) }
 {
     match seen {

@@ -1,6 +1,6 @@
 //! The accepted task table.
 
-ghost use Rattle.std.specs.Prelude.{◌≡◌, ◌≢◌, ◌+◌, ◌<◌, ◌≤◌, ℕ, IfOk, length};
+ghost use Rattle.std.specs.Prelude.{◌≡◌, ◌+◌, ◌<◌, ◌≤◌, ℕ, IfOk, length};
 ghost use Rattle.cal_machine.specs.Machine.{IsMachine};
 ghost use Rattle.cal_machine.specs.Tasks.{task_at, threads_in, first_thread, task_of};
 ghost use Rattle.cal_machine.specs.Table.{IsTask, IsTable};

@@ -2,7 +2,7 @@
 //! fault.
 
 ghost use Rattle.std.specs.Prelude.{◌≡◌, map, true};
-ghost use Rattle.toml.specs.View.{view, table_view, array_view, items_view};
+ghost use Rattle.toml.specs.View.{view, table_view, items_view};
 ghost use Rattle.cal_machine.specs.Outcome.{Gives};
 ghost use Rattle.cal_machine.specs.Fields.{value_at, integer_of, string_of, items_of, table_of};
 ghost use Rattle.cal_machine.specs.Fields.{number_in, cores_in, kind_in, has_only, is_one_of};

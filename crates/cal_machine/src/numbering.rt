@@ -1,6 +1,6 @@
 //! Kernel threads numbered from 0 in task order.
 
-ghost use Rattle.std.specs.Prelude.{◌≡◌, ◌+◌, ◌<◌, ◌≤◌, ℕ, length, slice_index};
+ghost use Rattle.std.specs.Prelude.{◌≡◌, ◌+◌, ◌≤◌, ℕ, length, slice_index};
 ghost use Rattle.std.specs.Prelude.{if◌then◌else◌, nat_le, nat_lt, ◌&&◌};
 ghost use Rattle.cal_machine.specs.Tasks.{threads_in, guaranteed_in};
 ghost use Rattle.cal_machine.specs.Numbering.{AreFirsts, AreOwners};

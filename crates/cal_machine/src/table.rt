@@ -1,6 +1,6 @@
 //! Reading the task table.
 
-ghost use Rattle.std.specs.Prelude.{◌≡◌, option_copied, length};
+ghost use Rattle.std.specs.Prelude.{◌≡◌, option_copied};
 ghost use Rattle.toml.specs.View.{table_view, items_view};
 ghost use Rattle.cal_machine.specs.Outcome.{Gives};
 ghost use Rattle.cal_machine.specs.Reading.{top_fields, top_within, tasks_from};

@@ -1,6 +1,5 @@
 //! Reading one task of the table.
 
-ghost use Rattle.std.specs.Prelude.{◌≡◌};
 ghost use Rattle.toml.specs.View.{view, table_view};
 ghost use Rattle.cal_machine.specs.Outcome.{Gives};
 ghost use Rattle.cal_machine.specs.Reading.{task_values, task_fields, fair, task_within, task_from};

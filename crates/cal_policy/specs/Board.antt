@@ -136,7 +136,7 @@ pub record Agrees (b : Board) (x : List Action) : Type 0 where
   pub banned : IsSetOfBanned b.sets.banned x
 
 -- every thread that a holder, a last grant or a ban names is below this number
-pub record IsSound (threads : ℕ) (b : Board) : Type 0 where
+pub record BoardSound (threads : ℕ) (b : Board) : Type 0 where
   pub holding : HoldingSound threads b.holding
   pub bans : BansSound threads b.bans
 
@@ -147,19 +147,19 @@ NamesTable table action = NamesCores table.cores (threads_of_table table) action
 -- the board's threads are the table's, its counts are those of its cores, and its sets have each
 -- core where its holder says
 pub record IsReady (table : Table) (b : Board) : Type 0 where
-  pub sound : IsSound MOST_THREADS b
-  pub own : IsSound (threads_of_table table) b
+  pub sound : BoardSound MOST_THREADS b
+  pub own : BoardSound (threads_of_table table) b
   pub counts : Surveys table (holder_in b.holding) b.survey
   pub sets : Sorts (holder_in b.holding) b.sets
 
 -- the set has the cores that were granted in this pass
-pub record IsFresh (granted : CoreSet) (acts : List Action) : Type 0 where
+pub record HasGranted (granted : CoreSet) (acts : List Action) : Type 0 where
   pub fresh : (c : ℕ) → c < MOST_CORES → has granted c ≡ is_granted_in acts c
 
 -- the board stands in a pass, after the actions acts of it
 pub record Stands (b : Board) (s : Setting) (acts : List Action) : Type 0 where
   pub agrees : Agrees b (so_far s acts)
-  pub fresh : IsFresh b.fresh acts
+  pub fresh : HasGranted b.fresh acts
   pub kept : (k : ℕ) → k < MOST_THREADS →
       slice_index_or b.keeping.kept k zero_record ≡ kept_now s k
   pub before : (k : ℕ) → k < MOST_THREADS →

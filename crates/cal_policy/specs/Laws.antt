@@ -117,7 +117,7 @@ JudgedIsOfItsLook = (cores : ℕ) (x : List Action) (k : ℕ) (look : Look) →
 
 -- a look that is judged Whole acknowledges no more than was sent, and a core that it shows is its
 -- thread's by a Run that it acknowledges
-pub record IsAllowed (cores : ℕ) (x : List Action) (k number : ℕ) (rec : Record)
+pub record FitsCommands (cores : ℕ) (x : List Action) (k number : ℕ) (rec : Record)
     (look : Look) : Type 0 where
   pub whole : look ≡ found.Whole number rec
   pub sent : rec.taken ≤ sent_to x k
@@ -125,7 +125,7 @@ pub record IsAllowed (cores : ℕ) (x : List Action) (k number : ℕ) (rec : Rec
 
 abbrev pub WholeIsAllowed : Type 0
 WholeIsAllowed = (cores : ℕ) (x : List Action) (k number : ℕ) (rec : Record) (look : Look) →
-    judged cores x k look ≡ Whole number rec → IsAllowed cores x k number rec look
+    judged cores x k look ≡ Whole number rec → FitsCommands cores x k number rec look
 
 -- nothing is a legal history
 abbrev pub NothingIsLegal : Type 0

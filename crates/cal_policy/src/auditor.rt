@@ -1,6 +1,6 @@
 //! The audit of a history as it grows, one pass after the other.
 
-ghost use Rattle.std.specs.Prelude.{◌≡◌, ◌<◌, ◌^◌, ◌++◌, ◌∷◌, ◌↔◌, [], List, length, IfOk, IsTrue};
+ghost use Rattle.std.specs.Prelude.{◌<◌, ◌^◌, ◌++◌, ◌∷◌, ◌↔◌, [], List, length, IfOk, IsTrue};
 ghost use Rattle.cal_machine.specs.Table.{Table};
 ghost use Rattle.cal_policy.specs.Auditor.{IsAuditOf, IsAuditorOf};
 ghost use Rattle.cal_policy.specs.Board.{Agrees, IsReady};

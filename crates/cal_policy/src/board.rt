@@ -10,11 +10,12 @@ pub mod replay;
 pub mod survey;
 
 ghost use Rattle.std.specs.Prelude.{◌≡◌, ◌≤◌, ◌++◌, ◌∷◌, [], List, length};
+ghost use Rattle.cal_machine.specs.declared.machine.TheConstants.{MOST_CORES};
 ghost use Rattle.cal_machine.specs.declared.numbering.TheConstants.{MOST_THREADS};
 ghost use Rattle.cal_policy.specs.declared.history.action.Action.{Action};
 ghost use Rattle.cal_policy.specs.declared.history.look.Seen.{Seen};
 ghost use Rattle.cal_machine.specs.Table.{Table, IsTable};
-ghost use Rattle.cal_policy.specs.Board.{Agrees, IsReady, IsFresh, KeepingAgrees};
+ghost use Rattle.cal_policy.specs.Board.{Agrees, IsReady, HasGranted, KeepingAgrees};
 ghost use Rattle.cal_policy.specs.Board.{KeepsBefore, NamesCores, NamesTable};
 
 use crate::board::bans::Bans;
@@ -45,9 +46,9 @@ pub struct Board {
 
 /// Notes the core of a grant.
 fn note_grant(fresh: &mut CoreSet, action: Action)
-    requires { NamesCores 128 128 action }
-    ensures { (acts : List Action) → IsFresh fresh.old acts →
-        IsFresh fresh.new (acts ++ action ∷ []) }
+    requires { NamesCores MOST_CORES MOST_THREADS action }
+    ensures { (acts : List Action) → HasGranted fresh.old acts →
+        HasGranted fresh.new (acts ++ action ∷ []) }
 {
     match action {
         Action::Grant { core, .. } => fresh.insert(core),
@@ -85,8 +86,8 @@ impl Board {
         requires names { NamesTable config.now action }
         ensures agrees { (x : List Action) → Agrees self.old x →
             Agrees self.new (x ++ action ∷ []) }
-        ensures fresh { (acts : List Action) → IsFresh self.old.fresh acts →
-            IsFresh self.new.fresh (acts ++ action ∷ []) }
+        ensures fresh { (acts : List Action) → HasGranted self.old.fresh acts →
+            HasGranted self.new.fresh (acts ++ action ∷ []) }
         ensures ready { IsReady config.now self.new }
         ensures keeping { self.new.keeping ≡ self.old.keeping }
     {
@@ -143,7 +144,7 @@ impl Board {
     pub fn begin(&mut self, seen: &[Seen])
         requires { length seen.now ≤ MOST_THREADS }
         ensures agrees { (x : List Action) → Agrees self.old x → Agrees self.new x }
-        ensures fresh { IsFresh self.new.fresh [] }
+        ensures fresh { HasGranted self.new.fresh [] }
         ensures ready { (table : Table) → IsReady table self.old → IsReady table self.new }
         ensures keeping { (looks : List (List Seen)) → KeepingAgrees self.old.keeping looks →
             KeepingAgrees self.new.keeping (looks ++ seen.now ∷ []) }

@@ -1,5 +1,5 @@
 //! One ring from end to end, in one thread and in two.
-ghost use Rattle.std.specs.Prelude.{◌≡◌, []};
+ghost use Rattle.std.specs.Prelude.{◌≡◌};
 ghost use Rattle.cal_command.specs.Commands.{IsSendable};
 
 use cal_command::{Command, Sender, Taker, close_ring, open_ring};

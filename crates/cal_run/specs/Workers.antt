@@ -3,7 +3,7 @@ pub mod Given
 use Rattle.std.specs.Prelude.{◌≡◌, ◌<◌, ◌≤◌, ◌⊎◌, ℕ, List, [], map, take, Some, slice_get}
 use Rattle.atomic_table.specs.Seated.{TableId}
 use Rattle.cal_command.specs.Rings.{RingId}
-use Rattle.cal_signal.specs.Pages.{last_of}
+use Rattle.cal_signal.specs.Pages.{last_published}
 use Rattle.cal_kthread.specs.Team.{Place, place_of}
 use Rattle.cal_kthread.specs.Turn.Thread.{KernelView}
 use Rattle.cal_kthread.specs.Turn.Turns.{AreTurns}
@@ -49,7 +49,7 @@ pub record HasMade (arrivals : Arrivals) (k j : ℕ) (worker : Worker) : Type 0 
       worker.thread.journal
   pub next : IsNext arrivals.requests k j worker.next
   pub stamp : (i now : ℕ) → j ≤ i → slice_get arrivals.turns i ≡ Some now →
-      (last_of worker.thread.thread.publisher.published).stamp ≤ now
+      (last_published worker.thread.thread.publisher.published).stamp ≤ now
 
 -- so has each of the threads of a run, the first of which is thread 0
 abbrev pub HaveMade : Arrivals → ℕ → List Worker → Type 0

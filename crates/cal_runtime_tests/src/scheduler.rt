@@ -1,7 +1,6 @@
 //! What no clause says: the worked passes over a bare page and ring, a full history, and a watch
 //! that is refused.
 ghost use Rattle.std.specs.Prelude.{◌≡◌, [], length, IfOk};
-ghost use Rattle.cal_machine.specs.Tasks.{threads_in};
 ghost use Rattle.cal_sched.specs.Scheduler.{HaveSeenNothing, HaveSentNothing};
 
 mod passes;

@@ -9,7 +9,7 @@ use Rattle.cal_signal.specs.Looks.{whole_of}
 use Rattle.cal_signal.specs.Rounds.{found_at, found_by}
 use Rattle.cal_signal.specs.Ends.{ObserverView}
 use Rattle.cal_sched.specs.Looking.{HasLooked, HaveLooked}
-use Rattle.cal_sched.specs.Watching.{AreWatched}
+use Rattle.cal_sched.specs.Watching.{HaveWatched}
 use Rattle.cal_lists.proofs.Places.{slice_get_at}
 use Rattle.cal_lists.proofs.Last.{some_same, last_or_before}
 
@@ -21,8 +21,8 @@ found_at-append k rounds round look at =
     ∙ ap (λ (o : Option Look). found_at rounds k ++ (found_by o ++ [])) at
     ∙ ap (λ (ls : List (ℕ × Record)). found_at rounds k ++ ls) (append-nil (whole_of look))
 
-pub AreWatched-none : (observers : List ObserverView) → AreWatched observers observers []
-AreWatched-none observers = record {
+pub HaveWatched-none : (observers : List ObserverView) → HaveWatched observers observers []
+HaveWatched-none observers = record {
   same_many = refl;
   one_each = λ i round e. absurd (cc);
   each = λ k was is e f.
@@ -30,9 +30,9 @@ AreWatched-none observers = record {
       (rw same refl, rw same (sym (append-nil is.looks)));
 }
 
-pub AreWatched-more : (given before after : List ObserverView) (rounds : List (List Look)) (round : List Look)
-    → AreWatched given before rounds → HaveLooked before after round → AreWatched given after (rounds ++ round ∷ [])
-AreWatched-more given before after rounds round watched looked = record {
+pub HaveWatched-more : (given before after : List ObserverView) (rounds : List (List Look)) (round : List Look)
+    → HaveWatched given before rounds → HaveLooked before after round → HaveWatched given after (rounds ++ round ∷ [])
+HaveWatched-more given before after rounds round watched looked = record {
   same_many = looked.observers ∙ watched.same_many;
   one_each = λ i one e. elim (last_or_before rounds round one i e) [
     | inl h ↦ watched.one_each i one h.1

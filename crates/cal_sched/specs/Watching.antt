@@ -32,7 +32,7 @@ pub record IsRoundMore (before after : WatchView) : Type 0 where
 
 -- each round has a look at each page; each observer stays at its page, and what it found since
 -- it was handed in is, in order, what the rounds found
-pub record AreWatched (given observers : List ObserverView)
+pub record HaveWatched (given observers : List ObserverView)
     (rounds : List (List Look)) : Type 0 where
   pub same_many : length observers ≡ length given
   pub one_each : (i : ℕ) (round : List Look) → slice_get rounds i ≡ Some round →

@@ -1,10 +1,10 @@
 //! A watch beside the scheduler: rounds of looks at pages, which decide nothing.
 
-ghost use Rattle.std.specs.Prelude.{◌≡◌, ◌<◌, ◌≤◌, ◌+◌, ◌↔◌, [], ℕ, length, IsTrue};
-ghost use Rattle.std.specs.Prelude.{IfOk, IfErr, MatchBool, Some, slice_get};
-ghost use Rattle.std.specs.Vec.{vec_capacity, vec_len};
+ghost use Rattle.std.specs.Prelude.{◌≡◌, ◌<◌, ◌≤◌, ◌+◌, ◌↔◌, [], length, IsTrue};
+ghost use Rattle.std.specs.Prelude.{IfOk, IfErr, MatchBool, Some};
+ghost use Rattle.std.specs.Vec.{vec_capacity};
 ghost use Rattle.cal_signal.specs.declared.look.Look.{Look};
-ghost use Rattle.cal_sched.specs.Watching.{new_watch, IsRoundMore, AreWatched};
+ghost use Rattle.cal_sched.specs.Watching.{new_watch, IsRoundMore, HaveWatched};
 ghost use Rattle.cal_sched.specs.Spares.{AreSpare};
 
 use crate::looking::look_at_each;
@@ -31,7 +31,7 @@ pub struct Watch {
 impl Model for Watch {
     ghost use Rattle.std.specs.Prelude.{◌+◌, ◌≤◌, length};
     ghost use Rattle.std.specs.Vec.{vec_capacity};
-    ghost use Rattle.cal_sched.specs.Watching.{WatchView, AreWatched};
+    ghost use Rattle.cal_sched.specs.Watching.{WatchView, HaveWatched};
     ghost use Rattle.cal_sched.specs.Spares.{AreSpare};
 
     ghost Value = { WatchView };
@@ -43,7 +43,7 @@ impl Model for Watch {
       most = length w.rounds.items + length w.spare.items;
     } };
 
-    ghost invariant = { λ w. AreWatched w.given.value.items w.observers.items w.rounds.items
+    ghost invariant = { λ w. HaveWatched w.given.value.items w.observers.items w.rounds.items
         × AreSpare (length w.observers.items) w.spare.items
         × (length w.rounds.items + length w.spare.items ≤ vec_capacity w.rounds) };
 }
@@ -115,7 +115,7 @@ impl Watch {
     /// The rounds so far, each with what was found on each page, in order.
     pub fn rounds(&self) -> &[Round]
         ensures rounds { result.now ≡ self.now.rounds }
-        ensures watched { AreWatched self.now.given self.now.observers self.now.rounds }
+        ensures watched { HaveWatched self.now.given self.now.observers self.now.rounds }
     {
         self.rounds.as_slice()
     }
@@ -124,7 +124,7 @@ impl Watch {
     pub fn end(self) -> (Vec<Observer>, Vec<Round>)
         ensures observers { result.0.items ≡ self.observers }
         ensures rounds { result.1.items ≡ self.rounds }
-        ensures watched { AreWatched self.given self.observers self.rounds }
+        ensures watched { HaveWatched self.given self.observers self.rounds }
     {
         let Watch {
             observers,

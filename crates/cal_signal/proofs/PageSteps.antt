@@ -5,7 +5,7 @@ use Rattle.atomic_table.specs.Table.{State, Me, step, opening, Allows, Splits, J
 use Rattle.cal_signal.specs.declared.view.View.{View}
 use Rattle.cal_signal.specs.declared.record.Record.{Record}
 use Rattle.cal_signal.specs.Records.{words_of, record_of, zero_record, MayFollow}
-use Rattle.cal_signal.specs.Pages.{last_of}
+use Rattle.cal_signal.specs.Pages.{last_published}
 use Rattle.cal_signal.specs.Rule.{sees, parts_of, Kept}
 use Rattle.cal_signal.specs.Steps.{opening_view, no_part, publisher_part, observer_part, without_watcher, watcher_part, both_parts, both_looking, both_reading, learned, opened, wrote, closed, started, peeked, ended}
 use Rattle.cal_signal.proofs.Looking as looking
@@ -68,7 +68,7 @@ pub writes : (slots id : ℕ) (me : M) (i b : ℕ) → me.0.publishes ≡ true �
 writes = publishing.writes words_of record_of 9 MayFollow zero_record
 
 pub closes : (slots id : ℕ) (me : M) (even : ℕ) → me.0.publishes ≡ true → me.0.version % 2 ≡ 1 → even ≡ me.0.version + 1 → length me.0.stored ≡ 9
-    → MayFollow (last_of me.0.published) (record_of me.0.stored) → Allows Law slots id me 0 (λ _. even) (λ _. closed record_of (step slots 0 even 0 none) me even)
+    → MayFollow (last_published me.0.published) (record_of me.0.stored) → Allows Law slots id me 0 (λ _. even) (λ _. closed record_of (step slots 0 even 0 none) me even)
 closes slots id me even = publishing.closes words_of record_of 9 MayFollow zero_record slots id me even words_back
 
 pub splits : (id : ℕ) (v : View Record) → Splits Law id v (publisher_part v) (observer_part v)

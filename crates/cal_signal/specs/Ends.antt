@@ -6,7 +6,7 @@ use Rattle.atomic_table.specs.declared.shared.Seat.{Seat}
 use Rattle.cal_signal.specs.declared.view.View.{View}
 use Rattle.cal_signal.specs.declared.record.Record.{Record}
 use Rattle.cal_signal.specs.Records.{words_of, MayFollow}
-use Rattle.cal_signal.specs.Pages.{last_of, floor_of}
+use Rattle.cal_signal.specs.Pages.{last_published, floor_of}
 use Rattle.cal_signal.specs.Rule.{sees, parts_of}
 
 -- which page, and the records published, in order, without the zero record at place 0
@@ -58,7 +58,7 @@ pub record IsPublisher (s : PageSeat) (z : TableId) (place : ℕ) (last : Record
   pub version : s.me.0.version ≡ 2 * place
   pub stored : s.me.0.stored ≡ []
   pub placed : place ≡ length s.me.0.published
-  pub ends : last ≡ last_of s.me.0.published
+  pub ends : last ≡ last_published s.me.0.published
   pub bound : place < 2 ^ 62
 
 -- the same while the next record is being written
@@ -71,7 +71,7 @@ pub record IsOpen (s : PageSeat) (z : TableId) (place : ℕ) (pending : Record)
   pub stored : s.me.0.stored ≡ take count (words_of pending)
   pub placed : place ≡ length s.me.0.published
   pub bound : place + 1 < 2 ^ 62
-  pub follows : MayFollow (last_of s.me.0.published) pending
+  pub follows : MayFollow (last_published s.me.0.published) pending
 
 -- its seat has an observer's part
 pub record IsObserver (s : PageSeat) (z : TableId) (floor : ℕ) : Type 0 where

@@ -4,17 +4,17 @@ use Rattle.cal_signal.specs.declared.record.Record.{Record}
 use Rattle.cal_signal.specs.declared.fault.PublishFault.{PublishFault}
 use Rattle.cal_signal.specs.declared.fault.PublishFault.TheVariants.{Backwards, BadShape, Exhausted}
 use Rattle.cal_signal.specs.Records.{IsLater, IsShaped}
-use Rattle.cal_signal.specs.Pages.{last_of}
+use Rattle.cal_signal.specs.Pages.{last_published}
 
 -- it is later than the last record, it is shaped, and there is a place left: the last one is 2^62 -
 -- 1
 abbrev pub MayPublish : List Record → Record → Type 0
-MayPublish published rec = IsLater (last_of published) rec × IsShaped rec
+MayPublish published rec = IsLater (last_published published) rec × IsShaped rec
     × (length published < 2 ^ 62 - 1)
 
 -- the first of these three that fails is the refusal
 abbrev pub IsRefusal : List Record → Record → PublishFault → Type 0
-IsRefusal published rec Backwards = ¬ IsLater (last_of published) rec
-IsRefusal published rec BadShape = IsLater (last_of published) rec × (¬ IsShaped rec)
+IsRefusal published rec Backwards = ¬ IsLater (last_published published) rec
+IsRefusal published rec BadShape = IsLater (last_published published) rec × (¬ IsShaped rec)
 IsRefusal published rec Exhausted =
-    IsLater (last_of published) rec × IsShaped rec × (length published ≡ 2 ^ 62 - 1)
+    IsLater (last_published published) rec × IsShaped rec × (length published ≡ 2 ^ 62 - 1)

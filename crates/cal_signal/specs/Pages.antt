@@ -48,8 +48,8 @@ abbrev pub page_of : List Record → List Record
 page_of published = zero_record ∷ published
 
 -- the record at the last place of that page
-abbrev pub last_of : List Record → Record
-last_of = last_from zero_record
+abbrev pub last_published : List Record → Record
+last_published = last_from zero_record
 
 -- each look is a place of the page with the record there, and places never fall (the textbook
 -- seqlock's promise)

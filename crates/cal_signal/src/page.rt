@@ -1,6 +1,6 @@
 //! Opening a page, the calls that take both of its ends, and closing it.
 ghost use Rattle.std.specs.Prelude.{◌≡◌, ◌+◌, ◌*◌, ◌++◌, [], ◌∷◌, length, IfOk};
-ghost use Rattle.cal_signal.specs.Pages.{IsPage, page_of, last_of, FitsPage, floor_of};
+ghost use Rattle.cal_signal.specs.Pages.{IsPage, page_of, last_published, FitsPage, floor_of};
 
 use crate::look::Look;
 use crate::observer::Observer;
@@ -117,7 +117,7 @@ pub fn look_open(page: OpenPage, observer: Observer) -> (OpenPage, Observer, Loo
 pub fn read_back(publisher: Publisher, observer: Observer) -> (Publisher, Observer, Record)
     requires { publisher.page ≡ observer.page }
     ensures publisher { result.0 ≡ publisher }
-    ensures last { result.2 ≡ last_of publisher.published }
+    ensures last { result.2 ≡ last_published publisher.published }
     ensures looks { result.1 ≡ record observer {
       looks = observer.looks
           ++ (length publisher.published, result.2) ∷ [];

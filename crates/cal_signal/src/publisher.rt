@@ -1,6 +1,6 @@
 //! The end of a page that publishes.
 ghost use Rattle.std.specs.Prelude.{◌≡◌, ◌+◌, ◌++◌, [], ◌∷◌, length, MatchResult};
-ghost use Rattle.cal_signal.specs.Pages.{last_of};
+ghost use Rattle.cal_signal.specs.Pages.{last_published};
 ghost use Rattle.cal_signal.specs.Faults.{MayPublish, IsRefusal};
 
 use crate::fault::PublishFault;
@@ -42,7 +42,7 @@ impl Publisher {
     /// publication.
     pub fn last(&self) -> (u64, Record)
         ensures place { result.0 ≡ length self.now.published }
-        ensures last { result.1 ≡ last_of self.now.published }
+        ensures last { result.1 ≡ last_published self.now.published }
     {
         (self.place, self.last)
     }

@@ -1,6 +1,6 @@
 //! The spans of a history, by one walk over it.
 
-ghost use Rattle.std.specs.Prelude.{◌≡◌, ◌++◌, ◌∷◌, [], ℕ, List, None, Some};
+ghost use Rattle.std.specs.Prelude.{◌≡◌, ◌++◌, ◌∷◌, [], List, None, Some};
 ghost use Rattle.std.specs.Prelude.{IfOk, OnOk, map, option_map, replicate};
 ghost use Rattle.cal_spans.specs.Spans.{Move, ended, ended_by, ended_of, granted, left_as};
 ghost use Rattle.cal_spans.specs.Spans.{made_in, one_of, open_of, span_at, spans_of};

@@ -3,15 +3,15 @@ use Rattle.std.specs.Prelude.{◌≡◌, ℕ, ◌⊎◌, min, Result, Ok, Err}
 use Rattle.cal_run.specs.declared.fault.SimFault.{SimFault}
 use Rattle.cal_run.specs.declared.fault.SimFault.TheVariants.{Memory, Spawn, Gate}
 
-abbrev pub number_of : SimFault → ℕ
-number_of Memory = 1
-number_of Spawn = 2
-number_of Gate = 3
+abbrev pub fault_number : SimFault → ℕ
+fault_number Memory = 1
+fault_number Spawn = 2
+fault_number Gate = 3
 
 -- the one of these two that has the least number
 abbrev pub IsLeast : SimFault → SimFault → SimFault → Type 0
 IsLeast a b least = ((least ≡ a) ⊎ (least ≡ b))
-    × (number_of least ≡ min (number_of a) (number_of b))
+    × (fault_number least ≡ min (fault_number a) (fault_number b))
 
 -- the fault of these two results, or the least of their faults; there is none where both have a
 -- value

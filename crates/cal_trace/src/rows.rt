@@ -12,7 +12,7 @@ pub mod version;
 ghost use Rattle.std.specs.Prelude.{◌≡◌, ◌+◌, IfOk, IfErr, OnErr};
 ghost use Rattle.csv.specs.Reading.{error_kind};
 ghost use Rattle.cal_trace.specs.Rows.Answers.{IsRefused, kind_of};
-ghost use Rattle.cal_trace.specs.Rows.{rows_of, rest_of, row_at, IsReading, HasStopped, StepsOn};
+ghost use Rattle.cal_trace.specs.Rows.{rows_of, rest_of, IsReading, HasStopped, StepsOn};
 
 use crate::fault::{FaultKind, TraceFault};
 use csv::{ByteRecord, ErrorKind, Reader, ReaderBuilder};

@@ -11,7 +11,7 @@ use crate::picture::telling::{kind_word, tell_ban, tell_span};
 use crate::story::clocks::{ClockedBan, ClockedSpan};
 use crate::story::walk::{Over, Row, Walk, is_critical, task_of};
 use cal_engine::{RunFault, recorded_passes};
-use cal_machine::Config;
+use cal_machine::{Config, MOST_TASKS};
 use cal_policy::{Action, Cause, PassEntry};
 use cal_trace::HistoryRows;
 use serde::Serialize;
@@ -266,7 +266,7 @@ fn put_row(config: &Config, now: u64, row: &Row, last: Option<Row>, events: &mut
 
 fn changes(row: &Row, last: Option<Row>, task: usize) -> bool {
     match last {
-        Some(last) if task < 16 => {
+        Some(last) if task < MOST_TASKS => {
             last.held[task] != row.held[task]
                 || last.booked[task] != row.booked[task]
                 || last.caps[task] != row.caps[task]
@@ -277,7 +277,7 @@ fn changes(row: &Row, last: Option<Row>, task: usize) -> bool {
 
 /// What a task holds and leaves, and the cap of a best-effort one.
 fn put_task(config: &Config, now: u64, row: &Row, task: usize, events: &mut Events) {
-    if task >= 16 {
+    if task >= MOST_TASKS {
         return;
     }
     let held = row.held[task];

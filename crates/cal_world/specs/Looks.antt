@@ -12,13 +12,13 @@ use Rattle.cal_world.specs.declared.event.Event.TheVariants.{Read, Skip, Decide}
 use Rattle.cal_world.specs.Threads.{page_in}
 
 -- how many events there are up to a Decide, itself included
-abbrev pub decided : List Event → Event → Option ℕ
-decided before (Decide entry) = Some (length before + 1)
-decided before _ = None
+abbrev pub decided_at : List Event → Event → Option ℕ
+decided_at before (Decide entry) = Some (length before + 1)
+decided_at before _ = None
 
 -- the events since the last Decide; all, where there is none
 abbrev pub since_decide : List Event → List Event
-since_decide events = drop (unwrap_or (last_of decided events) 0) events
+since_decide events = drop (unwrap_or (last_of decided_at events) 0) events
 
 -- the record at a place of thread k's page
 abbrev pub record_at : List Event → ℕ → ℕ → Record

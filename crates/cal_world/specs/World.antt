@@ -53,7 +53,7 @@ IsOnCore before _ = Unit {0}
 pub record ShowsState (before : List Event) (k : ℕ) (rec : Record) : Type 0 where
   pub taken : rec.taken ≡ (state_in before k).taken
   pub running : rec.running ≡ running_word (running_on before k)
-  pub follows : MayFollow (pages.last_of (published_by before k)) rec
+  pub follows : MayFollow (pages.last_published (published_by before k)) rec
 
 -- 4: so does the record of a Publish
 abbrev pub IsItsState : List Event → Event → Type 0
@@ -103,21 +103,22 @@ abbrev pub IsAllowed : Table → List Event → Event → Type 0
 IsAllowed table before event = (why : Illegal) → Passes why table before event
 
 -- the numbers of the causes
-abbrev pub number_of : Illegal → ℕ
-number_of NoThread = 1
-number_of NothingSent = 2
-number_of NotOn = 3
-number_of NotItsState = 4
-number_of NoSuchPlace = 5
-number_of OutOfTurn = 6
-number_of NotThePass = 7
-number_of Memory = 8
+abbrev pub cause_number : Illegal → ℕ
+cause_number NoThread = 1
+cause_number NothingSent = 2
+cause_number NotOn = 3
+cause_number NotItsState = 4
+cause_number NoSuchPlace = 5
+cause_number OutOfTurn = 6
+cause_number NotThePass = 7
+cause_number Memory = 8
 
 -- an event is refused for this cause, and for none of a lesser number
 pub record IsRefusedFor (table : Table) (before : List Event) (event : Event) (why : Illegal)
     : Type 0 where
   pub refused : Passes why table before event → ⊥
-  pub least : (other : Illegal) → number_of other < number_of why → Passes other table before event
+  pub least : (other : Illegal) → cause_number other < cause_number why →
+      Passes other table before event
 
 -- a legal list of events: each is allowed after those before it
 pub record IsLegalList (table : Table) (events : List Event) : Type 0 where

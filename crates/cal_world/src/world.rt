@@ -8,7 +8,7 @@ pub mod replay;
 pub mod sending;
 pub mod standing;
 
-ghost use Rattle.std.specs.Prelude.{◌≡◌, ℕ, ◌<◌, ◌⊎◌, [], IfOk, IfErr, OnOk, OnErr};
+ghost use Rattle.std.specs.Prelude.{◌≡◌, ◌<◌, ◌⊎◌, [], IfOk, IfErr, OnOk, OnErr};
 ghost use Rattle.cal_world.specs.declared.illegal.Illegal.TheVariants.{Memory};
 ghost use Rattle.cal_world.specs.Projections.{history_in};
 ghost use Rattle.cal_world.specs.Threads.{running_on};

@@ -1,6 +1,6 @@
 //! An audit: its table, and the auditor of the passes so far.
 
-ghost use Rattle.std.specs.Prelude.{◌≡◌, IfOk, List, []};
+ghost use Rattle.std.specs.Prelude.{IfOk, List, []};
 ghost use Rattle.cal_machine.specs.Outcome.{Gives};
 ghost use Rattle.cal_machine.specs.Reading.{table_in};
 ghost use Rattle.cal_policy.specs.Verdict.{IsVerdict};

@@ -4,8 +4,8 @@
 /// Of the program as a whole.
 pub const PROGRAM: &str = "\
 Without a word it does what `decide` does. Each word reads one input from the standard input: a task
-table (TOML), the line ---, and a trace (CSV). `caladan_sim WORD --help` says which trace and what is
-written, with a whole input to copy; docs/FORMATS.md has all of it.
+table (TOML), the line ---, and a trace (CSV). `caladan_sim WORD --help` says which trace and what
+is written, with a whole input to copy; docs/FORMATS.md has all of it.
 
 Exit status: 0 done, 1 an illegal history, 2 bad words or a refused input, 3 memory, output or a
 thread was refused. A fault is one line on the standard error.";

@@ -4,7 +4,7 @@ use Rattle.std.specs.Prelude.{option_to_list}
 use Rattle.std.specs.List.{slice_get, cons_option}
 use Rattle.std.proofs.lemmas.List.Elements.{filter_map-append}
 use Rattle.cal_signal.specs.declared.record.Record.{Record}
-use Rattle.cal_signal.specs.Pages.{Chain, IsPage, last_from, last_of, page_of}
+use Rattle.cal_signal.specs.Pages.{Chain, IsPage, last_from, last_published, page_of}
 use Rattle.cal_signal.specs.Records.{MayFollow, zero_record}
 use Rattle.cal_kthread.specs.declared.journal.entry.Entry.{Entry}
 use Rattle.cal_kthread.specs.declared.journal.entry.Entry.TheVariants.{Arrived, Took, Stole, Served, Yielded, Published}
@@ -23,7 +23,7 @@ chain-split z [] ss chain = (tt, chain)
 chain-split z (r ∷ rs) ss chain = let both = chain-split r rs ss chain.1 in ((chain.0, both.0), both.1)
 
 page-split : (front rest : List Entry) → IsJournal (front ++ rest)
-    → Chain MayFollow zero_record (records_of front) × Chain MayFollow (last_of (records_of front)) (records_of rest)
+    → Chain MayFollow zero_record (records_of front) × Chain MayFollow (last_published (records_of front)) (records_of rest)
 page-split front rest is = chain-split zero_record (records_of front) (records_of rest)
     (subst (λ rs. Chain MayFollow zero_record rs) (filter_map-append record_in front rest) is.page.1)
 
@@ -32,13 +32,13 @@ front-is-journal front rest is = record { each = (stand-split [] front rest is.e
 
 pub each-may-come : EachMayCome
 each-may-come before entry after is =
-    ((stand-split [] before (entry ∷ after) is.each).1.0, first (record_in entry) (last_of (records_of before)) (records_of after) (page-split before (entry ∷ after) is).1)
+    ((stand-split [] before (entry ∷ after) is.each).1.0, first (record_in entry) (last_published (records_of before)) (records_of after) (page-split before (entry ∷ after) is).1)
   where
     first : (o : Option Record) (z : Record) (rs : List Record) → Chain MayFollow z (cons_option o rs) → IfSome o (λ rec. MayFollow z rec)
     first None z rs chain = tt
     first (Some r) z rs chain = chain.0
 
-more-page : (o : Option Record) (rs : List Record) → IsPage (page_of rs) → IfSome o (λ rec. MayFollow (last_of rs) rec) → IsPage (page_of (rs ++ option_to_list o))
+more-page : (o : Option Record) (rs : List Record) → IsPage (page_of rs) → IfSome o (λ rec. MayFollow (last_published rs) rec) → IsPage (page_of (rs ++ option_to_list o))
 more-page None rs page may = subst (λ l. IsPage (page_of l)) (sym (append-nil rs)) page
 more-page (Some r) rs page may = page-push rs r page may
 

@@ -6,7 +6,7 @@ use Rattle.cal_machine.specs.declared.command.Command.{Command}
 use Rattle.cal_machine.specs.declared.request.Request.{Request}
 use Rattle.cal_command.specs.Rings.{TakerView}
 use Rattle.cal_signal.specs.Ends.{PublisherView}
-use Rattle.cal_signal.specs.Pages.{IsPage, page_of, last_of}
+use Rattle.cal_signal.specs.Pages.{IsPage, page_of, last_published}
 use Rattle.cal_signal.specs.Records.{MayFollow}
 use Rattle.cal_kthread.specs.declared.turn.current.Current.{Current}
 use Rattle.cal_kthread.specs.declared.journal.entry.Entry.{Entry}
@@ -165,7 +165,7 @@ pub fronts : (j : List Entry) (answer : Option Waiting) (t : ThreadView) → Agr
 fronts j answer t a = fronts-at j 0 t.publisher t.taker t.queue t.victims t.misses t.core t.current t.front answer a
 
 -- 5
-pub publishes : (j : List Entry) (now : ℕ) (t : ThreadView) → MayFollow (last_of t.publisher.published) (turn.shown now t) → Agrees j t → let p = turn.published now t in Agrees (j ++ p.1 ∷ []) p.0
+pub publishes : (j : List Entry) (now : ℕ) (t : ThreadView) → MayFollow (last_published t.publisher.published) (turn.shown now t) → Agrees j t → let p = turn.published now t in Agrees (j ++ p.1 ∷ []) p.0
 publishes j now t follows a = let u : ThreadView = (turn.published now t).0 in let e : Entry = (turn.published now t).1 in
     noted j e t u a (ap (λ l. length l + 1) (sym a.records), ap (λ (s : State). s.taken) (sym a.state), ap (λ (s : State). running_word s.core) (sym a.state)) refl refl
     (page-push t.publisher.published (turn.shown now t) (page_in j t a) follows) (append-nil _) (append-nil _) (unserving j e u refl (kept j t u (λ h. refl) a.served))

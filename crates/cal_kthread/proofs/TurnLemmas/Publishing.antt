@@ -4,7 +4,7 @@ use Rattle.cal_signal.specs.declared.record.Record.{Record}
 use Rattle.cal_signal.specs.declared.fault.PublishFault.{PublishFault}
 use Rattle.cal_signal.specs.declared.fault.PublishFault.TheVariants.{Backwards, BadShape, Exhausted}
 use Rattle.cal_signal.specs.Faults.{IsRefusal}
-use Rattle.cal_signal.specs.Pages.{last_of, last_from}
+use Rattle.cal_signal.specs.Pages.{last_published, last_from}
 use Rattle.cal_signal.specs.Records.{MayFollow}
 use Rattle.cal_kthread.specs.Journal.{running_word}
 use Rattle.cal_kthread.specs.Turn.Thread.{ThreadView, IsThread}
@@ -15,12 +15,12 @@ running_bound None within = omega arith
 running_bound (Some c) within = omega arith
 
 -- the record of a thread may follow those that it published
-pub follows : (now : ℕ) (t : ThreadView) (count : ℕ) → IsThread count t.taker.taken t.core t.misses t.publisher.published → (last_of t.publisher.published).stamp ≤ now → MayFollow (last_of t.publisher.published) (shown now t)
+pub follows : (now : ℕ) (t : ThreadView) (count : ℕ) → IsThread count t.taker.taken t.core t.misses t.publisher.published → (last_published t.publisher.published).stamp ≤ now → MayFollow (last_published t.publisher.published) (shown now t)
 follows now t count is later = let n = is.taken in let a = is.shown_taken in let b = is.shown_misses in let r = running_bound t.core is.number in
     ((omega arith, b, later), (r, is.limit))
 
 -- what may be published is not refused
-pub not_refused : (published : List Record) (rec : Record) (fault : PublishFault) → MayFollow (last_of published) rec → length published < 2 ^ 62 - 1 → IsRefusal published rec fault → ⊥
+pub not_refused : (published : List Record) (rec : Record) (fault : PublishFault) → MayFollow (last_published published) rec → length published < 2 ^ 62 - 1 → IsRefusal published rec fault → ⊥
 not_refused published rec Backwards may room refusal = refusal may.0
 not_refused published rec BadShape may room refusal = refusal.1 may.1
 not_refused published rec Exhausted may room refusal = let e = refusal.2 in omega arith

@@ -4,7 +4,7 @@ use Rattle.std.specs.Prelude.{◌≡◌, ℕ, zero, suc, Bool, true, false}
 use Rattle.std.specs.Prelude.{Some, IfSome, List, [], ◌∷◌, ◌++◌, length}
 use Rattle.std.specs.List.{filter, slice_get}
 use Rattle.cal_signal.specs.declared.record.Record.{Record}
-use Rattle.cal_signal.specs.Pages.{last_of, page_of}
+use Rattle.cal_signal.specs.Pages.{last_published, page_of}
 use Rattle.cal_signal.specs.Records.{MayFollow}
 use Rattle.cal_kthread.specs.declared.journal.entry.Entry.{Entry}
 use Rattle.cal_kthread.specs.declared.journal.entry.Entry.TheVariants.{Took, Yielded, Published}
@@ -15,7 +15,7 @@ use Rattle.cal_kthread.specs.Journal.{record_in, records_of, state_after}
 -- before it.
 abbrev pub MayCome : List Entry → Entry → Type 0
 MayCome before entry = MayStand before entry
-    × IfSome (record_in entry) (λ rec. MayFollow (last_of (records_of before)) rec)
+    × IfSome (record_in entry) (λ rec. MayFollow (last_published (records_of before)) rec)
 
 -- of n publications those that are still to come after this entry
 abbrev pub still_after : Entry → ℕ → ℕ
@@ -65,7 +65,7 @@ abbrev pub RecordShowsTaken : Type 0
 RecordShowsTaken = (journal : List Entry) (n : ℕ) (rec : Record) → IsJournal journal →
     slice_get (page_of (records_of journal)) n ≡ Some rec
     → (rec.taken ≡ length (commands_of (up_to n journal)))
-    × (rec ≡ last_of (records_of (up_to n journal)))
+    × (rec ≡ last_published (records_of (up_to n journal)))
 
 -- The law of other entries: arrivals, thefts and services change neither state nor records nor
 -- commands.

@@ -2,7 +2,7 @@
 use Rattle.std.specs.Prelude.{◌≡◌, ℕ, ◌<◌, ◌≤◌, ◌^◌, Option, None, IfSome, List, [], length}
 use Rattle.cal_command.specs.Rings.{TakerView}
 use Rattle.cal_signal.specs.Ends.{PublisherView}
-use Rattle.cal_signal.specs.Pages.{last_of}
+use Rattle.cal_signal.specs.Pages.{last_published}
 use Rattle.cal_signal.specs.declared.record.Record.{Record}
 use Rattle.cal_machine.specs.declared.command.Command.{Command}
 use Rattle.cal_machine.specs.declared.machine.TheConstants.{MOST_CORES}
@@ -37,8 +37,8 @@ pub record IsThread (count : ℕ) (commands : List Command) (core : Option ℕ) 
   pub taken : count ≡ length commands
   pub number : IfSome core (λ c. c < MOST_CORES)
   pub limit : misses ≤ 2 ^ 56
-  pub shown_taken : (last_of published).taken ≤ count
-  pub shown_misses : (last_of published).misses ≤ misses
+  pub shown_taken : (last_published published).taken ≤ count
+  pub shown_misses : (last_published published).misses ≤ misses
 
 -- it did nothing yet: its lists are empty, its queue has all of its shares, and it is off any core
 pub record IsFresh (k : KernelView) : Type 0 where

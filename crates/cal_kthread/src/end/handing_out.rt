@@ -1,5 +1,5 @@
 //! The ends of a team hand out what their threads had left.
-ghost use Rattle.std.specs.Prelude.{◌≡◌, [], map, IfOk};
+ghost use Rattle.std.specs.Prelude.{◌≡◌, map, IfOk};
 ghost use Rattle.cal_kthread.specs.End.Account.{IsAccounted, IsDrained, IsSettled};
 ghost use Rattle.cal_kthread.specs.End.HandingOut.{HandedOutNothing, HandsOutSome, left_of, run_of};
 ghost use Rattle.cal_kthread.specs.Places.{Each};

@@ -4,7 +4,8 @@ use std::collections::LinkedList;
 
 /// What one end of a queue knows. No value of it is ever made.
 pub struct Knowledge {
-    /// Its shares in the queue: all ends of a queue together have `queue_shares` (specs/Queue/Rule.antt).
+    /// Its shares in the queue: all ends of a queue together have `queue_shares`
+    /// (specs/Queue/Rule.antt).
     pub shares: u64,
     /// What it pushed, in order.
     pub pushed: LinkedList<Waiting>,

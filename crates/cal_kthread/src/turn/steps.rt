@@ -2,7 +2,7 @@
 ghost use Rattle.std.specs.Prelude.{◌≡◌, ℕ, ◌+◌, ◌-◌, ◌<◌, ◌≤◌, ◌^◌, min, Option};
 ghost use Rattle.std.specs.Prelude.{Some, None, length, IfSome, MatchResult};
 ghost use Rattle.cal_machine.specs.declared.command.Command.{Command};
-ghost use Rattle.cal_signal.specs.Pages.{last_of};
+ghost use Rattle.cal_signal.specs.Pages.{last_published};
 ghost use Rattle.cal_signal.specs.Records.{MayFollow};
 ghost use Rattle.cal_kthread.specs.declared.queue.waiting.Waiting.{Waiting};
 ghost use Rattle.cal_kthread.specs.Journal.{core_after as core_of, running_word as word_of};
@@ -128,10 +128,10 @@ impl Thread {
 
     /// 5. The record is published.
     pub(crate) fn publish(&mut self, now: u64) -> Entry
-        requires later { (last_of self.old.publisher.published).stamp ≤ now }
+        requires later { (last_published self.old.publisher.published).stamp ≤ now }
         requires room { length self.old.publisher.published < 2 ^ 62 - 1 }
         ensures shown { (self.new, result) ≡ turn.published now self.old }
-        ensures follows { MayFollow (last_of self.old.publisher.published)
+        ensures follows { MayFollow (last_published self.old.publisher.published)
             (turn.shown now self.old) }
     {
         let record = self.record(now);

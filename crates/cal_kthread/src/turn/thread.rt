@@ -1,5 +1,4 @@
 //! The state of a kernel thread, without its journal.
-ghost use Rattle.std.specs.Prelude.{◌≡◌};
 
 use crate::queue::OwnQueue;
 use crate::queue::waiting::Waiting;

@@ -14,7 +14,7 @@ use Rattle.cal_policy.specs.Board.Counts.{is_held}
 use Rattle.cal_policy.specs.Pass.Choice.{lowest_below}
 use Rattle.cal_policy.specs.Setting.{Setting, so_far, kept_now}
 use Rattle.cal_policy.specs.Pass.Frees.{shows_left, free_at}
-use Rattle.cal_policy.specs.Pass.Bans.{still_shows, unban_for, unban_at, ban_due, ban_for, ban_at}
+use Rattle.cal_policy.specs.Pass.Bans.{still_shows, unban_for, unban_at, ban_due, ban_for, bans_at}
 use Rattle.cal_policy.specs.Pass.Bandwidth.{victim_of, core_to_lose, cut_at, cut_of, rise_of, is_capped, bandwidth_part}
 use Rattle.cal_policy.specs.Pass.Grants.{is_congested, may_book, thread_choice, choice_of, grant_of, grant_at, grant_critical_at, grant_best_effort_at}
 use Rattle.cal_policy.specs.Pass.{pass_of}
@@ -98,7 +98,7 @@ pub pass_followed : (s : Setting) → AllFollowed s (pass_of s)
 pass_followed s =
     let freed = in_turn_followed s (free_at s) [] s.table.cores (λ acts c. if_followed s (shows_left (kept_now s) (holder_of (so_far s acts) c)) (Free c ∷ []) [] (λ e. (tt, tt)) (λ e. tt)) in
     let unbanned = then_followed s _ _ freed (in_turn_followed s (unban_at s) _ s.table.cores (λ acts c. unban_followed s c (ban_of (so_far s acts) c))) in
-    let banned = then_followed s _ _ unbanned (in_turn_followed s (ban_at s) _ s.table.cores (λ acts c. ban_followed s (so_far s acts) c (ban_due s (so_far s acts) c))) in
+    let banned = then_followed s _ _ unbanned (in_turn_followed s (bans_at s) _ s.table.cores (λ acts c. ban_followed s (so_far s acts) c (ban_due s (so_far s acts) c))) in
     let bounded = then_followed s _ _ banned (bandwidth_followed s _) in
     let critical = then_followed s _ _ bounded (in_turn_followed s (grant_critical_at s) _ (length s.table.tasks)
     (λ acts t. if_followed s (is_latency_critical s.table t) (grant_at s acts t) [] (λ e. grant_followed s acts t) (λ e. tt))) in

@@ -24,7 +24,7 @@ use Rattle.cal_policy.specs.Judgement.Judging.{IsInput}
 use Rattle.cal_policy.specs.Laws.{ActionIsOneMore, LookIsOneMore}
 use Rattle.cal_laws.specs.Point.{Point, setting_at, actions_at}
 use Rattle.cal_laws.specs.Safe.{IsSafe, IsSafeHistory, IsSafePoint}
-use Rattle.cal_laws.specs.Kept.{IsOnCore}
+use Rattle.cal_laws.specs.Kept.{IsOnItsCore}
 use Rattle.cal_laws.proofs.ChoiceLemmas.Granted.{gives_free, free_nobody}
 use Rattle.cal_laws.proofs.PointLemmas.EachAction.{actions_more, within_pass}
 use Rattle.cal_laws.proofs.KeptLemmas.Truth.{fresh, looks_more}
@@ -87,23 +87,23 @@ stays more s acts (Ban core thread started) safe c p e = unchanged more s (so_fa
 stays more s acts (Cap task cap) safe c p e = unchanged more s (so_far s acts) (Cap task cap) c p refl e
 
 -- a thread that its kept record shows on a core stays there
-on_after : ActionIsOneMore → (s : Setting) (acts : List Action) (a : Action) → IsSafe s acts a → (k : ℕ) → (kept_now s k).running ≢ 0 → IsOnCore s.table (so_far s acts) k (kept_now s k) →
-    IsOnCore s.table (so_far s acts ++ a ∷ []) k (kept_now s k)
+on_after : ActionIsOneMore → (s : Setting) (acts : List Action) (a : Action) → IsSafe s acts a → (k : ℕ) → (kept_now s k).running ≢ 0 → IsOnItsCore s.table (so_far s acts) k (kept_now s k) →
+    IsOnItsCore s.table (so_far s acts ++ a ∷ []) k (kept_now s k)
 on_after more s acts a safe k on h = ⊎_elim
     (λ there. record { low = h.low; place = h.place; there = there; thread = h.thread; acknowledged = h.acknowledged })
     (λ freed. absurd (on (ap (λ n. (kept_now s n).running) (sym h.thread) ∙ freed.off.on_none)))
     (stays more s acts a safe ((kept_now s k).running - 1) h.place h.there)
 
 on_through : ActionIsOneMore → (table : Table) (history : List PassEntry) → IsSafeHistory table history → (p : ℕ) (entry : PassEntry) → slice_get history p ≡ Some entry →
-    (k : ℕ) → (kept_now (setting_of table (take p history) entry) k).running ≢ 0 → IsOnCore table (actions_of (take p history)) k (kept_now (setting_of table (take p history) entry) k) →
-    (i : ℕ) → i ≤ length entry.actions → IsOnCore table (actions_of (take p history) ++ take i entry.actions) k (kept_now (setting_of table (take p history) entry) k)
+    (k : ℕ) → (kept_now (setting_of table (take p history) entry) k).running ≢ 0 → IsOnItsCore table (actions_of (take p history)) k (kept_now (setting_of table (take p history) entry) k) →
+    (i : ℕ) → i ≤ length entry.actions → IsOnItsCore table (actions_of (take p history) ++ take i entry.actions) k (kept_now (setting_of table (take p history) entry) k)
 on_through more table history safe p entry e k on begin =
     let s : Setting = setting_of table (take p history) entry in
-    within_pass IsSafe table history safe.actions p entry e (λ x. IsOnCore table x k (kept_now s k)) (λ acts a is was. on_after more s acts a is k on was) begin
+    within_pass IsSafe table history safe.actions p entry e (λ x. IsOnItsCore table x k (kept_now s k)) (λ acts a is was. on_after more s acts a is k on was) begin
 
 -- where the record shows its thread on a core, the thread has it after the actions x
 abbrev IsOn : Table → List Action → ℕ → Record → Type 0
-IsOn table x k rec = rec.running ≢ 0 → IsOnCore table x k rec
+IsOn table x k rec = rec.running ≢ 0 → IsOnItsCore table x k rec
 
 looked : (table : Table) (history : List PassEntry) (k n : ℕ) (entry : PassEntry) (old : Record) → slice_get history n ≡ Some entry → IsInput table (take n history) entry.input →
     IsOn table (actions_of (take n history)) k old → (o : Option Seen) → slice_get entry.input.seen k ≡ o → IsOn table (actions_of (take n history)) k (unwrap_or (option_and_then record_to_keep o) old)
@@ -125,7 +125,7 @@ on_to_next more one table history safe k n entry e was =
     let x : List Action = actions_of (take n history) in
     let rec : Record = kept_by (looks_of (take n history) ++ entry.input.seen ∷ []) k in
     let begin = begins one table history k n entry e (safe.inputs n entry e) was in
-    let P : List Action → Type 0 = λ acts. IsOnCore table (x ++ acts) k rec in
+    let P : List Action → Type 0 = λ acts. IsOnItsCore table (x ++ acts) k rec in
     let whole : IsOn table (x ++ entry.actions) k rec =
     (λ on. subst P (take-length entry.actions) (on_through more table history safe n entry e k on (begin on) (length entry.actions) (omega arith))) in
     let Q : List Action → Type 0 = λ y. IsOn table y k rec in
@@ -145,7 +145,7 @@ on_before more one table history safe k (suc n) le = ⊎_elim
 
 -- where a kept record shows its thread on a core at a point, the thread has it there
 pub on_core_at : ActionIsOneMore → LookIsOneMore → (here : Point) → IsSafePoint here → (k : ℕ) → (kept_now (setting_at here) k).running ≢ 0 →
-    IsOnCore here.table (actions_at here) k (kept_now (setting_at here) k)
+    IsOnItsCore here.table (actions_at here) k (kept_now (setting_at here) k)
 on_core_at more one here is k on =
     let within = slice_get_within here.history here.pass here.entry is.entry in
     let before = on_before more one here.table here.history is.history k here.pass (omega (arith, within)) in

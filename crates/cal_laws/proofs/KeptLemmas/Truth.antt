@@ -22,7 +22,7 @@ use Rattle.cal_policy.specs.Judgement.Judging.{IsInput, is_acknowledged_by, is_f
 use Rattle.cal_policy.specs.Laws.{ActionIsOneMore, LookIsOneMore}
 use Rattle.cal_laws.specs.Point.{Point, setting_at, made_at}
 use Rattle.cal_laws.specs.Safe.{IsSafeHistory, IsSafePoint}
-use Rattle.cal_laws.specs.Kept.{IsOnCore, WasKeptOnCore, IsTrueRecord}
+use Rattle.cal_laws.specs.Kept.{IsOnItsCore, WasKeptOnCore, IsTrueRecord}
 use Rattle.cal_laws.proofs.PointLemmas.EachAction.{take_next, actions_more}
 
 -- nothing that was sent is taken back
@@ -39,7 +39,7 @@ pub record IsTrueBefore (table : Table) (history : List PassEntry) (k n : ℕ) (
   pub shown : rec.running ≢ 0 → (pass : ℕ) × (pass < n) × WasKeptOnCore table history k rec pass
 
 on_core : (table : Table) (x : List Action) (k : ℕ) (rec : Record) (h : Holder) → rec.running ≤ table.cores → placement_of (holder_of x (rec.running - 1)) ≡ placement_of h →
-    is_acknowledged_by k rec h ≡ true → IsOnCore table x k rec
+    is_acknowledged_by k rec h ≡ true → IsOnItsCore table x k rec
 on_core table x k rec holders.Free low e is = cc
 on_core table x k rec (holders.Held p) low e is =
     let both = and_parts (eqb p.thread k) (leb p.number rec.taken) is in
@@ -53,7 +53,7 @@ not_foreign true b e f = cc
 not_foreign false true e f = refl
 not_foreign false false e f = cc
 
-native : (table : Table) (x : List Action) (k : ℕ) (rec : Record) → is_foreign table.cores x k rec ≡ false → rec.running ≢ 0 → IsOnCore table x k rec
+native : (table : Table) (x : List Action) (k : ℕ) (rec : Record) → is_foreign table.cores x k rec ≡ false → rec.running ≢ 0 → IsOnItsCore table x k rec
 native table x k rec e on =
     let some : eqb rec.running 0 ≡ false = grind (arith, nat_tests) in
     let h = holder_of x (rec.running - 1) in

@@ -18,7 +18,7 @@ use Rattle.cal_policy.specs.Board.Counts.{is_held, held_by}
 use Rattle.cal_policy.specs.Pass.Choice.{lowest_below}
 use Rattle.cal_policy.specs.Setting.{Setting, so_far, kept_now}
 use Rattle.cal_policy.specs.Pass.Frees.{shows_left, free_at, frees}
-use Rattle.cal_policy.specs.Pass.Bans.{still_shows, unban_for, unban_at, unbans, ban_due, ban_for, ban_at, bans}
+use Rattle.cal_policy.specs.Pass.Bans.{still_shows, unban_for, unban_at, unbans, ban_due, ban_for, bans_at, bans}
 use Rattle.cal_policy.specs.Pass.Bandwidth.{victim_of, core_to_lose, cut_at, cut_of, rise_of, is_capped, bandwidth_part}
 use Rattle.cal_policy.specs.Pass.Grants.{is_congested, may_book, thread_choice, choice_of, grant_of, grant_at, grant_critical_at, grant_best_effort_at, critical_grants, best_effort_grants}
 use Rattle.cal_policy.specs.Pass.{pass_of}
@@ -115,7 +115,7 @@ ban_goes s acts c m (Some thread) lt q =
     (λ e. one s.table (acts ++ ban ∷ []) (n + 1) m (Revoke (sibling_of c) (causes.Ban c)) refl lt was) (λ e. none s.table (acts ++ ban ∷ []) (n + 1) m (omega (arith, lt)) was))
 
 bans_go : (s : Setting) (acts : List Action) → Below s.table (s.table.cores + s.table.cores) acts → Goes (IsInTurn s.table) (Below s.table (ban_turn s.table.cores s.table.cores)) acts (bans s acts)
-bans_go s acts b = goes_in_turn (IsInTurn s.table) (λ k. Below s.table (ban_turn s.table.cores k)) (ban_at s) acts s.table.cores
+bans_go s acts b = goes_in_turn (IsInTurn s.table) (λ k. Below s.table (ban_turn s.table.cores k)) (bans_at s) acts s.table.cores
     (below_more s.table (s.table.cores + s.table.cores) (ban_turn s.table.cores 0) acts (omega arith) b)
     (λ now c lt q. ban_goes s now c (ban_turn s.table.cores (c + 1)) (ban_due s (so_far s now) c) (omega arith) q)
 

@@ -13,7 +13,7 @@ use Rattle.cal_policy.specs.Board.Counts.{held_by, cap_of}
 use Rattle.cal_policy.specs.History.{is_banned}
 use Rattle.cal_policy.specs.Setting.{Setting, so_far}
 use Rattle.cal_policy.specs.Pass.Frees.{frees}
-use Rattle.cal_policy.specs.Pass.Bans.{unbans, ban_at, bans}
+use Rattle.cal_policy.specs.Pass.Bans.{unbans, bans_at, bans}
 use Rattle.cal_policy.specs.Pass.Bandwidth.{core_to_lose, victim_of, cut_at, cut_of, rise_of, is_capped, bandwidth_part}
 use Rattle.cal_policy.specs.Pass.Grants.{is_congested, may_book, thread_choice, choice_of, grant_of, grant_at, grant_critical_at, grant_best_effort_at, critical_grants, best_effort_grants}
 use Rattle.cal_policy.specs.Pass.{pass_of}
@@ -41,7 +41,7 @@ chosen_unbanned law s acts t core e low =
 
 -- what the actions of the last three parts keep up
 pub record IsKept (s : Setting) (Q : List Action → Type 0) : Type 0 where
-  pub ban : (acts : List Action) (c : ℕ) → c < s.table.cores → Q acts → Q (acts ++ ban_at s acts c)
+  pub ban : (acts : List Action) (c : ℕ) → c < s.table.cores → Q acts → Q (acts ++ bans_at s acts c)
   pub revoke : (acts : List Action) (core : ℕ) (cause : Cause) → Q acts → Q (acts ++ Revoke core cause ∷ [])
   pub cap : (acts : List Action) (task cap : ℕ) → Q acts → Q (acts ++ Cap task cap ∷ [])
   pub grant : (acts : List Action) (core thread class : ℕ) → is_banned (so_far s acts) core ≡ false → Q acts → Q (acts ++ Grant core thread class ∷ [])
@@ -100,7 +100,7 @@ module _ (s : Setting) (Q : List Action → Type 0) (kept : IsKept s Q) where
       let banned : List Action = acts ++ bans s acts in
       let bounded : List Action = banned ++ bandwidth_part s banned in
       let granted : List Action = bounded ++ critical_grants s bounded in
-      let q1 : Q banned = in_turn_keeps Q (ban_at s) acts s.table.cores kept.ban h in
+      let q1 : Q banned = in_turn_keeps Q (bans_at s) acts s.table.cores kept.ban h in
       let q2 : Q bounded = bandwidth_keeps banned q1 in
       let q3 : Q granted = in_turn_keeps Q (grant_critical_at s) bounded (length s.table.tasks)
       (λ now t lt q. grant_by now (is_latency_critical s.table t) (grant_at s now t) (grant_keeps law now t q) q) q2 in

@@ -13,7 +13,7 @@ use Rattle.cal_policy.specs.Pass.Choice.{count_below}
 use Rattle.cal_policy.specs.Board.Counts.{is_held_for, is_booked_for, is_with}
 use Rattle.cal_policy.specs.Pass.Grants.{leaves_for}
 use Rattle.cal_policy.specs.Board.{HoldingAgrees, HoldingSound, holder_in, holder_at, placement_of}
-use Rattle.cal_policy.specs.Board.Survey.{Surveys, IsWithin, IsCounted, IsOneMore}
+use Rattle.cal_policy.specs.Board.Survey.{Surveys, CountsAtMost, IsCounted, CountsOneMore}
 use Rattle.cal_policy.proofs.ListLemmas.OneNumberMore.{count_at_most}
 use Rattle.cal_policy.proofs.BoardLemmas.StateKept.{some_counted}
 use Rattle.cal_policy.proofs.BoardLemmas.AsKept.{held_as_kept, booked_as_kept, with_as_kept, leaves_as_kept}
@@ -60,7 +60,7 @@ moved : (p q : ℕ → Bool) (core n had without now : ℕ) → core < n → ((c
 moved p q core n had without now lt e f g h = omega (arith, count_changed p q core n lt (λ c l off. e c off))
 
 moved_one : (table : Table) (f g : ℕ → Holder) (core : ℕ) (old without new : Survey) → core < table.cores → ((c : ℕ) → c ≢ core → g c ≡ f c) →
-    Surveys table f old → IsOneMore table (f core) without old → IsOneMore table (g core) without new → Surveys table g new
+    Surveys table f old → CountsOneMore table (f core) without old → CountsOneMore table (g core) without new → Surveys table g new
 moved_one table f g core old without new lt e s less more = record {
   held = λ t low. moved (λ c. is_held_for table t (f c)) (λ c. is_held_for table t (g c)) core table.cores _ _ _ lt
       (λ c off. ap (is_held_for table t) (e c off)) (s.held t low) (less.held t low) (more.held t low);
@@ -76,7 +76,7 @@ still : (p q : ℕ → Bool) (n had without now : ℕ) → ((c : ℕ) → q c �
 still p q n had without now e f g h = omega (arith, count_same p q n (λ c lt. e c))
 
 moved_none : (table : Table) (f g : ℕ → Holder) (old without new : Survey) → ((c : ℕ) → g c ≡ f c) →
-    Surveys table f old → IsOneMore table Free without old → IsOneMore table Free without new → Surveys table g new
+    Surveys table f old → CountsOneMore table Free without old → CountsOneMore table Free without new → Surveys table g new
 moved_none table f g old without new e s less more = record {
   held = λ t low. still (λ c. is_held_for table t (f c)) (λ c. is_held_for table t (g c)) table.cores _ _ _
       (λ c. ap (is_held_for table t) (e c)) (s.held t low) (less.held t low) (more.held t low);
@@ -91,7 +91,7 @@ moved_none table f g old without new e s less more = record {
 -- the counts are kept up with the one holder that changes, if one does
 pub Surveys_moved : (table : Table) (h h2 : Holding) (o : Option ℕ) (old without new : Survey) → IfSome o (λ c. c < table.cores) →
     ((c : ℕ) → o ≢ Some c → holder_in h2 c ≡ holder_in h c) → Surveys table (holder_in h) old →
-    IsOneMore table (holder_at h o) without old → IsOneMore table (holder_at h2 o) without new → Surveys table (holder_in h2) new
+    CountsOneMore table (holder_at h o) without old → CountsOneMore table (holder_at h2 o) without new → Surveys table (holder_in h2) new
 Surveys_moved table h h2 None old without new lt e s less more = moved_none table (holder_in h) (holder_in h2) old without new (λ c. e c (λ bad. cc)) s less more
 Surveys_moved table h h2 (Some core) old without new lt e s less more =
     moved_one table (holder_in h) (holder_in h2) core old without new lt (λ c off. e c (λ same. let at : c ≡ core = cc in off at)) s less more
@@ -113,7 +113,7 @@ counted_at table h (Some core) s lt v = record {
 }
 
 -- counts of so few cores have room for one more
-pub few_left : (table : Table) (f : ℕ → Holder) (a : Holder) (old without : Survey) → table.cores ≤ 128 → Surveys table f old → IsOneMore table a without old → IsWithin 254 without
+pub few_left : (table : Table) (f : ℕ → Holder) (a : Holder) (old without : Survey) → table.cores ≤ 128 → Surveys table f old → CountsOneMore table a without old → CountsAtMost 254 without
 few_left table f a old without few s less = record {
   held = λ t low. omega (arith, s.held t low, less.held t low, count_at_most (λ c. is_held_for table t (f c)) table.cores);
   booked = λ t low. omega (arith, s.booked t low, less.booked t low, count_at_most (λ c. is_booked_for table t (f c)) table.cores);

@@ -9,7 +9,7 @@ use Rattle.cal_policy.specs.declared.history.look.Seen.TheVariants.{Whole, Ahead
 use Rattle.cal_policy.specs.History.{sent_to}
 use Rattle.cal_policy.specs.History.Looks.{look_of}
 use Rattle.cal_policy.specs.Judgement.Judging.{judged, is_foreign}
-use Rattle.cal_policy.specs.Laws.{IsAllowed}
+use Rattle.cal_policy.specs.Laws.{FitsCommands}
 
 look_of_tests : (ahead foreign : Bool) (number : ℕ) (rec : Record) → look_of (cond ahead (Ahead number rec) (cond foreign (Foreign number rec) (Whole number rec))) ≡ found.Whole number rec
 look_of_tests true foreign number rec = refl
@@ -33,7 +33,7 @@ whole_by_tests true foreign number n rec r e = cc
 whole_by_tests false true number n rec r e = cc
 whole_by_tests false false number n rec r e = record { ahead_not = refl; foreign_not = refl; look = ap look_of e }
 
-pub whole_allowed : (cores : ℕ) (x : List Action) (k number : ℕ) (rec : Record) (look : Look) → judged cores x k look ≡ Whole number rec → IsAllowed cores x k number rec look
+pub whole_allowed : (cores : ℕ) (x : List Action) (k number : ℕ) (rec : Record) (look : Look) → judged cores x k look ≡ Whole number rec → FitsCommands cores x k number rec look
 whole_allowed cores x k number rec (found.Busy first second) e = cc
 whole_allowed cores x k number rec (found.Whole n r) e =
     let by = whole_by_tests (ltb (sent_to x k) r.taken) (is_foreign cores x k r) n number r rec e in
@@ -41,7 +41,7 @@ whole_allowed cores x k number rec (found.Whole n r) e =
     let same : r ≡ rec = ap record_of by.look in
     let none : ltb (sent_to x k) r.taken ≡ false = by.ahead_not in
     let few : r.taken ≤ sent_to x k = grind (arith, nat_tests, none) in
-    subst (λ (q : Record). IsAllowed cores x k number q (found.Whole n r)) same (record { whole = by.look ∙ ap (λ q. found.Whole number q) (sym same); sent = few; own = by.foreign_not })
+    subst (λ (q : Record). FitsCommands cores x k number q (found.Whole n r)) same (record { whole = by.look ∙ ap (λ q. found.Whole number q) (sym same); sent = few; own = by.foreign_not })
   where
     shown : Look → Record
     shown (found.Whole number other) = other

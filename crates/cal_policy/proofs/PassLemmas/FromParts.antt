@@ -12,7 +12,7 @@ use Rattle.cal_policy.specs.Pass.Bans.{unbans, bans, NoPairBanned}
 use Rattle.cal_policy.specs.Pass.Bandwidth.{bandwidth_part}
 use Rattle.cal_policy.specs.Pass.Grants.{critical_grants, best_effort_grants}
 use Rattle.cal_policy.specs.Pass.{pass_of, followed}
-use Rattle.cal_policy.specs.Board.{Agrees, IsFresh, KeepingAgrees, KeepsBefore, Stands, AgreesAfter}
+use Rattle.cal_policy.specs.Board.{Agrees, HasGranted, KeepingAgrees, KeepsBefore, Stands, AgreesAfter}
 use Rattle.cal_policy.proofs.PassLemmas.Apart.{frees_apart}
 use Rattle.cal_policy.proofs.BoardLemmas.Replayed.{actions_push, looks_push}
 
@@ -34,7 +34,7 @@ freed_apart s o0 o1 e0 e1 h =
     subst P (sym e1) (frees_apart s o0 s.table.cores start)
 
 -- where a pass begins
-pub Stands_begin : (s : Setting) (b : Board) → Agrees b (actions_of s.history) → IsFresh b.fresh [] → KeepingAgrees b.keeping (looks_of s.history ++ s.input.seen ∷ []) →
+pub Stands_begin : (s : Setting) (b : Board) → Agrees b (actions_of s.history) → HasGranted b.fresh [] → KeepingAgrees b.keeping (looks_of s.history ++ s.input.seen ∷ []) →
     KeepsBefore b.keeping (looks_of s.history) → Stands b s []
 Stands_begin s b a f k p = record {
   agrees = rw (append-nil (actions_of s.history)) a;

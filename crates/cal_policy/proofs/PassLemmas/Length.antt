@@ -10,7 +10,7 @@ use Rattle.cal_policy.specs.declared.history.action.Action.TheVariants.{Free, Un
 use Rattle.cal_policy.specs.declared.history.action.Cause.TheVariants as causes
 use Rattle.cal_policy.specs.declared.history.entry.PassEntry.{PassEntry}
 use Rattle.cal_policy.specs.Pass.Bandwidth.{bandwidth_part, core_to_lose, victim_of, is_capped, cut_at, cut_of, rise_of}
-use Rattle.cal_policy.specs.Pass.Bans.{NoPairBanned, still_shows, unban_for, unban_at, unbans, ban_due, ban_for, ban_at, bans}
+use Rattle.cal_policy.specs.Pass.Bans.{NoPairBanned, still_shows, unban_for, unban_at, unbans, ban_due, ban_for, bans_at, bans}
 use Rattle.cal_policy.specs.Pass.Choice.{lowest_below}
 use Rattle.cal_policy.specs.Board.Counts.{is_held}
 use Rattle.cal_policy.specs.Pass.Frees.{shows_left, free_at, frees}
@@ -77,15 +77,15 @@ ban_two : (s : Setting) (x : List Action) (c : ℕ) (o : Option ℕ) → length 
 ban_two s x c None = omega arith
 ban_two s x c (Some thread) = two_with (Ban (sibling_of c) thread (kept_now s thread).started) (is_held (holder_of x (sibling_of c))) (Revoke (sibling_of c) (causes.Ban c))
 
-ban_pair : (s : Setting) (acts : List Action) (n : ℕ) (lower : List Action) → ban_at s acts (2 * n) ≡ lower → length lower ≤ 2 → length (in_pair (ban_at s) acts n) ≤ 2
-ban_pair s acts n [] e le = subst (λ (l : List Action). length l ≤ 2) (pair_upper (ban_at s) acts n (sym e)) (ban_two s (so_far s acts) (2 * n + 1) (ban_due s (so_far s acts) (2 * n + 1)))
+ban_pair : (s : Setting) (acts : List Action) (n : ℕ) (lower : List Action) → bans_at s acts (2 * n) ≡ lower → length lower ≤ 2 → length (in_pair (bans_at s) acts n) ≤ 2
+ban_pair s acts n [] e le = subst (λ (l : List Action). length l ≤ 2) (pair_upper (bans_at s) acts n (sym e)) (ban_two s (so_far s acts) (2 * n + 1) (ban_due s (so_far s acts) (2 * n + 1)))
 ban_pair s acts n (a ∷ rest) e le = subst (λ (l : List Action). length l ≤ 2) (ban_lower s acts n a rest (sym e)) le
 
 bans_most : (s : Setting) (acts : List Action) (half : ℕ) → s.table.cores ≡ 2 * half → length (bans s acts) ≤ 2 * half
 bans_most s acts half even =
-    let r = turns_most (λ x. Unit {0}) (in_pair (ban_at s)) 2 acts half tt (λ x n p. (ban_pair s x n (ban_at s x (2 * n)) refl (ban_two s (so_far s x) (2 * n) (ban_due s (so_far s x) (2 * n))), tt)) in
-    let few : length (in_turn (in_pair (ban_at s)) acts half) ≤ 2 * half = let m = r.0 in omega arith in
-    let same : in_turn (in_pair (ban_at s)) acts half ≡ bans s acts = subst (λ (n : ℕ). in_turn (in_pair (ban_at s)) acts half ≡ in_turn (ban_at s) acts n) (sym even) (in_turn_pairs (ban_at s) acts half) in
+    let r = turns_most (λ x. Unit {0}) (in_pair (bans_at s)) 2 acts half tt (λ x n p. (ban_pair s x n (bans_at s x (2 * n)) refl (ban_two s (so_far s x) (2 * n) (ban_due s (so_far s x) (2 * n))), tt)) in
+    let few : length (in_turn (in_pair (bans_at s)) acts half) ≤ 2 * half = let m = r.0 in omega arith in
+    let same : in_turn (in_pair (bans_at s)) acts half ≡ bans s acts = subst (λ (n : ℕ). in_turn (in_pair (bans_at s)) acts half ≡ in_turn (bans_at s) acts n) (sym even) (in_turn_pairs (bans_at s) acts half) in
     subst (λ (l : List Action). length l ≤ 2 * half) same few
 
 -- the bandwidth

@@ -12,7 +12,7 @@ use Rattle.cal_policy.specs.Board.Counts.{is_held}
 use Rattle.cal_policy.specs.Pass.Choice.{lowest_below}
 use Rattle.cal_policy.specs.Setting.{Setting, so_far, kept_now}
 use Rattle.cal_policy.specs.Pass.Frees.{shows_left, free_at, frees}
-use Rattle.cal_policy.specs.Pass.Bans.{still_shows, unban_for, unban_at, unbans, ban_due, ban_for, ban_at, bans}
+use Rattle.cal_policy.specs.Pass.Bans.{still_shows, unban_for, unban_at, unbans, ban_due, ban_for, bans_at, bans}
 use Rattle.cal_policy.specs.Pass.Bandwidth.{victim_of, core_to_lose, cut_at, cut_of, rise_of, is_capped, bandwidth_part}
 use Rattle.cal_policy.specs.Pass.Grants.{is_congested, may_book, thread_choice, choice_of, grant_of, grant_at, grant_critical_at, grant_best_effort_at, critical_grants, best_effort_grants}
 use Rattle.cal_policy.specs.Pass.{pass_of}
@@ -50,7 +50,7 @@ ban_made s acts c lt (Some thread) e = (
 )
 
 pub bans_made : (s : Setting) (acts : List Action) → EachAfter (IsMade s) acts (bans s acts)
-bans_made s acts = each_in_turn (IsMade s) (ban_at s) acts s.table.cores (λ now c lt. ban_made s now c lt (ban_due s (so_far s now) c) refl)
+bans_made s acts = each_in_turn (IsMade s) (bans_at s) acts s.table.cores (λ now c lt. ban_made s now c lt (ban_due s (so_far s now) c) refl)
 
 cut_core_made : (s : Setting) (acts : List Action) → nat_lt s.table.bandwidth_limit s.input.bandwidth ≡ true → (v : Candidate) → victim_of s (so_far s acts) ≡ Some v →
     (o : Option ℕ) → core_to_lose s (so_far s acts) v.number ≡ o → EachAfter (IsMade s) acts (cut_at s (so_far s acts) v.number o)

@@ -14,7 +14,7 @@ use Rattle.cal_policy.specs.History.Lists.{in_turn, in_pair}
 use Rattle.cal_policy.specs.History.{holder_of, ban_of, is_banned}
 use Rattle.cal_policy.specs.Board.Counts.{is_held}
 use Rattle.cal_policy.specs.Setting.{Setting, so_far, kept_now}
-use Rattle.cal_policy.specs.Pass.Bans.{NoPairBanned, still_shows, unban_at, unban_for, ban_for, ban_due, ban_at}
+use Rattle.cal_policy.specs.Pass.Bans.{NoPairBanned, still_shows, unban_at, unban_for, ban_for, ban_due, bans_at}
 use Rattle.cal_policy.proofs.HistoryLemmas.OneMore.{ban_push}
 use Rattle.cal_policy.proofs.PassLemmas.PartSoFar.{in_turn_more}
 use Rattle.cal_lists.proofs.Booleans.{unwrap_if}
@@ -116,18 +116,18 @@ after_ban_for s x c None a rest e = cc
 after_ban_for s x c (Some thread) a rest e = after_ban x (sibling_of c) thread (kept_now s thread).started (is_held (holder_of x (sibling_of c))) (causes.Ban c)
 
 -- a core that is banned bans nothing
-banned_bans_nothing : (s : Setting) (acts : List Action) (c : ℕ) → is_banned (so_far s acts) c ≡ true → ban_at s acts c ≡ []
+banned_bans_nothing : (s : Setting) (acts : List Action) (c : ℕ) → is_banned (so_far s acts) c ≡ true → bans_at s acts c ≡ []
 banned_bans_nothing s acts c e = rw e refl
 
 -- where the lower core of a pair gives a ban, the upper core gives none
 pub ban_lower : (s : Setting) (acts : List Action) (n : ℕ) (a : Action) (rest : List Action) →
-    a ∷ rest ≡ ban_at s acts (2 * n) → a ∷ rest ≡ in_pair (ban_at s) acts n
+    a ∷ rest ≡ bans_at s acts (2 * n) → a ∷ rest ≡ in_pair (bans_at s) acts n
 ban_lower s acts n a rest e =
-    let banned : is_banned (so_far s (acts ++ ban_at s acts (2 * n))) (2 * n + 1) ≡ true =
-    ap (λ x. is_banned x (2 * n + 1)) (so_far_more s acts (ban_at s acts (2 * n)))
-    ∙ ap (is_banned (so_far s acts ++ ban_at s acts (2 * n))) (sym (beside_lower n))
+    let banned : is_banned (so_far s (acts ++ bans_at s acts (2 * n))) (2 * n + 1) ≡ true =
+    ap (λ x. is_banned x (2 * n + 1)) (so_far_more s acts (bans_at s acts (2 * n)))
+    ∙ ap (is_banned (so_far s acts ++ bans_at s acts (2 * n))) (sym (beside_lower n))
     ∙ after_ban_for s (so_far s acts) (2 * n) (ban_due s (so_far s acts) (2 * n)) a rest e in
-    e ∙ sym (append-nil (ban_at s acts (2 * n))) ∙ ap (λ l. ban_at s acts (2 * n) ++ l) (sym (banned_bans_nothing s (acts ++ ban_at s acts (2 * n)) (2 * n + 1) banned))
+    e ∙ sym (append-nil (bans_at s acts (2 * n))) ∙ ap (λ l. bans_at s acts (2 * n) ++ l) (sym (banned_bans_nothing s (acts ++ bans_at s acts (2 * n)) (2 * n + 1) banned))
 
 -- a ban by what the board says
 pub ban_parts : (s : Setting) (x : List Action) (c thread beside : ℕ) (rec : Record) (l : List Action) →

@@ -22,7 +22,7 @@ use Rattle.cal_policy.specs.Board.Counts.{is_held, is_free}
 use Rattle.cal_policy.specs.Pass.Choice.{lowest_below}
 use Rattle.cal_policy.specs.Setting.{Setting, so_far, kept_now}
 use Rattle.cal_policy.specs.Pass.Frees.{shows_left, free_at, frees}
-use Rattle.cal_policy.specs.Pass.Bans.{still_shows, unban_for, unban_at, unbans, ban_due, ban_for, ban_at, bans}
+use Rattle.cal_policy.specs.Pass.Bans.{still_shows, unban_for, unban_at, unbans, ban_due, ban_for, bans_at, bans}
 use Rattle.cal_policy.specs.Pass.Bandwidth.{victim_of, core_to_lose, cut_at, cut_of, rise_of, is_capped, bandwidth_part}
 use Rattle.cal_policy.specs.Pass.Grants.{is_congested, may_book, thread_choice, choice_of, grant_of, grant_at, grant_critical_at, grant_best_effort_at, critical_grants, best_effort_grants}
 use Rattle.cal_policy.specs.Pass.{pass_of}
@@ -135,7 +135,7 @@ ban_none s x c None = tt
 ban_none s x c (Some thread) = (tt, every_if FreesNone (is_held (holder_of x (sibling_of c))) (Revoke (sibling_of c) (causes.Ban c) ∷ []) [] (tt, tt) tt)
 
 bans_none : (s : Setting) (acts : List Action) → Every FreesNone (bans s acts)
-bans_none s acts = every_in_turn FreesNone (ban_at s) acts s.table.cores (λ now c. ban_none s (so_far s now) c (ban_due s (so_far s now) c))
+bans_none s acts = every_in_turn FreesNone (bans_at s) acts s.table.cores (λ now c. ban_none s (so_far s now) c (ban_due s (so_far s now) c))
 
 cut_at_none : (s : Setting) (x : List Action) (t : ℕ) (o : Option ℕ) → Every FreesNone (cut_at s x t o)
 cut_at_none s x t None = tt

@@ -22,7 +22,7 @@ pub record Surveys (table : Table) (holder : ℕ → Holder) (survey : Survey) :
       slice_index survey.awaited t ≡ count_below (λ c. leaves_for t (holder c)) table.cores
 
 -- each of the counts is at most this number
-pub record IsWithin (most : ℕ) (survey : Survey) : Type 0 where
+pub record CountsAtMost (most : ℕ) (survey : Survey) : Type 0 where
   pub held : (t : ℕ) → t < MOST_TASKS → slice_index survey.held t ≤ most
   pub booked : (t : ℕ) → t < MOST_TASKS → slice_index survey.booked t ≤ most
   pub placed : (k : ℕ) → k < MOST_THREADS → slice_index survey.placed k ≤ most
@@ -40,7 +40,7 @@ pub record IsCounted (table : Table) (holder : Holder) (survey : Survey) : Type 
       0 < slice_index survey.awaited t
 
 -- the one counts a core with this holder beside those that the other counts
-pub record IsOneMore (table : Table) (holder : Holder) (less more : Survey) : Type 0 where
+pub record CountsOneMore (table : Table) (holder : Holder) (less more : Survey) : Type 0 where
   pub held : (t : ℕ) → t < MOST_TASKS →
       slice_index more.held t ≡ slice_index less.held t + (if is_held_for table t holder then 1
       else 0)

@@ -80,9 +80,9 @@ ban_for s x c (Some thread) =
     ∷ (if is_held (holder_of x (sibling_of c)) then Revoke (sibling_of c) (causes.Ban c) ∷ []
     else [])
 
-abbrev pub ban_at : Setting → List Action → ℕ → List Action
-ban_at s acts c = ban_for s (so_far s acts) c (ban_due s (so_far s acts) c)
+abbrev pub bans_at : Setting → List Action → ℕ → List Action
+bans_at s acts c = ban_for s (so_far s acts) c (ban_due s (so_far s acts) c)
 
 -- each core upwards
 abbrev pub bans : Setting → List Action → List Action
-bans s acts = in_turn (ban_at s) acts s.table.cores
+bans s acts = in_turn (bans_at s) acts s.table.cores

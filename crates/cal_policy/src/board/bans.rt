@@ -1,6 +1,8 @@
 //! Which cores are banned.
 
 ghost use Rattle.std.specs.Prelude.{◌≡◌, ℕ, ◌<◌, ◌++◌, ◌∷◌, [], List, replicate};
+ghost use Rattle.cal_machine.specs.declared.machine.TheConstants.{MOST_CORES};
+ghost use Rattle.cal_machine.specs.declared.numbering.TheConstants.{MOST_THREADS};
 ghost use Rattle.cal_policy.specs.declared.history.action.Action.{Action};
 ghost use Rattle.cal_policy.specs.Board.{BansAgree, BansSound, NamesCores};
 
@@ -21,7 +23,7 @@ pub struct Bans {
 }
 
 fn no_bans() -> [Option<BannedFor>; MOST_CORES]
-    ensures { result ≡ replicate 128 None }
+    ensures { result ≡ replicate MOST_CORES None }
 {
     [None; MOST_CORES]
 }
@@ -37,11 +39,11 @@ impl Bans {
 
     /// Brings the bans up to one more action.
     pub fn apply(&mut self, action: Action)
-        requires names { NamesCores 128 128 action }
+        requires names { NamesCores MOST_CORES MOST_THREADS action }
         ensures agree { (x : List Action) → BansAgree self.old x →
             BansAgree self.new (x ++ action ∷ []) }
-        ensures sound { (threads : ℕ) → BansSound threads self.old → NamesCores 128 threads action →
-            BansSound threads self.new }
+        ensures sound { (threads : ℕ) → BansSound threads self.old →
+            NamesCores MOST_CORES threads action → BansSound threads self.new }
     {
         match action {
             Action::Ban {

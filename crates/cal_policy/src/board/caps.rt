@@ -1,6 +1,9 @@
 //! The caps of best-effort tasks.
 
-ghost use Rattle.std.specs.Prelude.{◌≡◌, ℕ, ◌<◌, ◌++◌, ◌∷◌, [], List, replicate};
+ghost use Rattle.std.specs.Prelude.{◌≡◌, ◌<◌, ◌++◌, ◌∷◌, [], List, replicate};
+ghost use Rattle.cal_machine.specs.declared.machine.TheConstants.{MOST_CORES};
+ghost use Rattle.cal_machine.specs.declared.numbering.TheConstants.{MOST_THREADS};
+ghost use Rattle.cal_machine.specs.declared.task_table.TheConstants.{MOST_TASKS};
 ghost use Rattle.cal_policy.specs.declared.history.action.Action.{Action};
 ghost use Rattle.cal_policy.specs.Board.{CapsAgree, NamesCores};
 
@@ -14,7 +17,7 @@ pub struct Caps {
 }
 
 fn no_caps() -> [Option<u8>; MOST_TASKS]
-    ensures { result ≡ replicate 16 None }
+    ensures { result ≡ replicate MOST_TASKS None }
 {
     [None; MOST_TASKS]
 }
@@ -29,7 +32,7 @@ impl Caps {
 
     /// Brings the caps up to one more action.
     pub fn apply(&mut self, action: Action)
-        requires names { NamesCores 128 128 action }
+        requires names { NamesCores MOST_CORES MOST_THREADS action }
         ensures { (x : List Action) → CapsAgree self.old x → CapsAgree self.new (x ++ action ∷ []) }
     {
         match action {

@@ -1,20 +1,20 @@
 //! Sets of cores, kept up with each change of a holder and each ban.
 
-ghost use Rattle.std.specs.Prelude.{◌≡◌, ◌≢◌, ◌==◌, ◌&&◌, ◌||◌, ◌<◌, ◌≤◌, ◌++◌, ◌∷◌, []};
-ghost use Rattle.std.specs.Prelude.{List, Some, ℕ, true, false, not, slice_index_or};
+ghost use Rattle.std.specs.Prelude.{◌≡◌, ◌≢◌, ◌<◌, ◌≤◌, ◌++◌, ◌∷◌, []};
+ghost use Rattle.std.specs.Prelude.{List, Some, ℕ, true, false};
 ghost use Rattle.std.specs.Option.{IfSome, IfNone};
-ghost use Rattle.cal_machine.specs.Table.{Table, IsTable};
-ghost use Rattle.cal_machine.specs.CoreSet.{has, IsLeastFrom};
+ghost use Rattle.cal_machine.specs.declared.numbering.TheConstants.{MOST_THREADS};
+ghost use Rattle.cal_machine.specs.Table.{IsTable};
+ghost use Rattle.cal_machine.specs.CoreSet.{has};
 ghost use Rattle.cal_machine.specs.declared.machine.TheConstants.{MOST_CORES};
-ghost use Rattle.cal_policy.specs.Tasks.{threads_of_table};
 ghost use Rattle.cal_policy.specs.declared.history.action.Action.{Action};
 ghost use Rattle.cal_policy.specs.declared.board.holders.Holder.{Holder};
-ghost use Rattle.cal_policy.specs.Board.{NamesCores, placement_of};
+ghost use Rattle.cal_policy.specs.Board.{NamesCores};
 ghost use Rattle.cal_policy.specs.Board.CoreSets.{IsSorted, IsNowhere, IsSameBut, IsSetOfBanned};
 
 use crate::board::holders::{Holder, Placement};
 use crate::history::action::Action;
-use cal_machine::{Config, CoreSet};
+use cal_machine::{Config, CoreSet, MOST_CORES};
 
 /// Which cores are free, taken or banned, of all 128 that a table can have.
 #[derive(Drop)]
@@ -48,7 +48,7 @@ fn all_cores() -> CoreSet
     ensures { (core : ℕ) → core < MOST_CORES → has result core ≡ true }
 {
     let mut cores = CoreSet::empty();
-    for core in 0..128 {
+    for core in 0..MOST_CORES as u8 {
         cores.insert(core);
     }
     cores
@@ -56,7 +56,7 @@ fn all_cores() -> CoreSet
 
 /// Brings the set of banned cores up to one more action.
 fn note_banned(banned: &mut CoreSet, action: Action)
-    requires { NamesCores 128 128 action }
+    requires { NamesCores MOST_CORES MOST_THREADS action }
     ensures { (x : List Action) → IsSetOfBanned banned.old x →
         IsSetOfBanned banned.new (x ++ action ∷ []) }
 {
@@ -115,7 +115,7 @@ impl CoreSets {
 
     /// Brings the set of banned cores up to one more action.
     pub fn note_ban(&mut self, action: Action)
-        requires { NamesCores 128 128 action }
+        requires { NamesCores MOST_CORES MOST_THREADS action }
         ensures banned { (x : List Action) → IsSetOfBanned self.old.banned x →
             IsSetOfBanned self.new.banned (x ++ action ∷ []) }
         ensures others { (c : ℕ) (h : Holder) → IsSorted c h self.old → IsSorted c h self.new }

@@ -89,13 +89,13 @@ pub struct Holding {
 }
 
 fn none_granted() -> [Option<Placement>; MOST_CORES]
-    ensures { result ≡ replicate 128 None }
+    ensures { result ≡ replicate MOST_CORES None }
 {
     [None; MOST_CORES]
 }
 
 fn all_free() -> [Holder; MOST_CORES]
-    ensures { result ≡ replicate 128 Holder.Free }
+    ensures { result ≡ replicate MOST_CORES Holder.Free }
 {
     [Holder::Free; MOST_CORES]
 }
@@ -153,7 +153,7 @@ impl Holding {
     pub fn grant_of(&self, core: u8) -> Option<Placement>
         ensures { result ≡ granted_in self.now core }
     {
-        if core < 128 {
+        if (core as usize) < MOST_CORES {
             self.granted[core as usize]
         } else {
             None
@@ -162,12 +162,12 @@ impl Holding {
 
     /// Brings the state up to one more action.
     pub fn apply(&mut self, action: Action)
-        requires sound { HoldingSound 128 self.old }
-        requires names { NamesCores 128 128 action }
+        requires sound { HoldingSound MOST_THREADS self.old }
+        requires names { NamesCores MOST_CORES MOST_THREADS action }
         ensures agrees { (x : List Action) → HoldingAgrees self.old x →
             HoldingAgrees self.new (x ++ action ∷ []) }
         ensures sound { (threads : ℕ) → HoldingSound threads self.old →
-            NamesCores 128 threads action → HoldingSound threads self.new }
+            NamesCores MOST_CORES threads action → HoldingSound threads self.new }
         ensures others { (c : ℕ) → core_changed action ≢ Some c →
             holder_in self.new c ≡ holder_in self.old c }
     {
@@ -187,7 +187,7 @@ impl Holding {
 
     /// A core is revoked: the thread of its last grant is sent Park and is leaving.
     fn revoke(&mut self, core: u8, cause: Cause)
-        requires sound { HoldingSound 128 self.old }
+        requires sound { HoldingSound MOST_THREADS self.old }
         requires core { core < MOST_CORES }
         ensures agrees { (x : List Action) → HoldingAgrees self.old x →
             HoldingAgrees self.new (x ++ Revoke core cause ∷ []) }
@@ -208,7 +208,7 @@ impl Holding {
 
     /// A core is granted: the thread is sent Run and holds it.
     fn grant(&mut self, core: u8, thread: u8, class: u8)
-        requires sound { HoldingSound 128 self.old }
+        requires sound { HoldingSound MOST_THREADS self.old }
         requires core { core < MOST_CORES }
         requires thread { thread < MOST_THREADS }
         ensures agrees { (x : List Action) → HoldingAgrees self.old x →

@@ -26,19 +26,19 @@ pub struct Keeping {
 }
 
 fn zero_records() -> [Record; MOST_THREADS]
-    ensures { result ≡ replicate 128 zero_record }
+    ensures { result ≡ replicate MOST_THREADS zero_record }
 {
     [Record::ZERO; MOST_THREADS]
 }
 
 fn none_shown() -> [Shown; MOST_THREADS]
-    ensures { result ≡ replicate 128 nothing_shown }
+    ensures { result ≡ replicate MOST_THREADS nothing_shown }
 {
     [Shown::NOTHING; MOST_THREADS]
 }
 
 fn no_misses() -> [u64; MOST_THREADS]
-    ensures { result ≡ replicate 128 0 }
+    ensures { result ≡ replicate MOST_THREADS 0 }
 {
     [0; MOST_THREADS]
 }

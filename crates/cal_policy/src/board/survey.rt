@@ -10,7 +10,7 @@ ghost use Rattle.cal_policy.specs.declared.history.action.Action.{Action};
 ghost use Rattle.cal_policy.specs.History.{holder_of};
 ghost use Rattle.cal_policy.specs.Pass.Grants.{leaves_for};
 ghost use Rattle.cal_policy.specs.Board.{Agrees, IsReady, placement_of};
-ghost use Rattle.cal_policy.specs.Board.Survey.{Surveys, IsWithin, IsCounted, IsOneMore};
+ghost use Rattle.cal_policy.specs.Board.Survey.{Surveys, CountsAtMost, IsCounted, CountsOneMore};
 
 use crate::board::Board;
 use crate::board::holders::{Holder, Placement};
@@ -80,7 +80,7 @@ fn count_awaited(counts: &mut [u8; MOST_TASKS], placement: Placement, cause: Cau
 {
     let _ = placement;
     if let Cause::Preempt { task } = cause {
-        if task < 16 {
+        if (task as usize) < MOST_TASKS {
             counts[task as usize] += 1;
         }
     }
@@ -97,7 +97,7 @@ fn uncount_awaited(counts: &mut [u8; MOST_TASKS], placement: Placement, cause: C
 {
     let _ = placement;
     if let Cause::Preempt { task } = cause {
-        if task < 16 {
+        if (task as usize) < MOST_TASKS {
             counts[task as usize] -= 1;
         }
     }
@@ -123,8 +123,8 @@ impl Survey {
     fn add_held(&mut self, config: &Config, placement: Placement)
         requires table { IsTable config.now }
         requires thread { placement.thread < threads_of_table config.now }
-        requires few { IsWithin 254 self.old }
-        ensures counted { IsOneMore config.now (Holder.Held placement) self.old self.new }
+        requires few { CountsAtMost 254 self.old }
+        ensures counted { CountsOneMore config.now (Holder.Held placement) self.old self.new }
     {
         let task = config.task_of(placement.thread as usize);
         count_task(&mut self.held, task);
@@ -136,8 +136,9 @@ impl Survey {
     fn add_leaving(&mut self, config: &Config, placement: Placement, cause: Cause)
         requires table { IsTable config.now }
         requires thread { placement.thread < threads_of_table config.now }
-        requires few { IsWithin 254 self.old }
-        ensures counted { IsOneMore config.now (Holder.Leaving placement cause) self.old self.new }
+        requires few { CountsAtMost 254 self.old }
+        ensures counted { let holder = Holder.Leaving placement cause in
+            CountsOneMore config.now holder self.old self.new }
     {
         count_task(&mut self.booked, config.task_of(placement.thread as usize));
         count_thread(&mut self.placed, placement.thread as usize);
@@ -149,8 +150,8 @@ impl Survey {
         requires table { IsTable config.now }
         requires thread { IfSome (placement_of holder)
             (λ placement. placement.thread < threads_of_table config.now) }
-        requires few { IsWithin 254 self.old }
-        ensures counted { IsOneMore config.now holder self.old self.new }
+        requires few { CountsAtMost 254 self.old }
+        ensures counted { CountsOneMore config.now holder self.old self.new }
     {
         match holder {
             Holder::Free => {}
@@ -164,7 +165,7 @@ impl Survey {
         requires table { IsTable config.now }
         requires thread { placement.thread < threads_of_table config.now }
         requires counted { IsCounted config.now (Holder.Held placement) self.old }
-        ensures counted { IsOneMore config.now (Holder.Held placement) self.new self.old }
+        ensures counted { CountsOneMore config.now (Holder.Held placement) self.new self.old }
     {
         let task = config.task_of(placement.thread as usize);
         uncount_task(&mut self.held, task);
@@ -177,7 +178,8 @@ impl Survey {
         requires table { IsTable config.now }
         requires thread { placement.thread < threads_of_table config.now }
         requires counted { IsCounted config.now (Holder.Leaving placement cause) self.old }
-        ensures counted { IsOneMore config.now (Holder.Leaving placement cause) self.new self.old }
+        ensures counted { let holder = Holder.Leaving placement cause in
+            CountsOneMore config.now holder self.new self.old }
     {
         uncount_task(&mut self.booked, config.task_of(placement.thread as usize));
         uncount_thread(&mut self.placed, placement.thread as usize);
@@ -190,7 +192,7 @@ impl Survey {
         requires thread { IfSome (placement_of holder)
             (λ placement. placement.thread < threads_of_table config.now) }
         requires counted { IsCounted config.now holder self.old }
-        ensures counted { IsOneMore config.now holder self.new self.old }
+        ensures counted { CountsOneMore config.now holder self.new self.old }
     {
         match holder {
             Holder::Free => {}

@@ -1,7 +1,7 @@
 //! Whether each action of a history fits the state before it.
 
-ghost use Rattle.std.specs.Prelude.{◌≡◌, ℕ, ◌<◌, ◌≤◌, ◌==◌, ◌&&◌, not, ◌++◌};
-ghost use Rattle.std.specs.Prelude.{◌∷◌, [], ◌↔◌, List, length, IsTrue};
+ghost use Rattle.std.specs.Prelude.{◌≡◌, ◌<◌, ◌==◌, ◌&&◌, not, ◌++◌};
+ghost use Rattle.std.specs.Prelude.{◌∷◌, [], ◌↔◌, List, IsTrue};
 ghost use Rattle.cal_machine.specs.Machine.{sibling_of};
 ghost use Rattle.cal_machine.specs.declared.machine.TheConstants.{MOST_CORES};
 ghost use Rattle.cal_machine.specs.declared.task_table.TheConstants.{MOST_TASKS};

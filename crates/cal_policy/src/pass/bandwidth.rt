@@ -31,7 +31,7 @@ use crate::tasks::is_latency_critical;
 use cal_machine::{Config, MOST_TASKS};
 
 fn no_cores() -> [Option<u8>; MOST_TASKS]
-    ensures { result ≡ replicate 16 None }
+    ensures { result ≡ replicate MOST_TASKS None }
 {
     [None; MOST_TASKS]
 }

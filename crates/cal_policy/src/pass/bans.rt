@@ -142,7 +142,7 @@ impl Pass<'_> {
         requires at_hand { IsAtHand self.now }
         requires core { core < self.now.config.now.cores }
         ensures due { (h : List PassEntry) (acts : List Action) → StandsIn self.now h acts →
-            let s = setting_in self.now h in both_of result ≡ rules.ban_at s acts core }
+            let s = setting_in self.now h in both_of result ≡ rules.bans_at s acts core }
         ensures names { BothName self.now.config.now result }
         ensures alone { result.first ≡ None → result.second ≡ None }
     {
@@ -168,7 +168,7 @@ impl Pass<'_> {
         requires pair { 2 * pair + 1 < self.now.config.now.cores }
         ensures due { (h : List PassEntry) (acts : List Action) → StandsIn self.now h acts →
             let s = setting_in self.now h in
-            both_of result ≡ in_pair (rules.ban_at s) acts pair }
+            both_of result ≡ in_pair (rules.bans_at s) acts pair }
         ensures names { BothName self.now.config.now result }
     {
         let lower = self.ban_beside(2 * pair);

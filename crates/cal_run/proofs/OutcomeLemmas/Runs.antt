@@ -76,7 +76,7 @@ journal_of_worker (w ∷ ws) zero worker at = let same : w ≡ worker = cc in ap
 journal_of_worker (w ∷ ws) (suc k) worker at = journal_of_worker ws k worker at
 
 module _ (table : Table) (s : SchedulerView) (w : watching.WatchView) (workers : List Worker) (journals : List (List Entry)) (lefts : List (List Request))
-    (kept : IsKept s) (watched : watching.AreWatched w.given w.observers w.rounds) (together : AreOfOneTeam table (scheduler_seat_of s) (seats_of workers) (watch_seat_of w))
+    (kept : IsKept s) (watched : watching.HaveWatched w.given w.observers w.rounds) (together : AreOfOneTeam table (scheduler_seat_of s) (seats_of workers) (watch_seat_of w))
     (closed : HaveClosed workers s.observers w.observers s.senders journals lefts) where
   many_workers : length workers ≡ threads_of_table table
   many_workers = sym (length-map workers (λ (w : Worker). seat_of w.thread)) ∙ together.threads

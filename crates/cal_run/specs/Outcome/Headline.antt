@@ -29,7 +29,7 @@ use Rattle.cal_run.specs.declared.outcome.Outcome.{Outcome}
 use Rattle.cal_run.specs.Outcome.{IsRun}
 
 -- at this point, with these events so far
-pub record IsSafePoint (table : Table) (events : List Event) : Type 0 where
+pub record IsSafeSoFar (table : Table) (events : List Event) : Type 0 where
   -- no core runs two kernel threads, and each that runs on a core has it by the last Run it took
   pub one_each : NoCoreRunsTwo table events
   pub by_last_run : AreByTheirLastRun table events
@@ -73,7 +73,7 @@ pub record Headline (table : Table) (outcome : Outcome) : Type 0 where
       (commands_to (actions_of outcome.history) k)
   -- at every point: no core runs two, no task exceeds its limit, every revocation has its cause
   pub at_every_point : (n : ℕ) → n ≤ length outcome.events →
-      IsSafePoint table (take n outcome.events)
+      IsSafeSoFar table (take n outcome.events)
 
 -- The headline holds of every run.
 abbrev pub HeadlineOfRuns : Type 0

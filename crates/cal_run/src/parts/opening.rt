@@ -2,7 +2,6 @@
 
 ghost use Rattle.std.specs.Prelude.{◌≡◌, ◌≤◌, length, map, IfOk, IfErr};
 ghost use Rattle.cal_machine.specs.declared.numbering.TheConstants.{MOST_THREADS};
-ghost use Rattle.cal_kthread.specs.Turn.Thread.{KernelView};
 ghost use Rattle.cal_trace.specs.Arrivals.FitsTable.{FitsTable};
 ghost use Rattle.cal_run.specs.declared.fault.SimFault.TheVariants.{Memory};
 ghost use Rattle.cal_run.specs.declared.workers.worker.Worker.{Worker};

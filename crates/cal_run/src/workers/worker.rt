@@ -1,7 +1,7 @@
 //! A kernel thread with the turns that it is given.
 
-ghost use Rattle.std.specs.Prelude.{◌≡◌, ◌+◌, ◌<◌, ◌≤◌, length, ℕ, Some, IfOk, IfErr, IfSome};
-ghost use Rattle.std.specs.Prelude.{slice_get, nat_lt};
+ghost use Rattle.std.specs.Prelude.{◌≡◌, ◌+◌, ◌<◌, ◌≤◌, length, Some, IfOk, IfErr, IfSome};
+ghost use Rattle.std.specs.Prelude.{nat_lt};
 ghost use Rattle.cal_trace.specs.Arrivals.FitsTable.{ComesBefore, EachLater};
 ghost use Rattle.cal_trace.specs.History.Ranges.{Each};
 ghost use Rattle.cal_run.specs.declared.fault.SimFault.TheVariants.{Memory};

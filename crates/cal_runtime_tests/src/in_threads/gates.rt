@@ -12,7 +12,9 @@ use std::thread;
 
 /// Two cores, a latency-critical task of one thread and a best-effort task of two.
 const PREEMPTION_TABLE: &[u8] =
-    b"cores = 2\nbandwidth_limit = 1000\n[[task]]\nkind = \"lc\"\nguaranteed = 1\nlimit = 1\ndelay = 10\nrequest = 1000\n[[task]]\nkind = \"be\"\nguaranteed = 0\nlimit = 2\ndelay = 0\nrequest = 0\n";
+    b"cores = 2\nbandwidth_limit = 1000\n[[task]]\nkind = \"lc\"\nguaranteed = 1\nlimit = 1\n\
+    delay = 10\nrequest = 1000\n[[task]]\n\
+    kind = \"be\"\nguaranteed = 0\nlimit = 2\ndelay = 0\nrequest = 0\n";
 
 const PREEMPTION: &[u8] = b"caladan-arrivals,1
 pass,100,0
@@ -183,7 +185,8 @@ impl Gate for Crossed {
 
 /// Two cores and a latency-critical task of one thread.
 const ONE_THREAD: &[u8] =
-    b"cores = 2\nbandwidth_limit = 1000\n[[task]]\nkind = \"lc\"\nguaranteed = 1\nlimit = 1\ndelay = 10\nrequest = 50\n";
+    b"cores = 2\nbandwidth_limit = 1000\n[[task]]\nkind = \"lc\"\nguaranteed = 1\nlimit = 1\n\
+    delay = 10\nrequest = 50\n";
 
 const ONE_GRANT: &[u8] = b"caladan-arrivals,1
 pass,116,0

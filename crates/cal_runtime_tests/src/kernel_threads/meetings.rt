@@ -81,6 +81,14 @@ fn add_left(left: &[Request], names: &mut Vec<u64>) -> Result<(), AllocError> {
     Ok(())
 }
 
+/// Adds the names of all requests that are left.
+fn add_all_left(lefts: &[RequestList], names: &mut Vec<u64>) -> Result<(), AllocError> {
+    for left in lefts {
+        add_left(left.as_slice(), names)?;
+    }
+    Ok(())
+}
+
 /// Whether all requests arrived, and each was served, as some were, or is left.
 fn stand_once(
     alloc: Global,
@@ -92,9 +100,7 @@ fn stand_once(
         add_names(end.journal.as_slice(), &mut arrived, &mut stood)?;
     }
     let served = stood.len();
-    for left in lefts {
-        add_left(left.as_slice(), &mut stood)?;
-    }
+    add_all_left(lefts, &mut stood)?;
     stood.sort()?;
     Ok(served > 0 && arrived.len() as u64 == REQUESTS && arrived == stood)
 }

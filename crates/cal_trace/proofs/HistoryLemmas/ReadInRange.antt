@@ -16,7 +16,7 @@ use Rattle.cal_trace.specs.History.{SoFar, at_start, form_of, take_row, take_for
 use Rattle.cal_policy.specs.declared.history.action_list.TheConstants.{MOST_ACTIONS}
 use Rattle.cal_trace.specs.Rows.LookRows.{pass_row, whole_row, busy_row, end_row}
 use Rattle.cal_trace.specs.declared.rows.look_rows.TheConstants.{MOST_PASSES}
-use Rattle.cal_trace.specs.Rows.Number.{with_digit, digits_of, number_of}
+use Rattle.cal_trace.specs.Rows.Number.{with_digit, digits_of, spelled_number}
 use Rattle.cal_trace.specs.History.Ranges.{Each, IsWord, AreWords, HasLookWords, HasActionWord, HasWords, IsLookInRange, IsActionInRange, IsEntryInRange, IsInRange}
 use Rattle.cal_trace.specs.Rows.{Fields}
 use Rattle.cal_trace.specs.Rows.Shown.{record_of}
@@ -66,7 +66,7 @@ unless : (t : Bool) (o : Option ℕ) (n : ℕ) → (if t then None else o) ≡ S
 unless true o n h = cc
 unless false o n h = h
 
-number_word : (field : List ℕ) (n : ℕ) → number_of field ≡ Some n → IsWord n
+number_word : (field : List ℕ) (n : ℕ) → spelled_number field ≡ Some n → IsWord n
 number_word [] n h = cc
 number_word (b ∷ []) n h = digits_word 0 n (b ∷ []) (omega arith) h
 number_word (b ∷ c ∷ bytes) n h = digits_word 0 n (b ∷ c ∷ bytes) (omega arith) (unless (b == 48) (digits_of 0 (b ∷ c ∷ bytes)) n h)
@@ -75,7 +75,7 @@ word_or : (o : Option ℕ) → ((n : ℕ) → o ≡ Some n → IsWord n) → IsW
 word_or None h = omega arith
 word_or (Some n) h = h n refl
 
-field_word : (o : Option (List ℕ)) (n : ℕ) → option_and_then number_of o ≡ Some n → IsWord n
+field_word : (o : Option (List ℕ)) (n : ℕ) → option_and_then spelled_number o ≡ Some n → IsWord n
 field_word None n h = cc
 field_word (Some field) n h = number_word field n h
 

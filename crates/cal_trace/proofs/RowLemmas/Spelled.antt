@@ -6,7 +6,7 @@ use Rattle.std.proofs.lemmas.Bool.{ne_eqb, lt-ltb}
 use Rattle.std.proofs.lemmas.Bool.Decides.{nat_tests}
 use Rattle.std.proofs.lemmas.Fmt.{decimal_by_steps}
 use Rattle.csv.specs.Writing.{default_writer, needs_byte}
-use Rattle.cal_trace.specs.Rows.Number.{with_digit, digits_of, number_of}
+use Rattle.cal_trace.specs.Rows.Number.{with_digit, digits_of, spelled_number}
 
 -- a field that is read as it stands: no byte of it calls for quotes, and its first is no mark
 pub record IsPlain (field : List ℕ) : Type 0 where
@@ -51,7 +51,7 @@ last_digit m d n lt is fits =
     rw (t, v, lt-ltb n (2 ^ 64) fits) refl
 
 -- a number of more digits than one has no zero in front
-long_number : (a : ℕ) (bytes : List ℕ) (b : ℕ) → 48 < a → number_of (a ∷ (bytes ++ b ∷ [])) ≡ digits_of 0 (a ∷ (bytes ++ b ∷ []))
+long_number : (a : ℕ) (bytes : List ℕ) (b : ℕ) → 48 < a → spelled_number (a ∷ (bytes ++ b ∷ [])) ≡ digits_of 0 (a ∷ (bytes ++ b ∷ []))
 long_number a [] b lt = rw (ne_eqb a 48 (λ e. omega arith)) refl
 long_number a (c ∷ bytes) b lt = rw (ne_eqb a 48 (λ e. omega arith)) refl
 
@@ -60,7 +60,7 @@ pub record IsSpelled (n : ℕ) (field : List ℕ) : Type 0 where
   pub plain : IsPlain field
   pub no_zero : 0 < n → 48 < plain.front
   pub digits : digits_of 0 field ≡ Some n
-  pub number : number_of field ≡ Some n
+  pub number : spelled_number field ≡ Some n
 
 one_digit : (n : ℕ) → n < 10 → n < 2 ^ 64 → IsSpelled n ((48 + n) ∷ [])
 unfolding digits_of
@@ -86,7 +86,7 @@ more_digits n field le fits s =
       plain = record { front = p.front; more = p.more ++ b ∷ []; is = is; above = p.above; unmarked = unmarked_more field b p.unmarked (unmarked_digit b (omega arith)) };
       no_zero = λ h. no_zero;
       digits = digits;
-      number = ap number_of is ∙ long_number p.front p.more b no_zero ∙ ap (digits_of 0) (sym is) ∙ digits;
+      number = ap spelled_number is ∙ long_number p.front p.more b no_zero ∙ ap (digits_of 0) (sym is) ∙ digits;
     }
 
 -- the text of a number below 2 ^ 64 spells it

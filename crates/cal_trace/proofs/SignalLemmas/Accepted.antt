@@ -1,5 +1,5 @@
 -- The signals of an accepted file fit: the checks of its rows say so.
-use Rattle.std.proofs.Common.{◌≡◌, ◌<◌, ◌≤◌, ◌==◌, ◌&&◌, nat_lt, ℕ, Bool, true, false, not, List, [], ◌∷◌, ◌++◌, length, Option, Some, None, option_map, option_to_list, Result, Ok, Err, slice_get, if◌then◌else◌, inl, inr, subst, refl, sym, ap, ◌∙◌, arith, length-append, codes}
+use Rattle.std.proofs.Common.{◌≡◌, ◌<◌, ◌≤◌, ◌==◌, ◌&&◌, nat_lt, ℕ, Bool, true, false, not, List, [], ◌∷◌, ◌++◌, length, Option, Some, None, option_to_list, Result, Ok, Err, slice_get, if◌then◌else◌, inl, inr, subst, refl, ap, ◌∙◌, arith, length-append, codes}
 use Rattle.std.proofs.lemmas.List.{append-nil, take-append-le, take_all}
 use Rattle.std.proofs.lemmas.Bool.{ltb-true}
 use Rattle.std.proofs.lemmas.Option.{slice_get_past}
@@ -17,7 +17,7 @@ use Rattle.cal_signal.specs.Tests.{is_shaped, is_busy_pair}
 use Rattle.cal_signal.proofs.Testing.{shaped_holds, follows_holds, pair_holds}
 use Rattle.cal_lists.proofs.Last.{last_or_before, slice_get-last}
 use Rattle.cal_trace.proofs.SignalLemmas.LastShown.{shown-push}
-use Rattle.cal_trace.specs.Signals.{SoFar, at_start, passes_of, is_full, next_thread, shown_in, last_shown, with_look, add_look, add_pass, add_end, look_row, one_more, following, as_look, look_of_whole, look_of_busy, take_look, take_form, take_row, whole, form_of, signals_of}
+use Rattle.cal_trace.specs.Signals.{SoFar, at_start, passes_of, is_full, next_thread, shown_in, last_shown, with_look, add_look, add_pass, add_end, look_row, following, as_look, look_of_whole, look_of_busy, take_look, take_form, take_row, whole, form_of, signals_of}
 use Rattle.cal_trace.specs.declared.fault.FaultKind.{FaultKind}
 use Rattle.cal_trace.specs.declared.fault.FaultKind.TheVariants as kinds
 use Rattle.cal_trace.specs.declared.rows.look_rows.WholeRow.{WholeRow}

@@ -15,7 +15,7 @@ digits_of n [] = Some n
 digits_of n (b ∷ bytes) = option_and_then (λ m. digits_of m bytes) (with_digit n b)
 
 -- the number that a field spells: digits with no zero in front, below 2 ^ 64
-abbrev pub number_of : List ℕ → Option ℕ
-number_of [] = None
-number_of (b ∷ []) = digits_of 0 (b ∷ [])
-number_of (b ∷ c ∷ bytes) = if b == 48 then None else digits_of 0 (b ∷ c ∷ bytes)
+abbrev pub spelled_number : List ℕ → Option ℕ
+spelled_number [] = None
+spelled_number (b ∷ []) = digits_of 0 (b ∷ [])
+spelled_number (b ∷ c ∷ bytes) = if b == 48 then None else digits_of 0 (b ∷ c ∷ bytes)

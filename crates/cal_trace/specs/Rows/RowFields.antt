@@ -4,14 +4,14 @@ use Rattle.std.specs.Prelude.{Option, Some, None, if◌then◌else◌}
 use Rattle.std.specs.Option.{is_some, unwrap_or, option_and_then}
 use Rattle.std.specs.Str.{bytes_eq}
 use Rattle.csv.specs.Records.{field_at}
-use Rattle.cal_trace.specs.Rows.Number.{number_of}
+use Rattle.cal_trace.specs.Rows.Number.{spelled_number}
 use Rattle.cal_trace.specs.Rows.{Fields}
 use Rattle.cal_trace.specs.declared.rows.version.Version.{Version}
 use Rattle.cal_trace.specs.declared.rows.version.Version.TheVariants as version
 
 -- the number that the field at a place spells
 abbrev pub number_in : Fields → ℕ → Option ℕ
-number_in fields place = option_and_then number_of (field_at fields place)
+number_in fields place = option_and_then spelled_number (field_at fields place)
 
 -- the same, and 0 where there is none
 abbrev pub number_at : Fields → ℕ → ℕ
@@ -24,7 +24,7 @@ is_number_at fields place = is_some (number_in fields place)
 -- whether each of these fields spells a number
 abbrev pub all_numbers : Fields → Bool
 all_numbers [] = true
-all_numbers (field ∷ fields) = is_some (number_of field) && all_numbers fields
+all_numbers (field ∷ fields) = is_some (spelled_number field) && all_numbers fields
 
 -- whether each field after the first spells a number
 abbrev pub has_numbers : Fields → Bool

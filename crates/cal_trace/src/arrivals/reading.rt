@@ -1,7 +1,6 @@
 //! Reading arrivals, row by row.
 
-ghost use Rattle.std.specs.Prelude.{◌≡◌, Option, length};
-ghost use Rattle.std.specs.Option.{option_copied};
+ghost use Rattle.std.specs.Prelude.{◌≡◌, Option};
 ghost use Rattle.cal_trace.specs.Arrivals.{form_of, last_in, turn_row, arrival_row, comes_after};
 ghost use Rattle.csv.specs.Records.{fields_of};
 

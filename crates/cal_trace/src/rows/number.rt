@@ -1,11 +1,11 @@
 //! Numbers in plain decimal digits.
 
 ghost use Rattle.std.specs.Prelude.{◌≡◌, ◌≤◌, ◌<◌, ◌+◌, ◌*◌, length, IfSome};
-ghost use Rattle.cal_trace.specs.Rows.Number.{number_of};
+ghost use Rattle.cal_trace.specs.Rows.Number.{spelled_number};
 
 /// The number that a field spells: digits with no zero in front, below 2 to the 64.
 pub(crate) fn number(field: &[u8]) -> Option<u64>
-    ensures { result ≡ number_of field.now }
+    ensures { result ≡ spelled_number field.now }
 {
     match field {
         [] | [b'0', _, ..] => None,

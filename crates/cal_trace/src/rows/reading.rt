@@ -1,6 +1,6 @@
 //! Reading a file row by row, whatever its rows are.
 
-ghost use Rattle.std.specs.Prelude.{◌≡◌, Result, Option, OnOk, option_map};
+ghost use Rattle.std.specs.Prelude.{◌≡◌, Result, Option, OnOk};
 ghost use Rattle.csv.specs.Records.{fields_of};
 ghost use Rattle.cal_trace.specs.Rows.Answers.{Gives, Takes};
 ghost use Rattle.cal_trace.specs.Rows.Reading.{read_on};

@@ -18,19 +18,31 @@ pub fn draw_cores(sheet: &Sheet<'_>, page: &mut Page) {
 <text class='q' x='58' y='{}'>in sibling pairs</text>\n",
         &[y, y],
     );
+    draw_grounds(sheet, page);
+    page.put("<g transform='translate(.5 .5)'>\n");
+    draw_bans(sheet, page);
+    draw_spans(sheet, page);
+    page.put("</g>\n<g>");
+    draw_ban_signs(sheet, page);
+    page.put("</g>\n");
+}
+
+fn draw_grounds(sheet: &Sheet<'_>, page: &mut Page) {
     for ground in sheet.layout.grounds.as_slice() {
         draw_ground(sheet, *ground, page);
     }
-    page.put("<g transform='translate(.5 .5)'>\n");
+}
+
+fn draw_bans(sheet: &Sheet<'_>, page: &mut Page) {
     for clocked in sheet.story.bans.as_slice() {
         draw_ban(sheet, clocked, page);
     }
-    draw_spans(sheet, page);
-    page.put("</g>\n<g>");
+}
+
+fn draw_ban_signs(sheet: &Sheet<'_>, page: &mut Page) {
     for clocked in sheet.story.bans.as_slice() {
         draw_ban_sign(sheet, &clocked.ban, page);
     }
-    page.put("</g>\n");
 }
 
 /// The spans, and bars where they begin and end.

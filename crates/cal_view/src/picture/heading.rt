@@ -240,17 +240,19 @@ fn draw_over(sheet: &Sheet<'_>, top: u64, page: &mut Page) {
 
 /// Every how many passes one is labelled, where each needs so much room: 1, 2, 5, 10 and so on.
 fn every(step: u64, need: u64) -> usize {
-    let mut ten = 1u64;
-    for _ in 0..6 {
-        for times in [1u64, 2, 5] {
-            let every = ten.saturating_mul(times);
-            if every.saturating_mul(step) >= need {
-                return every as usize;
-            }
+    let mut every = 1u64;
+    for place in 0..18 {
+        if every.saturating_mul(step) >= need {
+            break;
         }
-        ten = ten.saturating_mul(10);
+        let twice = every.saturating_mul(2);
+        every = if place % 3 == 1 {
+            twice.saturating_add(every / 2)
+        } else {
+            twice
+        };
     }
-    ten as usize
+    every as usize
 }
 
 /// How many digits the longest clock of the window has.

@@ -3,7 +3,7 @@
 use crate::story::Story;
 use crate::story::clocks::{ClockedBan, ClockedSpan};
 use crate::story::window::{Columns, Window};
-use cal_machine::Config;
+use cal_machine::{Config, MOST_CORES};
 use std::alloc::{AllocError, Global};
 
 /// The height of the bandwidth lane and of the overview.
@@ -76,7 +76,7 @@ pub struct Layout {
     pub cores_top: u64,
     pub grounds: Vec<Ground>,
     /// The top of each core's lane.
-    pub tops: [u64; 128],
+    pub tops: [u64; MOST_CORES],
     pub bottom: u64,
     /// The axis is told again below where the lanes are high.
     pub second_axis: Option<u64>,
@@ -148,19 +148,18 @@ fn scaled_unit(most: u64, limit: u64) -> u64 {
 }
 
 /// Which pairs have a span or a ban that shows.
-fn used_pairs(spans: &[ClockedSpan], bans: &[ClockedBan]) -> [bool; 128] {
-    let mut used = [false; 128];
-    for clocked in spans {
-        used[(clocked.span.core / 2) as usize] = true;
-    }
-    for clocked in bans {
-        used[(clocked.ban.core / 2) as usize] = true;
+fn used_pairs(spans: &[ClockedSpan], bans: &[ClockedBan]) -> [bool; MOST_CORES] {
+    let mut used = [false; MOST_CORES];
+    let with_span = spans.iter().map(|clocked| clocked.span.core);
+    let with_ban = bans.iter().map(|clocked| clocked.ban.core);
+    for core in with_span.chain(with_ban) {
+        used[(core / 2) as usize] = true;
     }
     used
 }
 
 /// The first core, of a used pair or past them all, from this pair on.
-fn next_used(used: &[bool; 128], from: u8, cores: u8) -> u8 {
+fn next_used(used: &[bool; MOST_CORES], from: u8, cores: u8) -> u8 {
     let mut core = from;
     for pair in from / 2..cores / 2 {
         if used[pair as usize] {
@@ -174,7 +173,7 @@ fn next_used(used: &[bool; 128], from: u8, cores: u8) -> u8 {
 /// The lanes of the cores, from this height down. Three idle pairs in a row or more are one line.
 fn grounds_of(
     alloc: Global,
-    used: &[bool; 128],
+    used: &[bool; MOST_CORES],
     cores: u8,
     sizes: Sizes,
     top: u64,
@@ -205,14 +204,14 @@ fn grounds_of(
     Ok((grounds, y.saturating_sub(sizes.outer)))
 }
 
-fn put_top(tops: &mut [u64; 128], core: u8, top: u64) {
-    if core < 128 {
+fn put_top(tops: &mut [u64; MOST_CORES], core: u8, top: u64) {
+    if (core as usize) < MOST_CORES {
         tops[core as usize] = top;
     }
 }
 
-fn tops_of(grounds: &[Ground], sizes: Sizes) -> [u64; 128] {
-    let mut tops = [0; 128];
+fn tops_of(grounds: &[Ground], sizes: Sizes) -> [u64; MOST_CORES] {
+    let mut tops = [0; MOST_CORES];
     for ground in grounds {
         match *ground {
             Ground::Pair { core, top } => {
@@ -232,6 +231,24 @@ fn canvas_of(config: &Config, columns: &Columns) -> u64 {
     let words = limit.saturating_mul(7).saturating_add(16);
     let wide = columns.right.saturating_add(RIGHT.max(words));
     wide.max(CANVAS_LEAST)
+}
+
+/// Where the overview stands, which only a part of a history has, and the axis.
+fn first_tops(window: Window) -> (Option<u64>, u64) {
+    if window.count < window.all {
+        (Some(90), 178)
+    } else {
+        (None, 92)
+    }
+}
+
+/// Where the axis stands a second time: below lanes that end far from the first.
+fn second_axis_of(axis: u64, bottom: u64) -> Option<u64> {
+    if bottom.saturating_sub(axis) > 700 {
+        Some(bottom.saturating_add(14))
+    } else {
+        None
+    }
 }
 
 /// How many digits a number has.
@@ -260,23 +277,16 @@ impl Layout {
         let cores = config.machine().cores();
         let sizes = sizes_of(cores, columns.width(), window.count);
         let few = config.tasks() <= 6;
-        let cut = window.count < window.all;
-        let overview = if cut { Some(90u64) } else { None };
-        let axis = if cut { 178u64 } else { 92 };
-        let tasks_top = axis + 28;
-        let (tasks, tasks_end) = task_lanes(alloc, config, few, tasks_top + 18)?;
+        let (overview, axis) = first_tops(window);
+        let tasks_top = axis.saturating_add(28);
+        let (tasks, tasks_end) = task_lanes(alloc, config, few, tasks_top.saturating_add(18))?;
         let bandwidth = tasks_end.saturating_add(4);
         let cores_top = bandwidth.saturating_add(BAND + 12);
         let used = used_pairs(story.spans.as_slice(), story.bans.as_slice());
         let first = cores_top.saturating_add(18);
         let (grounds, bottom) = grounds_of(alloc, &used, cores, sizes, first)?;
-        let high = bottom.saturating_sub(axis) > 700;
-        let second_axis = if high {
-            Some(bottom.saturating_add(14))
-        } else {
-            None
-        };
-        let under = if high { 58u64 } else { 30 };
+        let second_axis = second_axis_of(axis, bottom);
+        let under = if second_axis.is_some() { 58u64 } else { 30 };
         let legend = bottom.saturating_add(under);
         let tops = tops_of(grounds.as_slice(), sizes);
         Ok(Layout {
@@ -300,7 +310,7 @@ impl Layout {
 
     /// The top of a core's lane.
     pub fn top(&self, core: u8) -> u64 {
-        if core < 128 {
+        if (core as usize) < MOST_CORES {
             self.tops[core as usize]
         } else {
             0

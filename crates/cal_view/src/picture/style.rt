@@ -9,7 +9,8 @@ use cal_machine::Config;
 const FIXED: &str =
     "<style>svg{font:11px system-ui,'Segoe UI',Roboto,'Helvetica Neue',Arial,sans-serif;\
 font-variant-numeric:tabular-nums}\
-.h{font-size:20px}.h,.b{font-weight:600}.e{text-anchor:end}.m text{text-anchor:middle}.w{font-size:9px}\
+.h{font-size:20px}.h,.b{font-weight:600}.e{text-anchor:end}.m text{text-anchor:middle}\
+.w{font-size:9px}\
 .st text,.v,use,.g,.g2,.br,.gu,.cap,.G,.F,.cut,.lim,.e0{pointer-events:none}\
 .g,.g2,.br,.gu,.cap,.G,.F,.cut,.lim,.e0.e0{fill:none}\
 .G,.cap,.cut{stroke-width:2}\

@@ -6,6 +6,7 @@ use crate::picture::sheet::Sheet;
 use crate::picture::telling::{draw_box, ending, kind_word};
 use crate::story::walk::{Row, is_critical};
 use crate::story::window::LEFT;
+use cal_machine::MOST_TASKS;
 
 /// What is drawn of a task as steps.
 #[derive(Clone, Copy)]
@@ -17,7 +18,7 @@ enum Figure {
 }
 
 fn figure_of(row: &Row, task: usize, figure: Figure) -> u64 {
-    if task >= 16 {
+    if task >= MOST_TASKS {
         return 0;
     }
     match figure {
@@ -67,15 +68,29 @@ pub fn draw_tasks(sheet: &Sheet<'_>, page: &mut Page) {
     if !sheet.layout.few {
         page.fill("<text class='q e' x='171' y='{}'>threads</text>", &[y]);
     }
+    draw_names(sheet, page);
+    page.put("<g class='c'>\n");
+    draw_all_steps(sheet, page);
+    page.put("</g>\n");
+    draw_all_lines(sheet, page);
+}
+
+fn draw_names(sheet: &Sheet<'_>, page: &mut Page) {
     let lanes = sheet.layout.tasks.as_slice();
     for task in 0..lanes.len() {
         draw_name(sheet, task, &lanes[task], page);
     }
-    page.put("<g class='c'>\n");
+}
+
+fn draw_all_steps(sheet: &Sheet<'_>, page: &mut Page) {
+    let lanes = sheet.layout.tasks.as_slice();
     for task in 0..lanes.len() {
         draw_steps(sheet, task, &lanes[task], page);
     }
-    page.put("</g>\n");
+}
+
+fn draw_all_lines(sheet: &Sheet<'_>, page: &mut Page) {
+    let lanes = sheet.layout.tasks.as_slice();
     for task in 0..lanes.len() {
         draw_lines(sheet, task, &lanes[task], page);
     }

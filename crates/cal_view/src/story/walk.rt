@@ -2,7 +2,7 @@
 //! cores are banned, and what the tasks have. It does not grow.
 
 use crate::story::clocks::{ClockedBan, ClockedSpan, Clocks};
-use cal_machine::{Config, Kind};
+use cal_machine::{Config, Kind, MOST_TASKS, MOST_THREADS};
 use cal_policy::{Action, Record, Seen};
 use cal_spans::{BanSpan, BanTracker, Span, Tracker};
 
@@ -10,20 +10,20 @@ use cal_spans::{BanSpan, BanTracker, Span, Tracker};
 #[derive(Clone, Copy)]
 pub struct Row {
     /// Cores that its threads hold.
-    pub held: [u8; 16],
+    pub held: [u8; MOST_TASKS],
     /// Cores that its threads hold or leave.
-    pub booked: [u8; 16],
+    pub booked: [u8; MOST_TASKS],
     /// Its cap: that of the last Cap, else its limit.
-    pub caps: [u8; 16],
+    pub caps: [u8; MOST_TASKS],
     /// Whether the delay of one of its threads is over its threshold.
-    pub late: [bool; 16],
+    pub late: [bool; MOST_TASKS],
 }
 
 /// What is known of the tasks while a history is walked.
 #[derive(Drop)]
 struct Tasks {
-    caps: [u8; 16],
-    kept: [Option<Record>; 128],
+    caps: [u8; MOST_TASKS],
+    kept: [Option<Record>; MOST_THREADS],
 }
 
 /// The task of a thread; none where the table has no such thread.
@@ -67,19 +67,19 @@ fn delay_of(record: &Record, now: u64) -> u64 {
 impl Tasks {
     /// The table's limits, and no record.
     fn new(config: &Config) -> Tasks {
-        let mut caps = [0; 16];
+        let mut caps = [0; MOST_TASKS];
         for task in 0..config.tasks() {
             caps[task] = config.task(task).limit;
         }
         Tasks {
             caps,
-            kept: [None; 128],
+            kept: [None; MOST_THREADS],
         }
     }
 
     /// Keeps the records of whole looks.
     fn look(&mut self, looks: &[Seen]) {
-        for thread in 0..looks.len().min(128) {
+        for thread in 0..looks.len().min(MOST_THREADS) {
             if let Seen::Whole { rec, .. } = looks[thread] {
                 self.kept[thread] = Some(rec);
             }
@@ -89,19 +89,19 @@ impl Tasks {
     /// Notes a cap.
     fn cap(&mut self, action: Action) {
         if let Action::Cap { task, cap } = action {
-            if task < 16 {
+            if (task as usize) < MOST_TASKS {
                 self.caps[task as usize] = cap;
             }
         }
     }
 
     /// Whether each task has a thread whose delay is over the threshold.
-    fn late(&self, config: &Config, now: u64) -> [bool; 16] {
-        let mut late = [false; 16];
+    fn late(&self, config: &Config, now: u64) -> [bool; MOST_TASKS] {
+        let mut late = [false; MOST_TASKS];
         for thread in 0..config.threads() {
             let task = config.task_of(thread);
             if let Some(record) = self.kept[thread] {
-                if task < 16 && delay_of(&record, now) > config.task(task).delay {
+                if task < MOST_TASKS && delay_of(&record, now) > config.task(task).delay {
                     late[task] = true;
                 }
             }
@@ -111,8 +111,8 @@ impl Tasks {
 }
 
 /// One more for a task.
-fn count(counts: &mut [u8; 16], task: usize) {
-    if task < 16 {
+fn count(counts: &mut [u8; MOST_TASKS], task: usize) {
+    if task < MOST_TASKS {
         counts[task] = counts[task].saturating_add(1);
     }
 }
@@ -173,8 +173,8 @@ impl Walk {
 
     /// What the tasks have by this clock.
     pub fn row(&self, config: &Config, now: u64) -> Row {
-        let mut held = [0; 16];
-        let mut booked = [0; 16];
+        let mut held = [0; MOST_TASKS];
+        let mut booked = [0; MOST_TASKS];
         for core in 0..config.machine().cores() {
             if let Some(span) = self.spans.span(core) {
                 if let Some(task) = task_of(config, span.thread) {

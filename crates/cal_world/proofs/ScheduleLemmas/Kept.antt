@@ -9,7 +9,7 @@ use Rattle.std.proofs.lemmas.Option.{slice_get_read}
 use Rattle.cal_machine.specs.Table.{Table}
 use Rattle.cal_signal.specs.declared.record.Record.{Record}
 use Rattle.cal_signal.specs.Records.{zero_record}
-use Rattle.cal_signal.specs.Pages.{page_of, last_from, last_of}
+use Rattle.cal_signal.specs.Pages.{page_of, last_from, last_published}
 use Rattle.cal_policy.specs.declared.history.look.Seen.{Seen}
 use Rattle.cal_policy.specs.declared.history.look.Seen.TheVariants.{Whole, Busy, Ahead, Foreign}
 use Rattle.cal_policy.specs.Laws.{ActionIsOneMore, LookIsOneMore}
@@ -20,7 +20,7 @@ use Rattle.cal_world.specs.declared.event.Event.{Event}
 use Rattle.cal_world.specs.declared.event.Event.TheVariants.{Take, Yield, Publish, Read, Skip, Decide, Watch}
 use Rattle.cal_world.specs.Projections.{entries_for, publishes_in}
 use Rattle.cal_world.specs.Threads.{page_in, published_by}
-use Rattle.cal_world.specs.Looks.{decided, look_made, looks_since, since_decide, record_at}
+use Rattle.cal_world.specs.Looks.{decided_at, look_made, looks_since, since_decide, record_at}
 use Rattle.cal_world.specs.Safe.{IsSafeEvent, LegalListsAreSafe}
 use Rattle.cal_world.specs.World.Present.{looks_with, LooksGoOn}
 use Rattle.cal_world.specs.World.Standing.{PagesAreOf}
@@ -36,7 +36,7 @@ last_there : (x : Record) (rs : List Record) (d : Record) → get_or (x ∷ rs) 
 last_there x [] d = refl
 last_there x (r ∷ rs) d = last_there r rs d
 
-pub last_place : (page published : List Record) (rec : Record) (n : ℕ) → page ≡ page_of published → n ≡ length page → rec ≡ get_or page (n - 1) rec → rec ≡ last_of published
+pub last_place : (page published : List Record) (rec : Record) (n : ℕ) → page ≡ page_of published → n ≡ length page → rec ≡ get_or page (n - 1) rec → rec ≡ last_published published
 last_place page published rec n is size at =
     let place : n - 1 ≡ length published = (let size2 = ap length is in omega arith) in
     at ∙ ap (λ m. get_or page m rec) place ∙ ap (λ (p : List Record). get_or p (length published) rec) is ∙ last_there zero_record published rec
@@ -123,7 +123,7 @@ looks_stay table before after held grown = same_lists _ _ (looks_length after be
     one j (Some (Whole m r)) (Some (Ahead k n)) alike is_o is_p = is_o ∙ alike ∙ sym is_p
     one j (Some (Whole m r)) (Some (Foreign k n)) alike is_o is_p = is_o ∙ alike ∙ sym is_p
 
-looks_after_none : (table : Table) (before : List Event) (event : Event) → decided before event ≡ None → ((all : List Event) → look_made all event ≡ None) → Holds table before →
+looks_after_none : (table : Table) (before : List Event) (event : Event) → decided_at before event ≡ None → ((all : List Event) → look_made all event ≡ None) → Holds table before →
     ((k : ℕ) → Grows before (before ++ event ∷ []) k) → looks_since (before ++ event ∷ []) ≡ looks_since before
 looks_after_none table before event e none held grown =
     looks_same before event e none (before ++ event ∷ []) ∙ looks_stay table before (before ++ event ∷ []) held grown

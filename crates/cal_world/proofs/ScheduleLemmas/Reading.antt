@@ -36,7 +36,7 @@ use Rattle.cal_world.specs.declared.event.Event.TheVariants.{Take, Yield, Publis
 use Rattle.cal_world.specs.declared.illegal.Illegal.TheVariants as causes
 use Rattle.cal_world.specs.Projections.{history_in, actions_in, entries_for, publishes_in, takes_in, next_command, took, entry_in}
 use Rattle.cal_world.specs.Threads.{published_by, read_floor}
-use Rattle.cal_world.specs.Looks.{look_made, looks_since, since_decide, record_at, decided}
+use Rattle.cal_world.specs.Looks.{look_made, looks_since, since_decide, record_at, decided_at}
 use Rattle.cal_world.specs.World.{IsItsState, IsAllowed}
 use Rattle.cal_world.specs.Safe.{IsSafeEvent, IsSafeList}
 use Rattle.cal_world.specs.Reads.{IsBusy, SkipsBusy, AllSkipsAreBusy, IsOnReads, ReadsAreWhole}
@@ -108,7 +108,7 @@ pub record HoldsBusy (events : List Event) : Type 0 where
 
 -- one event more
 
-plain_same : (before : List Event) (event : Event) → decided before event ≡ None → ((all : List Event) → look_made all event ≡ None) → HoldsBusy before →
+plain_same : (before : List Event) (event : Event) → decided_at before event ≡ None → ((all : List Event) → look_made all event ≡ None) → HoldsBusy before →
     (all : List Event) (k : ℕ) (seen : Seen) → slice_get (filter_map (look_made all) (since_decide (before ++ event ∷ []))) k ≡ Some seen → IsPlain seen
 plain_same before event e none was all k seen is = was.plain all k seen (sym (ap (λ xs. slice_get xs k) (looks_same before event e none all)) ∙ is)
 
@@ -116,7 +116,7 @@ plain_one : (look : Seen) (j : ℕ) (seen : Seen) → IsPlain look → slice_get
 plain_one look zero seen plain is = let same : look ≡ seen = cc in subst IsPlain same plain
 plain_one look (suc j) seen plain is = let none : None ≡ Some seen = is in cc
 
-plain_more : (before : List Event) (event : Event) (look : List Event → Seen) → decided before event ≡ None → ((all : List Event) → look_made all event ≡ Some (look all)) →
+plain_more : (before : List Event) (event : Event) (look : List Event → Seen) → decided_at before event ≡ None → ((all : List Event) → look_made all event ≡ Some (look all)) →
     ((all : List Event) → IsPlain (look all)) → HoldsBusy before →
     (all : List Event) (k : ℕ) (seen : Seen) → slice_get (filter_map (look_made all) (since_decide (before ++ event ∷ []))) k ≡ Some seen → IsPlain seen
 plain_more before event look e made plain was all k seen is = ⊎_elim

@@ -15,13 +15,13 @@ use Rattle.cal_policy.specs.History.Lists.{last_after, last_of}
 use Rattle.cal_policy.proofs.ListLemmas.OneMore.{last_of_push, unwrap_or_or}
 use Rattle.cal_world.specs.declared.event.Event.{Event}
 use Rattle.cal_world.specs.declared.event.Event.TheVariants.{Take, Yield, Publish, Read, Skip, Decide, Watch}
-use Rattle.cal_world.specs.Looks.{decided, since_decide, record_at, look_made, looks_since}
+use Rattle.cal_world.specs.Looks.{decided_at, since_decide, record_at, look_made, looks_since}
 use Rattle.cal_world.specs.Threads.{place_read, read_floor}
 use Rattle.cal_world.specs.World.{KeepsNone, IsInTurn}
 use Rattle.cal_lists.proofs.Places.{slice_get_parts}
 
 -- the last Decide is within the list
-within_one : (before : List Event) (event : Event) → unwrap_or (decided before event) 0 ≤ length before + 1
+within_one : (before : List Event) (event : Event) → unwrap_or (decided_at before event) 0 ≤ length before + 1
 within_one before (Decide entry) = omega arith
 within_one before (Take thread) = omega arith
 within_one before (Yield thread) = omega arith
@@ -34,26 +34,26 @@ or_within : (o p : Option ℕ) (n : ℕ) → unwrap_or o 0 ≤ n → unwrap_or p
 or_within None p n e f = f
 or_within (Some m) p n e f = e
 
-decided_within : (before events : List Event) → unwrap_or (last_after decided before events) 0 ≤ length before + length events
+decided_within : (before events : List Event) → unwrap_or (last_after decided_at before events) 0 ≤ length before + length events
 decided_within before [] = omega arith
 decided_within before (event ∷ events) =
     let rest = decided_within (before ++ event ∷ []) events in
     let one = within_one before event in
-    or_within (last_after decided (before ++ event ∷ []) events) (decided before event) (length before + length (event ∷ events))
+    or_within (last_after decided_at (before ++ event ∷ []) events) (decided_at before event) (length before + length (event ∷ events))
     (omega (arith, length-append before (event ∷ []))) (omega arith)
 
 -- an event that is no Decide stands among those since the last one
-pub since_more : (before : List Event) (event : Event) → decided before event ≡ None → since_decide (before ++ event ∷ []) ≡ since_decide before ++ event ∷ []
+pub since_more : (before : List Event) (event : Event) → decided_at before event ≡ None → since_decide (before ++ event ∷ []) ≡ since_decide before ++ event ∷ []
 since_more before event e =
-    let last : last_of decided (before ++ event ∷ []) ≡ last_of decided before =
-    last_of_push decided before event ∙ ap (λ o. option_or o (last_of decided before)) e in
+    let last : last_of decided_at (before ++ event ∷ []) ≡ last_of decided_at before =
+    last_of_push decided_at before event ∙ ap (λ o. option_or o (last_of decided_at before)) e in
     ap (λ o. drop (unwrap_or o 0) (before ++ event ∷ [])) last
-    ∙ drop-append-le (unwrap_or (last_of decided before) 0) before (event ∷ []) (let low = decided_within [] before in omega arith)
+    ∙ drop-append-le (unwrap_or (last_of decided_at before) 0) before (event ∷ []) (let low = decided_within [] before in omega arith)
 
 -- after a Decide there is none
 pub since_none : (before : List Event) (entry : PassEntry) → since_decide (before ++ Decide entry ∷ []) ≡ []
 since_none before entry =
-    ap (λ o. drop (unwrap_or o 0) (before ++ Decide entry ∷ [])) (last_of_push decided before (Decide entry))
+    ap (λ o. drop (unwrap_or o 0) (before ++ Decide entry ∷ [])) (last_of_push decided_at before (Decide entry))
     ∙ drop_of_length-le (before ++ Decide entry ∷ []) (omega (arith, length-append before (Decide entry ∷ [])))
 
 -- what a look at thread k shows is what the page of k has at the floor
@@ -103,18 +103,18 @@ looks_length all other (event ∷ events) =
     ∙ ap length (sym (filter_map-append (look_made other) (event ∷ []) events))
 
 -- the looks, one event more
-pub looks_same : (before : List Event) (event : Event) → decided before event ≡ None → ((all : List Event) → look_made all event ≡ None) → (all : List Event) →
+pub looks_same : (before : List Event) (event : Event) → decided_at before event ≡ None → ((all : List Event) → look_made all event ≡ None) → (all : List Event) →
     filter_map (look_made all) (since_decide (before ++ event ∷ [])) ≡ filter_map (look_made all) (since_decide before)
 looks_same before event e none all = ap (filter_map (look_made all)) (since_more before event e) ∙ filter_map-append (look_made all) (since_decide before) (event ∷ [])
     ∙ ap (λ o. filter_map (look_made all) (since_decide before) ++ filter_map (λ (u : Event). o) (event ∷ [])) (none all) ∙ append-nil (filter_map (look_made all) (since_decide before))
 
-pub looks_more : (before : List Event) (event : Event) → decided before event ≡ None → (all : List Event) (look : Seen) → look_made all event ≡ Some look →
+pub looks_more : (before : List Event) (event : Event) → decided_at before event ≡ None → (all : List Event) (look : Seen) → look_made all event ≡ Some look →
     filter_map (look_made all) (since_decide (before ++ event ∷ [])) ≡ filter_map (look_made all) (since_decide before) ++ look ∷ []
 looks_more before event e all look made = ap (filter_map (look_made all)) (since_more before event e) ∙ filter_map-append (look_made all) (since_decide before) (event ∷ [])
     ∙ ap (λ o. filter_map (look_made all) (since_decide before) ++ filter_map (λ (u : Event). o) (event ∷ [])) made
 
 -- no look
-no_look : (before : List Event) (event : Event) → decided before event ≡ None → ((k : ℕ) → place_read k before event ≡ None) → ((all : List Event) → look_made all event ≡ None) → LooksInOrder before →
+no_look : (before : List Event) (event : Event) → decided_at before event ≡ None → ((k : ℕ) → place_read k before event ≡ None) → ((all : List Event) → look_made all event ≡ None) → LooksInOrder before →
     LooksInOrder (before ++ event ∷ [])
 no_look before event e unread none was = record {
   at = λ all k seen is. let P : ℕ → Type 0 = λ floor. IsLookAt all k floor seen in
@@ -122,7 +122,7 @@ no_look before event e unread none was = record {
 }
 
 -- a look in its turn
-one_look : (before : List Event) (event : Event) (look : List Event → Seen) → decided before event ≡ None → ((all : List Event) → look_made all event ≡ Some (look all)) →
+one_look : (before : List Event) (event : Event) (look : List Event → Seen) → decided_at before event ≡ None → ((all : List Event) → look_made all event ≡ Some (look all)) →
     ((k : ℕ) → (k ≡ length (looks_since before) → ⊥) → read_floor (before ++ event ∷ []) k ≡ read_floor before k) →
     ((all : List Event) → IsLookAt all (length (looks_since before)) (read_floor (before ++ event ∷ []) (length (looks_since before))) (look all)) → LooksInOrder before →
     LooksInOrder (before ++ event ∷ [])

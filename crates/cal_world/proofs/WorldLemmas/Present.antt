@@ -14,7 +14,7 @@ use Rattle.cal_world.specs.World.Standing.{StandingsAreOf, PagesAreOf}
 use Rattle.cal_policy.specs.Tasks.{threads_of_table}
 use Rattle.cal_world.specs.declared.illegal.Illegal.TheVariants.{NoThread}
 use Rattle.cal_world.specs.World.{IsAllowed}
-use Rattle.cal_world.specs.World.Present.{IsPresent, HasThread, HasThreadOf}
+use Rattle.cal_world.specs.World.Present.{IsPresent, KeepsThread, KeepsThreadOf}
 use Rattle.cal_world.proofs.ScheduleLemmas.Moves.{history_same, history_more}
 use Rattle.cal_world.proofs.WorldLemmas.Noted.{standings_kept, of_other}
 use Rattle.cal_world.proofs.ScheduleLemmas.Kept.{pages_kept_by}
@@ -71,12 +71,12 @@ present_decided table before entry p q was new =
       all_sent = new.all_sent ∙ was.all_sent;
     }
 
-one : (table : Table) (before : List Event) (k : ℕ) (p : Present) → IsPresent table before p → k < threads_of_table table → HasThread p k
+one : (table : Table) (before : List Event) (k : ℕ) (p : Present) → IsPresent table before p → k < threads_of_table table → KeepsThread p k
 one table before k p was low =
     let s = was.all_standings in let g = was.all_pages in let o = was.all_sent in record { standing = omega arith; page = omega arith; sent = omega arith }
 
 -- an event that is allowed is of a thread that is kept
-pub has_thread : (table : Table) (before : List Event) (event : Event) (p : Present) → IsPresent table before p → IsAllowed table before event → HasThreadOf p event
+pub has_thread : (table : Table) (before : List Event) (event : Event) (p : Present) → IsPresent table before p → IsAllowed table before event → KeepsThreadOf p event
 has_thread table before (Take thread) p was allowed = one table before thread p was (allowed NoThread)
 has_thread table before (Yield thread) p was allowed = one table before thread p was (allowed NoThread)
 has_thread table before (Publish thread rec) p was allowed = one table before thread p was (allowed NoThread)

@@ -32,20 +32,20 @@ HasAll table present = (length present.standings.items ≡ threads_of_table tabl
     × (length present.sent.items ≡ threads_of_table table)
 
 -- what is kept has thread k
-pub record HasThread (present : Present) (k : ℕ) : Type 0 where
+pub record KeepsThread (present : Present) (k : ℕ) : Type 0 where
   pub standing : k < length present.standings.items
   pub page : k < length present.pages.items
   pub sent : k < length present.sent.items
 
 -- it has the thread of the event
-abbrev pub HasThreadOf : Present → Event → Type 0
-HasThreadOf present (Take thread) = HasThread present thread
-HasThreadOf present (Yield thread) = HasThread present thread
-HasThreadOf present (Publish thread rec) = HasThread present thread
-HasThreadOf present (Read thread number) = HasThread present thread
-HasThreadOf present (Skip thread seen) = Unit {0}
-HasThreadOf present (Decide entry) = Unit {0}
-HasThreadOf present (Watch thread number) = HasThread present thread
+abbrev pub KeepsThreadOf : Present → Event → Type 0
+KeepsThreadOf present (Take thread) = KeepsThread present thread
+KeepsThreadOf present (Yield thread) = KeepsThread present thread
+KeepsThreadOf present (Publish thread rec) = KeepsThread present thread
+KeepsThreadOf present (Read thread number) = KeepsThread present thread
+KeepsThreadOf present (Skip thread seen) = Unit {0}
+KeepsThreadOf present (Decide entry) = Unit {0}
+KeepsThreadOf present (Watch thread number) = KeepsThread present thread
 
 -- the looks since the last Decide, one event more: what was read stays as it was read
 abbrev pub looks_with : List Seen → List Event → Event → List Seen

@@ -1,7 +1,7 @@
 //! The commands that were sent to a kernel thread, as a list.
 
 ghost use Rattle.std.specs.Prelude.{◌≡◌, ◌<◌, ◌≤◌, ◌+◌, ◌++◌, ◌∷◌, ◌^◌};
-ghost use Rattle.std.specs.Prelude.{[], IfSome, OnOk, OnErr, slice_get};
+ghost use Rattle.std.specs.Prelude.{[], IfSome, OnOk, slice_get};
 
 use cal_command::Command;
 use std::alloc::{AllocError, Global};

@@ -4,7 +4,7 @@ ghost use Rattle.std.specs.Prelude.{◌≡◌, ◌<◌, ◌++◌, ◌∷◌, [],
 ghost use Rattle.std.specs.Prelude.{OnErr, length, slice_index_or, List};
 ghost use Rattle.cal_signal.specs.declared.record.Record.{Record};
 ghost use Rattle.cal_signal.specs.Records.{zero_record};
-ghost use Rattle.cal_signal.specs.Pages.{page_of, last_of};
+ghost use Rattle.cal_signal.specs.Pages.{page_of, last_published};
 
 use cal_policy::Record;
 use std::alloc::{AllocError, Global};
@@ -58,7 +58,7 @@ impl Page {
     /// The record at the last place.
     pub fn last(&self) -> Record
         ensures { (published : List Record) →
-            self.now ≡ page_of published → result ≡ last_of published }
+            self.now ≡ page_of published → result ≡ last_published published }
     {
         self.records[self.records.len() - 1]
     }

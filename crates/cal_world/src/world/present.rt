@@ -1,9 +1,8 @@
 //! What the events of a world come to.
 
 ghost use Rattle.std.specs.Prelude.{◌≡◌, ◌<◌, ◌++◌, ◌∷◌, [], List, IfOk};
-ghost use Rattle.std.specs.Prelude.{OnOk, OnErr, length, slice_index_or};
+ghost use Rattle.std.specs.Prelude.{OnOk, OnErr, length};
 ghost use Rattle.cal_machine.specs.Table.{Table, IsTable};
-ghost use Rattle.cal_signal.specs.Records.{zero_record};
 ghost use Rattle.cal_policy.specs.Tasks.{threads_of_table};
 ghost use Rattle.cal_world.specs.declared.event.Event.{Event};
 ghost use Rattle.cal_world.specs.declared.event.Event.TheVariants.{Take, Yield, Publish};
@@ -13,7 +12,7 @@ ghost use Rattle.cal_world.specs.World.Standing.{StandingsAreOf, PagesAreOf};
 ghost use Rattle.cal_world.specs.World.Sending.{AreSent};
 ghost use Rattle.cal_world.specs.World.{IsAllowed, IsLegalList, HasCommand};
 ghost use Rattle.cal_world.specs.Looks.{record_at};
-ghost use Rattle.cal_world.specs.World.Present.{IsPresent, HasThreadOf, LooksGoOn};
+ghost use Rattle.cal_world.specs.World.Present.{IsPresent, KeepsThreadOf, LooksGoOn};
 
 use crate::event::Event;
 use crate::schedules::legal_lists_are_safe;
@@ -198,7 +197,7 @@ impl Present {
     /// Takes in an event that is allowed. After an error, which is want of memory, all is what it
     /// was.
     pub fn note(&mut self, alloc: Global, event: &Event) -> Result<(), AllocError>
-        requires { HasThreadOf self.old event.now }
+        requires { KeepsThreadOf self.old event.now }
         ensures ok { OnOk result ((table : Table) (before : List Event) → IsTable table →
             IsLegalList table before → IsAllowed table before event.now →
             IsPresent table before self.old → IsPresent table (before ++ event.now ∷ []) self.new) }

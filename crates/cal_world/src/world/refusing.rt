@@ -80,7 +80,7 @@ fn word_of(core: Option<u8>) -> u64
 /// Of a Publish by a thread of the table, after this last record on its page.
 fn refusal_of_publish(standing: &Standing, last: &Record, rec: &Record) -> Option<Illegal>
     ensures { (table : Table) (before : List Event) (k : ℕ) → k < threads_of_table table →
-        IsOf standing.now before k → last.now ≡ pages.last_of (published_by before k) →
+        IsOf standing.now before k → last.now ≡ pages.last_published (published_by before k) →
         IsRefusal table before (Publish k rec.now) result }
 {
     if rec.taken == standing.taken as u64

@@ -1,7 +1,7 @@
 //! What the actions of a pass send to the kernel threads.
 
 ghost use Rattle.std.specs.Prelude.{◌≡◌, ◌+◌, ◌∷◌, ◌++◌, [], None, ℕ};
-ghost use Rattle.std.specs.Prelude.{List, length, replicate, OnOk};
+ghost use Rattle.std.specs.Prelude.{List, length, OnOk};
 ghost use Rattle.cal_policy.specs.declared.history.action.Action.{Action};
 ghost use Rattle.cal_policy.specs.History.{sends};
 ghost use Rattle.cal_world.specs.World.Sending.{AreGranted, AreSent, HaveRoom, command_for};

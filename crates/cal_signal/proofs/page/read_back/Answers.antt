@@ -1,5 +1,5 @@
 use Rattle.std.proofs.Common.{rules, length, ap, sym, ◌∙◌}
-use Rattle.cal_signal.specs.Pages.{floor_of, last_of}
+use Rattle.cal_signal.specs.Pages.{floor_of, last_published}
 use Rattle.cal_signal.specs.Rule.{sees}
 use Rattle.cal_signal.proofs.PageLists.{floor_snoc}
 use Rattle.cal_signal.proofs.PageSteps.{M, joins_reading, splits}
@@ -17,5 +17,5 @@ invariant_of-observer c = let w = c.split_seat-observing.ensures.4 in let e = c.
   part = ap (λ (m : M). sees m.0) w ∙ (ap (λ (m : M). sees m.0) e ∙ c.observer.invariant.part);
   low = c.publisher.invariant.placed
       ∙ sym (ap (λ (m : M). floor_of m.0.looks) w ∙ (ap (λ (m : M). floor_of m.0.looks) e
-      ∙ floor_snoc 0 c.observer.inside.seat.me.0.looks (length c.publisher.inside.seat.me.0.published) (last_of c.publisher.inside.seat.me.0.published)));
+      ∙ floor_snoc 0 c.observer.inside.seat.me.0.looks (length c.publisher.inside.seat.me.0.published) (last_published c.publisher.inside.seat.me.0.published)));
 }

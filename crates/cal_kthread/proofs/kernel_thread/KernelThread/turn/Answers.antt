@@ -2,7 +2,7 @@ use Rattle.std.proofs.Common.{◌≡◌, ◌+◌, ◌≤◌, ◌<◌, ◌∙◌,
 use Rattle.std.specs.Vec.{vec_len}
 use Rattle.cal_signal.specs.declared.record.Record.{Record}
 use Rattle.cal_signal.specs.Ends.{PublisherView}
-use Rattle.cal_signal.specs.Pages.{last_of}
+use Rattle.cal_signal.specs.Pages.{last_published}
 use Rattle.cal_signal.specs.Records.{zero_record}
 use Rattle.cal_kthread.specs.contracts.kernel_thread.KernelThread.{the_view}
 use Rattle.cal_kthread.specs.Turn.Agreement.{Agrees}
@@ -112,5 +112,5 @@ pub returns-clause-ring : goal.returns-clause-ring
 returns-clause-ring c = (agreeing c).commands
 
 pub returns-clause-stamped : goal.returns-clause-stamped
-returns-clause-stamped c = ap (λ (z : ThreadView × Entry). (last_of z.0.publisher.published).stamp) c.publish-publication.ensures.shown
+returns-clause-stamped c = ap (λ (z : ThreadView × Entry). (last_published z.0.publisher.published).stamp) c.publish-publication.ensures.shown
     ∙ ap (λ (r : Record). r.stamp) (last_snoc zero_record c.fill_front.new.self.publisher.published (shown c.args.now c.fill_front.new.self))

@@ -4,7 +4,7 @@ use Rattle.std.specs.Option.{IfSome}
 use Rattle.cal_policy.specs.Tasks.{threads_of_table}
 use Rattle.cal_policy.specs.declared.board.holders.Holder.{Holder}
 use Rattle.cal_policy.specs.Board.{holder_in}
-use Rattle.cal_policy.specs.Board.Survey.{IsOneMore}
+use Rattle.cal_policy.specs.Board.Survey.{CountsOneMore}
 use Rattle.cal_policy.specs.Board.CoreSets.{IsSorted}
 use Rattle.cal_policy.proofs.BoardLemmas.StateKept.{names_fixed, names_threads}
 use Rattle.cal_policy.proofs.BoardLemmas.Surveyed.{Surveys_moved, counted_at, few_left}
@@ -46,8 +46,8 @@ returns-clause-ready c =
     let core = c.core_changed_by-core.result in
     let fixed = names_fixed table c.args.action c.requires.table c.requires.names in
     let threads = names_threads table c.args.action c.requires.table c.requires.names in
-    let Less : Holder → Type 0 = λ a. IsOneMore table a c.remove.new.self old.survey in
-    let More : Holder → Type 0 = λ a. IsOneMore table a c.remove.new.self c.add.new.self in
+    let Less : Holder → Type 0 = λ a. CountsOneMore table a c.remove.new.self old.survey in
+    let More : Holder → Type 0 = λ a. CountsOneMore table a c.remove.new.self c.add.new.self in
     let At : Holder → Type 0 = λ a. IfSome core (λ k. IsSorted k a c.move_core.new.self) in
     record {
       sound = record { holding = c.apply.ensures.sound 128 c.requires.ready.sound.holding fixed; bans = c.apply-2.ensures.sound 128 c.requires.ready.sound.bans fixed };

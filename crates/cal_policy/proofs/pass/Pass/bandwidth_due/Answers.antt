@@ -1,4 +1,4 @@
-use Rattle.std.proofs.Common.{◌<◌, ◌≤◌, refl, sym, ◌∙◌, arith}
+use Rattle.std.proofs.Common.{◌<◌, ◌≤◌, sym, ◌∙◌, arith}
 use Rattle.std.proofs.lemmas.List.{append-nil}
 use Rattle.cal_policy.specs.Setting.{so_far}
 use Rattle.cal_policy.proofs.PassLemmas.Bandwidth.{over_limit, not_over_limit}

@@ -2,7 +2,7 @@ use Rattle.std.proofs.Common.{◌+◌, ◌*◌, ◌≤◌, List, length}
 use Rattle.cal_policy.specs.declared.history.entry.PassEntry.{PassEntry}
 use Rattle.cal_policy.specs.History.Lists.{in_pair}
 use Rattle.cal_policy.specs.Setting.{setting}
-use Rattle.cal_policy.specs.Pass.Bans.{ban_at}
+use Rattle.cal_policy.specs.Pass.Bans.{bans_at}
 use Rattle.cal_policy.specs.Board.{Stands, IsReady}
 use Rattle.cal_policy.proofs.PassLemmas.PartSoFar.{Reached}
 use Rattle.cal_policy.proofs.pass.bans.ban_siblings.Given as goal
@@ -10,7 +10,7 @@ use Rattle.cal_policy.proofs.pass.bans.ban_siblings.Given as goal
 abbrev pub invariant-loop-pair : goal.invariant-loop-pair
 invariant-loop-pair l = record {
   acts : (h : List PassEntry) → let s = setting l.fn.config h l.fn.input in Stands l.fn.board s l.fn.out →
-      Reached (in_pair (ban_at s)) s l.fn.out l.out l.board l.pair;
+      Reached (in_pair (bans_at s)) s l.fn.out l.out l.board l.pair;
   ready : IsReady l.config l.board;
   length : length l.out ≤ length l.fn.out + 2 * l.pair;
 }

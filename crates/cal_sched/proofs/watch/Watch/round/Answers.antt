@@ -3,9 +3,9 @@ use Rattle.std.specs.Vec.{vec_capacity}
 use Rattle.std.specs.declared.vec.Vec.{Vec}
 use Rattle.std.specs.declared.alloc.Global.{Global}
 use Rattle.cal_signal.specs.declared.look.Look.{Look}
-use Rattle.cal_sched.specs.Watching.{WatchView, AreWatched}
+use Rattle.cal_sched.specs.Watching.{WatchView, HaveWatched}
 use Rattle.cal_sched.proofs.Lists.{taken_off, written_whole}
-use Rattle.cal_sched.proofs.Watched.{AreWatched-more}
+use Rattle.cal_sched.proofs.Watched.{HaveWatched-more}
 use Rattle.cal_sched.proofs.watch.Watch.round.Goals as goal
 
 pub look_at_each-requires : goal.look_at_each-requires
@@ -30,8 +30,8 @@ invariant_of-self c =
     let round = c.look_at_each.new.looks.items in
     let rounds : c.push_reserved.new.self.items ≡ c.self.inside.rounds.items ++ round ∷ [] =
     c.push_reserved.ensures.items ∙ ap (λ (r : List Look). c.self.inside.rounds.items ++ r ∷ []) c.new.ensures in
-    let watched : AreWatched c.self.inside.given.value.items new (c.self.inside.rounds.items ++ round ∷ []) =
-    AreWatched-more c.self.inside.given.value.items old.items new c.self.inside.rounds.items round c.self.invariant.0 (rw same at c.look_at_each.ensures.looked) in
+    let watched : HaveWatched c.self.inside.given.value.items new (c.self.inside.rounds.items ++ round ∷ []) =
+    HaveWatched-more c.self.inside.given.value.items old.items new c.self.inside.rounds.items round c.self.invariant.0 (rw same at c.look_at_each.ensures.looked) in
     let fewer : length c.self.inside.spare.items ≡ length c.pop.new.self.items + 1 = ap length items ∙ length-append c.pop.new.self.items (c.in-Some.looks ∷ []) in
     let more : length c.push_reserved.new.self.items ≡ length c.self.inside.rounds.items + 1 = ap length rounds ∙ length-append c.self.inside.rounds.items (round ∷ []) in
     let room : length c.self.inside.rounds.items + length c.self.inside.spare.items ≤ vec_capacity c.self.inside.rounds = c.self.invariant.2 in

@@ -1,7 +1,7 @@
 use Rattle.std.proofs.Common.{rules, ◌≡◌, ◌++◌, ◌∷◌, [], length, ap, sym, ◌∙◌, subst, arith}
 use Rattle.std.proofs.lemmas.List.{length_push}
 use Rattle.cal_signal.specs.Records.{record_of, zero_record, MayFollow}
-use Rattle.cal_signal.specs.Pages.{last_of}
+use Rattle.cal_signal.specs.Pages.{last_published}
 use Rattle.cal_signal.specs.Rule.{parts_of}
 use Rattle.cal_signal.proofs.PageLists.{last_snoc}
 use Rattle.cal_signal.proofs.PageSteps.{M, publishes_of, closes, all_stored}
@@ -13,7 +13,7 @@ store-requires c = let v = c.self.invariant.version in let full : c.self.inside.
       search rules,
       search rules,
       closes _ _ _ _ (publishes_of c.self.inside.seat.me.0 c.self.invariant.part) (omega arith) (omega arith) (ap length e)
-          (subst (MayFollow (last_of c.self.inside.seat.me.0.published)) (sym (ap record_of e)) c.self.invariant.follows),
+          (subst (MayFollow (last_published c.self.inside.seat.me.0.published)) (sym (ap record_of e)) c.self.invariant.follows),
     )
 
 pub invariant_of-result : goal.invariant_of-result
@@ -26,6 +26,6 @@ invariant_of-result c = let full : c.self.inside.count ≡ 9 = search rules in
       version = ap (λ (m : M). m.0.version) w ∙ omega arith;
       stored = ap (λ (m : M). m.0.stored) w;
       placed = let p = c.self.invariant.placed in sym (ap length grown ∙ (length_push _ _ ∙ omega arith));
-      ends = sym (ap last_of grown ∙ last_snoc zero_record c.self.inside.seat.me.0.published c.self.inside.pending);
+      ends = sym (ap last_published grown ∙ last_snoc zero_record c.self.inside.seat.me.0.published c.self.inside.pending);
       bound = search rules;
     }

@@ -2,7 +2,7 @@ use Rattle.std.proofs.Common.{rules, ◌≡◌, ◌+◌, ◌*◌, ◌%◌, ◌++
 use Rattle.std.proofs.lemmas.List.{length_push}
 use Rattle.cal_signal.specs.declared.record.Record.{Record}
 use Rattle.cal_signal.specs.Records.{words_of, record_of, zero_record, MayFollow}
-use Rattle.cal_signal.specs.Pages.{last_of}
+use Rattle.cal_signal.specs.Pages.{last_published}
 use Rattle.cal_signal.specs.Rule.{parts_of}
 use Rattle.cal_signal.specs.Faults.{MayPublish}
 use Rattle.cal_signal.proofs.PageLists.{last_snoc}
@@ -21,7 +21,7 @@ store-requires-2 c = let v = c.self.invariant.version in
       search rules,
       closes _ _ _ _ (ap (λ (m : M). m.0.publishes) e ∙ publishes_of c.self.inside.seat.me.0 c.self.invariant.part) (ap (λ (m : M). m.0.version % 2) e ∙ omega arith) (let up : c.store_words.new.seat.me.0.version ≡ c.self.inside.place * 2 + 1 = ap (λ (m : M). m.0.version) e in omega arith)
           (ap (λ (m : M). length m.0.stored) e ∙ ap length ws)
-          (subst (λ (z : Record × Record). MayFollow z.0 z.1) (λ i. ((c.self.invariant.ends ∙ sym (ap (λ (m : M). last_of m.0.published) e)) i, sym (ap (λ (m : M). record_of m.0.stored) e ∙ ap record_of ws) i)) may),
+          (subst (λ (z : Record × Record). MayFollow z.0 z.1) (λ i. ((c.self.invariant.ends ∙ sym (ap (λ (m : M). last_published m.0.published) e)) i, sym (ap (λ (m : M). record_of m.0.stored) e ∙ ap record_of ws) i)) may),
     )
 
 pub invariant_of-self : goal.invariant_of-self
@@ -35,6 +35,6 @@ invariant_of-self c =
       version = ap (λ (m : M). m.0.version) w ∙ omega arith;
       stored = ap (λ (m : M). m.0.stored) w;
       placed = let p = c.self.invariant.placed in sym (ap length grown ∙ (length_push _ _ ∙ omega arith));
-      ends = sym (ap last_of grown ∙ last_snoc zero_record c.self.inside.seat.me.0.published c.args.rec);
+      ends = sym (ap last_published grown ∙ last_snoc zero_record c.self.inside.seat.me.0.published c.args.rec);
       bound = let may : MayPublish c.self.inside.seat.me.0.published c.args.rec = search rules in let room = may.2 in let p = c.self.invariant.placed in omega arith;
     }

@@ -1,6 +1,6 @@
 use Rattle.std.proofs.Common.{◌≡◌, ◌∙◌, ap, length, arith}
 use Rattle.cal_signal.specs.declared.record.Record.{Record}
-use Rattle.cal_signal.specs.Pages.{last_of}
+use Rattle.cal_signal.specs.Pages.{last_published}
 use Rattle.cal_signal.specs.Records.{zero_record}
 use Rattle.cal_kthread.specs.Turn.Thread.{ThreadView}
 use Rattle.cal_kthread.proofs.TurnLemmas.Publishing.{last_snoc}
@@ -8,7 +8,7 @@ use Rattle.cal_kthread.proofs.turn.thread.Thread.publish.Goals as goal
 
 pub invariant_of-self : goal.invariant_of-self
 invariant_of-self c =
-    let last : last_of c.publish.new.self.published ≡ c.record-record.result = ap last_of c.in-Ok.ensures.published.2 ∙ last_snoc zero_record c.self.inside.publisher.published c.record-record.result in
+    let last : last_published c.publish.new.self.published ≡ c.record-record.result = ap last_published c.in-Ok.ensures.published.2 ∙ last_snoc zero_record c.self.inside.publisher.published c.record-record.result in
     let shows = last ∙ c.record-record.ensures in
     let same = ap (λ (t : ThreadView). length t.taker.taken) c.self.view_is in
     let likewise = ap (λ (t : ThreadView). t.misses) c.self.view_is in record {
