@@ -56,19 +56,13 @@ impl FirstCome {
         }
     }
 
-    /// Notes several actions, in their order.
-    fn note_all(&mut self, actions: &[Action]) {
-        for action in actions {
-            self.note(*action);
-        }
-    }
-
     /// Frees each core whose thread shows none.
-    fn free(&self, alloc: Global, seen: &[Seen]) -> Result<Vec<Action>, AllocError> {
+    fn free(&mut self, alloc: Global, seen: &[Seen]) -> Result<Vec<Action>, AllocError> {
         let mut actions = Vec::new(alloc);
         for core in 0..MOST_CORES as u8 {
             if let Some(thread) = self.given[core as usize] {
                 if shown(seen, thread).is_some_and(|rec| rec.running == 0) {
+                    self.given[core as usize] = None;
                     actions.push(Action::Free { core })?;
                 }
             }
@@ -85,7 +79,6 @@ impl FirstCome {
     ) -> Result<Vec<Action>, AllocError> {
         let mut after = *self;
         let mut actions = after.free(alloc, seen)?;
-        after.note_all(actions.as_slice());
         for (_, thread) in after.waiting(alloc, seen)? {
             let free = (0..config.machine().cores()).find(
                 |core| after.given[*core as usize].is_none(),

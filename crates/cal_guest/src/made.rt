@@ -6,8 +6,8 @@ use cal_policy::{Look, Record};
 /// two.
 pub const TABLE: &[u8] =
     b"cores = 2\nbandwidth_limit = 1000\n[[task]]\nkind = \"lc\"\nguaranteed = 1\nlimit = 1\n\
-    delay = 10\nrequest = 50\n[[task]]\n\
-    kind = \"be\"\nguaranteed = 0\nlimit = 2\ndelay = 10\nrequest = 50\n";
+    delay = 10\nrequest = 50\n[[task]]\nkind = \"be\"\nguaranteed = 0\nlimit = 2\ndelay = 10\n\
+    request = 50\n";
 
 /// What a pass finds.
 pub struct Made {

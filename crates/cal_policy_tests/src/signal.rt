@@ -270,24 +270,21 @@ fn is(alloc: Global, fault: PublishFault, number: u8, text: &str) -> Result<bool
 
 #[test]
 fn fault_numbers_and_texts(rt: HostRuntime) -> Result<(), Fail> {
-    let alloc = rt.alloc();
-    let later = "the record is not later than the last one";
-    assert!(rt; is(alloc, PublishFault::Backwards, 1, later)?);
-    assert!(rt;
-        is(
-            alloc,
+    let rows = [
+        (
+            PublishFault::Backwards,
+            1,
+            "the record is not later than the last one",
+        ),
+        (
             PublishFault::BadShape,
             2,
-            "the record has not the right shape"
-        )?
-    );
-    assert!(rt;
-        is(
-            alloc,
-            PublishFault::Exhausted,
-            3,
-            "the page has no place left"
-        )?
-    );
+            "the record has not the right shape",
+        ),
+        (PublishFault::Exhausted, 3, "the page has no place left"),
+    ];
+    for (fault, number, text) in rows {
+        assert!(rt; is(rt.alloc(), fault, number, text)?, "{text}");
+    }
     Ok(())
 }

@@ -9,24 +9,6 @@ use std::sync::Wait;
 use std::test::Fail;
 use std::thread::Threads;
 
-/// What the program ended with: its exit status, and what it wrote on its two outputs.
-#[derive(Drop)]
-pub struct Ended {
-    pub status: u8,
-    pub output: String,
-    pub errors: String,
-}
-
-/// The program's name and these words.
-pub fn named(alloc: Global, words: &[&str]) -> Result<Vec<String>, AllocError> {
-    let mut named = Vec::new(alloc);
-    named.push(String::from_str(alloc, "caladan_sim")?)?;
-    for word in words {
-        named.push(String::from_str(alloc, word)?)?;
-    }
-    Ok(named)
-}
-
 /// The exit status of the program on these words, what the reader gives, and two writers.
 fn status<H: Threads + Wait + Sync, R: Read + Drop, W: Write, E: Write>(
     rt: &H,
@@ -36,25 +18,12 @@ fn status<H: Threads + Wait + Sync, R: Read + Drop, W: Write, E: Write>(
     output: &mut W,
     errors: &mut E,
 ) -> Result<u8, AllocError> {
-    let named = named(alloc, words)?;
+    let mut named = Vec::new(alloc);
+    named.push(String::from_str(alloc, "caladan_sim")?)?;
+    for word in words {
+        named.push(String::from_str(alloc, word)?)?;
+    }
     Ok(run_program(rt, alloc, named.as_slice(), reader, output, errors))
-}
-
-/// Runs the program on these words and what the reader gives.
-pub fn run<H: Threads + Wait + Sync, R: Read + Drop>(
-    rt: &H,
-    alloc: Global,
-    words: &[&str],
-    reader: R,
-) -> Result<Ended, Fail> {
-    let mut output = Vec::new(alloc);
-    let mut errors = Vec::new(alloc);
-    let status = status(rt, alloc, words, reader, &mut output, &mut errors)?;
-    Ok(Ended {
-        status,
-        output: String::from_utf8(output)?,
-        errors: String::from_utf8(errors)?,
-    })
 }
 
 /// A reader that answers an error, and a writer that does.
@@ -81,7 +50,7 @@ impl Write for Failing {
 const WRITE: &[u8] = b"caladan_sim: write\n";
 
 /// What the program says where its input cannot be read.
-const NO_INPUT: &str = "caladan_sim: input read\n";
+const NO_INPUT: &[u8] = b"caladan_sim: input read\n";
 
 /// Whether the program ends on this word with this status, where its input cannot be read, and says
 /// so, or something else.
@@ -92,8 +61,9 @@ fn ends_with<H: Threads + Wait + Sync>(
     code: u8,
     says_so: bool,
 ) -> Result<bool, Fail> {
-    let ended = run(rt, alloc, &[word], Failing)?;
-    Ok(ended.status == code && (ended.errors.as_str() == NO_INPUT) == says_so)
+    let (mut output, mut errors) = (Vec::new(alloc), Vec::new(alloc));
+    let status = status(rt, alloc, &[word], Failing, &mut output, &mut errors)?;
+    Ok(status == code && (errors.as_slice() == NO_INPUT) == says_so)
 }
 
 // The words are read before the input: where they are refused or answered, a reader that fails is

@@ -19,14 +19,9 @@ use cal_kthread::{
     Entry, KernelEnd, KernelThread, Request, RequestList, TurnFault, hand_out_all, settle,
 };
 use cal_machine::Config;
-use cal_signal::Record;
 use std::alloc::{AllocError, Global};
 
-/// One task of one thread, of two and of three.
-const ONE_THREAD: &[u8] =
-    b"cores = 2\nbandwidth_limit = 1000\n[[task]]\nkind = \"lc\"\nguaranteed = 0\nlimit = 1\n\
-    delay = 10\nrequest = 1000\n";
-
+/// One task of two threads, and of three.
 const TWO_THREADS: &[u8] =
     b"cores = 2\nbandwidth_limit = 1000\n[[task]]\nkind = \"lc\"\nguaranteed = 0\nlimit = 2\n\
     delay = 10\nrequest = 1000\n";
@@ -42,11 +37,6 @@ fn request(id: u64, work: u64) -> Request {
         work,
         misses: 3,
     }
-}
-
-/// A record of these words, in their order.
-fn record(words: [u64; 9]) -> Record {
-    Record::from_words(words)
 }
 
 /// Is there no request, or one with work?
@@ -177,6 +167,15 @@ fn left_of_all(
 {
     settle(config, ends);
     hand_out_all(alloc, ends)
+}
+
+/// The names that arrived and those that were served, by the journals.
+fn names_of(alloc: Global, ends: &[KernelEnd]) -> Result<(Vec<u64>, Vec<u64>), AllocError> {
+    let (mut arrived, mut served) = (Vec::new(alloc), Vec::new(alloc));
+    for end in ends {
+        add_names(end.journal.as_slice(), &mut arrived, &mut served)?;
+    }
+    Ok((arrived, served))
 }
 
 /// Adds the names that arrived and those that were served, by the journal.

@@ -5,6 +5,8 @@
 #![tactic(auto)]
 
 #[cfg(test)]
+mod given;
+#[cfg(test)]
 mod in_threads;
 #[cfg(test)]
 mod kernel_threads;

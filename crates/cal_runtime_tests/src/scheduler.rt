@@ -6,23 +6,14 @@ ghost use Rattle.cal_sched.specs.Scheduler.{HaveSeenNothing, HaveSentNothing};
 mod passes;
 mod watches;
 
+use crate::given::ONE_THREAD;
 use cal_command::{Sender, Taker, open_ring};
 use cal_machine::Config;
 use cal_sched::Scheduler;
-use cal_signal::{Observer, Publisher, Record, open_page};
+use cal_signal::{Observer, Publisher, open_page};
 use std::alloc::{AllocError, Global};
 use std::process::Abort;
 use std::test::Fail;
-
-/// A record of these nine words.
-fn rec(words: [u64; 9]) -> Record {
-    Record::from_words(words)
-}
-
-/// Two cores and one latency-critical task of one thread.
-const TABLE: &[u8] =
-    b"cores = 2\nbandwidth_limit = 1000\n[[task]]\nkind = \"lc\"\nguaranteed = 1\nlimit = 1\n\
-    delay = 10\nrequest = 50\n";
 
 /// What a scheduler of one thread is made of.
 #[derive(Drop)]
@@ -49,7 +40,7 @@ fn ends_of(alloc: Global, observer: Observer, sender: Sender) -> Result<Ends, Al
 
 /// A scheduler that made no pass yet, and the other ends of its page and its ring.
 fn bare<R: Abort + AllocGlobal>(rt: &R) -> Result<(Scheduler, Publisher, Taker), Fail> {
-    let config = Config::read(rt.alloc(), TABLE)?;
+    let config = Config::read(rt.alloc(), ONE_THREAD)?;
     assert!(rt; config.threads() == 1);
     let (publisher, observer) = open_page(rt.alloc())?;
     let (sender, taker) = open_ring(rt.alloc())?;

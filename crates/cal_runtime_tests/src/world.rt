@@ -8,11 +8,6 @@ use cal_policy::{Action, ActionList, Input, PassEntry, Record, Rooms, Seen, Seen
 use cal_world::{Event, Illegal, World};
 use std::alloc::{AllocError, Global};
 
-/// Two cores and one latency-critical task of one thread, congested at a delay above 10.
-const TABLE: &[u8] =
-    b"cores = 2\nbandwidth_limit = 1000\n[[task]]\nkind = \"lc\"\nguaranteed = 1\nlimit = 1\n\
-    delay = 10\nrequest = 50\n";
-
 /// A record without requests, of a thread off every core.
 const IDLE: Record = Record::ZERO;
 

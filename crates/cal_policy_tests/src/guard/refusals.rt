@@ -7,6 +7,7 @@ use cal_guard::{Guard, Refused, Why};
 use cal_machine::Config;
 use cal_policy::{Action, Input, PassEntry};
 use cal_trace::read_history;
+use std::alloc::Global;
 use std::test::Fail;
 
 /// What the guard says of actions.
@@ -81,11 +82,23 @@ fn offers(
     groups.len() == answers.len()
 }
 
+/// The passes of these rows: what stands before the actions of each, and its actions.
+fn entries(alloc: Global, config: &Config, rows: &[(&str, &str)]) -> Result<Vec<PassEntry>, Fail> {
+    let mut text = String::from_str(alloc, "caladan-history,2\n")?;
+    for (before, actions) in rows {
+        text.push_str(*before)?;
+        text.push_str(*actions)?;
+    }
+    let end = format!(in alloc; "end,{}\n", rows.len())?;
+    text.push_str(end.as_str())?;
+    Ok(read_history(alloc, config, text.as_bytes())?)
+}
+
 #[test]
 fn guard_names_the_first_action_and_why(rt: HostRuntime) -> Result<(), Fail> {
     let alloc = rt.alloc();
     let config = Config::read(alloc, TABLE.as_bytes())?;
-    let passes = read_history(alloc, &config, FIRST_PASSES.as_bytes())?;
+    let passes = entries(alloc, &config, &FIRST_PASSES)?;
     let mut guard = Guard::open(alloc, &config)?;
     let answers = [
         refused(0, Why::NoRoom),
@@ -108,7 +121,7 @@ fn guard_names_the_first_action_and_why(rt: HostRuntime) -> Result<(), Fail> {
 fn guard_takes_a_pass_group_by_group(rt: HostRuntime) -> Result<(), Fail> {
     let alloc = rt.alloc();
     let config = Config::read(alloc, TABLE.as_bytes())?;
-    let groups = read_history(alloc, &config, GROUPS.as_bytes())?;
+    let groups = entries(alloc, &config, &GROUPS)?;
     assert_eq!(rt; groups.len(), 6);
     let mut guard = Guard::open(alloc, &config)?;
     let first = [Ok(()), refused(0, Why::DoesNotFit), Ok(())];
@@ -124,140 +137,44 @@ fn guard_takes_a_pass_group_by_group(rt: HostRuntime) -> Result<(), Fail> {
 const TABLE: &str = "\
 cores = 4
 bandwidth_limit = 1000
-[[task]]
-kind = \"lc\"
-guaranteed = 0
-limit = 2
-delay = 10
-request = 50
-[[task]]
-kind = \"be\"
-guaranteed = 0
-limit = 2
-delay = 10
-request = 50
+task = [
+{ kind = \"lc\", guaranteed = 0, limit = 2, delay = 10, request = 50 },
+{ kind = \"be\", guaranteed = 0, limit = 2, delay = 10, request = 50 },
+]
 ";
 
-/// First passes, each in the place of those before it: where a ring is full; a core or a thread
-/// twice; a pair banned at once; a core freed that nobody left; two commands to one thread; a
-/// banned core granted; a task beyond its cap; a banned core held at the end, and a task beyond its
-/// cap.
-const FIRST_PASSES: &str = "\
-caladan-history,2
-pass,111,0
-busy,0,0,1,1
-busy,1,0,1,1
-busy,2,0,1,1
-busy,3,0,1,1
-grant,0,0,3
-pass,111,0
-busy,0,1,1,1
-busy,1,1,1,1
-busy,2,1,1,1
-busy,3,1,1,1
-grant,0,0,3
-grant,0,1,3
-pass,111,0
-busy,0,1,1,1
-busy,1,1,1,1
-busy,2,1,1,1
-busy,3,1,1,1
-ban,0,0,7
-ban,1,0,7
-pass,111,0
-busy,0,1,1,1
-busy,1,1,1,1
-busy,2,1,1,1
-busy,3,1,1,1
-grant,0,0,3
-free,0
-pass,111,0
-busy,0,1,1,1
-busy,1,1,1,1
-busy,2,1,1,1
-busy,3,1,1,1
-grant,0,0,3
-revoke,0,bandwidth
-pass,111,0
-busy,0,1,1,1
-busy,1,1,1,1
-busy,2,1,1,1
-busy,3,1,1,1
-ban,0,0,7
-grant,0,0,3
-pass,111,0
-busy,0,1,1,1
-busy,1,1,1,1
-busy,2,1,1,1
-busy,3,1,1,1
-cap,1,0
-grant,0,2,3
-pass,111,0
-busy,0,1,1,1
-busy,1,1,1,1
-busy,2,1,1,1
-busy,3,1,1,1
-grant,0,0,3
-ban,0,0,7
-pass,111,0
-busy,0,1,1,1
-busy,1,1,1,1
-busy,2,1,1,1
-busy,3,1,1,1
-grant,0,2,3
-grant,1,3,3
-cap,1,1
-pass,111,0
-busy,0,1,1,1
-busy,1,1,1,1
-busy,2,1,1,1
-busy,3,1,1,1
-grant,0,0,3
-end,10
-";
+/// What stands before a pass's actions: all rings full; all with room; and with room, where thread
+/// 0 shows itself on core 3.
+const FULL: &str = "pass,111,0\nbusy,0,0,1,1\nbusy,1,0,1,1\nbusy,2,0,1,1\nbusy,3,0,1,1\n";
+
+const ROOM: &str = "pass,111,0\nbusy,0,1,1,1\nbusy,1,1,1,1\nbusy,2,1,1,1\nbusy,3,1,1,1\n";
+
+const SHOWN: &str = "pass,120,0\nwhole,0,1,2,1,4,0,0,0,0,101,0,0\nbusy,1,1,1,1\nbusy,2,1,1,1\n\
+    busy,3,1,1,1\n";
+
+/// First passes, each in the place of those before it: where a ring is full; a core granted twice;
+/// a pair banned at once; a core freed that nobody left; two commands to one thread; a banned core
+/// granted; a task beyond its cap; a banned core held at the end, and a task beyond its cap; and
+/// one that is permitted.
+const FIRST_PASSES: [(&str, &str); 10] = [
+    (FULL, "grant,0,0,3\n"),
+    (ROOM, "grant,0,0,3\ngrant,0,1,3\n"),
+    (ROOM, "ban,0,0,7\nban,1,0,7\n"),
+    (ROOM, "grant,0,0,3\nfree,0\n"),
+    (ROOM, "grant,0,0,3\nrevoke,0,bandwidth\n"),
+    (ROOM, "ban,0,0,7\ngrant,0,0,3\n"),
+    (ROOM, "cap,1,0\ngrant,0,2,3\n"),
+    (ROOM, "grant,0,0,3\nban,0,0,7\n"),
+    (ROOM, "grant,0,2,3\ngrant,1,3,3\ncap,1,1\n"),
+    (ROOM, "grant,0,0,3\n"),
+];
 
 /// Groups of two passes, three of each; before the second thread 0 shows itself on its core.
-const GROUPS: &str = "\
-caladan-history,2
-pass,111,0
-busy,0,1,1,1
-busy,1,1,1,1
-busy,2,1,1,1
-busy,3,1,1,1
-grant,3,0,3
-pass,111,0
-busy,0,1,1,1
-busy,1,1,1,1
-busy,2,1,1,1
-busy,3,1,1,1
-grant,3,1,3
-pass,111,0
-busy,0,1,1,1
-busy,1,1,1,1
-busy,2,1,1,1
-busy,3,1,1,1
-grant,0,2,3
-pass,120,0
-whole,0,1,2,1,4,0,0,0,0,101,0,0
-busy,1,1,1,1
-busy,2,1,1,1
-busy,3,1,1,1
-ban,3,0,7
-pass,120,0
-whole,0,1,2,1,4,0,0,0,0,101,0,0
-busy,1,1,1,1
-busy,2,1,1,1
-busy,3,1,1,1
-ban,3,0,7
-grant,2,1,3
-revoke,3,bandwidth
-pass,120,0
-whole,0,1,2,1,4,0,0,0,0,101,0,0
-busy,1,1,1,1
-busy,2,1,1,1
-busy,3,1,1,1
-ban,3,0,7
-revoke,3,bandwidth
-grant,2,1,3
-end,6
-";
+const GROUPS: [(&str, &str); 6] = [
+    (ROOM, "grant,3,0,3\n"),
+    (ROOM, "grant,3,1,3\n"),
+    (ROOM, "grant,0,2,3\n"),
+    (SHOWN, "ban,3,0,7\n"),
+    (SHOWN, "ban,3,0,7\ngrant,2,1,3\nrevoke,3,bandwidth\n"),
+    (SHOWN, "ban,3,0,7\nrevoke,3,bandwidth\ngrant,2,1,3\n"),
+];

@@ -62,12 +62,9 @@ const SIBLING_FIRST: State = (
     "\
 cores = 4
 bandwidth_limit = 1000
-[[task]]
-kind = \"lc\"
-guaranteed = 1
-limit = 3
-delay = 10
-request = 50
+task = [
+{ kind = \"lc\", guaranteed = 1, limit = 3, delay = 10, request = 50 },
+]
 ",
     "\
 caladan-history,2
@@ -99,18 +96,10 @@ const PREEMPT_BEST_EFFORT: State = (
     "\
 cores = 2
 bandwidth_limit = 1000
-[[task]]
-kind = \"lc\"
-guaranteed = 1
-limit = 2
-delay = 10
-request = 50
-[[task]]
-kind = \"be\"
-guaranteed = 0
-limit = 2
-delay = 0
-request = 0
+task = [
+{ kind = \"lc\", guaranteed = 1, limit = 2, delay = 10, request = 50 },
+{ kind = \"be\", guaranteed = 0, limit = 2, delay = 0, request = 0 },
+]
 ",
     "\
 caladan-history,2
@@ -146,18 +135,10 @@ const YIELD_BEFORE_PARK: State = (
     "\
 cores = 2
 bandwidth_limit = 1000
-[[task]]
-kind = \"lc\"
-guaranteed = 1
-limit = 2
-delay = 10
-request = 50
-[[task]]
-kind = \"be\"
-guaranteed = 0
-limit = 2
-delay = 0
-request = 0
+task = [
+{ kind = \"lc\", guaranteed = 1, limit = 2, delay = 10, request = 50 },
+{ kind = \"be\", guaranteed = 0, limit = 2, delay = 0, request = 0 },
+]
 ",
     "\
 caladan-history,2
@@ -196,18 +177,10 @@ const CAP_COUNTS_BOOKED: State = (
     "\
 cores = 4
 bandwidth_limit = 1000
-[[task]]
-kind = \"lc\"
-guaranteed = 1
-limit = 2
-delay = 10
-request = 50
-[[task]]
-kind = \"be\"
-guaranteed = 0
-limit = 3
-delay = 0
-request = 0
+task = [
+{ kind = \"lc\", guaranteed = 1, limit = 2, delay = 10, request = 50 },
+{ kind = \"be\", guaranteed = 0, limit = 3, delay = 0, request = 0 },
+]
 ",
     "\
 caladan-history,2
@@ -244,18 +217,10 @@ const BANDWIDTH_VICTIM_AND_CAP_RECOVERS: State = (
     "\
 cores = 4
 bandwidth_limit = 1000
-[[task]]
-kind = \"be\"
-guaranteed = 0
-limit = 2
-delay = 0
-request = 0
-[[task]]
-kind = \"be\"
-guaranteed = 0
-limit = 2
-delay = 0
-request = 0
+task = [
+{ kind = \"be\", guaranteed = 0, limit = 2, delay = 0, request = 0 },
+{ kind = \"be\", guaranteed = 0, limit = 2, delay = 0, request = 0 },
+]
 ",
     "\
 caladan-history,2
@@ -297,18 +262,10 @@ const SIBLING_NOT_OVER: State = (
     "\
 cores = 2
 bandwidth_limit = 1000
-[[task]]
-kind = \"lc\"
-guaranteed = 1
-limit = 1
-delay = 10
-request = 50
-[[task]]
-kind = \"lc\"
-guaranteed = 1
-limit = 1
-delay = 10
-request = 50
+task = [
+{ kind = \"lc\", guaranteed = 1, limit = 1, delay = 10, request = 50 },
+{ kind = \"lc\", guaranteed = 1, limit = 1, delay = 10, request = 50 },
+]
 ",
     "\
 caladan-history,2
@@ -333,18 +290,10 @@ const BAN_AND_UNBAN: State = (
     "\
 cores = 2
 bandwidth_limit = 1000
-[[task]]
-kind = \"lc\"
-guaranteed = 1
-limit = 1
-delay = 10
-request = 50
-[[task]]
-kind = \"be\"
-guaranteed = 0
-limit = 1
-delay = 0
-request = 0
+task = [
+{ kind = \"lc\", guaranteed = 1, limit = 1, delay = 10, request = 50 },
+{ kind = \"be\", guaranteed = 0, limit = 1, delay = 0, request = 0 },
+]
 ",
     "\
 caladan-history,2
@@ -382,18 +331,10 @@ const PREEMPT_LATENCY_CRITICAL: State = (
     "\
 cores = 2
 bandwidth_limit = 1000
-[[task]]
-kind = \"lc\"
-guaranteed = 0
-limit = 2
-delay = 10
-request = 50
-[[task]]
-kind = \"lc\"
-guaranteed = 1
-limit = 1
-delay = 10
-request = 50
+task = [
+{ kind = \"lc\", guaranteed = 0, limit = 2, delay = 10, request = 50 },
+{ kind = \"lc\", guaranteed = 1, limit = 1, delay = 10, request = 50 },
+]
 ",
     "\
 caladan-history,2
@@ -421,18 +362,10 @@ const NO_PREEMPTION: State = (
     "\
 cores = 2
 bandwidth_limit = 1000
-[[task]]
-kind = \"lc\"
-guaranteed = 0
-limit = 2
-delay = 10
-request = 50
-[[task]]
-kind = \"lc\"
-guaranteed = 0
-limit = 1
-delay = 10
-request = 50
+task = [
+{ kind = \"lc\", guaranteed = 0, limit = 2, delay = 10, request = 50 },
+{ kind = \"lc\", guaranteed = 0, limit = 1, delay = 10, request = 50 },
+]
 ",
     "\
 caladan-history,2

@@ -1,6 +1,7 @@
 //! Gates at which workers wait for one another, and one that refuses.
 
 use super::run;
+use crate::given::{ONE_THREAD, are_all, grant};
 use cal_command::Command;
 use cal_kthread::Entry;
 use cal_policy::{Action, Cause, PassEntry, Seen};
@@ -13,8 +14,8 @@ use std::thread;
 /// Two cores, a latency-critical task of one thread and a best-effort task of two.
 const PREEMPTION_TABLE: &[u8] =
     b"cores = 2\nbandwidth_limit = 1000\n[[task]]\nkind = \"lc\"\nguaranteed = 1\nlimit = 1\n\
-    delay = 10\nrequest = 1000\n[[task]]\n\
-    kind = \"be\"\nguaranteed = 0\nlimit = 2\ndelay = 0\nrequest = 0\n";
+    delay = 10\nrequest = 1000\n[[task]]\nkind = \"be\"\nguaranteed = 0\nlimit = 2\ndelay = 0\n\
+    request = 0\n";
 
 const PREEMPTION: &[u8] = b"caladan-arrivals,1
 pass,100,0
@@ -107,19 +108,6 @@ impl Gate for InStep {
     }
 }
 
-fn grant(core: u8, thread: u8, class: u8) -> Option<Action> {
-    Some(Action::Grant {
-        core,
-        thread,
-        class,
-    })
-}
-
-/// Whether these are all the actions of a pass.
-fn are_all(actions: &[Action], first: Option<Action>, second: Option<Action>) -> bool {
-    actions.len() < 3 && actions.first().copied() == first && actions.get(1).copied() == second
-}
-
 /// Whether these are the actions of the first passes.
 fn begins_with(history: &[PassEntry], passes: &[(Option<Action>, Option<Action>)]) -> bool {
     for (entry, (first, second)) in history.iter().zip(passes.iter()) {
@@ -182,11 +170,6 @@ impl Gate for Crossed {
         j != 1 || wait_for(&self.asked.passes, 2, POLLS)
     }
 }
-
-/// Two cores and a latency-critical task of one thread.
-const ONE_THREAD: &[u8] =
-    b"cores = 2\nbandwidth_limit = 1000\n[[task]]\nkind = \"lc\"\nguaranteed = 1\nlimit = 1\n\
-    delay = 10\nrequest = 50\n";
 
 const ONE_GRANT: &[u8] = b"caladan-arrivals,1
 pass,116,0

@@ -3,7 +3,7 @@ ghost use Rattle.std.specs.Prelude.{◌≡◌, [], ◌∷◌, IfOk, IfSome, leng
 ghost use Rattle.cal_kthread.specs.Team.{IsTeam, place_of};
 ghost use Rattle.cal_machine.specs.Tasks.{threads_in};
 
-use super::{THREE_THREADS, add_names, ends_of, left_of_all, request, send, turn};
+use super::{THREE_THREADS, ends_of, left_of_all, names_of, request, send, turn};
 use cal_command::{Command, Sender};
 use cal_kthread::{KernelEnd, KernelThread, Request, RequestList, Team, open_threads};
 use cal_machine::Config;
@@ -95,10 +95,7 @@ fn stand_once(
     ends: &[KernelEnd],
     lefts: &[RequestList],
 ) -> Result<bool, AllocError> {
-    let (mut arrived, mut stood) = (Vec::new(alloc), Vec::new(alloc));
-    for end in ends {
-        add_names(end.journal.as_slice(), &mut arrived, &mut stood)?;
-    }
+    let (arrived, mut stood) = names_of(alloc, ends)?;
     let served = stood.len();
     add_all_left(lefts, &mut stood)?;
     stood.sort()?;

@@ -4,7 +4,7 @@ ghost use Rattle.std.specs.Prelude.{◌≡◌, length, map};
 ghost use Rattle.cal_kthread.specs.Team.{IsTeam, place_of};
 ghost use Rattle.cal_machine.specs.Tasks.{threads_in};
 
-use super::{Step, TWO_THREADS, add_names, all_steps, ends_of, left_of_all};
+use super::{Step, TWO_THREADS, all_steps, ends_of, left_of_all, names_of};
 use cal_command::Command;
 use cal_kthread::{KernelEnd, KernelThread, Request, RequestList, Team, open_threads};
 use cal_machine::Config;
@@ -23,10 +23,7 @@ fn are_left(left: &[Request], wanted: &[(u64, u64)]) -> bool {
 
 /// Whether requests 7 to 12 arrived, and 7 and 8 were served.
 fn have_come(alloc: Global, ends: &[KernelEnd]) -> Result<bool, AllocError> {
-    let (mut arrived, mut served) = (Vec::new(alloc), Vec::new(alloc));
-    for end in ends {
-        add_names(end.journal.as_slice(), &mut arrived, &mut served)?;
-    }
+    let (arrived, served) = names_of(alloc, ends)?;
     Ok(matches!(arrived.as_slice(), [7, 8, 9, 10, 11, 12]) && matches!(served.as_slice(), [7, 8]))
 }
 

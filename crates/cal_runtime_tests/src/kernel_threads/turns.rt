@@ -1,6 +1,7 @@
 //! Turns of one kernel thread.
 
-use super::{ONE_THREAD, Step, all_steps, record, request};
+use super::{Step, all_steps, request};
+use crate::given::{ONE_THREAD, record};
 use cal_command::Command;
 use cal_kthread::{Entry, Team, open_threads};
 use cal_machine::Config;

@@ -2,7 +2,7 @@
 
 ghost use Rattle.std.specs.Prelude.{◌≡◌, ◌<◌, length, IfOk};
 
-use super::ONE_THREAD;
+use crate::given::{ONE_THREAD, are_all, grant};
 use crate::kernel_threads::turn;
 use cal_kthread::{KernelThread, Request};
 use cal_machine::Config;
@@ -70,7 +70,7 @@ fn passes(scheduler: &mut Scheduler, now: u64, found: u64, wanted: Option<Action
     let Some(entry) = scheduler.history().last() else {
         return false;
     };
-    is_found(entry.input.seen.as_slice(), found) && is_done(entry.actions.as_slice(), wanted)
+    is_found(entry.input.seen.as_slice(), found) && are_all(entry.actions.as_slice(), wanted, None)
 }
 
 /// Whether the first look is the whole one at this place.
@@ -79,11 +79,6 @@ fn is_found(seen: &[Seen], found: u64) -> bool {
         Some(Seen::Whole { number, .. }) => *number == found,
         _ => false,
     }
-}
-
-/// Whether this action alone was made, or none.
-fn is_done(actions: &[Action], wanted: Option<Action>) -> bool {
-    actions.len() < 2 && actions.first().copied() == wanted
 }
 
 /// Whether the first task books so many cores, and this one has the first core.
@@ -114,13 +109,8 @@ fn is_granted(scheduler: &mut Scheduler, thread: &mut KernelThread) -> bool
         thread: 0,
         number: 1,
     };
-    let grant = Action::Grant {
-        core: 0,
-        thread: 0,
-        class: 3,
-    };
     turned(thread, 100, Some(request))
-        && passes(scheduler, 111, 1, Some(grant))
+        && passes(scheduler, 111, 1, grant(0, 0, 3))
         && stands(scheduler, 1, Holder::Held(held))
 }
 

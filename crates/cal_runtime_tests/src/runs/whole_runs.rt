@@ -1,6 +1,6 @@
 //! The rounds of a whole run on one thread.
 
-use super::ONE_THREAD;
+use crate::given::ONE_THREAD;
 use cal_machine::Config;
 use cal_run::{Outcome, lockstep};
 use cal_signal::Look;

@@ -1,6 +1,7 @@
 //! Passes over one bare page and ring.
 
-use super::{bare, rec};
+use super::bare;
+use crate::given::{are_all, grant, record};
 use cal_command::Command;
 use cal_policy::{Action, Seen};
 use cal_sched::{PassFault, Scheduler};
@@ -9,7 +10,7 @@ use std::test::Fail;
 
 /// Whether the thread publishes the record of these words at this place.
 fn publishes(publisher: &mut Publisher, place: u64, words: [u64; 9]) -> bool {
-    publisher.publish(rec(words)) == Ok(place)
+    publisher.publish(record(words)) == Ok(place)
 }
 
 /// One pass. Whether it does this first, then that, and no more.
@@ -25,8 +26,7 @@ fn passes(
     let Some(entry) = scheduler.history().last() else {
         return false;
     };
-    let actions = entry.actions.as_slice();
-    actions.len() < 3 && actions.first().copied() == first && actions.get(1).copied() == second
+    are_all(entry.actions.as_slice(), first, second)
 }
 
 /// Whether the last pass saw this of the one thread.
@@ -35,15 +35,6 @@ fn saw(scheduler: &Scheduler, wanted: Seen) -> bool {
         Some(entry) => entry.input.seen.as_slice().first().copied() == Some(wanted),
         None => false,
     }
-}
-
-/// A grant of core 0 to thread 0.
-fn grant(class: u8) -> Option<Action> {
-    Some(Action::Grant {
-        core: 0,
-        thread: 0,
-        class,
-    })
 }
 
 const FREE: Option<Action> = Some(Action::Free { core: 0 });
@@ -56,7 +47,9 @@ const NOT_SENT: [u64; 9] = [5, 0, 1, 100, 0, 0, 120, 0, 0];
 fn is_believed(scheduler: &mut Scheduler, publisher: &mut Publisher) -> bool {
     for n in 1..4_u64 {
         let words = [n, 0, 1, 100, 0, 0, 110 + 2 * n, 0, 0];
-        if !publishes(publisher, n + 1, words) || !passes(scheduler, 111 + 2 * n, FREE, grant(2)) {
+        if !publishes(publisher, n + 1, words)
+            || !passes(scheduler, 111 + 2 * n, FREE, grant(0, 0, 2))
+        {
             return false;
         }
     }
@@ -67,7 +60,7 @@ fn is_believed(scheduler: &mut Scheduler, publisher: &mut Publisher) -> bool {
 /// command that was not sent, since its ring is full.
 fn is_ahead(scheduler: &mut Scheduler, publisher: &mut Publisher) -> bool {
     let number = 6;
-    let rec = rec(NOT_SENT);
+    let rec = record(NOT_SENT);
     publishes(publisher, 5, [4, 0, 1, 100, 0, 0, 118, 0, 0])
         && passes(scheduler, 119, FREE, None)
         && publishes(publisher, number, NOT_SENT)
@@ -78,15 +71,15 @@ fn is_ahead(scheduler: &mut Scheduler, publisher: &mut Publisher) -> bool {
 /// Whether the thread is granted a core, is believed while its ring has room, and no more.
 fn is_refused_ahead(scheduler: &mut Scheduler, publisher: &mut Publisher) -> bool {
     publishes(publisher, 1, [0, 0, 1, 100, 0, 0, 100, 0, 0])
-        && passes(scheduler, 111, grant(3), None)
+        && passes(scheduler, 111, grant(0, 0, 3), None)
         && is_believed(scheduler, publisher)
         && is_ahead(scheduler, publisher)
 }
 
 /// Whether that record is believed once the command was sent.
 fn is_behind(scheduler: &mut Scheduler) -> bool {
-    let rec = rec(NOT_SENT);
-    passes(scheduler, 123, grant(2), None)
+    let rec = record(NOT_SENT);
+    passes(scheduler, 123, grant(0, 0, 2), None)
         && passes(scheduler, 125, FREE, None)
         && saw(scheduler, Seen::Whole { number: 6, rec })
 }

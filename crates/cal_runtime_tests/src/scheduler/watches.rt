@@ -1,5 +1,5 @@
 //! A watch that is refused.
-use super::rec;
+use crate::given::record;
 use cal_sched::Watch;
 use cal_signal::{Look, Record, open_page};
 use std::test::Fail;
@@ -16,7 +16,7 @@ fn is_whole(look: Look, wanted: (u64, Record)) -> bool {
 #[test]
 fn rounds_past_all_memory(rt: HostRuntime) -> Result<(), Fail> {
     let (mut publisher, observer) = open_page(rt.alloc())?;
-    let shown = rec([0, 0, 0, 0, 0, 0, 7, 0, 0]);
+    let shown = record([0, 0, 0, 0, 0, 0, 7, 0, 0]);
     assert!(rt; publisher.publish(shown).is_ok());
     let observers = vec![in rt.alloc(); observer]?;
     let Err(mut refused) = Watch::new(rt.alloc(), observers, u64::MAX) else {

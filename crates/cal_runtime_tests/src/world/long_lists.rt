@@ -2,6 +2,7 @@
 //! where no clause tells it from one for which memory was refused.
 
 use super::*;
+use crate::given::ONE_THREAD;
 use cal_machine::Config;
 use cal_world::{Stopped, run_events};
 use std::test::Fail;
@@ -24,7 +25,7 @@ fn published_and_watched(alloc: Global, records: u16, last: u64) -> Result<Vec<E
 
 /// Where a new world is stopped by those events of 1,000 records, and why, if it is.
 fn stopped_by(alloc: Global, last: u64) -> Result<Option<Stopped>, Fail> {
-    let config = Config::read(alloc, TABLE)?;
+    let config = Config::read(alloc, ONE_THREAD)?;
     let events = published_and_watched(alloc, 1_000, last)?;
     Ok(run_events(alloc, &config, events.as_slice()).err())
 }

@@ -1,6 +1,7 @@
 //! Which event a world refuses, and why.
 
 use super::*;
+use crate::given::ONE_THREAD;
 use cal_machine::Config;
 use std::test::Fail;
 
@@ -56,7 +57,7 @@ fn first_other_of_new(
     alloc: Global,
     rows: &[(Step, Result<(), Illegal>)],
 ) -> Result<Option<usize>, Fail> {
-    let config = Config::read(alloc, TABLE)?;
+    let config = Config::read(alloc, ONE_THREAD)?;
     let mut world = World::start(alloc, &config)?;
     Ok(first_other(alloc, &mut world, rows))
 }
