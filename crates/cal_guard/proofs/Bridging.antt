@@ -17,7 +17,7 @@ use Rattle.cal_policy.specs.Board.Counts.{held_by, cap_of}
 use Rattle.cal_policy.specs.Board.{placement_of}
 use Rattle.cal_policy.specs.Setting.{so_far}
 use Rattle.cal_policy.specs.Pass.{IsLegal}
-use Rattle.cal_policy.specs.Laws.{LegalIsSound, ActionIsOneMore, LastThreadIsPlaced}
+use Rattle.cal_policy.specs.Laws.{LegalIsSound, LastThreadIsPlaced}
 use Rattle.cal_policy.proofs.PassLemmas.Legality.{legal_upto}
 use Rattle.cal_laws.specs.Point.{Point, IsPoint, setting_at, made_at, actions_at, next_at}
 use Rattle.cal_laws.specs.Bans.{NoneHeld, NoBannedIsGranted, BannedAreEmptyAfterPasses, BannedAreEmptiedAtOnce, BansAreDue, BansEndUnshown}
@@ -27,16 +27,14 @@ use Rattle.cal_laws.specs.Limits.{GrantsKeepToCaps, RevocationsLeaveGuarantees, 
 use Rattle.cal_laws.specs.OneEach.{CommandsGoWhereIsRoom, ThreadsAreSentOneCommand, PassesAreShort}
 use Rattle.cal_laws.proofs.ExclusionLemmas.Excluded.{last_loser}
 use Rattle.cal_laws.proofs.PointLemmas.EachAction.{take_next, actions_more, sound_at}
-use Rattle.cal_laws.proofs.KeptLemmas.Truth.{sent_grows}
 use Rattle.cal_guard.specs.Permitted.{MayBeSent, MayBeMade, IsPermitted, core_revoked}
 use Rattle.cal_guard.specs.Histories.{LegalIsPermitted}
 use Rattle.cal_guard.specs.Causes.{IsForItsCause, LegalIsRight}
-use Rattle.cal_guard.proofs.Sending.{sent_more}
+use Rattle.cal_policy.proofs.HistoryLemmas.OneMore.{sent_push, sent_grows}
 
 -- the laws that are cited
 pub record Safety : Type 0 where
   pub sound : LegalIsSound
-  pub more : ActionIsOneMore
   pub last : LastThreadIsPlaced
   pub room : CommandsGoWhereIsRoom
   pub one : ThreadsAreSentOneCommand
@@ -65,8 +63,8 @@ may_send : Safety → (here : Point) → IsPoint here → (a : Action) → next_
 may_send laws here is a e k sent =
     let after = laws.one (record { table = here.table; history = here.history; pass = here.pass; entry = here.entry; made = here.made + 1 }) (is_next here is a e) k in
     let same = ap (λ l. sent_to l k) (actions_next here a e) in
-    let sum = sent_more laws.more (actions_at here) a k in
-    let grown = sent_grows laws.more (actions_of (take here.pass here.history)) (made_at here) k in record {
+    let sum = sent_push (actions_at here) a k in
+    let grown = sent_grows (actions_of (take here.pass here.history)) (made_at here) k in record {
       room = laws.room here is a e k (omega (arith, sent));
       unsent = omega (arith, after, same, sum, grown, sent);
     }

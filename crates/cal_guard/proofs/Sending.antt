@@ -1,15 +1,16 @@
 -- What a permitted action sends: at most one command, to a thread that may be sent one.
-use Rattle.std.proofs.Common.{◌≡◌, ℕ, ◌+◌, ◌<◌, ◌≤◌, Bool, true, false, cond, eqb, List, [], ◌∷◌, ◌++◌, length, take, Option, Some, sym, ap, ◌∙◌, arith, subst, ⊎_elim, length-append, refl}
+use Rattle.std.proofs.Common.{◌≡◌, ℕ, ◌+◌, ◌<◌, ◌≤◌, Bool, true, false, cond, eqb, List, [], ◌∷◌, ◌++◌, length, take, Option, Some, sym, ap, arith, subst, ⊎_elim, refl}
 use Rattle.std.proofs.lemmas.Bool.{eqb-true, cases_lt}
 use Rattle.cal_machine.specs.declared.command.Command.{Command}
 use Rattle.cal_machine.specs.declared.command.Command.TheVariants.{Run, Park}
 use Rattle.cal_policy.specs.declared.history.action.Action.{Action}
 use Rattle.cal_policy.specs.declared.history.action.Action.TheVariants.{Free, Unban, Ban, Revoke, Cap, Grant}
-use Rattle.cal_policy.specs.History.{actions_of, commands_to, command_to, sends, sent_to}
+use Rattle.cal_policy.specs.History.{actions_of, command_to, sends, sent_to}
 use Rattle.cal_policy.specs.Board.{placement_of}
 use Rattle.cal_policy.specs.Setting.{Setting, so_far}
 use Rattle.cal_policy.specs.Pass.Steady.{IsSteady}
-use Rattle.cal_policy.specs.Laws.{ActionIsOneMore, LastThreadIsPlaced}
+use Rattle.cal_policy.specs.Laws.{LastThreadIsPlaced}
+use Rattle.cal_policy.proofs.HistoryLemmas.OneMore.{sent_push}
 use Rattle.cal_laws.specs.Point.{Point, actions_at, setting_at}
 use Rattle.cal_laws.proofs.ExclusionLemmas.Excluded.{last_loser}
 use Rattle.cal_laws.proofs.PointLemmas.EachAction.{within_pass}
@@ -46,28 +47,24 @@ sends_few last s acts (Revoke core cause) steady may k =
     let P : Option ℕ → Type 0 = λ o. (length (command_to k o Park) ≤ 1) × (0 < length (command_to k o Park) → MayBeSent s acts k) in
     let there = subst P (sym thread) both in record { few = there.0; may = there.1 }
 
--- what is sent, one action more
-pub sent_more : ActionIsOneMore → (x : List Action) (a : Action) (k : ℕ) → sent_to (x ++ a ∷ []) k ≡ sent_to x k + length (sends k x a)
-sent_more more x a k = ap length ((more x a).commands k) ∙ length-append (commands_to x k) (sends k x a)
-
 -- the action is permitted, in a steady state
 record IsPermittedInSteady (s : Setting) (acts : List Action) (a : Action) : Type 0 where
   steady : IsSteady s.table (so_far s acts)
   permitted : IsPermitted s acts a
 
-one_step : ActionIsOneMore → LastThreadIsPlaced → (s : Setting) (k : ℕ) (acts : List Action) (a : Action) → IsPermittedInSteady s acts a →
+one_step : LastThreadIsPlaced → (s : Setting) (k : ℕ) (acts : List Action) (a : Action) → IsPermittedInSteady s acts a →
     sent_to (so_far s acts) k ≤ sent_to (actions_of s.history) k + 1 → sent_to (so_far s acts ++ a ∷ []) k ≤ sent_to (actions_of s.history) k + 1
-one_step more last s k acts a is was =
+one_step last s k acts a is was =
     let few = sends_few last s acts a is.steady is.permitted.may k in
-    let sum = sent_more more (so_far s acts) a k in
+    let sum = sent_push (so_far s acts) a k in
     let at_most = few.few in ⊎_elim
     (λ some. let unsent = (few.may some).unsent in omega (arith, sum, at_most, unsent))
     (λ no. omega (arith, sum, no, was))
     (cases_lt 0 (length (sends k (so_far s acts) a)))
 
-pub at_most_one : PermittedIsSafe → ActionIsOneMore → LastThreadIsPlaced → (here : Point) → IsPermittedPoint here → (k : ℕ) →
+pub at_most_one : PermittedIsSafe → LastThreadIsPlaced → (here : Point) → IsPermittedPoint here → (k : ℕ) →
     sent_to (actions_at here) k ≤ sent_to (actions_of (take here.pass here.history)) k + 1
-at_most_one safe more last here is k =
+at_most_one safe last here is k =
     let n = sent_to (actions_of (take here.pass here.history)) k in
     within_pass IsPermittedInSteady here.table here.history
     (record {
@@ -76,4 +73,4 @@ at_most_one safe more last here is k =
         permitted = (each_permitted here.table here.history is.permitted).at p entry e i a f;
       };
     })
-    here.pass here.entry is.entry (λ x. sent_to x k ≤ n + 1) (one_step more last (setting_at here) k) (omega arith) here.made is.made
+    here.pass here.entry is.entry (λ x. sent_to x k ≤ n + 1) (one_step last (setting_at here) k) (omega arith) here.made is.made

@@ -14,17 +14,10 @@ use Rattle.cal_policy.specs.declared.board.holders.Placement as placements
 use Rattle.cal_policy.specs.History.{actions_of, sends, sent_to, command_to, last_thread, last_placement}
 use Rattle.cal_policy.specs.Board.{kept_placement}
 use Rattle.cal_policy.specs.Setting.{Setting, so_far}
-use Rattle.cal_policy.proofs.HistoryLemmas.OneMore.{sent_push, last_thread_placement}
+use Rattle.cal_policy.proofs.HistoryLemmas.OneMore.{sent_push, sent_grows, last_thread_placement}
 use Rattle.cal_guard.specs.Refusals.{was_sent, is_core}
 use Rattle.cal_guard.specs.Passing.{IsSetOfSent}
 use Rattle.cal_policy.proofs.BoardLemmas.AsKept.{thread_as_kept}
-
-pub sent_grows : (x acts : List Action) (k : ℕ) → sent_to x k ≤ sent_to (x ++ acts) k
-sent_grows x [] k = let same = ap (λ l. sent_to l k) (append-nil x) in omega (arith, same)
-sent_grows x (a ∷ acts) k =
-    let one = sent_push x a k in
-    let same = ap (λ l. sent_to l k) (append_assoc x (a ∷ []) acts) in
-    omega (arith, one, same, sent_grows (x ++ a ∷ []) acts k)
 
 lt_sum : (b x n : ℕ) → b ≤ x → ltb b (x + n) ≡ (ltb b x || ltb 0 n)
 lt_sum b x n le = grind (arith, nat_tests)

@@ -25,7 +25,7 @@ use Rattle.cal_guard.specs.declared.refusal.Why.TheVariants.{TooMany, DoesNotFit
 use Rattle.cal_guard.specs.Permitted.{MayBeSent, MayBeRevoked, MayBeGranted, MayBeMade, IsPermitted, LeavesNothing, core_revoked}
 use Rattle.cal_guard.specs.Refusals.{unless, was_sent, wrong_to_send, wrong_to_revoke, wrong_to_book, wrong_to_grant, wrong_to_make, is_core, is_left_held, is_from, is_left_over, left_undone, wrong_with}
 use Rattle.cal_guard.specs.Passing.{HeldAreLow}
-use Rattle.cal_guard.proofs.Sent.{sent_grows}
+use Rattle.cal_policy.proofs.HistoryLemmas.OneMore.{sent_grows}
 
 -- nothing is wrong where neither is
 both_none : {X : Type 0} (a b : Option X) → option_or a b ≡ None → (a ≡ None) × (b ≡ None)

@@ -42,7 +42,6 @@ pub fn kept_records_are_true()
     ensures { KeptRecordsAreTrue }
 {
     permitted_is_safe();
-    action_is_one_more();
     look_is_one_more();
 }
 
@@ -113,7 +112,6 @@ pub fn threads_are_sent_one_command()
     ensures { ThreadsAreSentOneCommand }
 {
     permitted_is_safe();
-    action_is_one_more();
     last_thread_is_placed();
 }
 

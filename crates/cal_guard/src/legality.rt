@@ -9,14 +9,13 @@ use cal_laws::{
     passes_are_short, revocations_have_cause, revocations_leave_guarantees, tasks_keep_to_caps,
     threads_are_sent_one_command,
 };
-use cal_policy::{action_is_one_more, last_thread_is_placed, legal_is_sound};
+use cal_policy::{last_thread_is_placed, legal_is_sound};
 
 /// A legal history is permitted: so the guard lets the one policy that is proved through.
 pub fn legal_is_permitted()
     ensures { LegalIsPermitted }
 {
     legal_is_sound();
-    action_is_one_more();
     last_thread_is_placed();
     commands_go_where_is_room();
     threads_are_sent_one_command();

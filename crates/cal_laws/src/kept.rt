@@ -12,7 +12,6 @@ pub fn kept_records_are_true()
     ensures { KeptRecordsAreTrue }
 {
     legal_is_safe();
-    action_is_one_more();
     look_is_one_more();
 }
 

@@ -77,10 +77,10 @@ capped more s acts task cap t w (inr m) true e =
 granted : ActionIsOneMore → (s : Setting) (x : List Action) (core thread class t : ℕ) → is_latency_critical s.table t ≡ false → Within s.table x t → MayBookMore s.table x (owner_of s.table thread) →
     (b : Bool) → eqb (owner_of s.table thread) t ≡ b → Within s.table (x ++ Grant core thread class ∷ []) t
 granted more s x core thread class t best w room false e =
-    let held = held_elsewhere more s.table x core thread class t e in
+    let held = held_elsewhere s.table x core thread class t e in
     let same = cap_same more s.table x (Grant core thread class) t refl in omega (arith, held, same, w)
 granted more s x core thread class t best w room true e =
-    let held = held_granted more s.table x core thread class t in
+    let held = held_granted s.table x core thread class t in
     let same = cap_same more s.table x (Grant core thread class) t refl in
     let own : MayBookMore s.table x t = subst (MayBookMore s.table x) (eqb-true (owner_of s.table thread) t e) room in
     omega (arith, held, same, held_le_booked s.table x t, own.cap best)

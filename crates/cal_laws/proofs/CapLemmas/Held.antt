@@ -16,6 +16,7 @@ use Rattle.cal_policy.specs.Laws.{ActionIsOneMore}
 use Rattle.cal_laws.proofs.ListLemmas.Counted.{count_less}
 use Rattle.cal_lists.proofs.Booleans.{unwrap_if}
 use Rattle.cal_policy.proofs.ListLemmas.Counted.{count_le_one, count_le}
+use Rattle.cal_policy.proofs.PassLemmas.Steady.{granted_holder}
 
 -- what is held is booked
 held_booked : (table : Table) (t : ℕ) (h : Holder) → is_held_for table t h ≡ true → is_booked_for table t h ≡ true
@@ -77,18 +78,14 @@ pub loses_one : ActionIsOneMore → (table : Table) (x : List Action) (core : �
 loses_one more table x core cause t = count_le_one (λ c. is_held_for table t (holder_of (x ++ Revoke core cause ∷ []) c)) (λ c. is_held_for table t (holder_of x c)) core table.cores
     (λ c lt ne is. ap (is_held_for table t) (other_core more x core cause c ne) ∙ is)
 
--- a core that is granted
-granted_holder : ActionIsOneMore → (x : List Action) (core thread class c : ℕ) → holder_of (x ++ Grant core thread class ∷ []) c ≡ cond (eqb core c) (holders.Held (placed x thread)) (holder_of x c)
-granted_holder more x core thread class c = (more x (Grant core thread class)).holder c ∙ unwrap_if (eqb core c) (holders.Held (placed x thread)) (holder_of x c)
-
 granted_off : (table : Table) (t core c : ℕ) (new : placements.Placement) (h : Holder) → (c ≡ core → ⊥) → is_held_for table t (cond (eqb core c) (holders.Held new) h) ≡ true → is_held_for table t h ≡ true
 granted_off table t core c new h ne is =
     let off : eqb core c ≡ false = grind (arith, nat_tests) in sym (ap (λ (b : Bool). is_held_for table t (cond b (holders.Held new) h)) off) ∙ is
 
-pub held_granted : ActionIsOneMore → (table : Table) (x : List Action) (core thread class t : ℕ) → held_by table (x ++ Grant core thread class ∷ []) t ≤ held_by table x t + 1
-held_granted more table x core thread class t =
+pub held_granted : (table : Table) (x : List Action) (core thread class t : ℕ) → held_by table (x ++ Grant core thread class ∷ []) t ≤ held_by table x t + 1
+held_granted table x core thread class t =
     count_le_one (λ c. is_held_for table t (holder_of x c)) (λ c. is_held_for table t (holder_of (x ++ Grant core thread class ∷ []) c)) core table.cores
-    (λ c lt ne is. granted_off table t core c (placed x thread) (holder_of x c) ne (sym (ap (is_held_for table t) (granted_holder more x core thread class c)) ∙ is))
+    (λ c lt ne is. granted_off table t core c (placed x thread) (holder_of x c) ne (sym (ap (is_held_for table t) (granted_holder x core thread class c)) ∙ is))
 
 granted_elsewhere : (table : Table) (t : ℕ) (b : Bool) (new : placements.Placement) (h : Holder) → eqb (owner_of table new.thread) t ≡ false →
     is_held_for table t (cond b (holders.Held new) h) ≡ true → is_held_for table t h ≡ true
@@ -96,10 +93,10 @@ granted_elsewhere table t true new h e is = cc
 granted_elsewhere table t false new h e is = is
 
 -- no other task holds more
-pub held_elsewhere : ActionIsOneMore → (table : Table) (x : List Action) (core thread class t : ℕ) → eqb (owner_of table thread) t ≡ false →
+pub held_elsewhere : (table : Table) (x : List Action) (core thread class t : ℕ) → eqb (owner_of table thread) t ≡ false →
     held_by table (x ++ Grant core thread class ∷ []) t ≤ held_by table x t
-held_elsewhere more table x core thread class t e = fewer table x (x ++ Grant core thread class ∷ []) t
-    (λ c is. granted_elsewhere table t (eqb core c) (placed x thread) (holder_of x c) e (sym (ap (is_held_for table t) (granted_holder more x core thread class c)) ∙ is))
+held_elsewhere table x core thread class t e = fewer table x (x ++ Grant core thread class ∷ []) t
+    (λ c is. granted_elsewhere table t (eqb core c) (placed x thread) (holder_of x c) e (sym (ap (is_held_for table t) (granted_holder x core thread class c)) ∙ is))
 
 -- an action that caps no task, or another one
 pub cap_same : ActionIsOneMore → (table : Table) (x : List Action) (a : Action) (t : ℕ) → cap_made t x a ≡ None → cap_of table (x ++ a ∷ []) t ≡ cap_of table x t

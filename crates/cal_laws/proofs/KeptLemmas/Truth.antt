@@ -1,10 +1,10 @@
 -- What a kept record says was so when it was kept.
-use Rattle.std.proofs.Common.{◌≡◌, ◌≢◌, ℕ, ◌+◌, ◌-◌, ◌<◌, ◌≤◌, zero, suc, Bool, true, false, ◌&&◌, not, cond, eqb, leb, ltb, List, [], ◌∷◌, ◌++◌, length, take, Option, Some, None, refl, sym, ap, ◌∙◌, arith, subst, append_assoc, ⊎_elim, length-append}
+use Rattle.std.proofs.Common.{◌≡◌, ◌≢◌, ℕ, ◌+◌, ◌-◌, ◌<◌, ◌≤◌, zero, suc, Bool, true, false, ◌&&◌, not, cond, eqb, leb, ltb, List, [], ◌∷◌, ◌++◌, length, take, Option, Some, None, refl, sym, ap, ◌∙◌, arith, subst, ⊎_elim}
 use Rattle.std.specs.List.{slice_get}
 use Rattle.std.specs.Option.{unwrap_or, option_and_then}
 use Rattle.std.proofs.lemmas.Bool.{and_parts, ltb-false, leb-true, eqb-true}
 use Rattle.std.proofs.lemmas.Bool.Decides.{nat_tests}
-use Rattle.std.proofs.lemmas.List.{append-nil, map-append}
+use Rattle.std.proofs.lemmas.List.{map-append}
 use Rattle.std.proofs.lemmas.Option.{slice_get_cases, slice_get_within}
 use Rattle.cal_machine.specs.Table.{Table}
 use Rattle.cal_signal.specs.declared.record.Record.{Record}
@@ -14,24 +14,17 @@ use Rattle.cal_policy.specs.declared.history.look.Seen.{Seen}
 use Rattle.cal_policy.specs.declared.history.look.Seen.TheVariants.{Whole, Busy, Ahead, Foreign}
 use Rattle.cal_policy.specs.declared.board.holders.Holder.{Holder}
 use Rattle.cal_policy.specs.declared.board.holders.Holder.TheVariants as holders
-use Rattle.cal_policy.specs.History.{actions_of, looks_of, holder_of, sent_to, commands_to, sends}
+use Rattle.cal_policy.specs.History.{actions_of, looks_of, holder_of, sent_to}
 use Rattle.cal_policy.specs.Board.{placement_of}
 use Rattle.cal_policy.specs.History.Looks.{kept_by, record_to_keep}
 use Rattle.cal_policy.specs.Setting.{kept_now}
 use Rattle.cal_policy.specs.Judgement.Judging.{IsInput, is_acknowledged_by, is_foreign}
-use Rattle.cal_policy.specs.Laws.{ActionIsOneMore, LookIsOneMore}
+use Rattle.cal_policy.specs.Laws.{LookIsOneMore}
+use Rattle.cal_policy.proofs.HistoryLemmas.OneMore.{sent_grows}
 use Rattle.cal_laws.specs.Point.{Point, setting_at, made_at}
 use Rattle.cal_laws.specs.Safe.{IsSafeHistory, IsSafePoint}
 use Rattle.cal_laws.specs.Kept.{IsOnItsCore, WasKeptOnCore, IsTrueRecord}
 use Rattle.cal_laws.proofs.PointLemmas.EachAction.{take_next, actions_more}
-
--- nothing that was sent is taken back
-pub sent_grows : ActionIsOneMore → (x acts : List Action) (k : ℕ) → sent_to x k ≤ sent_to (x ++ acts) k
-sent_grows more x [] k = let same = ap (λ l. sent_to l k) (append-nil x) in omega (arith, same)
-sent_grows more x (a ∷ acts) k =
-    let one = ap length ((more x a).commands k) ∙ length-append (commands_to x k) (sends k x a) in
-    let same = ap (λ l. sent_to l k) (append_assoc x (a ∷ []) acts) in
-    omega (arith, one, same, sent_grows more (x ++ a ∷ []) acts k)
 
 -- what is known of a record that the looks before pass n let be kept
 pub record IsTrueBefore (table : Table) (history : List PassEntry) (k n : ℕ) (rec : Record) : Type 0 where
@@ -106,34 +99,34 @@ true_in one table history k n entry e pass was =
 pub looks_more : (history : List PassEntry) (n : ℕ) (entry : PassEntry) → slice_get history n ≡ Some entry → looks_of (take (n + 1) history) ≡ looks_of (take n history) ++ entry.input.seen ∷ []
 looks_more history n entry e = ap looks_of (take_next history n entry e) ∙ map-append (λ (entry : PassEntry). entry.input.seen) (take n history) (entry ∷ [])
 
-on_to_next : ActionIsOneMore → LookIsOneMore → (table : Table) (history : List PassEntry) (k n : ℕ) (entry : PassEntry) → slice_get history n ≡ Some entry → IsInput table (take n history) entry.input →
+on_to_next : LookIsOneMore → (table : Table) (history : List PassEntry) (k n : ℕ) (entry : PassEntry) → slice_get history n ≡ Some entry → IsInput table (take n history) entry.input →
     IsTrueBefore table history k n (kept_by (looks_of (take n history)) k) → IsTrueBefore table history k (n + 1) (kept_by (looks_of (take (n + 1) history)) k)
-on_to_next more one table history k n entry e pass was =
+on_to_next one table history k n entry e pass was =
     let now = true_in one table history k n entry e pass was in
-    let grown = sent_grows more (actions_of (take n history)) entry.actions k in
+    let grown = sent_grows (actions_of (take n history)) entry.actions k in
     let same = ap (λ l. sent_to l k) (actions_more history n entry e) in
     let P : Record → Type 0 = λ rec. IsTrueBefore table history k (n + 1) rec in
     subst P (sym (ap (λ l. kept_by l k) (looks_more history n entry e))) (record { sent = (let said = now.sent in omega (arith, said, grown, same)); shown = now.shown })
 
-true_before : ActionIsOneMore → LookIsOneMore → (table : Table) (history : List PassEntry) → IsSafeHistory table history → (k n : ℕ) → n ≤ length history →
+true_before : LookIsOneMore → (table : Table) (history : List PassEntry) → IsSafeHistory table history → (k n : ℕ) → n ≤ length history →
     IsTrueBefore table history k n (kept_by (looks_of (take n history)) k)
-true_before more one table history safe k zero le = record { sent = omega arith; shown = λ on. absurd (on refl) }
-true_before more one table history safe k (suc n) le = ⊎_elim
+true_before one table history safe k zero le = record { sent = omega arith; shown = λ on. absurd (on refl) }
+true_before one table history safe k (suc n) le = ⊎_elim
     (λ found.
     let next : suc n ≡ n + 1 = omega arith in
     let P : ℕ → Type 0 = λ m. IsTrueBefore table history k m (kept_by (looks_of (take m history)) k) in
-    subst P (sym next) (on_to_next more one table history k n found.0 found.2 (safe.inputs n found.0 found.2) (true_before more one table history safe k n (omega arith))))
+    subst P (sym next) (on_to_next one table history k n found.0 found.2 (safe.inputs n found.0 found.2) (true_before one table history safe k n (omega arith))))
     (λ past. absurd (let no = past.0 in omega arith))
     (slice_get_cases history n).1
 
 -- each kept record is true at each point
-pub true_at : ActionIsOneMore → LookIsOneMore → (here : Point) → IsSafePoint here → (k : ℕ) → IsTrueRecord here k (kept_now (setting_at here) k)
-true_at more one here is k =
+pub true_at : LookIsOneMore → (here : Point) → IsSafePoint here → (k : ℕ) → IsTrueRecord here k (kept_now (setting_at here) k)
+true_at one here is k =
     let within = slice_get_within here.history here.pass here.entry is.entry in
     let now = true_in one here.table here.history k here.pass here.entry is.entry (is.history.inputs here.pass here.entry is.entry)
-    (true_before more one here.table here.history is.history k here.pass (omega (arith, within))) in
+    (true_before one here.table here.history is.history k here.pass (omega (arith, within))) in
     let said = now.sent in
-    let grown = sent_grows more (actions_of (take here.pass here.history)) (made_at here) k in
+    let grown = sent_grows (actions_of (take here.pass here.history)) (made_at here) k in
     record {
       sent = omega (arith, said, grown);
       shown = λ on. let shown = now.shown on in let before = shown.1 in (shown.0, omega (arith, before), shown.2);

@@ -1,5 +1,6 @@
 -- What one more action, or one more pass's looks, changes.
-use Rattle.std.proofs.Common.{◌≡◌, ℕ, ◌+◌, Bool, true, false, cond, List, [], ◌∷◌, ◌++◌, length, Option, Some, None, refl, ap, ◌∙◌, eqb, length-append}
+use Rattle.std.proofs.Common.{◌≡◌, ℕ, ◌+◌, ◌≤◌, Bool, true, false, cond, List, [], ◌∷◌, ◌++◌, length, Option, Some, None, refl, ap, ◌∙◌, arith, eqb, append_assoc, length-append}
+use Rattle.std.proofs.lemmas.List.{append-nil}
 use Rattle.std.specs.Option.{option_or, unwrap_or, option_map}
 use Rattle.cal_policy.specs.declared.history.action.Action.{Action}
 use Rattle.cal_policy.specs.declared.history.action.Action.TheVariants.{Free, Unban, Ban, Revoke, Cap, Grant}
@@ -28,6 +29,14 @@ commands_push x a k = each_of_push (sends k) x a
 
 pub sent_push : (x : List Action) (a : Action) (k : ℕ) → sent_to (x ++ a ∷ []) k ≡ sent_to x k + length (sends k x a)
 sent_push x a k = ap length (commands_push x a k) ∙ length-append (commands_to x k) (sends k x a)
+
+-- nothing that was sent is taken back
+pub sent_grows : (x acts : List Action) (k : ℕ) → sent_to x k ≤ sent_to (x ++ acts) k
+sent_grows x [] k = let same = ap (λ l. sent_to l k) (append-nil x) in omega (arith, same)
+sent_grows x (a ∷ acts) k =
+    let one = sent_push x a k in
+    let same = ap (λ l. sent_to l k) (append_assoc x (a ∷ []) acts) in
+    omega (arith, one, same, sent_grows (x ++ a ∷ []) acts k)
 
 pub ban_push : (x : List Action) (a : Action) (c : ℕ) → ban_of (x ++ a ∷ []) c ≡ unwrap_or (ban_made c x a) (ban_of x c)
 ban_push x a c = ap (λ (o : Option (Option BannedFor)). unwrap_or o None) (last_of_push (ban_made c) x a) ∙ unwrap_or_or (ban_made c x a) (last_of (ban_made c) x) None

@@ -111,7 +111,7 @@ Shrinks_revoke table x core cause s held = record {
 }
 
 -- the holder after a grant
-granted_holder : (x : List Action) (core thread class c : ℕ) → holder_of (x ++ Grant core thread class ∷ []) c ≡ cond (eqb core c) (holders.Held (placed x thread)) (holder_of x c)
+pub granted_holder : (x : List Action) (core thread class c : ℕ) → holder_of (x ++ Grant core thread class ∷ []) c ≡ cond (eqb core c) (holders.Held (placed x thread)) (holder_of x c)
 granted_holder x core thread class c = holder_push x (Grant core thread class) c ∙ unwrap_if (eqb core c) (holders.Held (placed x thread)) (holder_of x c)
 
 granted_last : (x : List Action) (core thread class c : ℕ) → last_placement (x ++ Grant core thread class ∷ []) c ≡ cond (eqb core c) (Some (placed x thread)) (last_placement x c)

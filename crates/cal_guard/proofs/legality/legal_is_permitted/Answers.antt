@@ -4,7 +4,6 @@ use Rattle.cal_guard.proofs.legality.legal_is_permitted.Goals as goal
 pub returns : goal.returns
 returns c = legal_permitted (record {
   sound = c.legal_is_sound.ensures;
-  more = c.action_is_one_more.ensures;
   last = c.last_thread_is_placed.ensures;
   room = c.commands_go_where_is_room.ensures;
   one = c.threads_are_sent_one_command.ensures;
