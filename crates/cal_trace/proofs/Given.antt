@@ -1,6 +1,5 @@
 -- Signals that are given pass by pass.
-use Rattle.std.proofs.Common.{◌≡◌, ◌≤◌, ◌<◌, ◌+◌, ℕ, List, [], ◌∷◌, ◌++◌, length, length-append, Option, Some, Ok, Err, Result, IfOk, ap, sym, ◌∙◌, codes, arith}
-use Rattle.std.specs.Option.{option_map, option_to_list}
+use Rattle.std.proofs.Common.{◌≡◌, ◌≤◌, ℕ, List, [], length, Option, Some, Ok, Err, Result, IfOk, ap, sym, ◌∙◌, codes}
 use Rattle.cal_trace.specs.Rows.Answers.{Takes}
 use Rattle.cal_trace.specs.Rows.Header.{header_of}
 use Rattle.cal_trace.specs.Rows.Passes.{with_closed}
@@ -8,19 +7,23 @@ use Rattle.cal_trace.specs.declared.fault.FaultKind.{FaultKind}
 use Rattle.cal_trace.specs.declared.rows.look_rows.TheConstants.{MOST_PASSES}
 use Rattle.cal_trace.specs.Rows.Reading.{read_under}
 use Rattle.cal_trace.specs.Rows.{Fields, rest_of, rows_of}
-use Rattle.cal_trace.specs.Signals.{at_start, last_shown, passes_of, take_form, take_row, whole}
+use Rattle.cal_trace.specs.Rows.LookRows.{pass_row, end_row}
+use Rattle.cal_trace.specs.Rows.SoFar.{IsCounted, SoFar, at_start, passes_of, whole, is_between, add_pass, add_end, take_pass, take_end}
+use Rattle.cal_trace.specs.Signals.{last_shown, looks_in, begun, take_form, take_row}
+use Rattle.cal_trace.specs.declared.fault.FaultKind.TheVariants as kind
+use Rattle.cal_trace.specs.declared.rows.look_rows.PassRow.{PassRow}
 use Rattle.cal_trace.specs.Signals.Fitting.{IsFittingSoFar}
 use Rattle.cal_trace.specs.Signals.Reading.{file_of, pass_at_hand, so_far, HasGiven, IsKept, IsKeptFitting}
 use Rattle.cal_trace.specs.declared.signals.file.SignalRows.{SignalRows}
 use Rattle.cal_trace.specs.declared.signals.reading.Form.{Form}
-use Rattle.cal_trace.specs.declared.signals.reading.OpenPass.{OpenPass}
 use Rattle.cal_trace.specs.declared.signals.reading.SignalReading.{SignalReading}
 use Rattle.cal_trace.specs.declared.signals.SignalPass.{SignalPass}
-use Rattle.cal_policy.specs.declared.judgement.open_input.FoundLook.{FoundLook}
 use Rattle.cal_trace.specs.declared.rows.version.Version.{Version}
+use Rattle.std.proofs.lemmas.List.{append-nil}
+use Rattle.cal_trace.proofs.RowLemmas.Checks.{check_one, same_ok}
+use Rattle.cal_trace.proofs.RowLemmas.Passes.{few_counted}
 use Rattle.cal_trace.proofs.SignalLemmas.Accepted.{row_fits, start_fits}
 use Rattle.cal_trace.proofs.SignalLemmas.LastShown.{shown-begun}
-use Rattle.cal_trace.proofs.RowLemmas.Passes.{count-begun}
 
 -- nothing was given yet
 pub HasGiven-none : (threads : ℕ) (text : List ℕ) (version : Version) (rows : List Fields) (signals : SignalRows)
@@ -46,23 +49,38 @@ kept_fitting form given fields (Ok closed) old new fit file takes kept =
     let same : new.threads ≡ old.threads = ap (λ (f : ℕ × Version). f.0) file in
     (kept, rw same (row_fits old.threads (so_far given old) (so_far (with_closed given closed) new) (Some form) fields fit takes))
 
--- a pass begins, and the one before it is handed out
-pub IsKept-begun : (given : List SignalPass) (closed : Option SignalPass) (old new : SignalReading) (pass : OpenPass) → IsKept given old → old.passes < MOST_PASSES
-    → closed ≡ option_map pass_at_hand old.at_hand → new.at_hand ≡ Some pass → pass.looks.items ≡ [] → new.passes ≡ old.passes + 1 → new.shown ≡ old.shown → new.threads ≡ old.threads
-    → IsKept (with_closed given closed) new
-IsKept-begun given closed old new pass kept below is at empty count shown threads =
-    let before : List SignalPass = with_closed given closed in
-    let same : passes_of (so_far given old) ≡ before = ap (λ (o : Option SignalPass). given ++ option_to_list o) (sym is) in
-    record {
-      passes = count ∙ count-begun pass_at_hand given closed old.at_hand new.at_hand pass old.passes kept.passes is at;
-      few = omega (arith, count, below);
-      shown = λ k lt. rw shown (kept.shown k (rw threads at lt) ∙ ap (last_shown k) same ∙ sym (shown-begun k before pass.now pass.bandwidth)
-          ∙ ap (λ (looks : List FoundLook). let begun : SignalPass = record { now = pass.now; bandwidth = pass.bandwidth; looks = looks } in last_shown k (before ++ begun ∷ [])) (sym empty)
-          ∙ ap (λ (o : Option OpenPass). last_shown k (before ++ option_to_list (option_map pass_at_hand o))) (sym at));
-    }
+-- no thread showed anything since, where a pass begins or the file ends
+pub shown-added : (threads k : ℕ) (so_far next : SoFar SignalPass) (fields : Fields) → take_pass looks_in begun threads so_far fields ≡ Ok next → last_shown k (passes_of next) ≡ last_shown k (passes_of so_far)
+shown-added threads k so_far next fields e =
+    let row = pass_row (length (passes_of so_far)) fields in
+    let c = check_one (is_between looks_in threads so_far) kind.Order (add_pass begun so_far row) next e in
+    added row c.1
+  where
+    added : (row : Result PassRow FaultKind) → add_pass begun so_far row ≡ Ok next → last_shown k (passes_of next) ≡ last_shown k (passes_of so_far)
+    added (Err fault) e = cc
+    added (Ok row) e = ap (λ (s : SoFar SignalPass). last_shown k (passes_of s)) (sym (same_ok _ next e)) ∙ shown-begun k (passes_of so_far) row.now row.bandwidth
+
+pub shown-ended : (threads k : ℕ) (so_far next : SoFar SignalPass) (fields : Fields) → take_end looks_in threads so_far fields ≡ Ok next → last_shown k (passes_of next) ≡ last_shown k (passes_of so_far)
+shown-ended threads k so_far next fields e =
+    let row = end_row (length (passes_of so_far)) fields in
+    let c = check_one (is_between looks_in threads so_far) kind.Order (add_end so_far row) next e in
+    ended row c.1
+  where
+    ended : (row : Result ℕ FaultKind) → add_end so_far row ≡ Ok next → last_shown k (passes_of next) ≡ last_shown k (passes_of so_far)
+    ended (Err fault) e = cc
+    ended (Ok count) e = ap (λ (s : SoFar SignalPass). last_shown k (passes_of s)) (sym (same_ok _ next e)) ∙ ap (last_shown k) (append-nil (passes_of so_far))
+
+-- what is kept, after a row by which no thread showed anything
+pub kept-closed : (given : List SignalPass) (result : Result (Option SignalPass) FaultKind) (taken : Result (SoFar SignalPass) FaultKind) (old new : SignalReading) → IsKept given old
+    → ((k : ℕ) (next : SoFar SignalPass) → taken ≡ Ok next → last_shown k (passes_of next) ≡ last_shown k (passes_of (so_far given old)))
+    → Takes (λ closed. so_far (with_closed given closed) new) result taken → IfOk result (λ closed. IsCounted pass_at_hand (with_closed given closed) new.passes)
+    → new.shown ≡ old.shown → new.threads ≡ old.threads → IfOk result (λ closed. IsKept (with_closed given closed) new)
+kept-closed given (Err k) taken old new kept same takes counted shown threads = tt
+kept-closed given (Ok closed) taken old new kept same takes counted shown threads = record {
+  counted = counted;
+  shown = λ k lt. rw shown (kept.shown k (rw threads at lt) ∙ sym (same k (so_far (with_closed given closed) new) takes));
+}
 
 -- no more passes were given than a file may have
 pub few_given : (threads : ℕ) (text : List ℕ) (given : List SignalPass) (signals : SignalRows) → HasGiven threads text given signals → length given ≤ MOST_PASSES
-few_given threads text given signals has =
-    let hand = option_to_list (so_far given signals.reading).at_hand in
-    omega (arith, has.kept.few, has.kept.passes, length-append given hand)
+few_given threads text given signals has = few_counted pass_at_hand given signals.reading.passes has.kept.counted

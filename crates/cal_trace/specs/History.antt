@@ -1,11 +1,11 @@
--- What the rows of a history say.
+-- What the rows of a history say; what all files of passes have in common is in Rows/SoFar.antt.
 pub mod ActionRows
 pub mod Ranges
 pub mod Reading
 pub mod Text
-use Rattle.std.specs.Prelude.{◌==◌, ◌&&◌, not, nat_lt, ℕ, List, [], ◌∷◌, ◌++◌, length, codes, Bool}
-use Rattle.std.specs.Prelude.{true, false, Option, Some, None, Result, Ok, Err, if◌then◌else◌}
-use Rattle.std.specs.Option.{option_map, option_to_list}
+use Rattle.std.specs.Prelude.{◌==◌, nat_lt, ℕ, List, [], ◌∷◌, ◌++◌, length, codes}
+use Rattle.std.specs.Prelude.{Option, Some, None, Result, Ok, Err, if◌then◌else◌}
+use Rattle.std.specs.Option.{option_map}
 use Rattle.cal_policy.specs.declared.history.look.Seen.{Seen}
 use Rattle.cal_policy.specs.declared.history.look.Seen.TheVariants as seen
 use Rattle.cal_policy.specs.declared.history.action.Action.{Action}
@@ -14,8 +14,10 @@ use Rattle.cal_policy.specs.declared.history.entry.PassEntry.{PassEntry}
 use Rattle.cal_trace.specs.History.ActionRows.{action_form, action_row}
 use Rattle.cal_trace.specs.Rows.RowFields.{is_row, record_fields}
 use Rattle.cal_trace.specs.Rows.Header.{header_of}
-use Rattle.cal_trace.specs.Rows.LookRows.{check, pass_row, whole_row, busy_row, end_row}
+use Rattle.cal_trace.specs.Rows.LookRows.{check, whole_row, busy_row}
 use Rattle.cal_trace.specs.Rows.Reading.{read_under}
+use Rattle.cal_trace.specs.Rows.SoFar.{SoFar, at_start, with_more, whole, next_thread}
+use Rattle.cal_trace.specs.Rows.SoFar.{take_pass, take_end}
 use Rattle.cal_trace.specs.Rows.{Fields}
 use Rattle.cal_trace.specs.declared.history.action_rows.ActionForm.{ActionForm}
 use Rattle.cal_trace.specs.declared.history.action_rows.Extent.{Extent}
@@ -73,36 +75,9 @@ seen_row looks.Ahead thread fields =
 seen_row looks.Foreign thread fields =
     judged_row (λ row. seen.Foreign row.shown.number row.shown.rec) (whole_row thread fields)
 
--- what the rows so far have given: the passes before the one at hand, the pass at hand, whose looks
--- and actions may still be missing, and whether the end row came
-pub record SoFar : Type 0 where
-  pub before : List PassEntry
-  pub at_hand : Option PassEntry
-  pub ended : Bool
-
--- nothing yet
-abbrev pub at_start : SoFar
-at_start = record { before = []; at_hand = None; ended = false }
-
--- all passes, the one at hand with them
-abbrev pub entries_of : SoFar → List PassEntry
-entries_of so_far = so_far.before ++ option_to_list so_far.at_hand
-
--- whether a pass at hand has all its looks
-abbrev pub is_full : Extent → Option PassEntry → Bool
-is_full extent None = true
-is_full extent (Some entry) = length entry.input.seen == extent.threads
-
--- whether a pass row or the end row can stand here
-abbrev pub is_between : Extent → SoFar → Bool
-is_between extent so_far = not so_far.ended && is_full extent so_far.at_hand
-
--- the thread whose look comes next, where a look can stand here
-abbrev pub next_thread : Extent → Option PassEntry → Result ℕ FaultKind
-next_thread extent None = Err kind.Order
-next_thread extent (Some entry) =
-    if nat_lt (length entry.input.seen) extent.threads then Ok (length entry.input.seen)
-    else Err kind.Order
+-- how many looks a pass has
+abbrev pub looks_in : PassEntry → ℕ
+looks_in entry = length entry.input.seen
 
 -- a pass that has no looks and no actions yet
 abbrev pub begun : PassRow → PassEntry
@@ -131,74 +106,49 @@ abbrev pub with_action : Action → PassEntry → PassEntry
 with_action action entry = record { input = entry.input; actions = entry.actions ++ action ∷ [] }
 
 -- one more look, one more action
-abbrev pub one_more_look : SoFar → SeenRow → SoFar
-one_more_look so_far row = record {
-  before = so_far.before;
-  at_hand = option_map (with_look row) so_far.at_hand;
-  ended = so_far.ended;
-}
-
-abbrev pub one_more_action : SoFar → PassEntry → Action → SoFar
-one_more_action so_far entry action = record {
-  before = so_far.before;
-  at_hand = Some (with_action action entry);
-  ended = so_far.ended;
-}
-
-abbrev pub add_pass : SoFar → Result PassRow FaultKind → Result SoFar FaultKind
-add_pass so_far (Err k) = Err k
-add_pass so_far (Ok row) =
-    Ok (record { before = entries_of so_far; at_hand = Some (begun row); ended = false })
-
-abbrev pub add_end : SoFar → Result ℕ FaultKind → Result SoFar FaultKind
-add_end so_far (Err k) = Err k
-add_end so_far (Ok count) = Ok (record { before = entries_of so_far; at_hand = None; ended = true })
-
-abbrev pub add_look : SoFar → Result SeenRow FaultKind → Result SoFar FaultKind
+abbrev pub add_look : SoFar PassEntry → Result SeenRow FaultKind →
+    Result (SoFar PassEntry) FaultKind
 add_look so_far (Err k) = Err k
-add_look so_far (Ok row) = Ok (one_more_look so_far row)
+add_look so_far (Ok row) = Ok (with_more (with_look row) so_far)
 
-abbrev pub add_action : SoFar → PassEntry → Result Action FaultKind → Result SoFar FaultKind
+abbrev pub add_action : SoFar PassEntry → PassEntry → Result Action FaultKind →
+    Result (SoFar PassEntry) FaultKind
 add_action so_far entry (Err k) = Err k
 add_action so_far entry (Ok action) =
     check (nat_lt (length entry.actions) MOST_ACTIONS) kind.Range
-    (Ok (one_more_action so_far entry action))
+    (Ok (record so_far { at_hand = Some (with_action action entry) }))
 
 -- a look row, where the next look is that of this thread, if one can stand here
-abbrev pub take_look : SoFar → LookForm → Fields → Result ℕ FaultKind → Result SoFar FaultKind
+abbrev pub take_look : SoFar PassEntry → LookForm → Fields → Result ℕ FaultKind →
+    Result (SoFar PassEntry) FaultKind
 take_look so_far look fields (Err k) = Err k
 take_look so_far look fields (Ok thread) = add_look so_far (seen_row look thread fields)
 
 -- an action row, which comes after all looks of its pass
-abbrev pub take_action : Extent → SoFar → ActionForm → Fields → Option PassEntry →
-    Result SoFar FaultKind
+abbrev pub take_action : Extent → SoFar PassEntry → ActionForm → Fields → Option PassEntry →
+    Result (SoFar PassEntry) FaultKind
 take_action extent so_far action fields None = Err kind.Order
 take_action extent so_far action fields (Some entry) =
     check (length entry.input.seen == extent.threads) kind.Order
     (add_action so_far entry (action_row action extent fields))
 
 -- what the rows say with one more row of this form
-abbrev pub take_form : Extent → SoFar → Option Form → Fields → Result SoFar FaultKind
+abbrev pub take_form : Extent → SoFar PassEntry → Option Form → Fields →
+    Result (SoFar PassEntry) FaultKind
 take_form extent so_far None fields = Err kind.Fields
 take_form extent so_far (Some form.Header) fields = Err kind.Order
 take_form extent so_far (Some form.Pass) fields =
-    check (is_between extent so_far) kind.Order
-    (add_pass so_far (pass_row (length (entries_of so_far)) fields))
-take_form extent so_far (Some form.End) fields =
-    check (is_between extent so_far) kind.Order
-    (add_end so_far (end_row (length (entries_of so_far)) fields))
+    take_pass looks_in begun extent.threads so_far fields
+take_form extent so_far (Some form.End) fields = take_end looks_in extent.threads so_far fields
 take_form extent so_far (Some (form.Look look)) fields =
-    take_look so_far look fields (next_thread extent so_far.at_hand)
+    take_look so_far look fields (next_thread looks_in extent.threads so_far.at_hand)
 take_form extent so_far (Some (form.Act action)) fields =
     take_action extent so_far action fields so_far.at_hand
 
 -- what the rows say with one more row, or the first of the row's checks that fails
-abbrev pub take_row : Extent → Version → SoFar → Fields → Result SoFar FaultKind
+abbrev pub take_row : Extent → Version → SoFar PassEntry → Fields →
+    Result (SoFar PassEntry) FaultKind
 take_row extent version so_far fields = take_form extent so_far (form_of version fields) fields
-
--- the history of a file that came to its end row
-abbrev pub whole : SoFar → Option (List PassEntry)
-whole so_far = if so_far.ended then Some so_far.before else None
 
 -- the history of a file, for a table of this extent, or the first of its checks that fails, with
 -- its row

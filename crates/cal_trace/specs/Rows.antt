@@ -7,6 +7,7 @@ pub mod Passes
 pub mod Reading
 pub mod RowFields
 pub mod Shown
+pub mod SoFar
 pub mod Text
 use Rattle.std.specs.Prelude.{◌≡◌, ◌+◌, ◌<◌, ◌^◌, ℕ, List, [], ◌∷◌, Bool, true, false, length}
 use Rattle.std.specs.Prelude.{Option, Some, None}

@@ -1,16 +1,19 @@
--- What the rows of a file of signals say.
+-- What the rows of a file of signals say; what all files of passes have in common is in
+-- Rows/SoFar.antt.
 pub mod Fitting
 pub mod Reading
-use Rattle.std.specs.Prelude.{◌==◌, ◌&&◌, not, nat_lt, ℕ, List, [], ◌∷◌, ◌++◌, length, codes}
-use Rattle.std.specs.Prelude.{slice_get, Bool, true, false, Option, Some, None, Result, Ok, Err}
+use Rattle.std.specs.Prelude.{ℕ, List, [], ◌∷◌, ◌++◌, length, codes}
+use Rattle.std.specs.Prelude.{slice_get, Option, Some, None, Result, Ok, Err}
 use Rattle.std.specs.Prelude.{if◌then◌else◌}
-use Rattle.std.specs.Option.{option_and_then, option_map, option_to_list, unwrap_or}
+use Rattle.std.specs.Option.{option_and_then, unwrap_or}
 use Rattle.cal_signal.specs.declared.look.Look.{Look}
 use Rattle.cal_signal.specs.declared.look.Look.TheVariants as look
 use Rattle.cal_trace.specs.Rows.RowFields.{is_row, record_fields}
 use Rattle.cal_trace.specs.Rows.Header.{header_of}
-use Rattle.cal_trace.specs.Rows.LookRows.{check, pass_row, whole_row, busy_row, end_row}
+use Rattle.cal_trace.specs.Rows.LookRows.{check, whole_row, busy_row}
 use Rattle.cal_trace.specs.Rows.Reading.{read_under}
+use Rattle.cal_trace.specs.Rows.SoFar.{SoFar, at_start, passes_of, with_more, whole, next_thread}
+use Rattle.cal_trace.specs.Rows.SoFar.{take_pass, take_end}
 use Rattle.cal_trace.specs.Rows.{Fields}
 use Rattle.cal_signal.specs.Shown.{nothing_shown}
 use Rattle.cal_signal.specs.Tests.{is_shown_after}
@@ -38,35 +41,13 @@ form_of version fields =
     else if is_row (codes "caladan-signals") 2 fields then Some form.Header
     else None
 
--- what the rows so far have given: the passes before the one at hand, the pass at hand, whose looks
--- may still be missing, and whether the end row came
-pub record SoFar : Type 0 where
-  pub before : List SignalPass
-  pub at_hand : Option SignalPass
-  pub ended : Bool
+-- how many looks a pass has
+abbrev pub looks_in : SignalPass → ℕ
+looks_in pass = length pass.looks
 
--- nothing yet
-abbrev pub at_start : SoFar
-at_start = record { before = []; at_hand = None; ended = false }
-
--- all passes, the one at hand with them
-abbrev pub passes_of : SoFar → List SignalPass
-passes_of so_far = so_far.before ++ option_to_list so_far.at_hand
-
--- whether a pass at hand has all its looks
-abbrev pub is_full : ℕ → Option SignalPass → Bool
-is_full threads None = true
-is_full threads (Some pass) = length pass.looks == threads
-
--- whether a pass row or the end row can stand here
-abbrev pub is_between : ℕ → SoFar → Bool
-is_between threads so_far = not so_far.ended && is_full threads so_far.at_hand
-
--- the thread whose look comes next, where a look can stand here
-abbrev pub next_thread : ℕ → Option SignalPass → Result ℕ FaultKind
-next_thread threads None = Err kind.Order
-next_thread threads (Some pass) =
-    if nat_lt (length pass.looks) threads then Ok (length pass.looks) else Err kind.Order
+-- a pass that has no looks yet
+abbrev pub begun : PassRow → SignalPass
+begun row = record { now = row.now; bandwidth = row.bandwidth; looks = [] }
 
 -- what a look showed
 abbrev pub shown_by : Look → Option Shown
@@ -106,33 +87,11 @@ abbrev pub as_look : Result BusyRow FaultKind → Result FoundLook FaultKind
 as_look (Err k) = Err k
 as_look (Ok row) = Ok (look_of_busy row)
 
--- the passes with one more look
-abbrev pub one_more : SoFar → FoundLook → SoFar
-one_more so_far seen = record {
-  before = so_far.before;
-  at_hand = option_map (with_look seen) so_far.at_hand;
-  ended = so_far.ended;
-}
-
 -- the passes with the look of a row
-abbrev pub add_look : SoFar → Result FoundLook FaultKind → Result SoFar FaultKind
+abbrev pub add_look : SoFar SignalPass → Result FoundLook FaultKind →
+    Result (SoFar SignalPass) FaultKind
 add_look so_far (Err k) = Err k
-add_look so_far (Ok seen) = Ok (one_more so_far seen)
-
--- a new pass at hand
-abbrev pub add_pass : SoFar → Result PassRow FaultKind → Result SoFar FaultKind
-add_pass so_far (Err k) = Err k
-add_pass so_far (Ok row) =
-    Ok (record {
-      before = passes_of so_far;
-      at_hand = Some (record { now = row.now; bandwidth = row.bandwidth; looks = [] });
-      ended = false;
-    })
-
--- the end
-abbrev pub add_end : SoFar → Result ℕ FaultKind → Result SoFar FaultKind
-add_end so_far (Err k) = Err k
-add_end so_far (Ok count) = Ok (record { before = passes_of so_far; at_hand = None; ended = true })
+add_look so_far (Ok seen) = Ok (with_more (with_look seen) so_far)
 
 -- what a look row of this form says, where the next look is thread k's, which showed this last
 abbrev pub look_row : Form → ℕ → Shown → Fields → Result FoundLook FaultKind
@@ -143,33 +102,27 @@ look_row form.Pass k last fields = Err kind.Order
 look_row form.End k last fields = Err kind.Order
 
 -- a look row, where the next look is that of this thread, if one can stand here
-abbrev pub take_look : SoFar → Form → Fields → Result ℕ FaultKind → Result SoFar FaultKind
+abbrev pub take_look : SoFar SignalPass → Form → Fields → Result ℕ FaultKind →
+    Result (SoFar SignalPass) FaultKind
 take_look so_far form fields (Err k) = Err k
 take_look so_far form fields (Ok thread) =
     add_look so_far (look_row form thread (last_shown thread (passes_of so_far)) fields)
 
 -- what the rows say with one more row of this form
-abbrev pub take_form : ℕ → SoFar → Option Form → Fields → Result SoFar FaultKind
+abbrev pub take_form : ℕ → SoFar SignalPass → Option Form → Fields →
+    Result (SoFar SignalPass) FaultKind
 take_form threads so_far None fields = Err kind.Fields
 take_form threads so_far (Some form.Header) fields = Err kind.Order
-take_form threads so_far (Some form.Pass) fields =
-    check (is_between threads so_far) kind.Order
-    (add_pass so_far (pass_row (length (passes_of so_far)) fields))
-take_form threads so_far (Some form.End) fields =
-    check (is_between threads so_far) kind.Order
-    (add_end so_far (end_row (length (passes_of so_far)) fields))
+take_form threads so_far (Some form.Pass) fields = take_pass looks_in begun threads so_far fields
+take_form threads so_far (Some form.End) fields = take_end looks_in threads so_far fields
 take_form threads so_far (Some form.Whole) fields =
-    take_look so_far form.Whole fields (next_thread threads so_far.at_hand)
+    take_look so_far form.Whole fields (next_thread looks_in threads so_far.at_hand)
 take_form threads so_far (Some form.Busy) fields =
-    take_look so_far form.Busy fields (next_thread threads so_far.at_hand)
+    take_look so_far form.Busy fields (next_thread looks_in threads so_far.at_hand)
 
 -- what the rows say with one more row, or the first of the row's checks that fails
-abbrev pub take_row : ℕ → Version → SoFar → Fields → Result SoFar FaultKind
+abbrev pub take_row : ℕ → Version → SoFar SignalPass → Fields → Result (SoFar SignalPass) FaultKind
 take_row threads version so_far fields = take_form threads so_far (form_of version fields) fields
-
--- the passes of a file that came to its end row
-abbrev pub whole : SoFar → Option (List SignalPass)
-whole so_far = if so_far.ended then Some so_far.before else None
 
 -- the passes of a file of signals for so many threads, or the first of its checks that fails, with
 -- its row

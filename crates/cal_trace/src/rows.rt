@@ -7,6 +7,7 @@ pub mod number;
 pub mod passes;
 pub mod reading;
 pub mod shown;
+pub mod so_far;
 pub mod version;
 
 ghost use Rattle.std.specs.Prelude.{◌≡◌, ◌+◌, IfOk, IfErr, OnErr};

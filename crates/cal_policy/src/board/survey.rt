@@ -30,44 +30,24 @@ pub struct Survey {
     pub awaited: [u8; MOST_TASKS],
 }
 
-/// One more core for a task.
-fn count_task(counts: &mut [u8; MOST_TASKS], task: usize)
-    requires task { task < MOST_TASKS }
-    requires few { slice_index counts.old task < 255 }
-    ensures { (t : ℕ) → t < MOST_TASKS →
-        slice_index counts.new t ≡ slice_index counts.old t + (if task == t then 1 else 0) }
+/// One more core for the task or thread of this number.
+fn count_one<const N: usize>(counts: &mut [u8; N], number: usize)
+    requires number { number < N }
+    requires few { slice_index counts.old number < 255 }
+    ensures { (i : ℕ) → i < N →
+        slice_index counts.new i ≡ slice_index counts.old i + (if number == i then 1 else 0) }
 {
-    counts[task] += 1;
+    counts[number] += 1;
 }
 
-/// One core fewer for a task.
-fn uncount_task(counts: &mut [u8; MOST_TASKS], task: usize)
-    requires task { task < MOST_TASKS }
-    requires some { 0 < slice_index counts.old task }
-    ensures { (t : ℕ) → t < MOST_TASKS →
-        slice_index counts.old t ≡ slice_index counts.new t + (if task == t then 1 else 0) }
+/// One core fewer for the task or thread of this number.
+fn uncount_one<const N: usize>(counts: &mut [u8; N], number: usize)
+    requires number { number < N }
+    requires some { 0 < slice_index counts.old number }
+    ensures { (i : ℕ) → i < N →
+        slice_index counts.old i ≡ slice_index counts.new i + (if number == i then 1 else 0) }
 {
-    counts[task] -= 1;
-}
-
-/// One more core for a thread.
-fn count_thread(counts: &mut [u8; MOST_THREADS], thread: usize)
-    requires thread { thread < MOST_THREADS }
-    requires few { slice_index counts.old thread < 255 }
-    ensures { (k : ℕ) → k < MOST_THREADS →
-        slice_index counts.new k ≡ slice_index counts.old k + (if thread == k then 1 else 0) }
-{
-    counts[thread] += 1;
-}
-
-/// One core fewer for a thread.
-fn uncount_thread(counts: &mut [u8; MOST_THREADS], thread: usize)
-    requires thread { thread < MOST_THREADS }
-    requires some { 0 < slice_index counts.old thread }
-    ensures { (k : ℕ) → k < MOST_THREADS →
-        slice_index counts.old k ≡ slice_index counts.new k + (if thread == k then 1 else 0) }
-{
-    counts[thread] -= 1;
+    counts[number] -= 1;
 }
 
 /// One more core that is being left, where it is for a task.
@@ -127,9 +107,9 @@ impl Survey {
         ensures counted { CountsOneMore config.now (Holder.Held placement) self.old self.new }
     {
         let task = config.task_of(placement.thread as usize);
-        count_task(&mut self.held, task);
-        count_task(&mut self.booked, task);
-        count_thread(&mut self.placed, placement.thread as usize);
+        count_one(&mut self.held, task);
+        count_one(&mut self.booked, task);
+        count_one(&mut self.placed, placement.thread as usize);
     }
 
     /// Counts a core that is being left.
@@ -140,8 +120,8 @@ impl Survey {
         ensures counted { let holder = Holder.Leaving placement cause in
             CountsOneMore config.now holder self.old self.new }
     {
-        count_task(&mut self.booked, config.task_of(placement.thread as usize));
-        count_thread(&mut self.placed, placement.thread as usize);
+        count_one(&mut self.booked, config.task_of(placement.thread as usize));
+        count_one(&mut self.placed, placement.thread as usize);
         count_awaited(&mut self.awaited, placement, cause);
     }
 
@@ -168,9 +148,9 @@ impl Survey {
         ensures counted { CountsOneMore config.now (Holder.Held placement) self.new self.old }
     {
         let task = config.task_of(placement.thread as usize);
-        uncount_task(&mut self.held, task);
-        uncount_task(&mut self.booked, task);
-        uncount_thread(&mut self.placed, placement.thread as usize);
+        uncount_one(&mut self.held, task);
+        uncount_one(&mut self.booked, task);
+        uncount_one(&mut self.placed, placement.thread as usize);
     }
 
     /// Counts one core fewer, which was being left.
@@ -181,8 +161,8 @@ impl Survey {
         ensures counted { let holder = Holder.Leaving placement cause in
             CountsOneMore config.now holder self.new self.old }
     {
-        uncount_task(&mut self.booked, config.task_of(placement.thread as usize));
-        uncount_thread(&mut self.placed, placement.thread as usize);
+        uncount_one(&mut self.booked, config.task_of(placement.thread as usize));
+        uncount_one(&mut self.placed, placement.thread as usize);
         uncount_awaited(&mut self.awaited, placement, cause);
     }
 

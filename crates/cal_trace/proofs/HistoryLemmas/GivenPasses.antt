@@ -1,28 +1,17 @@
 -- Histories that are given pass by pass.
-use Rattle.std.proofs.Common.{◌≡◌, ◌<◌, ◌≤◌, ◌+◌, ◌∙◌, ℕ, List, [], length, length-append, Option, Some, Ok, ap, sym, codes, arith}
-use Rattle.std.specs.Option.{option_map, option_to_list}
+use Rattle.std.proofs.Common.{◌≡◌, ◌≤◌, ℕ, List, [], length, Ok, ap, sym, codes}
 use Rattle.cal_policy.specs.declared.history.entry.PassEntry.{PassEntry}
-use Rattle.cal_trace.specs.History.{at_start, take_row, whole}
+use Rattle.cal_trace.specs.Rows.SoFar.{at_start, whole}
+use Rattle.cal_trace.specs.History.{take_row}
 use Rattle.cal_trace.specs.History.Reading.{entry_at_hand, file_of, so_far, HasGiven, IsKept}
 use Rattle.cal_trace.specs.Rows.Header.{header_of}
 use Rattle.cal_trace.specs.declared.rows.look_rows.TheConstants.{MOST_PASSES}
-use Rattle.cal_trace.specs.Rows.Passes.{with_closed}
 use Rattle.cal_trace.specs.Rows.Reading.{read_under}
 use Rattle.cal_trace.specs.Rows.{Fields, rest_of, rows_of}
 use Rattle.cal_trace.specs.declared.history.action_rows.Extent.{Extent}
 use Rattle.cal_trace.specs.declared.history.file.HistoryRows.{HistoryRows}
-use Rattle.cal_trace.specs.declared.history.reading.HistoryReading.{HistoryReading}
-use Rattle.cal_trace.specs.declared.history.reading.OpenEntry.{OpenEntry}
 use Rattle.cal_trace.specs.declared.rows.version.Version.{Version}
-use Rattle.cal_trace.proofs.RowLemmas.Passes.{count-begun}
-
--- a pass begins, and the one before it is handed out
-pub IsKept-begun : (given : List PassEntry) (closed : Option PassEntry) (old new : HistoryReading) (entry : OpenEntry) → IsKept given old → old.passes < MOST_PASSES
-    → closed ≡ option_map entry_at_hand old.at_hand → new.at_hand ≡ Some entry → new.passes ≡ old.passes + 1 → IsKept (with_closed given closed) new
-IsKept-begun given closed old new entry kept below is at count = record {
-  passes = count ∙ count-begun entry_at_hand given closed old.at_hand new.at_hand entry old.passes kept.passes is at;
-  few = omega (arith, count, below);
-}
+use Rattle.cal_trace.proofs.RowLemmas.Passes.{few_counted}
 
 -- nothing was given yet
 pub HasGiven-none : (extent : Extent) (text : List ℕ) (version : Version) (rows : List Fields) (history : HistoryRows)
@@ -39,6 +28,4 @@ HasGiven-none extent text version rows history header rest first file start kept
 
 -- no more passes were given than a file may have
 pub few_given : (extent : Extent) (text : List ℕ) (given : List PassEntry) (history : HistoryRows) → HasGiven extent text given history → length given ≤ MOST_PASSES
-few_given extent text given history has =
-    let hand = option_to_list (so_far given history.reading).at_hand in
-    omega (arith, has.kept.few, has.kept.passes, length-append given hand)
+few_given extent text given history has = few_counted entry_at_hand given history.reading.passes has.kept

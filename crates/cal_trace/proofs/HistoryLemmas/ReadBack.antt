@@ -6,7 +6,8 @@ use Rattle.cal_policy.specs.declared.history.look.Seen.{Seen}
 use Rattle.cal_policy.specs.declared.history.action.Action.{Action}
 use Rattle.cal_policy.specs.declared.history.entry.PassEntry.{PassEntry}
 use Rattle.cal_trace.specs.Rows.Header.{header_of}
-use Rattle.cal_trace.specs.History.{SoFar, at_start, take_row, entries_of, is_between, next_thread, with_action, whole, history_of}
+use Rattle.cal_trace.specs.Rows.SoFar.{SoFar, at_start, passes_of, whole, is_between, next_thread}
+use Rattle.cal_trace.specs.History.{take_row, with_action, history_of, looks_in}
 use Rattle.cal_policy.specs.declared.history.action_list.TheConstants.{MOST_ACTIONS}
 use Rattle.cal_trace.specs.History.Text.{look_fields, action_fields, look_rows, pass_fields, entry_rows, header_row, end_fields, history_text}
 use Rattle.cal_trace.specs.declared.rows.look_rows.TheConstants.{MOST_PASSES}
@@ -23,10 +24,10 @@ use Rattle.cal_trace.proofs.HistoryLemmas.PlainRows.{rows_back}
 use Rattle.cal_trace.proofs.HistoryLemmas.RowsTaken.{within, ended, pass_taken, end_taken, look_taken, action_taken}
 
 -- these rows, after what the rows before have given, are read as this history
-record IsReadAs (extent : Extent) (so_far : SoFar) (rows : List Fields) (history : List PassEntry) : Type 0 where
+record IsReadAs (extent : Extent) (so_far : SoFar PassEntry) (rows : List Fields) (history : List PassEntry) : Type 0 where
   pub from : (row : ℕ) → read_from (take_row extent version.Two) whole so_far row rows ≡ Ok history
 
-row_more : (extent : Extent) (so_far next : SoFar) (fields : Fields) (rows : List Fields) (history : List PassEntry) → take_row extent version.Two so_far fields ≡ Ok next
+row_more : (extent : Extent) (so_far next : SoFar PassEntry) (fields : Fields) (rows : List Fields) (history : List PassEntry) → take_row extent version.Two so_far fields ≡ Ok next
     → IsReadAs extent next rows history → IsReadAs extent so_far (fields ∷ rows) history
 row_more extent so_far next fields rows history takes more = record {
   from = λ row. one_row (take_row extent version.Two) whole so_far row next fields rows takes ∙ more.from (row + 1);
@@ -40,7 +41,7 @@ looked now bandwidth seen rooms = record { input = record { now = now; bandwidth
 abbrev acted : PassEntry → List Action → PassEntry
 acted entry actions = record { input = entry.input; actions = actions }
 
-next_is : (extent : Extent) (entry : PassEntry) (k : ℕ) → k ≡ length entry.input.seen → k < extent.threads → next_thread extent (Some entry) ≡ Ok k
+next_is : (extent : Extent) (entry : PassEntry) (k : ℕ) → k ≡ length entry.input.seen → k < extent.threads → next_thread looks_in extent.threads (Some entry) ≡ Ok k
 next_is extent entry k same lt = let t = lt-ltb (length entry.input.seen) extent.threads (omega arith) in rw t (cc)
 
 answer_at : (before : List Bool) (room : Bool) (after : List Bool) → slice_index_or (before ++ room ∷ after) (length before) false ≡ room
@@ -86,12 +87,12 @@ actions_more extent before entry (action ∷ actions) rest history few full most
     (actions_more extent before (with_action action entry) actions rest history few full room (each_other HasActionWord action actions words) (each_other (IsActionInRange extent) action actions ranges) later)
 
 -- the rows of a pass
-entry_more : (extent : Extent) (so_far : SoFar) (entry : PassEntry) (rest : List Fields) (history : List PassEntry) → IsExtent extent → is_between extent so_far ≡ true
-    → length (entries_of so_far) < MOST_PASSES → IsEntryInRange extent entry → IsReadAs extent (within (entries_of so_far) entry) rest history
+entry_more : (extent : Extent) (so_far : SoFar PassEntry) (entry : PassEntry) (rest : List Fields) (history : List PassEntry) → IsExtent extent → is_between looks_in extent.threads so_far ≡ true
+    → length (passes_of so_far) < MOST_PASSES → IsEntryInRange extent entry → IsReadAs extent (within (passes_of so_far) entry) rest history
     → IsReadAs extent so_far (entry_rows entry ++ rest) history
 entry_more extent so_far entry rest history few between room r more =
     let input = entry.input in
-    let before = entries_of so_far in
+    let before = passes_of so_far in
     let after = looked input.now input.bandwidth input.seen input.rooms in
     let most : length after.actions + length entry.actions ≤ MOST_ACTIONS = omega (arith, r.most) in
     let acts = actions_more extent before after entry.actions rest history few r.looks most r.words.starts r.actions more in
@@ -102,22 +103,22 @@ entry_more extent so_far entry rest history few between room r more =
     row_more extent so_far _ (pass_fields entry) _ history (pass_taken extent so_far entry between room r.words.now r.words.bandwidth) rows
 
 -- the passes and the end row
-entries_more : (extent : Extent) (so_far : SoFar) (history : List PassEntry) (count : ℕ) → IsExtent extent → is_between extent so_far ≡ true
-    → count ≡ length (entries_of so_far) + length history → count ≤ MOST_PASSES → Each (IsEntryInRange extent) history
-    → IsReadAs extent so_far (flat_map entry_rows history ++ end_fields count ∷ []) (entries_of so_far ++ history)
+entries_more : (extent : Extent) (so_far : SoFar PassEntry) (history : List PassEntry) (count : ℕ) → IsExtent extent → is_between looks_in extent.threads so_far ≡ true
+    → count ≡ length (passes_of so_far) + length history → count ≤ MOST_PASSES → Each (IsEntryInRange extent) history
+    → IsReadAs extent so_far (flat_map entry_rows history ++ end_fields count ∷ []) (passes_of so_far ++ history)
 entries_more extent so_far [] count few between is most ranges =
-    let done : IsReadAs extent (ended (entries_of so_far)) [] (entries_of so_far) = record { from = λ row. ends (take_row extent version.Two) whole (ended (entries_of so_far)) row } in
-    subst (λ (history : List PassEntry). IsReadAs extent so_far (end_fields count ∷ []) history) (sym (append-nil (entries_of so_far)))
-    (row_more extent so_far _ (end_fields count) [] (entries_of so_far) (end_taken extent so_far count between (omega arith) (omega arith)) done)
+    let done : IsReadAs extent (ended (passes_of so_far)) [] (passes_of so_far) = record { from = λ row. ends (take_row extent version.Two) whole (ended (passes_of so_far)) row } in
+    subst (λ (history : List PassEntry). IsReadAs extent so_far (end_fields count ∷ []) history) (sym (append-nil (passes_of so_far)))
+    (row_more extent so_far _ (end_fields count) [] (passes_of so_far) (end_taken extent so_far count between (omega arith) (omega arith)) done)
 entries_more extent so_far (entry ∷ history) count few between is most ranges =
     let r = each_first (IsEntryInRange extent) entry history ranges in
-    let next = within (entries_of so_far) entry in
-    let count_next : count ≡ length (entries_of so_far ++ entry ∷ []) + length history = omega (arith, length-append (entries_of so_far) (entry ∷ [])) in
-    let full : is_between extent next ≡ true = eq-eqb (length entry.input.seen) extent.threads r.looks in
+    let next = within (passes_of so_far) entry in
+    let count_next : count ≡ length (passes_of so_far ++ entry ∷ []) + length history = omega (arith, length-append (passes_of so_far) (entry ∷ [])) in
+    let full : is_between looks_in extent.threads next ≡ true = eq-eqb (length entry.input.seen) extent.threads r.looks in
     let later = entries_more extent next history count few full count_next most (each_other (IsEntryInRange extent) entry history ranges) in
-    let all = subst (λ (all : List PassEntry). IsReadAs extent next (flat_map entry_rows history ++ end_fields count ∷ []) all) (append_assoc (entries_of so_far) (entry ∷ []) history) later in
-    subst (λ (rows : List Fields). IsReadAs extent so_far rows (entries_of so_far ++ entry ∷ history)) (sym (append_assoc (entry_rows entry) (flat_map entry_rows history) (end_fields count ∷ [])))
-    (entry_more extent so_far entry (flat_map entry_rows history ++ end_fields count ∷ []) (entries_of so_far ++ entry ∷ history) few between (omega arith) r all)
+    let all = subst (λ (all : List PassEntry). IsReadAs extent next (flat_map entry_rows history ++ end_fields count ∷ []) all) (append_assoc (passes_of so_far) (entry ∷ []) history) later in
+    subst (λ (rows : List Fields). IsReadAs extent so_far rows (passes_of so_far ++ entry ∷ history)) (sym (append_assoc (entry_rows entry) (flat_map entry_rows history) (end_fields count ∷ [])))
+    (entry_more extent so_far entry (flat_map entry_rows history ++ end_fields count ∷ []) (passes_of so_far ++ entry ∷ history) few between (omega arith) r all)
 
 header_taken : (rest : List Fields) → header_of (codes "caladan-history") (header_row ∷ rest) ≡ Ok (version.Two, rest)
 unfolding field_at

@@ -12,7 +12,8 @@ use Rattle.cal_policy.specs.declared.history.entry.PassEntry.{PassEntry}
 use Rattle.cal_trace.specs.History.ActionRows.{action_row, made, core_row, ban_row, revoke_row, revoke_for_bandwidth_row, cap_row, grant_row}
 use Rattle.cal_trace.specs.Rows.RowFields.{number_in, number_at, is_number_at, has_numbers}
 use Rattle.cal_trace.specs.Rows.Header.{header_of}
-use Rattle.cal_trace.specs.History.{SoFar, at_start, form_of, take_row, take_form, take_look, take_action, seen_row, judged_row, busy_look, add_pass, add_end, add_look, add_action, one_more_action, entries_of, is_full, is_between, next_thread, begun, with_look, with_action, whole, history_of}
+use Rattle.cal_trace.specs.Rows.SoFar.{SoFar, at_start, passes_of, add_pass, add_end, whole, is_full, is_between, next_thread}
+use Rattle.cal_trace.specs.History.{form_of, take_row, take_form, take_look, take_action, seen_row, judged_row, busy_look, add_look, add_action, begun, with_look, with_action, history_of, looks_in}
 use Rattle.cal_policy.specs.declared.history.action_list.TheConstants.{MOST_ACTIONS}
 use Rattle.cal_trace.specs.Rows.LookRows.{pass_row, whole_row, busy_row, end_row}
 use Rattle.cal_trace.specs.declared.rows.look_rows.TheConstants.{MOST_PASSES}
@@ -216,23 +217,23 @@ record IsPartRead (extent : Extent) (entry : PassEntry) : Type 0 where
   pub actions : Each (IsActionInRange extent) entry.actions
 
 -- what the rows so far have given
-record IsSoFarRead (extent : Extent) (so_far : SoFar) : Type 0 where
+record IsSoFarRead (extent : Extent) (so_far : SoFar PassEntry) : Type 0 where
   pub before : Each (IsEntryInRange extent) so_far.before
   pub part : (entry : PassEntry) → so_far.at_hand ≡ Some entry → IsPartRead extent entry
-  pub passes : length (entries_of so_far) ≤ MOST_PASSES
+  pub passes : length (passes_of so_far) ≤ MOST_PASSES
 
 -- a pass that has all its looks
 whole_entry : (extent : Extent) (entry : PassEntry) → length entry.input.seen ≡ extent.threads → IsPartRead extent entry → IsEntryInRange extent entry
 whole_entry extent entry full part = record { looks = full; rooms = cc (part.rooms); most = part.most; words = part.words; seen = part.seen; actions = part.actions }
 
-entries_fit : (extent : Extent) (before : List PassEntry) (at_hand : Option PassEntry) → is_full extent at_hand ≡ true → Each (IsEntryInRange extent) before
+entries_fit : (extent : Extent) (before : List PassEntry) (at_hand : Option PassEntry) → is_full looks_in extent.threads at_hand ≡ true → Each (IsEntryInRange extent) before
     → ((entry : PassEntry) → at_hand ≡ Some entry → IsPartRead extent entry) → Each (IsEntryInRange extent) (before ++ option_to_list at_hand)
 entries_fit extent before None full fit part = subst (Each (IsEntryInRange extent)) (sym (append-nil before)) fit
 entries_fit extent before (Some entry) full fit part =
     each_push (IsEntryInRange extent) before entry fit (whole_entry extent entry (eqb-true (length entry.input.seen) extent.threads full) (part entry refl))
 
-between_fit : (extent : Extent) (so_far : SoFar) → is_between extent so_far ≡ true → IsSoFarRead extent so_far → Each (IsEntryInRange extent) (entries_of so_far)
-between_fit extent so_far between r = entries_fit extent so_far.before so_far.at_hand (and_parts (not so_far.ended) (is_full extent so_far.at_hand) between).1 r.before r.part
+between_fit : (extent : Extent) (so_far : SoFar PassEntry) → is_between looks_in extent.threads so_far ≡ true → IsSoFarRead extent so_far → Each (IsEntryInRange extent) (passes_of so_far)
+between_fit extent so_far between r = entries_fit extent so_far.before so_far.at_hand (and_parts (not so_far.ended) (is_full looks_in extent.threads so_far.at_hand) between).1 r.before r.part
 
 -- a pass row
 begun_fits : (extent : Extent) (fields : Fields) → IsPartRead extent (begun (record { now = number_at fields 1; bandwidth = number_at fields 2 }))
@@ -247,8 +248,8 @@ begun_fits extent fields = record {
 just : {X : Type 0} (P : X → Type 0) (x : X) → P x → (y : X) → Some x ≡ Some y → P y
 just P x p y e = let same : x ≡ y = cc in subst P same p
 
-pass_added : (extent : Extent) (so_far next : SoFar) (r : Result PassRow FaultKind) → Each (IsEntryInRange extent) (entries_of so_far)
-    → ((row : PassRow) → r ≡ Ok row → IsPartRead extent (begun row) × (length (entries_of so_far) < MOST_PASSES)) → add_pass so_far r ≡ Ok next → IsSoFarRead extent next
+pass_added : (extent : Extent) (so_far next : SoFar PassEntry) (r : Result PassRow FaultKind) → Each (IsEntryInRange extent) (passes_of so_far)
+    → ((row : PassRow) → r ≡ Ok row → IsPartRead extent (begun row) × (length (passes_of so_far) < MOST_PASSES)) → add_pass begun so_far r ≡ Ok next → IsSoFarRead extent next
 pass_added extent so_far next (Err k) fit h e = cc
 pass_added extent so_far next (Ok row) fit h e =
     let p = h row refl in
@@ -256,30 +257,30 @@ pass_added extent so_far next (Ok row) fit h e =
     subst (IsSoFarRead extent) (same_ok _ next e) (record {
       before = fit;
       part = just (IsPartRead extent) (begun row) p.0;
-      passes = omega (arith, length-append (entries_of so_far) (begun row ∷ []));
+      passes = omega (arith, length-append (passes_of so_far) (begun row ∷ []));
     })
 
-pass_fits : (extent : Extent) (so_far next : SoFar) (fields : Fields) → IsSoFarRead extent so_far → take_form extent so_far (Some form.Pass) fields ≡ Ok next → IsSoFarRead extent next
+pass_fits : (extent : Extent) (so_far next : SoFar PassEntry) (fields : Fields) → IsSoFarRead extent so_far → take_form extent so_far (Some form.Pass) fields ≡ Ok next → IsSoFarRead extent next
 pass_fits extent so_far next fields r h =
-    let c = check_one (is_between extent so_far) kind.Order (add_pass so_far (pass_row (length (entries_of so_far)) fields)) next h in
-    pass_added extent so_far next (pass_row (length (entries_of so_far)) fields) (between_fit extent so_far c.0 r) (λ row e.
-    let d = check_two (has_numbers fields) (nat_lt (length (entries_of so_far)) MOST_PASSES) kind.Number kind.Range (record { now = number_at fields 1; bandwidth = number_at fields 2 }) row e in
-    (subst (λ (row : PassRow). IsPartRead extent (begun row)) d.2 (begun_fits extent fields), ltb-true (length (entries_of so_far)) MOST_PASSES d.1)) c.1
+    let c = check_one (is_between looks_in extent.threads so_far) kind.Order (add_pass begun so_far (pass_row (length (passes_of so_far)) fields)) next h in
+    pass_added extent so_far next (pass_row (length (passes_of so_far)) fields) (between_fit extent so_far c.0 r) (λ row e.
+    let d = check_two (has_numbers fields) (nat_lt (length (passes_of so_far)) MOST_PASSES) kind.Number kind.Range (record { now = number_at fields 1; bandwidth = number_at fields 2 }) row e in
+    (subst (λ (row : PassRow). IsPartRead extent (begun row)) d.2 (begun_fits extent fields), ltb-true (length (passes_of so_far)) MOST_PASSES d.1)) c.1
 
 -- the end row
-end_added : (extent : Extent) (so_far next : SoFar) (r : Result ℕ FaultKind) → Each (IsEntryInRange extent) (entries_of so_far) → length (entries_of so_far) ≤ MOST_PASSES
+end_added : (extent : Extent) (so_far next : SoFar PassEntry) (r : Result ℕ FaultKind) → Each (IsEntryInRange extent) (passes_of so_far) → length (passes_of so_far) ≤ MOST_PASSES
     → add_end so_far r ≡ Ok next → IsSoFarRead extent next
 end_added extent so_far next (Err k) fit few e = cc
 end_added extent so_far next (Ok count) fit few e = subst (IsSoFarRead extent) (same_ok _ next e) (record {
   before = fit;
   part = λ entry e. cc;
-  passes = subst (λ (x : List PassEntry). length x ≤ MOST_PASSES) (sym (append-nil (entries_of so_far))) few;
+  passes = subst (λ (x : List PassEntry). length x ≤ MOST_PASSES) (sym (append-nil (passes_of so_far))) few;
 })
 
-end_fits : (extent : Extent) (so_far next : SoFar) (fields : Fields) → IsSoFarRead extent so_far → take_form extent so_far (Some form.End) fields ≡ Ok next → IsSoFarRead extent next
+end_fits : (extent : Extent) (so_far next : SoFar PassEntry) (fields : Fields) → IsSoFarRead extent so_far → take_form extent so_far (Some form.End) fields ≡ Ok next → IsSoFarRead extent next
 end_fits extent so_far next fields r h =
-    let c = check_one (is_between extent so_far) kind.Order (add_end so_far (end_row (length (entries_of so_far)) fields)) next h in
-    end_added extent so_far next (end_row (length (entries_of so_far)) fields) (between_fit extent so_far c.0 r) r.passes c.1
+    let c = check_one (is_between looks_in extent.threads so_far) kind.Order (add_end so_far (end_row (length (passes_of so_far)) fields)) next h in
+    end_added extent so_far next (end_row (length (passes_of so_far)) fields) (between_fit extent so_far c.0 r) r.passes c.1
 
 -- a look row
 look_part : (extent : Extent) (entry : PassEntry) (row : SeenRow) → IsLookRead row.seen → IsPartRead extent entry → IsPartRead extent (with_look row entry)
@@ -302,7 +303,7 @@ same_length : (before : List PassEntry) (at_hand : Option PassEntry) (row : Seen
 same_length before None row = refl
 same_length before (Some entry) row = omega (arith, length-append before (with_look row entry ∷ []), length-append before (entry ∷ []))
 
-look_added : (extent : Extent) (so_far next : SoFar) (r : Result SeenRow FaultKind) → IsSoFarRead extent so_far → ((row : SeenRow) → r ≡ Ok row → IsLookRead row.seen)
+look_added : (extent : Extent) (so_far next : SoFar PassEntry) (r : Result SeenRow FaultKind) → IsSoFarRead extent so_far → ((row : SeenRow) → r ≡ Ok row → IsLookRead row.seen)
     → add_look so_far r ≡ Ok next → IsSoFarRead extent next
 look_added extent so_far next (Err k) r h e = cc
 look_added extent so_far next (Ok row) r h e = subst (IsSoFarRead extent) (same_ok _ next e) (record {
@@ -311,7 +312,7 @@ look_added extent so_far next (Ok row) r h e = subst (IsSoFarRead extent) (same_
   passes = let few = r.passes in omega (arith, same_length so_far.before so_far.at_hand row);
 })
 
-look_taken_fits : (extent : Extent) (so_far next : SoFar) (look : LookForm) (fields : Fields) (thread : Result ℕ FaultKind) → IsSoFarRead extent so_far
+look_taken_fits : (extent : Extent) (so_far next : SoFar PassEntry) (look : LookForm) (fields : Fields) (thread : Result ℕ FaultKind) → IsSoFarRead extent so_far
     → take_look so_far look fields thread ≡ Ok next → IsSoFarRead extent next
 look_taken_fits extent so_far next look fields (Err k) r e = cc
 look_taken_fits extent so_far next look fields (Ok thread) r e = look_added extent so_far next (seen_row look thread fields) r (λ row e. look_fits look thread fields row e) e
@@ -326,11 +327,11 @@ action_part extent entry action read few part = record {
   actions = each_push (IsActionInRange extent) entry.actions action part.actions read.range;
 }
 
-action_added : (extent : Extent) (so_far next : SoFar) (entry : PassEntry) (r : Result Action FaultKind) → so_far.at_hand ≡ Some entry → IsSoFarRead extent so_far
+action_added : (extent : Extent) (so_far next : SoFar PassEntry) (entry : PassEntry) (r : Result Action FaultKind) → so_far.at_hand ≡ Some entry → IsSoFarRead extent so_far
     → ((action : Action) → r ≡ Ok action → IsActionRead extent action) → add_action so_far entry r ≡ Ok next → IsSoFarRead extent next
 action_added extent so_far next entry (Err k) own r h e = cc
 action_added extent so_far next entry (Ok action) own r h e =
-    let c = check_one (nat_lt (length entry.actions) MOST_ACTIONS) kind.Range (Ok (one_more_action so_far entry action)) next e in
+    let c = check_one (nat_lt (length entry.actions) MOST_ACTIONS) kind.Range (Ok (record so_far { at_hand = Some (with_action action entry) })) next e in
     let one = r.passes in
     let few : length (so_far.before ++ entry ∷ []) ≤ MOST_PASSES = subst (λ (o : Option PassEntry). length (so_far.before ++ option_to_list o) ≤ MOST_PASSES) own one in
     subst (IsSoFarRead extent) (same_ok _ next c.1) (record {
@@ -339,7 +340,7 @@ action_added extent so_far next entry (Ok action) own r h e =
       passes = omega (arith, length-append so_far.before (entry ∷ []), length-append so_far.before (with_action action entry ∷ []));
     })
 
-action_taken_fits : (extent : Extent) (so_far next : SoFar) (shape : ActionForm) (fields : Fields) (at_hand : Option PassEntry) → so_far.at_hand ≡ at_hand → IsSoFarRead extent so_far
+action_taken_fits : (extent : Extent) (so_far next : SoFar PassEntry) (shape : ActionForm) (fields : Fields) (at_hand : Option PassEntry) → so_far.at_hand ≡ at_hand → IsSoFarRead extent so_far
     → take_action extent so_far shape fields at_hand ≡ Ok next → IsSoFarRead extent next
 action_taken_fits extent so_far next shape fields None own r e = cc
 action_taken_fits extent so_far next shape fields (Some entry) own r e =
@@ -347,12 +348,12 @@ action_taken_fits extent so_far next shape fields (Some entry) own r e =
     action_added extent so_far next entry (action_row shape extent fields) own r (λ action e. action_fits shape extent fields action e) c.1
 
 -- a row
-row_fits : (extent : Extent) (so_far next : SoFar) (shape : Option Form) (fields : Fields) → IsSoFarRead extent so_far → take_form extent so_far shape fields ≡ Ok next → IsSoFarRead extent next
+row_fits : (extent : Extent) (so_far next : SoFar PassEntry) (shape : Option Form) (fields : Fields) → IsSoFarRead extent so_far → take_form extent so_far shape fields ≡ Ok next → IsSoFarRead extent next
 row_fits extent so_far next None fields r h = cc
 row_fits extent so_far next (Some form.Header) fields r h = cc
 row_fits extent so_far next (Some form.Pass) fields r h = pass_fits extent so_far next fields r h
 row_fits extent so_far next (Some form.End) fields r h = end_fits extent so_far next fields r h
-row_fits extent so_far next (Some (form.Look look)) fields r h = look_taken_fits extent so_far next look fields (next_thread extent so_far.at_hand) r h
+row_fits extent so_far next (Some (form.Look look)) fields r h = look_taken_fits extent so_far next look fields (next_thread looks_in extent.threads so_far.at_hand) r h
 row_fits extent so_far next (Some (form.Act shape)) fields r h = action_taken_fits extent so_far next shape fields so_far.at_hand refl r h
 
 -- the rows

@@ -11,7 +11,8 @@ use Rattle.cal_policy.specs.declared.history.action.Cause.{Cause}
 use Rattle.cal_policy.specs.declared.history.action.Cause.TheVariants as causes
 use Rattle.cal_policy.specs.declared.history.entry.PassEntry.{PassEntry}
 use Rattle.cal_trace.specs.History.ActionRows.{action_row, made, core_row, ban_row, revoke_row, revoke_for_bandwidth_row, cap_row, grant_row}
-use Rattle.cal_trace.specs.History.{SoFar, form_of, take_row, take_form, take_look, seen_row, judged_row, busy_look, add_look, add_action, one_more_action, entries_of, is_between, next_thread, begun, with_look, with_action}
+use Rattle.cal_trace.specs.Rows.SoFar.{SoFar, passes_of, is_between, next_thread}
+use Rattle.cal_trace.specs.History.{form_of, take_row, take_form, take_look, seen_row, judged_row, busy_look, add_look, add_action, begun, with_look, with_action, looks_in}
 use Rattle.cal_policy.specs.declared.history.action_list.TheConstants.{MOST_ACTIONS}
 use Rattle.cal_trace.specs.History.Text.{room_number, record_fields, look_fields, revocation_fields, action_fields, pass_fields, end_fields}
 use Rattle.cal_trace.specs.Rows.LookRows.{check, whole_row, busy_row}
@@ -37,35 +38,35 @@ use Rattle.cal_trace.proofs.HistoryLemmas.PlainRows.{room_word}
 use Rattle.cal_trace.proofs.RowLemmas.Spelled.{IsSpelled, spelled}
 
 -- these passes, and this one at hand
-abbrev pub within : List PassEntry → PassEntry → SoFar
+abbrev pub within : List PassEntry → PassEntry → SoFar PassEntry
 within before entry = record { before = before; at_hand = Some entry; ended = false }
 
 -- these passes, and the end
-abbrev pub ended : List PassEntry → SoFar
+abbrev pub ended : List PassEntry → SoFar PassEntry
 ended before = record { before = before; at_hand = None; ended = true }
 
 -- a pass row
-pass_read : (extent : Extent) (so_far : SoFar) (a b : List ℕ) (now bandwidth : ℕ) → is_between extent so_far ≡ true → nat_lt (length (entries_of so_far)) MOST_PASSES ≡ true
+pass_read : (extent : Extent) (so_far : SoFar PassEntry) (a b : List ℕ) (now bandwidth : ℕ) → is_between looks_in extent.threads so_far ≡ true → nat_lt (length (passes_of so_far)) MOST_PASSES ≡ true
     → IsSpelled now a → IsSpelled bandwidth b
-    → take_row extent version.Two so_far (codes "pass" ∷ a ∷ b ∷ []) ≡ Ok (within (entries_of so_far) (begun (record { now = now; bandwidth = bandwidth })))
+    → take_row extent version.Two so_far (codes "pass" ∷ a ∷ b ∷ []) ≡ Ok (within (passes_of so_far) (begun (record { now = now; bandwidth = bandwidth })))
 unfolding field_at
 pass_read extent so_far a b now bandwidth between few is_now is_bandwidth = rw (between, few, is_now.number, is_bandwidth.number) refl
 
-pub pass_taken : (extent : Extent) (so_far : SoFar) (entry : PassEntry) → is_between extent so_far ≡ true → length (entries_of so_far) < MOST_PASSES
+pub pass_taken : (extent : Extent) (so_far : SoFar PassEntry) (entry : PassEntry) → is_between looks_in extent.threads so_far ≡ true → length (passes_of so_far) < MOST_PASSES
     → IsWord entry.input.now → IsWord entry.input.bandwidth
-    → take_row extent version.Two so_far (pass_fields entry) ≡ Ok (within (entries_of so_far) (begun (record { now = entry.input.now; bandwidth = entry.input.bandwidth })))
+    → take_row extent version.Two so_far (pass_fields entry) ≡ Ok (within (passes_of so_far) (begun (record { now = entry.input.now; bandwidth = entry.input.bandwidth })))
 pass_taken extent so_far entry between few now bandwidth =
-    pass_read extent so_far _ _ entry.input.now entry.input.bandwidth between (lt-ltb (length (entries_of so_far)) MOST_PASSES few) (spelled entry.input.now now) (spelled entry.input.bandwidth bandwidth)
+    pass_read extent so_far _ _ entry.input.now entry.input.bandwidth between (lt-ltb (length (passes_of so_far)) MOST_PASSES few) (spelled entry.input.now now) (spelled entry.input.bandwidth bandwidth)
 
 -- the end row
-end_read : (extent : Extent) (so_far : SoFar) (a : List ℕ) (count : ℕ) → is_between extent so_far ≡ true → IsSpelled count a → (count == length (entries_of so_far)) ≡ true
-    → take_row extent version.Two so_far (codes "end" ∷ a ∷ []) ≡ Ok (ended (entries_of so_far))
+end_read : (extent : Extent) (so_far : SoFar PassEntry) (a : List ℕ) (count : ℕ) → is_between looks_in extent.threads so_far ≡ true → IsSpelled count a → (count == length (passes_of so_far)) ≡ true
+    → take_row extent version.Two so_far (codes "end" ∷ a ∷ []) ≡ Ok (ended (passes_of so_far))
 unfolding field_at
 end_read extent so_far a count between is_count same = rw (between, is_count.number, same) refl
 
-pub end_taken : (extent : Extent) (so_far : SoFar) (count : ℕ) → is_between extent so_far ≡ true → IsWord count → count ≡ length (entries_of so_far)
-    → take_row extent version.Two so_far (end_fields count) ≡ Ok (ended (entries_of so_far))
-end_taken extent so_far count between is_count same = end_read extent so_far _ count between (spelled count is_count) (eq-eqb count (length (entries_of so_far)) same)
+pub end_taken : (extent : Extent) (so_far : SoFar PassEntry) (count : ℕ) → is_between looks_in extent.threads so_far ≡ true → IsWord count → count ≡ length (passes_of so_far)
+    → take_row extent version.Two so_far (end_fields count) ≡ Ok (ended (passes_of so_far))
+end_taken extent so_far count between is_count same = end_read extent so_far _ count between (spelled count is_count) (eq-eqb count (length (passes_of so_far)) same)
 
 -- whether a ring has room, by its number
 room_small : (room : Bool) → nat_lt (room_number room) 2 ≡ true
@@ -128,13 +129,13 @@ busy_form t r a b = refl
 
 -- a look row, by its form and its value
 look_by : (extent : Extent) (before : List PassEntry) (entry : PassEntry) (look : LookForm) (thread : ℕ) (fields : Fields) (row : SeenRow)
-    → form_of version.Two fields ≡ Some (form.Look look) → next_thread extent (Some entry) ≡ Ok thread → seen_row look thread fields ≡ Ok row
+    → form_of version.Two fields ≡ Some (form.Look look) → next_thread looks_in extent.threads (Some entry) ≡ Ok thread → seen_row look thread fields ≡ Ok row
     → take_row extent version.Two (within before entry) fields ≡ Ok (within before (with_look row entry))
 look_by extent before entry look thread fields row is next value =
     ap (λ f. take_form extent (within before entry) f fields) is ∙ ap (take_look (within before entry) look fields) next ∙ ap (add_look (within before entry)) value
 
 -- the row of a look
-pub look_taken : (extent : Extent) (before : List PassEntry) (entry : PassEntry) (thread : ℕ) (room : Bool) (look : Seen) → next_thread extent (Some entry) ≡ Ok thread
+pub look_taken : (extent : Extent) (before : List PassEntry) (entry : PassEntry) (thread : ℕ) (room : Bool) (look : Seen) → next_thread looks_in extent.threads (Some entry) ≡ Ok thread
     → IsWord thread → HasLookWords look → IsLookInRange look
     → take_row extent version.Two (within before entry) (look_fields thread room look) ≡ Ok (within before (with_look (record { seen = look; room = room }) entry))
 look_taken extent before entry thread room (seen.Whole place rec) next is_thread w shaped =
@@ -285,7 +286,7 @@ action_by extent before entry shape fields action is full value room =
     ap (λ f. take_form extent (within before entry) f fields) is
     ∙ ap (λ (b : Bool). check b kind.Order (add_action (within before entry) entry (action_row shape extent fields))) full
     ∙ ap (add_action (within before entry) entry) value
-    ∙ ap (λ (b : Bool). check b kind.Range (Ok (one_more_action (within before entry) entry action))) room
+    ∙ ap (λ (b : Bool). check b kind.Range (Ok (within before (with_action action entry)))) room
 
 -- the row of an action
 pub action_taken : (extent : Extent) (before : List PassEntry) (entry : PassEntry) (action : Action) → IsExtent extent → length entry.input.seen ≡ extent.threads

@@ -1,8 +1,19 @@
 -- Passes that are handed out one by one, and the pass at hand.
-use Rattle.std.proofs.Common.{◌≡◌, ◌∙◌, ◌+◌, ℕ, List, [], ◌∷◌, ◌++◌, length, length-append, Option, Some, None, Result, Ok, Err, refl, ap, sym}
+use Rattle.std.proofs.Common.{◌≡◌, ◌∙◌, ◌+◌, ◌<◌, ◌≤◌, ℕ, List, [], ◌∷◌, ◌++◌, length, length-append, Option, Some, None, Result, Ok, Err, nat_lt, refl, ap, sym, arith}
+use Rattle.std.proofs.lemmas.Bool.{ltb-true}
 use Rattle.std.specs.Option.{option_map, option_to_list}
 use Rattle.cal_trace.specs.Rows.Passes.{with_closed, GivesNext}
+use Rattle.cal_trace.specs.Rows.SoFar.{so_far, IsCounted}
+use Rattle.cal_trace.specs.declared.rows.so_far.PassesSoFar.{PassesSoFar}
+use Rattle.cal_trace.specs.Rows.{Fields}
+use Rattle.cal_trace.specs.Rows.LookRows.{check, pass_row}
+use Rattle.cal_trace.specs.Rows.RowFields.{has_numbers, number_at}
+use Rattle.cal_trace.specs.declared.fault.FaultKind.{FaultKind}
+use Rattle.cal_trace.specs.declared.fault.FaultKind.TheVariants as kinds
 use Rattle.cal_trace.specs.declared.fault.TraceFault.{TraceFault}
+use Rattle.cal_trace.specs.declared.rows.look_rows.PassRow.{PassRow}
+use Rattle.cal_trace.specs.declared.rows.look_rows.TheConstants.{MOST_PASSES}
+use Rattle.cal_trace.proofs.RowLemmas.Checks.{check_one}
 use Rattle.cal_trace.proofs.RowLemmas.Refusals.{decided}
 
 -- a pass at hand that grows is no more passes
@@ -12,13 +23,28 @@ count-at_hand f given None = refl
 count-at_hand f given (Some pass) = length-append given (f pass ∷ []) ∙ sym (length-append given (pass ∷ []))
 
 -- a pass that begins is one more, and the one before it is handed out
-pub count-begun : {Open Pass : Type 0} (hand : Open → Pass) (given : List Pass) (closed : Option Pass) (old new : Option Open) (begun : Open) (count : ℕ)
-    → count ≡ length (given ++ option_to_list (option_map hand old)) → closed ≡ option_map hand old → new ≡ Some begun
-    → count + 1 ≡ length (with_closed given closed ++ option_to_list (option_map hand new))
-count-begun {Open} {Pass} hand given closed old new begun count counted is at =
+pub counted-begun : {Open Pass : Type 0} (hand : Open → Pass) (given : List Pass) (closed : Option Pass) (old new : PassesSoFar Open) (begun : Open) → IsCounted hand given old → old.passes < MOST_PASSES
+    → closed ≡ option_map hand old.at_hand → new.at_hand ≡ Some begun → new.passes ≡ old.passes + 1 → IsCounted hand (with_closed given closed) new
+counted-begun {Open} {Pass} hand given closed old new begun counted below is at more =
     let before : List Pass = with_closed given closed in
-    ap (λ n. n + 1) (counted ∙ ap (λ (o : Option Pass). length (given ++ option_to_list o)) (sym is)) ∙ sym (length-append before (hand begun ∷ []))
-    ∙ ap (λ (o : Option Open). length (before ++ option_to_list (option_map hand o))) (sym at)
+    record {
+      passes = more ∙ ap (λ n. n + 1) (counted.passes ∙ ap (λ (o : Option Pass). length (given ++ option_to_list o)) (sym is)) ∙ sym (length-append before (hand begun ∷ []))
+          ∙ ap (λ (o : Option Open). length (before ++ option_to_list (option_map hand o))) (sym at);
+      few = omega (arith, more, below);
+    }
+
+-- a pass row that was taken is not one too many
+pub pass_below : (passes : ℕ) (fields : Fields) (row : PassRow) → pass_row passes fields ≡ Ok row → passes < MOST_PASSES
+pass_below passes fields row e =
+    let found : PassRow = record { now = number_at fields 1; bandwidth = number_at fields 2 } in
+    let in_range : Result PassRow FaultKind = check (nat_lt passes MOST_PASSES) kinds.Range (Ok found) in
+    let numbers = check_one (has_numbers fields) kinds.Number in_range row e in
+    let range = check_one (nat_lt passes MOST_PASSES) kinds.Range (Ok found) row numbers.1 in
+    ltb-true passes MOST_PASSES range.0
+
+-- no more passes were handed out than a file may have
+pub few_counted : {Open Pass : Type 0} (hand : Open → Pass) (given : List Pass) (rows : PassesSoFar Open) → IsCounted hand given rows → length given ≤ MOST_PASSES
+few_counted hand given rows counted = let few = counted.few in let passes = counted.passes in omega (arith, few, passes, length-append given (option_to_list (so_far hand given rows).at_hand))
 
 -- what is given next, of a file that gives the same
 pub given_next : {Pass : Type 0} (P Q : List Pass → Type 0) (file whole : Result (List Pass) TraceFault) (given : List Pass) (result : Result (Option Pass) TraceFault)

@@ -1,13 +1,10 @@
 -- The signals of an accepted file fit: the checks of its rows say so.
 use Rattle.std.proofs.Common.{◌≡◌, ◌<◌, ◌≤◌, ◌==◌, ◌&&◌, nat_lt, ℕ, Bool, true, false, not, List, [], ◌∷◌, ◌++◌, length, Option, Some, None, option_to_list, Result, Ok, Err, slice_get, if◌then◌else◌, inl, inr, subst, refl, ap, ◌∙◌, arith, length-append, codes}
 use Rattle.std.proofs.lemmas.List.{append-nil, take-append-le, take_all}
-use Rattle.std.proofs.lemmas.Bool.{ltb-true}
 use Rattle.std.proofs.lemmas.Option.{slice_get_past}
 use Rattle.std.specs.Option.{unwrap_or}
-use Rattle.std.specs.Result.{result_unwrap_or}
 use Rattle.cal_trace.specs.Rows.Header.{header_of}
-use Rattle.cal_trace.specs.Rows.LookRows.{check, pass_row, whole_row, busy_row}
-use Rattle.cal_trace.specs.declared.rows.look_rows.TheConstants.{MOST_PASSES}
+use Rattle.cal_trace.specs.Rows.LookRows.{check, whole_row, busy_row}
 use Rattle.cal_trace.specs.Rows.RowFields.{has_numbers, number_at}
 use Rattle.cal_trace.specs.Rows.{Fields}
 use Rattle.cal_trace.specs.Rows.Shown.{record_of}
@@ -17,7 +14,8 @@ use Rattle.cal_signal.specs.Tests.{is_shaped, is_busy_pair}
 use Rattle.cal_signal.proofs.Testing.{shaped_holds, follows_holds, pair_holds}
 use Rattle.cal_lists.proofs.Last.{last_or_before, slice_get-last}
 use Rattle.cal_trace.proofs.SignalLemmas.LastShown.{shown-push}
-use Rattle.cal_trace.specs.Signals.{SoFar, at_start, passes_of, is_full, next_thread, shown_in, last_shown, with_look, add_look, add_pass, add_end, look_row, following, as_look, look_of_whole, look_of_busy, take_look, take_form, take_row, whole, form_of, signals_of}
+use Rattle.cal_trace.specs.Rows.SoFar.{SoFar, at_start, passes_of, add_pass, add_end, whole, is_full, next_thread}
+use Rattle.cal_trace.specs.Signals.{shown_in, last_shown, with_look, add_look, look_row, following, as_look, look_of_whole, look_of_busy, take_look, take_form, take_row, form_of, signals_of, looks_in, begun}
 use Rattle.cal_trace.specs.declared.fault.FaultKind.{FaultKind}
 use Rattle.cal_trace.specs.declared.fault.FaultKind.TheVariants as kinds
 use Rattle.cal_trace.specs.declared.rows.look_rows.WholeRow.{WholeRow}
@@ -28,21 +26,14 @@ use Rattle.cal_policy.specs.declared.judgement.open_input.FoundLook.{FoundLook}
 use Rattle.cal_trace.specs.declared.signals.SignalPass.{SignalPass}
 use Rattle.cal_trace.specs.declared.signals.reading.Form.{Form}
 use Rattle.cal_trace.specs.declared.signals.reading.Form.TheVariants as form
+use Rattle.cal_trace.proofs.RowLemmas.Checks.{check_one, same_ok}
 use Rattle.cal_trace.proofs.RowLemmas.Readings.{kept_under}
 use Rattle.cal_trace.specs.Signals.Fitting.{IsFitting, AreFitting, IsFittingPass, AreFittingPasses, IsHand, IsFittingSoFar}
-
--- a check that was passed
-check_passed : {X : Type 0} (b : Bool) (k : FaultKind) (more : Result X FaultKind) (x : X) → check b k more ≡ Ok x → (b ≡ true) × (more ≡ Ok x)
-check_passed true k more x e = (refl, e)
-check_passed false k more x e = absurd (cc)
 
 both_true : (a b : Bool) → (a && b) ≡ true → (a ≡ true) × (b ≡ true)
 both_true true true e = (refl, refl)
 both_true true false e = (refl, e)
 both_true false b e = absurd (cc)
-
-ok_same : {X E : Type 0} (a b : X) → ◌≡◌ {A = Result X E} (Ok a) (Ok b) → a ≡ b
-ok_same a b e = ap (λ r. result_unwrap_or r a) e
 
 -- one look more
 AreFitting-append : (before : List SignalPass) (looks : List FoundLook) (seen : FoundLook) → AreFitting before looks
@@ -74,27 +65,27 @@ last_shown-silent k passes pass le =
 
 -- with all its looks the pass at hand is one more
 all_fit : (threads : ℕ) (before : List SignalPass) (at_hand : Option SignalPass) → AreFittingPasses threads before → IsHand threads before at_hand
-    → is_full threads at_hand ≡ true → AreFittingPasses threads (before ++ option_to_list at_hand)
+    → is_full looks_in threads at_hand ≡ true → AreFittingPasses threads (before ++ option_to_list at_hand)
 all_fit threads before None fit hand full = rw (append-nil before) fit
 all_fit threads before (Some pass) fit hand full =
     let whole : length pass.looks ≡ threads = grind arith in
     AreFittingPasses-append threads before pass fit (record { looks = whole; fit = hand.1 })
 
 -- a new pass
-fits_with_pass : (threads : ℕ) (so_far next : SoFar) (row : Result PassRow FaultKind) → AreFittingPasses threads (passes_of so_far)
-    → add_pass so_far row ≡ Ok next → IsFittingSoFar threads next
+fits_with_pass : (threads : ℕ) (so_far next : SoFar SignalPass) (row : Result PassRow FaultKind) → AreFittingPasses threads (passes_of so_far)
+    → add_pass begun so_far row ≡ Ok next → IsFittingSoFar threads next
 fits_with_pass threads so_far next (Err k) fit e = absurd (cc)
 fits_with_pass threads so_far next (Ok row) fit e =
-    let opened : SoFar = record { before = passes_of so_far; at_hand = Some (record { now = row.now; bandwidth = row.bandwidth; looks = [] }); ended = false } in
-    subst (IsFittingSoFar threads) (ok_same opened next e) (record { before = fit; at_hand = (omega arith, λ k seen none. absurd (cc)) })
+    let opened : SoFar SignalPass = record { before = passes_of so_far; at_hand = Some (record { now = row.now; bandwidth = row.bandwidth; looks = [] }); ended = false } in
+    subst (IsFittingSoFar threads) (same_ok opened next e) (record { before = fit; at_hand = (omega arith, λ k seen none. absurd (cc)) })
 
 -- the end
-fits_with_end : (threads : ℕ) (so_far next : SoFar) (count : Result ℕ FaultKind) → AreFittingPasses threads (passes_of so_far)
+fits_with_end : (threads : ℕ) (so_far next : SoFar SignalPass) (count : Result ℕ FaultKind) → AreFittingPasses threads (passes_of so_far)
     → add_end so_far count ≡ Ok next → IsFittingSoFar threads next
 fits_with_end threads so_far next (Err k) fit e = absurd (cc)
 fits_with_end threads so_far next (Ok n) fit e =
-    let closed : SoFar = record { before = passes_of so_far; at_hand = None; ended = true } in
-    subst (IsFittingSoFar threads) (ok_same closed next e) (record { before = fit; at_hand = tt })
+    let closed : SoFar SignalPass = record { before = passes_of so_far; at_hand = None; ended = true } in
+    subst (IsFittingSoFar threads) (same_ok closed next e) (record { before = fit; at_hand = tt })
 
 -- the look of an accepted row is shaped, or has a busy pair
 shaped_row : (thread : ℕ) (fields : Fields) (row : WholeRow) → whole_row thread fields ≡ Ok row → IsShaped row.shown.rec
@@ -103,10 +94,10 @@ shaped_row thread fields row e =
     let in_range : Bool = nat_lt (number_at fields 2) 2 && is_shaped (record_of fields) in
     let after_order : Result WholeRow FaultKind = check in_range kinds.Range (Ok found) in
     let after_numbers : Result WholeRow FaultKind = check (number_at fields 1 == thread) kinds.Order after_order in
-    let numbers = check_passed (has_numbers fields) kinds.Number after_numbers row e in
-    let order = check_passed (number_at fields 1 == thread) kinds.Order after_order row numbers.1 in
-    let range = check_passed in_range kinds.Range (Ok found) row order.1 in
-    let same : found ≡ row = ok_same found row range.1 in
+    let numbers = check_one (has_numbers fields) kinds.Number after_numbers row e in
+    let order = check_one (number_at fields 1 == thread) kinds.Order after_order row numbers.1 in
+    let range = check_one in_range kinds.Range (Ok found) row order.1 in
+    let same : found ≡ row = same_ok found row range.1 in
     subst (λ (r : WholeRow). IsShaped r.shown.rec) same (shaped_holds (record_of fields) (both_true (nat_lt (number_at fields 2) 2) (is_shaped (record_of fields)) range.0).1)
 
 busy_pair_row : (thread : ℕ) (fields : Fields) (row : BusyRow) → busy_row thread fields ≡ Ok row → IsBusyPair row.first row.second
@@ -115,10 +106,10 @@ busy_pair_row thread fields row e =
     let in_range : Bool = nat_lt (number_at fields 2) 2 && is_busy_pair (number_at fields 3) (number_at fields 4) in
     let after_order : Result BusyRow FaultKind = check in_range kinds.Range (Ok found) in
     let after_numbers : Result BusyRow FaultKind = check (number_at fields 1 == thread) kinds.Order after_order in
-    let numbers = check_passed (has_numbers fields) kinds.Number after_numbers row e in
-    let order = check_passed (number_at fields 1 == thread) kinds.Order after_order row numbers.1 in
-    let range = check_passed in_range kinds.Range (Ok found) row order.1 in
-    let same : found ≡ row = ok_same found row range.1 in
+    let numbers = check_one (has_numbers fields) kinds.Number after_numbers row e in
+    let order = check_one (number_at fields 1 == thread) kinds.Order after_order row numbers.1 in
+    let range = check_one in_range kinds.Range (Ok found) row order.1 in
+    let same : found ≡ row = same_ok found row range.1 in
     subst (λ (r : BusyRow). IsBusyPair r.first r.second) same
     (pair_holds (number_at fields 3) (number_at fields 4) (both_true (nat_lt (number_at fields 2) 2) (is_busy_pair (number_at fields 3) (number_at fields 4)) range.0).1)
 
@@ -126,15 +117,15 @@ fitting_whole : (last : Shown) (row : Result WholeRow FaultKind) (seen : FoundLo
     → following last row ≡ Ok seen → IsFitting last seen.look
 fitting_whole last (Err k) seen shaped e = absurd (cc)
 fitting_whole last (Ok row) seen shaped e =
-    let passed = check_passed _ _ _ seen e in
-    let same : look_of_whole row ≡ seen = ok_same (look_of_whole row) seen passed.1 in
+    let passed = check_one _ _ _ seen e in
+    let same : look_of_whole row ≡ seen = same_ok (look_of_whole row) seen passed.1 in
     subst (λ (s : FoundLook). IsFitting last s.look) same (shaped row refl, follows_holds last row.shown passed.0)
 
 fitting_busy : (last : Shown) (row : Result BusyRow FaultKind) (seen : FoundLook) → ((r : BusyRow) → row ≡ Ok r → IsBusyPair r.first r.second)
     → as_look row ≡ Ok seen → IsFitting last seen.look
 fitting_busy last (Err k) seen pair e = absurd (cc)
 fitting_busy last (Ok row) seen pair e =
-    let same : look_of_busy row ≡ seen = ok_same (look_of_busy row) seen e in
+    let same : look_of_busy row ≡ seen = same_ok (look_of_busy row) seen e in
     subst (λ (s : FoundLook). IsFitting last s.look) same (pair row refl)
 
 fitting_row : (form : Form) (k : ℕ) (last : Shown) (fields : Fields) (seen : FoundLook) → look_row form k last fields ≡ Ok seen → IsFitting last seen.look
@@ -145,26 +136,26 @@ fitting_row form.Pass k last fields seen e = absurd (cc)
 fitting_row form.End k last fields seen e = absurd (cc)
 
 -- one look more at hand
-fits_with_look : (threads : ℕ) (before : List SignalPass) (pass : SignalPass) (ended : Bool) (next : SoFar) (seen : Result FoundLook FaultKind)
+fits_with_look : (threads : ℕ) (before : List SignalPass) (pass : SignalPass) (ended : Bool) (next : SoFar SignalPass) (seen : Result FoundLook FaultKind)
     → AreFittingPasses threads before → IsHand threads before (Some pass) → length pass.looks < threads
     → ((s : FoundLook) → seen ≡ Ok s → IsFitting (last_shown (length pass.looks) before) s.look)
     → add_look (record { before = before; at_hand = Some pass; ended = ended }) seen ≡ Ok next → IsFittingSoFar threads next
 fits_with_look threads before pass ended next (Err k) fit hand lt fits e = absurd (cc)
 fits_with_look threads before pass ended next (Ok seen) fit hand lt fits e =
-    let longer : SoFar = record { before = before; at_hand = Some (with_look seen pass); ended = ended } in
-    subst (IsFittingSoFar threads) (ok_same longer next e) (record {
+    let longer : SoFar SignalPass = record { before = before; at_hand = Some (with_look seen pass); ended = ended } in
+    subst (IsFittingSoFar threads) (same_ok longer next e) (record {
       before = fit;
       at_hand = (omega (arith, length-append pass.looks (seen ∷ [])), AreFitting-append before pass.looks seen hand.1 (fits seen refl));
     })
 
 -- a look row
-fits_with_row : (threads : ℕ) (before : List SignalPass) (at_hand : Option SignalPass) (ended : Bool) (next : SoFar) (form : Form) (fields : Fields)
+fits_with_row : (threads : ℕ) (before : List SignalPass) (at_hand : Option SignalPass) (ended : Bool) (next : SoFar SignalPass) (form : Form) (fields : Fields)
     → AreFittingPasses threads before → IsHand threads before at_hand
-    → take_look (record { before = before; at_hand = at_hand; ended = ended }) form fields (next_thread threads at_hand) ≡ Ok next → IsFittingSoFar threads next
+    → take_look (record { before = before; at_hand = at_hand; ended = ended }) form fields (next_thread looks_in threads at_hand) ≡ Ok next → IsFittingSoFar threads next
 fits_with_row threads before None ended next form fields fit hand e = absurd (cc)
 fits_with_row threads before (Some pass) ended next form fields fit hand e = go (nat_lt (length pass.looks) threads) refl e
   where
-    so_far : SoFar
+    so_far : SoFar SignalPass
     so_far = record { before = before; at_hand = Some pass; ended = ended }
 
     go : (b : Bool) → nat_lt (length pass.looks) threads ≡ b
@@ -179,7 +170,7 @@ fits_with_row threads before (Some pass) ended next form fields fit hand e = go 
         (λ s row. rw (← same) (fitting_row form (length pass.looks) (last_shown (length pass.looks) (before ++ pass ∷ [])) fields s row)) e
 
 -- a row that was taken
-fits_with_form : (threads : ℕ) (before : List SignalPass) (at_hand : Option SignalPass) (ended : Bool) (next : SoFar) (form : Option Form) (fields : Fields)
+fits_with_form : (threads : ℕ) (before : List SignalPass) (at_hand : Option SignalPass) (ended : Bool) (next : SoFar SignalPass) (form : Option Form) (fields : Fields)
     → AreFittingPasses threads before → IsHand threads before at_hand
     → take_form threads (record { before = before; at_hand = at_hand; ended = ended }) form fields ≡ Ok next → IsFittingSoFar threads next
 fits_with_form threads before at_hand ended next None fields fit hand e = absurd (cc)
@@ -187,31 +178,22 @@ fits_with_form threads before at_hand ended next (Some form.Header) fields fit h
 fits_with_form threads before at_hand ended next (Some form.Whole) fields fit hand e = fits_with_row threads before at_hand ended next form.Whole fields fit hand e
 fits_with_form threads before at_hand ended next (Some form.Busy) fields fit hand e = fits_with_row threads before at_hand ended next form.Busy fields fit hand e
 fits_with_form threads before at_hand ended next (Some form.Pass) fields fit hand e =
-    let passed = check_passed _ _ _ next e in
-    let full = both_true (not ended) (is_full threads at_hand) passed.0 in
+    let passed = check_one _ _ _ next e in
+    let full = both_true (not ended) (is_full looks_in threads at_hand) passed.0 in
     fits_with_pass threads (record { before = before; at_hand = at_hand; ended = ended }) next _ (all_fit threads before at_hand fit hand full.1) passed.1
 fits_with_form threads before at_hand ended next (Some form.End) fields fit hand e =
-    let passed = check_passed _ _ _ next e in
-    let full = both_true (not ended) (is_full threads at_hand) passed.0 in
+    let passed = check_one _ _ _ next e in
+    let full = both_true (not ended) (is_full looks_in threads at_hand) passed.0 in
     fits_with_end threads (record { before = before; at_hand = at_hand; ended = ended }) next _ (all_fit threads before at_hand fit hand full.1) passed.1
 
 -- after a row that was taken what was read so far fits
-pub row_fits : (threads : ℕ) (so_far next : SoFar) (form : Option Form) (fields : Fields) → IsFittingSoFar threads so_far → take_form threads so_far form fields ≡ Ok next
+pub row_fits : (threads : ℕ) (so_far next : SoFar SignalPass) (form : Option Form) (fields : Fields) → IsFittingSoFar threads so_far → take_form threads so_far form fields ≡ Ok next
     → IsFittingSoFar threads next
 row_fits threads so_far next form fields fit e = fits_with_form threads so_far.before so_far.at_hand so_far.ended next form fields fit.before fit.at_hand e
 
 -- before the first row it does
 pub start_fits : (threads : ℕ) → IsFittingSoFar threads at_start
 start_fits threads = record { before = AreFittingPasses-none threads; at_hand = tt }
-
--- a pass row that was taken is not one too many
-pub pass_below : (passes : ℕ) (fields : Fields) (row : PassRow) → pass_row passes fields ≡ Ok row → passes < MOST_PASSES
-pass_below passes fields row e =
-    let found : PassRow = record { now = number_at fields 1; bandwidth = number_at fields 2 } in
-    let in_range : Result PassRow FaultKind = check (nat_lt passes MOST_PASSES) kinds.Range (Ok found) in
-    let numbers = check_passed (has_numbers fields) kinds.Number in_range row e in
-    let range = check_passed (nat_lt passes MOST_PASSES) kinds.Range (Ok found) row numbers.1 in
-    ltb-true passes MOST_PASSES range.0
 
 -- the passes that the rows give in the end
 fits_at_end : (threads : ℕ) (ended : Bool) (before passes : List SignalPass) → AreFittingPasses threads before → (if ended then Some before else None) ≡ Some passes

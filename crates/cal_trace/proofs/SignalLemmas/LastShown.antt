@@ -10,7 +10,8 @@ use Rattle.cal_policy.proofs.ListLemmas.OneMore.{last_of_push, unwrap_or_or}
 use Rattle.cal_lists.proofs.Last.{slice_get-last, slice_get-other}
 use Rattle.std.proofs.lemmas.Bool.Decides.{eqb_tells}
 use Rattle.std.proofs.lemmas.Bool.{ltb-true}
-use Rattle.cal_trace.specs.Signals.{SoFar, passes_of, last_shown, shown_in, shown_by, with_look, next_thread, one_more}
+use Rattle.cal_trace.specs.Rows.SoFar.{SoFar, passes_of, with_more, next_thread}
+use Rattle.cal_trace.specs.Signals.{last_shown, shown_in, shown_by, with_look, looks_in}
 use Rattle.cal_trace.specs.declared.fault.FaultKind.TheVariants as kind
 use Rattle.cal_policy.specs.declared.judgement.open_input.FoundLook.{FoundLook}
 use Rattle.cal_trace.specs.declared.signals.SignalPass.{SignalPass}
@@ -70,7 +71,7 @@ record Stands (threads thread : ℕ) (at_hand : Option SignalPass) : Type 0 wher
   pub next : thread ≡ length pass.looks
   pub below : length pass.looks < threads
 
-stands : (threads thread : ℕ) (at_hand : Option SignalPass) → next_thread threads at_hand ≡ Ok thread → Stands threads thread at_hand
+stands : (threads thread : ℕ) (at_hand : Option SignalPass) → next_thread looks_in threads at_hand ≡ Ok thread → Stands threads thread at_hand
 stands threads thread None h = cc
 stands threads thread (Some pass) h = by (nat_lt (length pass.looks) threads) refl h
   where
@@ -78,12 +79,12 @@ stands threads thread (Some pass) h = by (nat_lt (length pass.looks) threads) re
     by true e h = record { pass = pass; is = refl; next = cc; below = ltb-true _ _ e }
     by false e h = cc
 
-pub next_below : (threads thread : ℕ) (at_hand : Option SignalPass) → next_thread threads at_hand ≡ Ok thread → thread < threads
+pub next_below : (threads thread : ℕ) (at_hand : Option SignalPass) → next_thread looks_in threads at_hand ≡ Ok thread → thread < threads
 next_below threads thread at_hand h = let s = stands threads thread at_hand h in rw s.next s.below
 
 -- a busy look changes nothing of what was shown last
-pub kept-busy : (so_far : SoFar) (threads thread k : ℕ) (seen : FoundLook) → next_thread threads so_far.at_hand ≡ Ok thread → shown_by seen.look ≡ None
-    → last_shown k (passes_of (one_more so_far seen)) ≡ last_shown k (passes_of so_far)
+pub kept-busy : (so_far : SoFar SignalPass) (threads thread k : ℕ) (seen : FoundLook) → next_thread looks_in threads so_far.at_hand ≡ Ok thread → shown_by seen.look ≡ None
+    → last_shown k (passes_of (with_more (with_look seen) so_far)) ≡ last_shown k (passes_of so_far)
 kept-busy so_far threads thread k seen h none =
     let s = stands threads thread so_far.at_hand h in
     rw s.is (elim (eqb_tells k (length s.pass.looks)) [
@@ -102,15 +103,15 @@ other : (before : List SignalPass) (at_hand : Option SignalPass) (thread k : ℕ
 other before at_hand thread k pass seen is next ne = rw is (shown-other k before pass seen (λ e. ne (e ∙ sym next)))
 
 -- a whole look is what its thread showed last
-pub kept-own : (so_far : SoFar) (threads thread : ℕ) (seen : FoundLook) (shown : Shown) → next_thread threads so_far.at_hand ≡ Ok thread → shown_by seen.look ≡ Some shown
-    → last_shown thread (passes_of (one_more so_far seen)) ≡ shown
+pub kept-own : (so_far : SoFar SignalPass) (threads thread : ℕ) (seen : FoundLook) (shown : Shown) → next_thread looks_in threads so_far.at_hand ≡ Ok thread → shown_by seen.look ≡ Some shown
+    → last_shown thread (passes_of (with_more (with_look seen) so_far)) ≡ shown
 kept-own so_far threads thread seen shown h some =
     let s = stands threads thread so_far.at_hand h in
     own so_far.before so_far.at_hand thread s.pass seen shown s.is s.next some
 
 -- and leaves what the others showed
-pub kept-other : (so_far : SoFar) (threads thread k : ℕ) (seen : FoundLook) → next_thread threads so_far.at_hand ≡ Ok thread → k ≢ thread
-    → last_shown k (passes_of (one_more so_far seen)) ≡ last_shown k (passes_of so_far)
+pub kept-other : (so_far : SoFar SignalPass) (threads thread k : ℕ) (seen : FoundLook) → next_thread looks_in threads so_far.at_hand ≡ Ok thread → k ≢ thread
+    → last_shown k (passes_of (with_more (with_look seen) so_far)) ≡ last_shown k (passes_of so_far)
 kept-other so_far threads thread k seen h ne =
     let s = stands threads thread so_far.at_hand h in
     other so_far.before so_far.at_hand thread k s.pass seen s.is s.next ne

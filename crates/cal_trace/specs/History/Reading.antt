@@ -1,12 +1,12 @@
 -- What the reader of histories keeps, and what it means: nothing of a pass that was handed out.
-use Rattle.std.specs.Prelude.{◌≡◌, ◌≤◌, ℕ, List, length, Option, Result}
-use Rattle.std.specs.Option.{option_map}
+use Rattle.std.specs.Prelude.{◌≡◌, ℕ, List, length, Option, Result}
 use Rattle.cal_machine.specs.Table.{Table}
 use Rattle.cal_machine.specs.Tasks.{threads_in}
 use Rattle.cal_policy.specs.declared.history.entry.PassEntry.{PassEntry}
-use Rattle.cal_trace.specs.History.{SoFar, entries_of, take_row, whole, history_of}
-use Rattle.cal_trace.specs.declared.rows.look_rows.TheConstants.{MOST_PASSES}
+use Rattle.cal_trace.specs.Rows.SoFar.{SoFar, whole}
+use Rattle.cal_trace.specs.History.{take_row, history_of}
 use Rattle.cal_trace.specs.Rows.Passes as passes
+use Rattle.cal_trace.specs.Rows.SoFar as rows
 use Rattle.cal_trace.specs.Rows.Reading.{read_on}
 use Rattle.cal_trace.specs.Rows.{IsReading, rest_of, rows_of}
 use Rattle.cal_trace.specs.declared.fault.TraceFault.{TraceFault}
@@ -29,18 +29,12 @@ entry_at_hand entry = record {
 }
 
 -- what the rows so far have given, where these passes were handed out
-abbrev pub so_far : List PassEntry → HistoryReading → SoFar
-so_far given reading = record {
-  before = given;
-  at_hand = option_map entry_at_hand reading.at_hand;
-  ended = reading.ended;
-}
+abbrev pub so_far : List PassEntry → HistoryReading → SoFar PassEntry
+so_far given reading = rows.so_far entry_at_hand given reading.passes
 
--- what is kept of the passes that were handed out: their number, which is no more than a file may
--- have
-pub record IsKept (given : List PassEntry) (reading : HistoryReading) : Type 0 where
-  pub passes : reading.passes ≡ length (entries_of (so_far given reading))
-  pub few : reading.passes ≤ MOST_PASSES
+-- what is kept of the passes that were handed out
+abbrev pub IsKept : List PassEntry → HistoryReading → Type 0
+IsKept given reading = rows.IsCounted entry_at_hand given reading.passes
 
 -- what the rows are read by
 abbrev pub file_of : HistoryReading → Extent × Version

@@ -5,7 +5,8 @@ use Rattle.cal_signal.specs.declared.look.Look.{Look}
 use Rattle.cal_signal.specs.declared.look.Look.TheVariants as look
 use Rattle.cal_signal.specs.Looks.{IsBusyPair}
 use Rattle.cal_signal.specs.Shown.{IsFitShown}
-use Rattle.cal_trace.specs.Signals.{SoFar, last_shown}
+use Rattle.cal_trace.specs.Rows.SoFar.{SoFar}
+use Rattle.cal_trace.specs.Signals.{last_shown}
 use Rattle.cal_signal.specs.declared.shown.Shown.{Shown}
 use Rattle.cal_policy.specs.declared.judgement.open_input.FoundLook.{FoundLook}
 use Rattle.cal_trace.specs.declared.signals.SignalPass.{SignalPass}
@@ -37,6 +38,6 @@ IsHand threads before None = Unit {0}
 IsHand threads before (Some pass) = (length pass.looks ≤ threads) × AreFitting before pass.looks
 
 -- what was read so far fits
-pub record IsFittingSoFar (threads : ℕ) (so_far : SoFar) : Type 0 where
+pub record IsFittingSoFar (threads : ℕ) (so_far : SoFar SignalPass) : Type 0 where
   pub before : AreFittingPasses threads so_far.before
   pub at_hand : IsHand threads so_far.before so_far.at_hand

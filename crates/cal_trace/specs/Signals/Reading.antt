@@ -1,14 +1,14 @@
 -- What the reader of signals keeps, and what it means: nothing of a pass that was handed out.
-use Rattle.std.specs.Prelude.{◌≡◌, ◌<◌, ◌≤◌, ℕ, List, length, Option, Result, slice_index_or}
-use Rattle.std.specs.Option.{option_map}
+use Rattle.std.specs.Prelude.{◌≡◌, ◌<◌, ℕ, List, length, Option, Result, slice_index_or}
 use Rattle.std.specs.Vec.{vec_len}
 use Rattle.cal_signal.specs.Shown.{nothing_shown}
 use Rattle.cal_trace.specs.Signals.Fitting.{IsFittingSoFar}
-use Rattle.cal_trace.specs.declared.rows.look_rows.TheConstants.{MOST_PASSES}
 use Rattle.cal_trace.specs.Rows.Passes as passes
+use Rattle.cal_trace.specs.Rows.SoFar as rows
 use Rattle.cal_trace.specs.Rows.Reading.{read_on}
 use Rattle.cal_trace.specs.Rows.{IsReading, rest_of, rows_of}
-use Rattle.cal_trace.specs.Signals.{SoFar, passes_of, last_shown, take_row, whole, signals_of}
+use Rattle.cal_trace.specs.Rows.SoFar.{SoFar, passes_of, whole}
+use Rattle.cal_trace.specs.Signals.{last_shown, take_row, signals_of}
 use Rattle.cal_trace.specs.declared.fault.TraceFault.{TraceFault}
 use Rattle.cal_trace.specs.declared.rows.version.Version.{Version}
 use Rattle.cal_trace.specs.declared.signals.file.SignalRows.{SignalRows}
@@ -21,22 +21,16 @@ abbrev pub pass_at_hand : OpenPass → SignalPass
 pass_at_hand pass = record { now = pass.now; bandwidth = pass.bandwidth; looks = pass.looks.items }
 
 -- what the rows so far have given, where these passes were handed out
-abbrev pub so_far : List SignalPass → SignalReading → SoFar
-so_far given reading = record {
-  before = given;
-  at_hand = option_map pass_at_hand reading.at_hand;
-  ended = reading.ended;
-}
+abbrev pub so_far : List SignalPass → SignalReading → SoFar SignalPass
+so_far given reading = rows.so_far pass_at_hand given reading.passes
 
 -- each thread has a place for what it showed last
 abbrev pub HasPlaces : SignalReading → Type 0
 HasPlaces reading = vec_len reading.shown ≡ reading.threads
 
--- what is kept of the passes that were handed out: their number, which is no more than a file may
--- have, and what each thread showed last
+-- what is kept of the passes that were handed out, and what each thread showed last
 pub record IsKept (given : List SignalPass) (reading : SignalReading) : Type 0 where
-  pub passes : reading.passes ≡ length (passes_of (so_far given reading))
-  pub few : reading.passes ≤ MOST_PASSES
+  pub counted : rows.IsCounted pass_at_hand given reading.passes
   pub shown : (k : ℕ) → k < reading.threads →
       slice_index_or reading.shown.items k nothing_shown ≡
       last_shown k (passes_of (so_far given reading))

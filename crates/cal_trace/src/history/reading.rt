@@ -7,8 +7,9 @@ ghost use Rattle.csv.specs.Records.{fields_of};
 use crate::fault::FaultKind;
 use crate::history::action_rows::{ActionForm, Extent, action_form, action_row};
 use crate::rows::fields::is_row;
-use crate::rows::look_rows::{PassRow, busy_row, end_row, pass_row, whole_row};
+use crate::rows::look_rows::{PassRow, busy_row, whole_row};
 use crate::rows::passes::PassReading;
+use crate::rows::so_far::{PassAtHand, PassesSoFar};
 use crate::rows::version::Version;
 use cal_policy::{Action, ActionList, Input, MOST_ACTIONS, PassEntry, Rooms, Seen, SeenList};
 use csv::ByteRecord;
@@ -127,28 +128,12 @@ struct OpenEntry {
 }
 
 impl OpenEntry {
-    ghost use Rattle.std.specs.Prelude.{◌≡◌, nat_lt, length, Ok, OnOk, IfOk, IfErr};
-    ghost use Rattle.cal_trace.specs.History.{begun, with_action, with_look};
+    ghost use Rattle.std.specs.Prelude.{◌≡◌, nat_lt, length, Ok, OnOk, IfErr};
+    ghost use Rattle.cal_trace.specs.History.{with_action, with_look};
     ghost use Rattle.cal_trace.specs.History.Reading.{entry_at_hand};
     ghost use Rattle.cal_trace.specs.Rows.Answers.{Takes};
     ghost use Rattle.cal_trace.specs.Rows.LookRows.{check};
     ghost use Rattle.cal_trace.specs.declared.fault.FaultKind.TheVariants as kind;
-
-    // A pass with room for the looks of so many threads. The error is want of memory.
-    fn begin(alloc: Global, threads: u8, pass: PassRow) -> Result<OpenEntry, FaultKind>
-        ensures begun { IfOk result (λ entry. entry_at_hand entry ≡ begun pass) }
-        ensures memory { IfErr result (λ k. k ≡ kind.Memory) }
-    {
-        let seen = Vec::with_capacity(alloc, threads as usize)?;
-        let rooms = Vec::with_capacity(alloc, threads as usize)?;
-        Ok(OpenEntry {
-            now: pass.now,
-            bandwidth: pass.bandwidth,
-            seen,
-            rooms,
-            actions: Vec::new(alloc),
-        })
-    }
 
     // One more look. The error is want of memory.
     fn add_look(&mut self, looked: SeenRow) -> Result<(), FaultKind>
@@ -173,10 +158,37 @@ impl OpenEntry {
         self.actions.push(action)?;
         Ok(())
     }
+}
 
-    fn close(self) -> PassEntry
-        ensures { result ≡ entry_at_hand self }
-    {
+impl PassAtHand for OpenEntry {
+    ghost use Rattle.cal_trace.specs.History.{begun, looks_in};
+    ghost use Rattle.cal_trace.specs.History.Reading.{entry_at_hand};
+
+    type Pass = PassEntry;
+
+    ghost pass = { entry_at_hand };
+
+    ghost looks_in = { looks_in };
+
+    ghost begun = { begun };
+
+    fn begin(alloc: Global, threads: usize, row: PassRow) -> Result<OpenEntry, FaultKind> {
+        let seen = Vec::with_capacity(alloc, threads)?;
+        let rooms = Vec::with_capacity(alloc, threads)?;
+        Ok(OpenEntry {
+            now: row.now,
+            bandwidth: row.bandwidth,
+            seen,
+            rooms,
+            actions: Vec::new(alloc),
+        })
+    }
+
+    fn looks(&self) -> usize {
+        self.seen.len()
+    }
+
+    fn close(self) -> PassEntry {
         let OpenEntry {
             now,
             bandwidth,
@@ -196,28 +208,22 @@ impl OpenEntry {
     }
 }
 
-/// What the rows so far have given, but for the passes that were handed out.
+/// What the rows of a history so far have given, but for the passes that were handed out.
 #[derive(Drop)]
 pub(crate) struct HistoryReading {
-    alloc: Global,
     version: Version,
     extent: Extent,
-    // How many passes there are, the one at hand with them.
-    passes: usize,
-    at_hand: Option<OpenEntry>,
-    ended: bool,
+    passes: PassesSoFar<OpenEntry>,
 }
 
 impl HistoryReading {
-    ghost use Rattle.std.specs.Prelude.{◌≡◌, [], List, OnOk, IfOk, IfErr, Some, None, option_map};
+    ghost use Rattle.std.specs.Prelude.{◌≡◌, [], List, OnOk, Some};
     ghost use Rattle.csv.specs.Records.{fields_of};
     ghost use Rattle.cal_policy.specs.declared.history.entry.PassEntry.{PassEntry};
     ghost use Rattle.cal_trace.specs.Rows.Answers.{Takes};
-    ghost use Rattle.cal_trace.specs.Rows.Passes.{with_closed};
-    ghost use Rattle.cal_trace.specs.History.{at_start, is_between, next_thread, take_form};
-    ghost use Rattle.cal_trace.specs.History.{one_more_look};
-    ghost use Rattle.cal_trace.specs.History.Reading.{entry_at_hand, file_of, so_far, IsKept};
-    ghost use Rattle.cal_trace.specs.declared.fault.FaultKind.TheVariants as kind;
+    ghost use Rattle.cal_trace.specs.Rows.SoFar.{at_start};
+    ghost use Rattle.cal_trace.specs.History.{take_form};
+    ghost use Rattle.cal_trace.specs.History.Reading.{file_of, so_far, IsKept};
     ghost use Rattle.cal_trace.specs.declared.history.reading.Form.TheVariants as form;
 
     /// Before the first row after the header of a file for a table of this extent.
@@ -227,81 +233,10 @@ impl HistoryReading {
         ensures file { file_of result ≡ (extent, version) }
     {
         HistoryReading {
-            alloc,
             version,
             extent,
-            passes: 0,
-            at_hand: None,
-            ended: false,
+            passes: PassesSoFar::new(alloc),
         }
-    }
-
-    // Whether a pass row or the end row can stand here.
-    fn is_between(&self) -> bool
-        ensures { result ≡ is_between self.now.extent (so_far [] self.now) }
-    {
-        match &self.at_hand {
-            Some(entry) => !self.ended && entry.seen.len() == self.extent.threads as usize,
-            None => !self.ended,
-        }
-    }
-
-    // The thread whose look comes next, where a look can stand here.
-    fn next_thread(&self) -> Result<usize, FaultKind>
-        ensures { result ≡ next_thread self.now.extent (so_far [] self.now).at_hand }
-    {
-        match &self.at_hand {
-            Some(entry) if entry.seen.len() < self.extent.threads as usize => Ok(entry.seen.len()),
-            _ => Err(FaultKind::Order),
-        }
-    }
-
-    // Hands out the pass at hand.
-    fn close(&mut self) -> Option<PassEntry>
-        ensures closed { result ≡ option_map entry_at_hand self.old.at_hand }
-        ensures left { self.new ≡ record self.old { at_hand = None } }
-    {
-        match self.at_hand.take() {
-            Some(entry) => Some(entry.close()),
-            None => None,
-        }
-    }
-
-    fn take_pass(&mut self, row: &ByteRecord) -> Result<Option<PassEntry>, FaultKind>
-        ensures takes { (given : List PassEntry) → IsKept given self.old →
-            Takes (λ closed. so_far (with_closed given closed) self.new) result
-            (take_form self.old.extent (so_far given self.old) (Some form.Pass)
-            (fields_of row.now)) }
-        ensures kept { (given : List PassEntry) → IsKept given self.old →
-            IfOk result (λ closed. IsKept (with_closed given closed) self.new) }
-        ensures file { file_of self.new ≡ file_of self.old }
-    {
-        if !self.is_between() {
-            return Err(FaultKind::Order);
-        }
-        let pass = pass_row(row, self.passes)?;
-        let entry = OpenEntry::begin(self.alloc, self.extent.threads, pass)?;
-        let closed = self.close();
-        self.at_hand = Some(entry);
-        self.passes += 1;
-        Ok(closed)
-    }
-
-    fn take_end(&mut self, row: &ByteRecord) -> Result<Option<PassEntry>, FaultKind>
-        ensures takes { (given : List PassEntry) → IsKept given self.old →
-            Takes (λ closed. so_far (with_closed given closed) self.new) result
-            (take_form self.old.extent (so_far given self.old) (Some form.End)
-            (fields_of row.now)) }
-        ensures kept { (given : List PassEntry) → IsKept given self.old →
-            IfOk result (λ closed. IsKept (with_closed given closed) self.new) }
-        ensures file { file_of self.new ≡ file_of self.old }
-    {
-        if !self.is_between() {
-            return Err(FaultKind::Order);
-        }
-        end_row(row, self.passes)?;
-        self.ended = true;
-        Ok(self.close())
     }
 
     fn take_look(&mut self, row: &ByteRecord, look: LookForm) -> Result<(), FaultKind>
@@ -313,9 +248,9 @@ impl HistoryReading {
             OnOk result (IsKept given self.new) }
         ensures file { file_of self.new ≡ file_of self.old }
     {
-        let thread = self.next_thread()?;
+        let thread = self.passes.next_thread(self.extent.threads as usize)?;
         let looked = seen_row(row, look, thread)?;
-        match &mut self.at_hand {
+        match &mut self.passes.at_hand {
             Some(entry) => entry.add_look(looked),
             None => Ok(()),
         }
@@ -330,7 +265,7 @@ impl HistoryReading {
             OnOk result (IsKept given self.new) }
         ensures file { file_of self.new ≡ file_of self.old }
     {
-        match &mut self.at_hand {
+        match &mut self.passes.at_hand {
             Some(entry) if entry.seen.len() == self.extent.threads as usize => {
                 entry.add_action(action_row(row, action, self.extent)?)
             }
@@ -341,14 +276,16 @@ impl HistoryReading {
 
 impl PassReading for HistoryReading {
     ghost use Rattle.std.specs.Prelude.{⊤};
-    ghost use Rattle.cal_trace.specs.History.{SoFar, take_row, whole};
+    ghost use Rattle.cal_policy.specs.declared.history.entry.PassEntry.{PassEntry};
+    ghost use Rattle.cal_trace.specs.Rows.SoFar.{SoFar, whole};
+    ghost use Rattle.cal_trace.specs.History.{take_row};
     ghost use Rattle.cal_trace.specs.History.Reading.{file_of, so_far, IsKept};
     ghost use Rattle.cal_trace.specs.declared.history.action_rows.Extent.{Extent};
     ghost use Rattle.cal_trace.specs.declared.rows.version.Version.{Version};
 
     type Pass = PassEntry;
 
-    ghost SoFar = { SoFar };
+    ghost SoFar = { SoFar PassEntry };
 
     ghost so_far = { so_far };
 
@@ -369,8 +306,8 @@ impl PassReading for HistoryReading {
         match form_of(row, self.version) {
             None => Err(FaultKind::Fields),
             Some(Form::Header) => Err(FaultKind::Order),
-            Some(Form::Pass) => self.take_pass(row),
-            Some(Form::End) => self.take_end(row),
+            Some(Form::Pass) => self.passes.take_pass(row, self.extent.threads as usize),
+            Some(Form::End) => self.passes.take_end(row, self.extent.threads as usize),
             Some(Form::Look(look)) => {
                 self.take_look(row, look)?;
                 Ok(None)
@@ -383,6 +320,6 @@ impl PassReading for HistoryReading {
     }
 
     fn has_ended(&self) -> bool {
-        self.ended
+        self.passes.ended
     }
 }

@@ -6,8 +6,9 @@ ghost use Rattle.csv.specs.Records.{fields_of};
 
 use crate::fault::FaultKind;
 use crate::rows::fields::is_row;
-use crate::rows::look_rows::{busy_row, end_row, pass_row, whole_row};
+use crate::rows::look_rows::{PassRow, busy_row, whole_row};
 use crate::rows::passes::PassReading;
+use crate::rows::so_far::{PassAtHand, PassesSoFar};
 use crate::rows::version::Version;
 use crate::signals::{SignalLooks, SignalPass};
 use cal_policy::FoundLook;
@@ -56,27 +57,62 @@ struct OpenPass {
     looks: Vec<FoundLook>,
 }
 
-/// What the rows so far have given, but for the passes that were handed out.
+impl PassAtHand for OpenPass {
+    ghost use Rattle.cal_trace.specs.Signals.{begun, looks_in};
+    ghost use Rattle.cal_trace.specs.Signals.Reading.{pass_at_hand};
+
+    type Pass = SignalPass;
+
+    ghost pass = { pass_at_hand };
+
+    ghost looks_in = { looks_in };
+
+    ghost begun = { begun };
+
+    fn begin(alloc: Global, threads: usize, row: PassRow) -> Result<OpenPass, FaultKind> {
+        let looks = Vec::with_capacity(alloc, threads)?;
+        Ok(OpenPass {
+            now: row.now,
+            bandwidth: row.bandwidth,
+            looks,
+        })
+    }
+
+    fn looks(&self) -> usize {
+        self.looks.len()
+    }
+
+    fn close(self) -> SignalPass {
+        let OpenPass {
+            now,
+            bandwidth,
+            looks,
+        } = self;
+        SignalPass {
+            now,
+            bandwidth,
+            looks: SignalLooks::new(looks),
+        }
+    }
+}
+
+/// What the rows of signals so far have given, but for the passes that were handed out.
 #[derive(Drop)]
 pub(crate) struct SignalReading {
-    alloc: Global,
     version: Version,
     threads: usize,
-    // How many passes there are, the one at hand with them.
-    passes: usize,
-    at_hand: Option<OpenPass>,
-    ended: bool,
+    passes: PassesSoFar<OpenPass>,
     // What each thread showed last.
     shown: Vec<Shown>,
 }
 
 impl SignalReading {
-    ghost use Rattle.std.specs.Prelude.{◌≡◌, [], List, OnOk, IfOk, IfErr, Some, None, option_map};
+    ghost use Rattle.std.specs.Prelude.{◌≡◌, [], List, OnOk, IfOk, IfErr, Some};
     ghost use Rattle.csv.specs.Records.{fields_of};
     ghost use Rattle.cal_trace.specs.Rows.Answers.{Takes};
     ghost use Rattle.cal_trace.specs.Rows.Passes.{with_closed};
-    ghost use Rattle.cal_trace.specs.Signals.{at_start, is_between, next_thread, take_form};
-    ghost use Rattle.cal_trace.specs.Signals.{one_more};
+    ghost use Rattle.cal_trace.specs.Rows.SoFar.{at_start, with_more, IsCounted};
+    ghost use Rattle.cal_trace.specs.Signals.{take_form, with_look};
     ghost use Rattle.cal_trace.specs.Signals.Reading.{file_of, pass_at_hand, so_far};
     ghost use Rattle.cal_trace.specs.Signals.Reading.{HasPlaces, IsKept};
     ghost use Rattle.cal_trace.specs.declared.fault.FaultKind.TheVariants as kind;
@@ -97,94 +133,11 @@ impl SignalReading {
     {
         let shown = vec![in alloc; Shown::NOTHING; threads]?;
         Ok(SignalReading {
-            alloc,
             version,
             threads,
-            passes: 0,
-            at_hand: None,
-            ended: false,
+            passes: PassesSoFar::new(alloc),
             shown,
         })
-    }
-
-    // Whether a pass row or the end row can stand here.
-    fn is_between(&self) -> bool
-        ensures { result ≡ is_between self.now.threads (so_far [] self.now) }
-    {
-        match &self.at_hand {
-            Some(pass) => !self.ended && pass.looks.len() == self.threads,
-            None => !self.ended,
-        }
-    }
-
-    // The thread whose look comes next, where a look can stand here.
-    fn next_thread(&self) -> Result<usize, FaultKind>
-        ensures { result ≡ next_thread self.now.threads (so_far [] self.now).at_hand }
-    {
-        match &self.at_hand {
-            Some(pass) if pass.looks.len() < self.threads => Ok(pass.looks.len()),
-            _ => Err(FaultKind::Order),
-        }
-    }
-
-    // Hands out the pass at hand.
-    fn close(&mut self) -> Option<SignalPass>
-        ensures closed { result ≡ option_map pass_at_hand self.old.at_hand }
-        ensures left { self.new ≡ record self.old { at_hand = None } }
-    {
-        match self.at_hand.take() {
-            Some(pass) => Some(SignalPass {
-                now: pass.now,
-                bandwidth: pass.bandwidth,
-                looks: SignalLooks::new(pass.looks),
-            }),
-            None => None,
-        }
-    }
-
-    fn take_pass(&mut self, row: &ByteRecord) -> Result<Option<SignalPass>, FaultKind>
-        requires { HasPlaces self.old }
-        ensures takes { (given : List SignalPass) → IsKept given self.old →
-            Takes (λ closed. so_far (with_closed given closed) self.new) result
-            (take_form self.old.threads (so_far given self.old) (Some form.Pass)
-            (fields_of row.now)) }
-        ensures kept { (given : List SignalPass) → IsKept given self.old →
-            IfOk result (λ closed. IsKept (with_closed given closed) self.new) }
-        ensures places { OnOk result (HasPlaces self.new) }
-        ensures file { file_of self.new ≡ file_of self.old }
-    {
-        if !self.is_between() {
-            return Err(FaultKind::Order);
-        }
-        let pass = pass_row(row, self.passes)?;
-        let looks = Vec::with_capacity(self.alloc, self.threads)?;
-        let closed = self.close();
-        self.at_hand = Some(OpenPass {
-            now: pass.now,
-            bandwidth: pass.bandwidth,
-            looks,
-        });
-        self.passes += 1;
-        Ok(closed)
-    }
-
-    fn take_end(&mut self, row: &ByteRecord) -> Result<Option<SignalPass>, FaultKind>
-        requires { HasPlaces self.old }
-        ensures takes { (given : List SignalPass) → IsKept given self.old →
-            Takes (λ closed. so_far (with_closed given closed) self.new) result
-            (take_form self.old.threads (so_far given self.old) (Some form.End)
-            (fields_of row.now)) }
-        ensures kept { (given : List SignalPass) → IsKept given self.old →
-            IfOk result (λ closed. IsKept (with_closed given closed) self.new) }
-        ensures places { OnOk result (HasPlaces self.new) }
-        ensures file { file_of self.new ≡ file_of self.old }
-    {
-        if !self.is_between() {
-            return Err(FaultKind::Order);
-        }
-        end_row(row, self.passes)?;
-        self.ended = true;
-        Ok(self.close())
     }
 
     fn take_whole(&mut self, row: &ByteRecord) -> Result<(), FaultKind>
@@ -198,7 +151,7 @@ impl SignalReading {
         ensures places { OnOk result (HasPlaces self.new) }
         ensures file { file_of self.new ≡ file_of self.old }
     {
-        let thread = self.next_thread()?;
+        let thread = self.passes.next_thread(self.threads)?;
         let whole = whole_row(row, thread)?;
         if !may_follow(&self.shown[thread], &whole.shown) {
             return Err(FaultKind::Backwards);
@@ -225,7 +178,7 @@ impl SignalReading {
         ensures places { OnOk result (HasPlaces self.new) }
         ensures file { file_of self.new ≡ file_of self.old }
     {
-        let thread = self.next_thread()?;
+        let thread = self.passes.next_thread(self.threads)?;
         let busy = busy_row(row, thread)?;
         self.add_look(FoundLook {
             look: Look::Busy {
@@ -239,13 +192,16 @@ impl SignalReading {
 
     fn add_look(&mut self, look: FoundLook) -> Result<(), FaultKind>
         ensures added { (given : List SignalPass) →
-            OnOk result (so_far given self.new ≡ one_more (so_far given self.old) look) }
+            OnOk result
+            (so_far given self.new ≡ with_more (with_look look) (so_far given self.old)) }
         ensures shown { self.new.shown ≡ self.old.shown }
-        ensures passes { self.new.passes ≡ self.old.passes }
+        ensures counted { (given : List SignalPass) →
+            IsCounted pass_at_hand given self.old.passes →
+            OnOk result (IsCounted pass_at_hand given self.new.passes) }
         ensures file { file_of self.new ≡ file_of self.old }
         ensures memory { IfErr result (λ k. k ≡ kind.Memory) }
     {
-        if let Some(pass) = &mut self.at_hand {
+        if let Some(pass) = &mut self.passes.at_hand {
             pass.looks.push(look)?;
         }
         Ok(())
@@ -264,8 +220,8 @@ impl SignalReading {
     {
         match form {
             Form::Header => Err(FaultKind::Order),
-            Form::Pass => self.take_pass(row),
-            Form::End => self.take_end(row),
+            Form::Pass => self.passes.take_pass(row, self.threads),
+            Form::End => self.passes.take_end(row, self.threads),
             Form::Whole => {
                 self.take_whole(row)?;
                 Ok(None)
@@ -280,13 +236,15 @@ impl SignalReading {
 
 impl PassReading for SignalReading {
     ghost use Rattle.std.specs.Prelude.{ℕ};
-    ghost use Rattle.cal_trace.specs.Signals.{SoFar, take_row, whole};
+    ghost use Rattle.cal_trace.specs.declared.signals.SignalPass.{SignalPass};
+    ghost use Rattle.cal_trace.specs.Rows.SoFar.{SoFar, whole};
+    ghost use Rattle.cal_trace.specs.Signals.{take_row};
     ghost use Rattle.cal_trace.specs.Signals.Reading.{file_of, so_far, HasPlaces, IsKeptFitting};
     ghost use Rattle.cal_trace.specs.declared.rows.version.Version.{Version};
 
     type Pass = SignalPass;
 
-    ghost SoFar = { SoFar };
+    ghost SoFar = { SoFar SignalPass };
 
     ghost so_far = { so_far };
 
@@ -310,6 +268,6 @@ impl PassReading for SignalReading {
     }
 
     fn has_ended(&self) -> bool {
-        self.ended
+        self.passes.ended
     }
 }

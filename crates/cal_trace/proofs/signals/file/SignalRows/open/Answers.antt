@@ -3,7 +3,8 @@ use Rattle.std.proofs.lemmas.Result.{err_from_is_err_and}
 use Rattle.cal_machine.specs.Tasks.{threads_in}
 use Rattle.cal_trace.specs.Rows.Header.{header_of}
 use Rattle.cal_trace.specs.Rows.{rest_of, rows_of}
-use Rattle.cal_trace.specs.Signals.{at_start, take_row, whole}
+use Rattle.cal_trace.specs.Rows.SoFar.{at_start, whole}
+use Rattle.cal_trace.specs.Signals.{take_row}
 use Rattle.cal_trace.proofs.Given.{HasGiven-none}
 use Rattle.cal_trace.proofs.RowLemmas.Readings.{no_header}
 use Rattle.cal_trace.proofs.signals.file.SignalRows.open.Goals as goal

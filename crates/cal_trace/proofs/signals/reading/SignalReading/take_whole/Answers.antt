@@ -2,9 +2,10 @@ use Rattle.std.proofs.Common.{◌<◌, ◌∙◌, ℕ, sym, ap, refl, length, []
 use Rattle.std.proofs.lemmas.List.{get_or_default}
 use Rattle.csv.specs.Records.{fields_of}
 use Rattle.cal_signal.specs.Shown.{nothing_shown}
-use Rattle.cal_trace.specs.Signals.{SoFar, passes_of, last_shown}
+use Rattle.cal_trace.specs.declared.signals.SignalPass.{SignalPass}
+use Rattle.cal_trace.specs.Rows.SoFar.{SoFar, passes_of}
+use Rattle.cal_trace.specs.Signals.{last_shown}
 use Rattle.cal_trace.specs.Signals.Reading.{so_far}
-use Rattle.cal_trace.proofs.RowLemmas.Passes.{count-at_hand}
 use Rattle.cal_trace.proofs.SignalLemmas.LastShown.{next_below}
 use Rattle.cal_trace.proofs.SignalLemmas.WholeLooks.{takes-whole, keeps-whole}
 use Rattle.cal_trace.specs.declared.rows.version.Version.{Version}
@@ -42,9 +43,8 @@ returns-clause-kept c = λ given kept.
     let below = next_below old.threads k (so_far given old).at_hand (sym c.in_ok-thread.ensures) in
     let within : k < length old.shown.items = rw (← c.requires, old.shown.ok.0) at below in
     record {
-      passes = c.add_look.ensures.passes ∙ kept.passes ∙ sym (count-at_hand _ (so_far given old).before (so_far given old).at_hand) ∙ ap (λ (s : SoFar). length (passes_of s)) (sym added);
-      few = rw c.add_look.ensures.passes kept.few;
+      counted = c.in_ok-add_look.ensures.counted given kept.counted;
       shown = λ j lt. rw c.add_look.ensures.shown
           (keeps-whole (so_far given old) old.threads k j _ c.in_ok-whole.whole.shown old.shown.items (sym c.in_ok-thread.ensures) refl within (kept.shown j (rw same at lt))
-          ∙ ap (λ (s : SoFar). last_shown j (passes_of s)) (sym added));
+          ∙ ap (λ (s : SoFar SignalPass). last_shown j (passes_of s)) (sym added));
     }
