@@ -51,5 +51,6 @@ pub struct Refused {
     /// The action's number among those that were given, from 0 on. Their count, where each is
     /// permitted and the pass may not end after them.
     pub place: usize,
+    /// Why it is not permitted.
     pub why: Why,
 }

@@ -32,13 +32,17 @@ use cal_machine::{Config, CoreSet};
 /// of it by the actions and looks that it agrees with.
 #[derive(Drop)]
 pub struct Board {
+    /// Who has each core, and what was sent.
     pub holding: Holding,
     /// How many cores tasks and threads have.
     pub survey: Survey,
     /// Which cores are free, taken, left or banned.
     pub sets: CoreSets,
+    /// For whom each core is banned.
     pub bans: Bans,
+    /// How many cores a best-effort task may hold.
     pub caps: Caps,
+    /// The records that are kept.
     pub keeping: Keeping,
     /// The cores granted in this pass.
     pub fresh: CoreSet,

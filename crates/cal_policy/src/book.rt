@@ -32,7 +32,7 @@ use std::alloc::{AllocError, Global};
 /// What the history so far comes to: who has each core and since which command, whom it was granted
 /// to last, bans, caps, and of each thread the commands sent to it and the records it showed. It
 /// decides each pass from that alone, so a pass costs the work of that pass however long the
-/// history is, and only opening a book takes memory.
+/// history is. Only opening a book takes memory, and `input`, which lists what is handed to it.
 ///
 /// Every call is to be given the table that the book was opened for. What a book says holds of
 /// every legal history with which it agrees.

@@ -22,7 +22,7 @@ pub use book::Book;
 pub use cal_signal::{Look, Record, later, shaped};
 pub use history::action::{Action, Cause};
 pub use history::action_list::{ActionList, Actions, MOST_ACTIONS};
-pub use history::entry::PassEntry;
+pub use history::entry::{MOST_PASSES, PassEntry};
 pub use history::input::{Input, Rooms};
 pub use history::look::{Seen, SeenList};
 pub use judgement::judging::{is_input, judge};

@@ -44,8 +44,8 @@ fn does_so(config: &Config, before: &[PassEntry], entry: &PassEntry, actions: &m
     same_actions(entry.actions.as_slice(), actions.as_slice())
 }
 
-/// Whether an entry is the policy's pass after those before it, which are gone over once. `actions`
-/// is room to work in.
+/// Whether an entry is the policy's pass after those before it. `actions` is room to work in. Each
+/// call goes over all passes before; an `Auditor` goes over each once.
 pub fn is_pass(
     config: &Config,
     before: &[PassEntry],

@@ -248,6 +248,8 @@ fn publisher_beside_two_observers(rt: HostRuntime) -> Result<(), Fail> {
     Ok(())
 }
 
+// With `look_gives_opening_record` or `look_always_busy`, where they load and forget what they
+// loaded, no look finds the record that was published.
 #[test]
 fn second_observer_sees_what_the_first_sees(rt: HostRuntime) -> Result<(), Fail> {
     let (mut publisher, mut observer, mut watcher) = open_watched(rt.alloc())?;

@@ -1,4 +1,4 @@
-//! Why a pass is refused, and what a refused opening hands back.
+//! Why a pass is refused.
 
 ghost use Rattle.std.specs.Prelude.{◌≡◌};
 ghost use Rattle.cal_sched.specs.declared.fault.PassFault.TheVariants.{Memory};

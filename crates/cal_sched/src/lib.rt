@@ -19,6 +19,7 @@ mod scheduler;
 mod sending;
 mod watch;
 
+pub use cal_policy::MOST_PASSES;
 pub use fault::PassFault;
-pub use scheduler::{MOST_PASSES, NotMade, Scheduler, SchedulerEnd};
+pub use scheduler::{NotMade, Scheduler, SchedulerEnd};
 pub use watch::{NotWatched, Watch};

@@ -4,6 +4,7 @@ ghost use Rattle.std.specs.Prelude.{◌≡◌, ◌<◌, ◌≤◌, ◌↔◌, []
 ghost use Rattle.cal_policy.specs.Board.Counts as counts;
 ghost use Rattle.cal_policy.specs.History.{actions_of, holder_of};
 ghost use Rattle.cal_policy.specs.Tasks.{threads_of_table};
+ghost use Rattle.cal_policy.specs.declared.history.entry.TheConstants.{MOST_PASSES};
 ghost use Rattle.cal_sched.specs.declared.fault.PassFault.TheVariants.{HistoryFull};
 ghost use Rattle.cal_sched.specs.Passing.{IsPassed};
 ghost use Rattle.cal_sched.specs.Scheduler.{IsKept, HaveSeenNothing, HaveSentNothing};
@@ -14,13 +15,10 @@ use crate::sending::send_last;
 use cal_command::Sender;
 use cal_laws::{holders_are_of_their_last_run, threads_are_sent_one_command};
 use cal_machine::Config;
-use cal_policy::{Actions, Book, Holder, OpenInput, PassEntry};
+use cal_policy::{Actions, Book, Holder, MOST_PASSES, OpenInput, PassEntry};
 use cal_signal::Observer;
 use std::alloc::{AllocError, Global};
 use std::marker::Model;
-
-/// The most passes of a history.
-pub const MOST_PASSES: usize = 1_048_576;
 
 /// The scheduler of a table's kernel threads. It may be moved to a thread of its own; no call of it
 /// waits.

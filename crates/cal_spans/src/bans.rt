@@ -6,7 +6,8 @@ ghost use Rattle.cal_spans.specs.Spans.{Move, made_in};
 
 use cal_policy::Action;
 
-/// A ban of a core, from its Ban to the Unban that ended it. Passes are as in `Span`.
+/// A ban of a core, from its Ban to the Unban that ended it, or to the next Ban of the core in a
+/// history that is not legal. Passes are as in `Span`.
 #[derive(Clone, Copy, Debug, PartialEq, Eq)]
 pub struct BanSpan {
     /// The core that stays empty.

@@ -11,7 +11,8 @@ pub struct Left {
     pub cause: Cause,
 }
 
-/// A thread on a core, from the grant that put it there to the Free that ended it.
+/// A thread on a core, from the grant that put it there to the Free that ended it, or to the next
+/// grant of the core in a history that is not legal.
 ///
 /// Passes are numbered from 0. A span that begins in pass p shows after that pass; one that ends in
 /// pass q shows until before it.
@@ -21,7 +22,7 @@ pub struct Span {
     pub core: u8,
     /// The thread that has it.
     pub thread: u8,
-    /// The class of the grant, 1 to 3.
+    /// The class of the grant as it was recorded: 1 to 3 in a legal history.
     pub class: u8,
     /// The pass of the grant.
     pub from: usize,

@@ -8,7 +8,7 @@ use Rattle.cal_trace.specs.Rows.RowFields.{has_numbers, number_at}
 use Rattle.cal_trace.specs.Arrivals.FitsTable.{IsArrival, ComesBefore, HaveTwoIds, Fits}
 use Rattle.cal_trace.specs.Rows.Header.{header_of, in_version_one}
 use Rattle.cal_trace.specs.Rows.LookRows.{pass_row, end_row}
-use Rattle.cal_trace.specs.declared.rows.look_rows.TheConstants.{MOST_PASSES}
+use Rattle.cal_policy.specs.declared.history.entry.TheConstants.{MOST_PASSES}
 use Rattle.cal_trace.specs.History.Ranges.{Each}
 use Rattle.cal_trace.specs.Rows.{Fields}
 use Rattle.cal_trace.specs.declared.arrivals.reading.Form.{Form}

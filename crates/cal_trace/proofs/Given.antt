@@ -4,7 +4,7 @@ use Rattle.cal_trace.specs.Rows.Answers.{Takes}
 use Rattle.cal_trace.specs.Rows.Header.{header_of}
 use Rattle.cal_trace.specs.Rows.Passes.{with_closed}
 use Rattle.cal_trace.specs.declared.fault.FaultKind.{FaultKind}
-use Rattle.cal_trace.specs.declared.rows.look_rows.TheConstants.{MOST_PASSES}
+use Rattle.cal_policy.specs.declared.history.entry.TheConstants.{MOST_PASSES}
 use Rattle.cal_trace.specs.Rows.Reading.{read_under}
 use Rattle.cal_trace.specs.Rows.{Fields, rest_of, rows_of}
 use Rattle.cal_trace.specs.Rows.LookRows.{pass_row, end_row}

@@ -2,7 +2,7 @@
 -- Here each number stands once: a constant with another number is refused.
 use Rattle.std.specs.Prelude.{◌≡◌, ◌^◌, refl}
 use Rattle.cal_trace.specs.declared.arrivals.reading.TheConstants.{MOST_TURNS}
-use Rattle.cal_trace.specs.declared.rows.look_rows.TheConstants.{MOST_PASSES}
+use Rattle.cal_policy.specs.declared.history.entry.TheConstants.{MOST_PASSES}
 
 pub most_passes-is : MOST_PASSES ≡ 2 ^ 20
 most_passes-is = refl

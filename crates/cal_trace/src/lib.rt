@@ -19,13 +19,13 @@ mod write_fault;
 
 pub use arrivals::file::read_arrivals;
 pub use arrivals::{Arrival, Arrivals, GivenPass};
+pub use cal_policy::MOST_PASSES;
 pub use fault::{FaultKind, TraceFault};
 pub use history::file::{HistoryRows, read_history};
 pub use history::text::write_history;
 pub use laws::{legal_is_read_back, read_is_read_back, text_is_its_rows, text_is_read_back};
 pub use report::summary::write_summary;
 pub use report::{Report, write_report};
-pub use rows::look_rows::MOST_PASSES;
 pub use signals::file::{SignalRows, read_signals};
 pub use signals::{SignalLooks, SignalPass, SignalPasses, Signals};
 pub use write_fault::WriteFault;

@@ -1,4 +1,5 @@
-//! The five steps of a turn. Each answers what goes into the journal.
+//! The five steps of a turn, the third in two parts. Each answers what it puts into the journal, if
+//! it puts anything there.
 ghost use Rattle.std.specs.Prelude.{◌≡◌, ℕ, ◌+◌, ◌-◌, ◌<◌, ◌≤◌, ◌^◌, min, Option};
 ghost use Rattle.std.specs.Prelude.{Some, None, length, IfSome, MatchResult};
 ghost use Rattle.cal_machine.specs.declared.command.Command.{Command};

@@ -20,7 +20,9 @@ use cal_machine::{MOST_CORES, MOST_THREADS};
 /// A number in the code is the least of the command's number and 2^64: no record acknowledges more.
 #[derive(Clone, Copy, Debug, PartialEq, Eq)]
 pub struct Placement {
+    /// The thread that the core was granted to.
     pub thread: u8,
+    /// The number of the Run that it was sent for that.
     pub number: u128,
 }
 

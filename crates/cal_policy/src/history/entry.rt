@@ -7,6 +7,9 @@ use crate::history::input::{Input, Rooms};
 use crate::history::look::SeenList;
 use std::alloc::{AllocError, Global};
 
+/// The most passes of a history that a scheduler keeps or a file has (this project's own limit).
+pub const MOST_PASSES: usize = 1_048_576;
+
 /// One pass: what it was given and what it did. A history is a list of passes.
 #[derive(Drop)]
 pub struct PassEntry {

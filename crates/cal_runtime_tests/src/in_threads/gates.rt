@@ -135,7 +135,8 @@ fn is_preempted(outcome: &Outcome) -> bool {
     begins_with(outcome.history.as_slice(), &passes)
 }
 
-// With `workers_on_one_thread` pass 1 waits in vain.
+// With `workers_on_one_thread` pass 1 waits in vain. With `always_out_of_memory`, or with always
+// Spawn or Gate, there is no outcome.
 #[test]
 fn passes_and_turns_in_step(rt: HostRuntime) -> Result<(), Fail> {
     let gate = InStep {

@@ -5,7 +5,7 @@ use Rattle.cal_trace.specs.Rows.SoFar.{at_start, whole}
 use Rattle.cal_trace.specs.History.{take_row}
 use Rattle.cal_trace.specs.History.Reading.{entry_at_hand, file_of, so_far, HasGiven, IsKept}
 use Rattle.cal_trace.specs.Rows.Header.{header_of}
-use Rattle.cal_trace.specs.declared.rows.look_rows.TheConstants.{MOST_PASSES}
+use Rattle.cal_policy.specs.declared.history.entry.TheConstants.{MOST_PASSES}
 use Rattle.cal_trace.specs.Rows.Reading.{read_under}
 use Rattle.cal_trace.specs.Rows.{Fields, rest_of, rows_of}
 use Rattle.cal_trace.specs.declared.history.action_rows.Extent.{Extent}

@@ -10,7 +10,7 @@ use Rattle.cal_trace.specs.Rows.SoFar.{SoFar, at_start, passes_of, whole, is_bet
 use Rattle.cal_trace.specs.History.{take_row, with_action, history_of, looks_in}
 use Rattle.cal_policy.specs.declared.history.action_list.TheConstants.{MOST_ACTIONS}
 use Rattle.cal_trace.specs.History.Text.{look_fields, action_fields, look_rows, pass_fields, entry_rows, header_row, end_fields, history_text}
-use Rattle.cal_trace.specs.declared.rows.look_rows.TheConstants.{MOST_PASSES}
+use Rattle.cal_policy.specs.declared.history.entry.TheConstants.{MOST_PASSES}
 use Rattle.cal_trace.specs.History.Ranges.{Each, HasLookWords, HasActionWord, IsLookInRange, IsActionInRange, IsEntryInRange, IsInRange}
 use Rattle.cal_trace.specs.Rows.Reading.{read_from, read_under}
 use Rattle.cal_trace.specs.Rows.{Fields, rows_of}

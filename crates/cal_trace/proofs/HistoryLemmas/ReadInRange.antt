@@ -16,7 +16,7 @@ use Rattle.cal_trace.specs.Rows.SoFar.{SoFar, at_start, passes_of, add_pass, add
 use Rattle.cal_trace.specs.History.{form_of, take_row, take_form, take_look, take_action, seen_row, judged_row, busy_look, add_look, add_action, begun, with_look, with_action, history_of, looks_in}
 use Rattle.cal_policy.specs.declared.history.action_list.TheConstants.{MOST_ACTIONS}
 use Rattle.cal_trace.specs.Rows.LookRows.{pass_row, whole_row, busy_row, end_row}
-use Rattle.cal_trace.specs.declared.rows.look_rows.TheConstants.{MOST_PASSES}
+use Rattle.cal_policy.specs.declared.history.entry.TheConstants.{MOST_PASSES}
 use Rattle.cal_trace.specs.Rows.Number.{with_digit, digits_of, spelled_number}
 use Rattle.cal_trace.specs.History.Ranges.{Each, IsWord, AreWords, HasLookWords, HasActionWord, HasWords, IsLookInRange, IsActionInRange, IsEntryInRange, IsInRange}
 use Rattle.cal_trace.specs.Rows.{Fields}

@@ -16,7 +16,7 @@ use Rattle.cal_trace.specs.History.{form_of, take_row, take_form, take_look, see
 use Rattle.cal_policy.specs.declared.history.action_list.TheConstants.{MOST_ACTIONS}
 use Rattle.cal_trace.specs.History.Text.{room_number, record_fields, look_fields, revocation_fields, action_fields, pass_fields, end_fields}
 use Rattle.cal_trace.specs.Rows.LookRows.{check, whole_row, busy_row}
-use Rattle.cal_trace.specs.declared.rows.look_rows.TheConstants.{MOST_PASSES}
+use Rattle.cal_policy.specs.declared.history.entry.TheConstants.{MOST_PASSES}
 use Rattle.cal_trace.specs.History.Ranges.{IsWord, AreWords, HasLookWords, HasActionWord, IsLookInRange, IsCauseInRange, IsActionInRange}
 use Rattle.cal_trace.specs.Rows.{Fields}
 use Rattle.cal_signal.specs.Tests.{is_shaped, is_busy_pair}

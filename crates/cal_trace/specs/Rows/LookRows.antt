@@ -10,7 +10,7 @@ use Rattle.cal_trace.specs.declared.fault.FaultKind.TheVariants as kind
 use Rattle.cal_trace.specs.declared.rows.look_rows.WholeRow.{WholeRow}
 use Rattle.cal_trace.specs.declared.rows.look_rows.BusyRow.{BusyRow}
 use Rattle.cal_trace.specs.declared.rows.look_rows.PassRow.{PassRow}
-use Rattle.cal_trace.specs.declared.rows.look_rows.TheConstants.{MOST_PASSES}
+use Rattle.cal_policy.specs.declared.history.entry.TheConstants.{MOST_PASSES}
 
 -- a check, and what comes after it
 abbrev pub check : {X : Type 0} → Bool → FaultKind → Result X FaultKind → Result X FaultKind

@@ -7,7 +7,7 @@ use Rattle.cal_trace.specs.Rows.LookRows.{check, pass_row, end_row}
 use Rattle.cal_trace.specs.declared.fault.FaultKind.{FaultKind}
 use Rattle.cal_trace.specs.declared.fault.FaultKind.TheVariants as kind
 use Rattle.cal_trace.specs.declared.rows.look_rows.PassRow.{PassRow}
-use Rattle.cal_trace.specs.declared.rows.look_rows.TheConstants.{MOST_PASSES}
+use Rattle.cal_policy.specs.declared.history.entry.TheConstants.{MOST_PASSES}
 use Rattle.cal_trace.specs.declared.rows.so_far.PassesSoFar.{PassesSoFar}
 
 -- the passes before the one at hand, the pass at hand, whose looks and actions may still be

@@ -10,11 +10,9 @@ ghost use Rattle.csv.specs.Records.{fields_of};
 use crate::fault::FaultKind;
 use crate::rows::fields::{has_numbers, number_at, numbers_of};
 use crate::rows::shown::record_of;
+use cal_policy::MOST_PASSES;
 use cal_signal::{Record, Shown, is_busy_pair, shaped};
 use csv::ByteRecord;
-
-/// The most passes that a file may have (this project's own limit).
-pub const MOST_PASSES: usize = 1_048_576;
 
 /// The clock and the bandwidth figure of a pass row.
 #[derive(Clone, Copy)]

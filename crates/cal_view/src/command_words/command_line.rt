@@ -10,11 +10,14 @@ use std::alloc::{AllocError, Global};
 pub enum Job {
     /// Write the history that signals lead to, with the task table in front or without it.
     History {
+        /// Whether the table goes in front.
         table: bool,
     },
     /// Draw passes of a history.
     Picture {
+        /// The first pass; without it the first of the history.
         from: Option<usize>,
+        /// How many passes; without it all, or the first 64 of more than 80.
         passes: Option<usize>,
     },
     /// Write a history as trace events.
