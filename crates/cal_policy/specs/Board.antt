@@ -172,6 +172,7 @@ pub record Stands (b : Board) (s : Setting) (acts : List Action) : Type 0 where
 pub record AgreesAfter (b : Board) (history : List PassEntry) (entry : PassEntry) : Type 0 where
   pub actions : Agrees b (actions_of (history ++ entry ∷ []))
   pub looks : KeepingAgrees b.keeping (looks_of (history ++ entry ∷ []))
+  pub before : KeepsBefore b.keeping (looks_of history)
 
 -- one look and one answer on room for each thread
 pub record HasSizes (table : Table) (input : Input) : Type 0 where

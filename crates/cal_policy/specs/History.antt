@@ -3,7 +3,7 @@
 pub mod Lists
 pub mod Looks
 pub mod Found
-use Rattle.std.specs.Prelude.{ℕ, ◌+◌, ◌==◌, Bool, List, [], ◌∷◌, length}
+use Rattle.std.specs.Prelude.{ℕ, ◌+◌, ◌-◌, ◌==◌, Bool, List, [], ◌∷◌, length, take}
 use Rattle.std.specs.Prelude.{map, Option, Some, None, if◌then◌else◌}
 use Rattle.std.specs.Option.{unwrap_or, is_some}
 use Rattle.std.specs.List.{flat_map}
@@ -28,6 +28,10 @@ actions_of history = flat_map (λ entry. entry.actions) history
 -- the looks of all passes of a history, pass by pass
 abbrev pub looks_of : List PassEntry → List (List Seen)
 looks_of history = map (λ entry. entry.input.seen) history
+
+-- the same of all passes but the last
+abbrev pub looks_before : List PassEntry → List (List Seen)
+looks_before history = looks_of (take (length history - 1) history)
 
 -- an action as a grant of core c: the thread
 abbrev pub thread_granted : ℕ → List Action → Action → Option ℕ

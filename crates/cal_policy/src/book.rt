@@ -8,12 +8,12 @@ ghost use Rattle.cal_policy.specs.Tasks.{threads_of_table};
 ghost use Rattle.cal_policy.specs.declared.judgement.open_input.FoundLook.{FoundLook};
 ghost use Rattle.cal_policy.specs.declared.history.entry.PassEntry.{PassEntry};
 ghost use Rattle.cal_policy.specs.Board.Counts as counts;
-ghost use Rattle.cal_policy.specs.History.{actions_of, holder_of};
+ghost use Rattle.cal_policy.specs.History.{actions_of, holder_of, looks_of};
 ghost use Rattle.cal_policy.specs.Judgement.OpenInput.{judged_input};
 ghost use Rattle.cal_policy.specs.Judgement.Judging.{judged, IsInput};
 ghost use Rattle.cal_policy.specs.Setting.{setting};
 ghost use Rattle.cal_policy.specs.Pass.{pass_of, IsLegal};
-ghost use Rattle.cal_policy.specs.Board.{HasSizes, kept_holder};
+ghost use Rattle.cal_policy.specs.Board.{HasSizes, KeepsBefore, kept_holder};
 ghost use Rattle.cal_policy.specs.Book.{AgreesWith, IsBookOf, IsSentBy};
 
 use crate::board::holders::Holder;
@@ -191,6 +191,10 @@ impl Book {
         ensures agrees { (h : List PassEntry) → IsLegal config.now h → AgreesWith self.old h →
             IsInput config.now h input.entry.now →
             AgreesWith self.new (h ++ record { input = input.entry.now; actions = out.new } ∷ []) }
+        // The misses of the records kept before this pass's looks are kept too.
+        ensures before { (h : List PassEntry) → IsLegal config.now h → AgreesWith self.old h →
+            IsInput config.now h input.entry.now →
+            KeepsBefore self.new.board.value.keeping (looks_of h) }
         ensures of { IsBookOf config.now self.new }
     {
         config.limits();

@@ -53,4 +53,5 @@ Stands_end s b acts st =
     record {
       actions = subst P (sym (actions_push s.history entry)) st.agrees;
       looks = subst Q (sym (looks_push s.history entry)) (record { kept = st.kept; shown = st.shown });
+      before = record { before = st.before };
     }

@@ -1,11 +1,11 @@
 //! The board of a whole history, by one walk over it.
 
-ghost use Rattle.std.specs.Prelude.{◌≡◌, ◌-◌, ◌≤◌, ◌++◌, ◌∷◌, [], List, length, take};
+ghost use Rattle.std.specs.Prelude.{◌≡◌, ◌-◌, ◌≤◌, ◌++◌, ◌∷◌, [], List, length};
 ghost use Rattle.std.specs.List.{All};
 ghost use Rattle.cal_machine.specs.declared.numbering.TheConstants.{MOST_THREADS};
 ghost use Rattle.cal_policy.specs.declared.history.action.Action.{Action};
 ghost use Rattle.cal_policy.specs.declared.history.entry.PassEntry.{PassEntry};
-ghost use Rattle.cal_policy.specs.History.{actions_of, looks_of};
+ghost use Rattle.cal_policy.specs.History.{actions_of, looks_of, looks_before};
 ghost use Rattle.cal_policy.specs.Judgement.Orderly.{IsOrderly};
 ghost use Rattle.cal_policy.specs.Board.{Agrees, KeepingAgrees, KeepsBefore, IsReady, NamesTable};
 
@@ -61,8 +61,7 @@ pub fn board_of(config: &Config, history: &[PassEntry]) -> Board
     requires { IsOrderly config.now history.now }
     ensures agrees { Agrees result (actions_of history.now) }
     ensures keeping { KeepingAgrees result.keeping (looks_of history.now) }
-    ensures before { KeepsBefore result.keeping
-        (looks_of (take (length history.now - 1) history.now)) }
+    ensures before { KeepsBefore result.keeping (looks_before history.now) }
     ensures ready { IsReady config.now result }
 {
     config.limits();
