@@ -6,6 +6,8 @@ use Rattle.cal_run.specs.declared.fault.SimFault.{SimFault}
 use Rattle.cal_run.specs.declared.fault.SimFault.TheVariants as sim
 use Rattle.cal_trace.specs.declared.fault.FaultKind.{FaultKind}
 use Rattle.cal_trace.specs.declared.fault.FaultKind.TheVariants as kind
+use Rattle.cal_trace.specs.declared.write_fault.WriteFault.{WriteFault}
+use Rattle.cal_trace.specs.declared.write_fault.WriteFault.TheVariants as write
 use Rattle.cal_engine.specs.declared.fault.RunFault.{RunFault}
 use Rattle.cal_engine.specs.declared.fault.RunFault.TheVariants as fault
 
@@ -81,6 +83,11 @@ status_of fault.Memory = 3
 status_of fault.Write = 3
 status_of fault.Spawn = 3
 status_of fault.Gate = 3
+
+-- a writer of cal_trace failed
+abbrev pub fault_of_writing : WriteFault → RunFault
+fault_of_writing write.Write = fault.Write
+fault_of_writing write.Memory = fault.Memory
 
 -- a run came to no outcome
 abbrev pub fault_of_run : SimFault → RunFault

@@ -131,6 +131,19 @@ impl From<SimFault> for RunFault {
     }
 }
 
+impl From<WriteFault> for RunFault {
+    ghost use Rattle.cal_engine.specs.Faults.{fault_of_writing};
+
+    ghost from_gives = { λ fault e. e ≡ fault_of_writing fault };
+
+    fn from(fault: WriteFault) -> RunFault {
+        match fault {
+            WriteFault::Write => RunFault::Write,
+            WriteFault::Memory => RunFault::Memory,
+        }
+    }
+}
+
 /// Writes the one line that the program says of a fault: its name, the reason, and a line feed.
 ///
 /// `WriteFault::Write` comes where the writer answers an error. It takes no memory.
