@@ -12,7 +12,9 @@ ghost use Rattle.std.specs.Prelude.{◌≡◌, ◌<◌, ◌⊎◌, [], IfOk, IfE
 ghost use Rattle.cal_world.specs.declared.illegal.Illegal.TheVariants.{Memory};
 ghost use Rattle.cal_world.specs.Projections.{history_in};
 ghost use Rattle.cal_world.specs.Threads.{running_on};
-ghost use Rattle.cal_world.specs.World.{IsAllowed, IsRefusal, IsRefusedFor, and_then};
+ghost use Rattle.cal_policy.specs.Pass.{IsLegal};
+ghost use Rattle.cal_world.specs.World.{IsAllowed, IsLegalList, IsRefusal, IsRefusedFor};
+ghost use Rattle.cal_world.specs.World.{and_then};
 
 use crate::event::Event;
 use crate::illegal::Illegal;
@@ -52,6 +54,7 @@ impl World {
     pub fn start(alloc: Global, config: &Config) -> Result<World, AllocError>
         ensures table { IfOk result (λ world. world.table ≡ config.now) }
         ensures events { IfOk result (λ world. world.events ≡ []) }
+        ensures legal { IfOk result (λ world. IsLegalList world.table world.events) }
     {
         config.limits();
         Ok(World {
@@ -62,10 +65,13 @@ impl World {
         })
     }
 
-    /// The passes so far.
+    /// The passes so far. The events are a legal list, and so the history is legal.
     pub fn history(&self) -> &[PassEntry]
-        ensures { result.now ≡ history_in self.now.events }
+        ensures events { IsLegalList self.now.table self.now.events }
+        ensures history { result.now ≡ history_in self.now.events }
+        ensures legal { IsLegal self.now.table result.now }
     {
+        histories_are_legal();
         self.present.history.as_slice()
     }
 
@@ -83,7 +89,8 @@ impl World {
     /// Why an event may not come next, the least cause; None where it may. Its error is want of
     /// memory alone.
     fn refusal(&self, event: &Event) -> Result<Option<Illegal>, AllocError>
-        ensures { IfOk result (λ refusal.
+        ensures legal { IsLegalList self.now.table self.now.events }
+        ensures refusal { IfOk result (λ refusal.
             IsRefusal self.now.table self.now.events event.now refusal) }
     {
         histories_are_legal();
@@ -96,6 +103,7 @@ impl World {
         requires { IsAllowed self.old.table self.old.events event.now }
         ensures ok { OnOk result (self.new ≡ and_then self.old event.now) }
         ensures err { OnErr result (self.new ≡ self.old) }
+        ensures legal { IsLegalList self.new.table self.new.events }
     {
         let copy = event.copy(self.alloc)?;
         self.events.reserve(1)?;
@@ -106,13 +114,15 @@ impl World {
 
     /// Makes one step: exactly an event that is allowed after those before it is taken in. Else the
     /// answer is the least cause that refuses it, and the world is as it was. In place of any other
-    /// answer there may be `Memory`; then too the world is as it was.
+    /// answer there may be `Memory`; then too the world is as it was. Either way its events are a
+    /// legal list.
     pub fn step(&mut self, event: &Event) -> Result<(), Illegal>
         ensures allowed { OnOk result (IsAllowed self.old.table self.old.events event.now) }
         ensures taken { OnOk result (self.new ≡ and_then self.old event.now) }
         ensures refused { IfErr result (λ why.
             (why ≡ Memory) ⊎ IsRefusedFor self.old.table self.old.events event.now why) }
         ensures same { OnErr result (self.new ≡ self.old) }
+        ensures legal { IsLegalList self.new.table self.new.events }
     {
         if let Some(why) = self.refusal(event)? {
             return Err(why);

@@ -11,6 +11,16 @@ note-requires c =
     let P : Past → Type 0 = λ past. IsAllowed past.table past.events c.args.event.now in
     has_thread c.self.inside.config c.self.inside.events.items c.args.event.now c.self.inside.present c.self.invariant.kept (subst P (sym c.self.view_is) c.requires)
 
+pub returns-clause-legal : goal.returns-clause-legal
+returns-clause-legal c =
+    let table = c.self.inside.config in
+    let events : List Event = c.self.inside.events.items in
+    let P : Past → Type 0 = λ past. IsAllowed past.table past.events c.args.event.now in
+    let allowed : IsAllowed table events c.args.event.now = subst P (sym c.self.view_is) c.requires in
+    let all : events ++ c.args.event.now ∷ [] ≡ c.push_reserved.new.self.items =
+    sym (c.push_reserved.ensures.items ∙ ap (λ (es : List Event). es ++ c.in_ok-copy.copy ∷ []) c.in_ok-reserve.ensures.items ∙ ap (λ (e : Event). events ++ e ∷ []) c.in_ok-copy.ensures) in
+    subst (IsLegalList table) all (list_more table events c.args.event.now c.self.invariant.legal allowed)
+
 pub invariant_of-self-2 : goal.invariant_of-self-2
 invariant_of-self-2 c =
     let table = c.self.inside.config in
