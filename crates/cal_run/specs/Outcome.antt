@@ -10,7 +10,7 @@ use Rattle.cal_policy.specs.Tasks.{threads_of_table}
 use Rattle.cal_policy.specs.History.{actions_of, commands_to}
 use Rattle.cal_policy.specs.History.Found.{looks_at}
 use Rattle.cal_kthread.specs.End.Account.{IsAccounted}
-use Rattle.cal_kthread.specs.Journal.{commands_of}
+use Rattle.cal_kthread.specs.Journal.{IsJournal, commands_of}
 use Rattle.cal_kthread.specs.End.OnePlace.{LeftAt, Nowhere, ServedAt, StandsInOnePlace}
 use Rattle.cal_kthread.specs.Turn.Turns.{AreTurns}
 use Rattle.cal_linear.specs.Law.{IsLinearised}
@@ -47,6 +47,8 @@ pub record IsRun (table : Table) (arrivals : Arrivals) (outcome : Outcome) : Typ
   pub threads : length outcome.journals ≡ threads_of_table table
   pub turns : (k : ℕ) → k < threads_of_table table →
       AreTurns (turns_given arrivals.requests arrivals.turns k) [] (journal_at outcome.journals k)
+  -- each journal is one that a kernel thread can keep
+  pub kept : (k : ℕ) → IsJournal (journal_at outcome.journals k)
   -- as many watched rounds as passes, 1,024 at most
   pub rounds : length outcome.watched ≡ min (length arrivals.passes) most_rounds
   -- what the passes found of a thread, refused looks too, fits the page of its journal

@@ -2,7 +2,7 @@
 
 ghost use Rattle.std.specs.Prelude.{◌≡◌, ◌<◌, [], ℕ, length, map, min, IfOk, IfErr};
 ghost use Rattle.cal_kthread.specs.End.Account.{IsAccounted};
-ghost use Rattle.cal_kthread.specs.Journal.{commands_of};
+ghost use Rattle.cal_kthread.specs.Journal.{IsJournal, commands_of};
 ghost use Rattle.cal_kthread.specs.Turn.Turns.{AreTurns};
 ghost use Rattle.cal_linear.specs.Law.{IsLinearised};
 ghost use Rattle.cal_linear.specs.Linear.{linear};
@@ -46,6 +46,8 @@ pub fn lockstep(alloc: Global, config: &Config, arrivals: &Arrivals) -> Result<O
     ensures turns { IfOk result (λ outcome. (k : ℕ) → k < threads_of_table config.now →
         AreTurns (turns_given arrivals.now.requests arrivals.now.turns k) []
         (journal_at outcome.journals k)) }
+    ensures kept { IfOk result (λ outcome. (k : ℕ) →
+        IsJournal (journal_at outcome.journals k)) }
     ensures rounds { IfOk result (λ outcome.
         length outcome.watched ≡ min (length arrivals.now.passes) most_rounds) }
     ensures looks { IfOk result (λ outcome. (k : ℕ) →

@@ -1,5 +1,5 @@
 -- Two lists whose members go together one by one, where the lists are of two types.
-use Rattle.std.proofs.Common.{◌≡◌, ℕ, List, [], ◌∷◌, ◌++◌, Some, map, arith, subst, refl, sym, ap, ◌∙◌, zero, suc}
+use Rattle.std.proofs.Common.{◌≡◌, ◌<◌, ℕ, List, length, [], ◌∷◌, ◌++◌, Some, map, arith, subst, refl, sym, ap, ◌∙◌, zero, suc}
 use Rattle.std.specs.List.{AllZip, Contains, slice_get}
 
 -- one more pair at the end
@@ -37,6 +37,13 @@ pairs_place R [] (b ∷ bs) all k y at = absurd all
 pairs_place R (a ∷ as') [] all k y at = absurd all
 pairs_place R (a ∷ as') (b ∷ bs) all zero y at = let same : b ≡ y = cc in (a, refl, subst (R a) same all.0)
 pairs_place R (a ∷ as') (b ∷ bs) all (suc k) y at = pairs_place R as' bs all.1 k y at
+
+-- the pair at a place
+pub pairs_at : {A B : Type 0} (R : A → B → Type 0) (xs : List A) (ys : List B) → AllZip R xs ys → (k : ℕ) → k < length xs → (x : A) × (y : B) × (slice_get xs k ≡ Some x) × R x y
+pairs_at R [] ys all k low = absurd (omega (arith, low))
+pairs_at R (a ∷ as') [] all k low = absurd all
+pairs_at R (a ∷ as') (b ∷ bs) all zero low = (a, b, refl, all.0)
+pairs_at R (a ∷ as') (b ∷ bs) all (suc k) low = pairs_at R as' bs all.1 k (omega (arith, low))
 
 -- what two functions give of both members of a pair is the same
 pub pairs_map : {A B C : Type 0} (f : A → C) (h : B → C) (R : A → B → Type 0) → ((a : A) (b : B) → R a b → h b ≡ f a) → (xs : List A) (ys : List B) → AllZip R xs ys → map h ys ≡ map f xs

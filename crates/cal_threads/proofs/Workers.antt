@@ -1,12 +1,13 @@
 -- The kernel threads of a run, before and after their turns.
-use Rattle.std.proofs.Common.{◌≡◌, ℕ, ◌+◌, suc, List, ◌∷◌, Some, length, arith, subst, sym, ap, ◌∙◌}
+use Rattle.std.proofs.Common.{◌≡◌, ◌<◌, ℕ, ◌+◌, Bool, suc, List, ◌∷◌, Some, length, arith, subst, sym, ap, ◌∙◌}
 use Rattle.std.specs.List.{AllZip, slice_get}
 use Rattle.cal_trace.specs.declared.arrivals.Arrivals.{Arrivals}
 use Rattle.cal_run.specs.Workers.{HasMade, HaveMade, seat_of, seats_of}
 use Rattle.cal_run.specs.declared.workers.worker.Worker.{Worker}
+use Rattle.cal_threads.specs.Gates.{LetsThrough}
 use Rattle.cal_threads.specs.Promises.{HasMadeTurns, IsKept, IsOf}
 use Rattle.cal_threads.specs.declared.kernel_threads.Turned.{Turned}
-use Rattle.cal_threads.proofs.Pairs.{pairs_map, pairs_place}
+use Rattle.cal_threads.proofs.Pairs.{pairs_at, pairs_map, pairs_place}
 
 -- a thread that made turns is known by its own number
 pub by_its_number : (arrivals : Arrivals) (k j : ℕ) (worker : Worker) → HasMade arrivals k j worker → HasMade arrivals worker.number j worker
@@ -54,10 +55,26 @@ pub all_seated : (arrivals : Arrivals) (before after : List Worker) → AllZip (
 all_seated arrivals before after pairs = pairs_map (λ (w : Worker). seat_of w.thread) (λ (w : Worker). seat_of w.thread) _ (λ was is made. made.seat) before after pairs
 
 -- what keeps the promise of a kernel thread has made the turns that are given to that thread
-pub kept_of : {G : Type 0} (threads : ℕ) (arrivals : Arrivals) (gate : G) (was : Worker) (promise : Turned G) (is : Worker) →
-    IsOf threads arrivals gate was promise → IsKept promise is → HasMadeTurns arrivals was.number was is
-kept_of threads arrivals gate was promise is of kept =
-    let P : Worker → Type 0 = λ w. HasMadeTurns promise.arrivals.now promise.k w is in
-    let Q : ℕ → Type 0 = λ k. HasMadeTurns promise.arrivals.now k was is in
-    let R : Arrivals → Type 0 = λ a. HasMadeTurns a was.number was is in
-    subst R of.arrivals_are (subst Q (sym of.number) (subst P of.worker_is kept))
+module _ {G : Type 0} (answers : G → ℕ → ℕ → Bool → Type 0) (threads : ℕ) (arrivals : Arrivals) (gate : G) (was : Worker) (promise : Turned G) (is : Worker)
+    (of : IsOf threads arrivals gate was promise) (kept : IsKept answers promise is) where
+  pub kept_of : HasMadeTurns arrivals was.number was is
+  kept_of =
+      let P : Worker → Type 0 = λ w. HasMadeTurns promise.arrivals.now promise.k w is in
+      let Q : ℕ → Type 0 = λ k. HasMadeTurns promise.arrivals.now k was is in
+      let R : Arrivals → Type 0 = λ a. HasMadeTurns a was.number was is in
+      subst R of.arrivals_are (subst Q (sym of.number) (subst P of.worker_is kept.turns))
+
+  -- and the gate may have let each of them through
+  pub asked_of : LetsThrough (answers gate was.number) (length arrivals.turns)
+  asked_of =
+      let P : ℕ → Type 0 = λ k. LetsThrough (answers promise.gate.now k) (length promise.arrivals.now.turns) in
+      let Q : G → Type 0 = λ h. LetsThrough (answers h was.number) (length promise.arrivals.now.turns) in
+      let R : Arrivals → Type 0 = λ a. LetsThrough (answers gate was.number) (length a.turns) in
+      subst R of.arrivals_are (subst Q of.gate_is (subst P (sym of.number) kept.asked))
+
+-- where something holds of the number of each worker, it does of each number below the count
+pub of_each : {A : Type 0} (may : ℕ → Type 0) (arrivals : Arrivals) (before : List Worker) (after : List A) → HaveMade arrivals 0 before → AllZip (λ was is. may was.number) before after →
+    (k : ℕ) → k < length before → may k
+of_each may arrivals before after none pairs k low =
+    let at = pairs_at _ before after pairs k low in
+    subst may (none k at.0 at.2).number at.3

@@ -1,5 +1,6 @@
 -- The numbers of faults, by which one is answered of several.
-use Rattle.std.specs.Prelude.{◌≡◌, ℕ, ◌⊎◌, min, Result, Ok, Err}
+use Rattle.std.specs.Prelude.{◌≡◌, ◌≤◌, ℕ, ◌⊎◌, List, min, Result, Ok, Err}
+use Rattle.std.specs.List.{Contains}
 use Rattle.cal_run.specs.declared.fault.SimFault.{SimFault}
 use Rattle.cal_run.specs.declared.fault.SimFault.TheVariants.{Memory, Spawn, Gate}
 
@@ -21,3 +22,10 @@ IsFaultOf (Ok a) (Ok b) fault = ⊥
 IsFaultOf (Ok a) (Err e) fault = fault ≡ e
 IsFaultOf (Err e) (Ok b) fault = fault ≡ e
 IsFaultOf (Err e) (Err f) fault = IsLeast e f fault
+
+-- one of these results failed so, and none failed by a fault with a lesser number
+pub record IsLeastOfAll {A : Type 0} (results : List (Result A SimFault)) (fault : SimFault) :
+    Type 0 where
+  pub one : Contains results (Err fault)
+  pub none_less : (other : SimFault) → Contains results (Err other) →
+      fault_number fault ≤ fault_number other

@@ -1,5 +1,5 @@
--- When a gate may end a worker.
-use Rattle.std.specs.Prelude.{◌≡◌, ℕ, ◌<◌, ◌⊎◌, Bool, false}
+-- When a gate may end a worker, and what it answered to those that it let through.
+use Rattle.std.specs.Prelude.{◌≡◌, ℕ, ◌<◌, ◌⊎◌, Bool, false, true}
 use Rattle.cal_run.specs.declared.fault.SimFault.{SimFault}
 use Rattle.cal_run.specs.declared.fault.SimFault.TheVariants.{Memory, Gate}
 
@@ -14,3 +14,11 @@ MayRefuseOne answers threads n = (k : ℕ) × (k < threads) × MayRefuse (answer
 -- why a worker ended: memory was refused, or it was the gate, which may have refused
 abbrev pub EndedBy : Type 0 → SimFault → Type 0
 EndedBy may_refuse fault = (fault ≡ Memory) ⊎ ((fault ≡ Gate) × may_refuse)
+
+-- each of the first n questions may be answered by yes
+abbrev pub LetsThrough : (ℕ → Bool → Type 0) → ℕ → Type 0
+LetsThrough answers n = (i : ℕ) → i < n → answers i true
+
+-- each of the first n questions of each of so many kernel threads may be answered by yes
+abbrev pub LetsEachThrough : (ℕ → ℕ → Bool → Type 0) → ℕ → ℕ → Type 0
+LetsEachThrough answers threads n = (k : ℕ) → k < threads → LetsThrough (answers k) n

@@ -1,18 +1,25 @@
 -- What the threads of a run promise.
-use Rattle.std.specs.Prelude.{◌≡◌, ℕ, ◌<◌, Bool, length, min}
+use Rattle.std.specs.Prelude.{◌≡◌, ℕ, ◌<◌, Bool, Result, MatchResult, length, min}
 use Rattle.cal_sched.specs.Scheduler.{SchedulerView}
 use Rattle.cal_sched.specs.Watching.{WatchView}
 use Rattle.cal_trace.specs.declared.arrivals.Arrivals.{Arrivals}
 use Rattle.cal_run.specs.Parts.{HasPassed, scheduler_seat_of, watch_seat_of}
 use Rattle.cal_run.specs.Workers.{HasMade, seat_of}
 use Rattle.cal_run.specs.declared.workers.worker.Worker.{Worker}
-use Rattle.cal_threads.specs.Gates.{MayRefuse}
+use Rattle.cal_run.specs.declared.fault.SimFault.{SimFault}
+use Rattle.cal_threads.specs.Gates.{EndedBy, LetsThrough, MayRefuse}
 use Rattle.cal_threads.specs.declared.kernel_threads.Turned.{Turned}
 
 -- the scheduler is in its seat, and has made all its passes
 pub record HasMadePasses (arrivals : Arrivals) (before after : SchedulerView) : Type 0 where
   pub passes : HasPassed arrivals (length arrivals.passes) after
   pub seat : scheduler_seat_of after ≡ scheduler_seat_of before
+
+-- and the gate may have let each of its passes through
+pub record AsksEachPass (answers : ℕ → Bool → Type 0) (arrivals : Arrivals)
+    (before after : SchedulerView) : Type 0 where
+  pub made : HasMadePasses arrivals before after
+  pub asked : LetsThrough answers (length arrivals.passes)
 
 -- the watch is in its seat, and has made as many rounds as passes, up to the last one that it was
 -- made for
@@ -35,11 +42,23 @@ module _ {G : Type 0} where
     pub arrivals_are : promise.arrivals.now ≡ arrivals
     pub gate_is : promise.gate.now ≡ gate
 
+  -- the gate may have let each turn of the thread that made this promise through
+  abbrev pub MayGoOn : (G → ℕ → ℕ → Bool → Type 0) → Turned G → Type 0
+  MayGoOn answers promise =
+      LetsThrough (answers promise.gate.now promise.k) (length promise.arrivals.now.turns)
+
   -- the promise is kept by this kernel thread
-  abbrev pub IsKept : Turned G → Worker → Type 0
-  IsKept promise worker = HasMadeTurns promise.arrivals.now promise.k promise.was.value worker
+  pub record IsKept (answers : G → ℕ → ℕ → Bool → Type 0) (promise : Turned G)
+      (worker : Worker) : Type 0 where
+    pub turns : HasMadeTurns promise.arrivals.now promise.k promise.was.value worker
+    pub asked : MayGoOn answers promise
 
   -- the gate may end the thread that made this promise
   abbrev pub MayEnd : (G → ℕ → ℕ → Bool → Type 0) → Turned G → Type 0
   MayEnd answers promise =
       MayRefuse (answers promise.gate.now promise.k) (length promise.arrivals.now.turns)
+
+  -- what the thread that made this promise may come back with
+  abbrev pub MayGive : (G → ℕ → ℕ → Bool → Type 0) → Turned G → Result Worker SimFault → Type 0
+  MayGive answers promise result =
+      MatchResult result (IsKept answers promise) (EndedBy (MayEnd answers promise))

@@ -1,12 +1,13 @@
 //! The threads of the kernel threads: what each promises, and how all are started and joined.
 
-ghost use Rattle.std.specs.Prelude.{◌≡◌, ◌≤◌, [], length, IfOk, IfErr, OnOk, MatchResult, vec_len};
+ghost use Rattle.std.specs.Prelude.{◌≡◌, ◌≤◌, [], length, IfOk, IfErr, OnOk, vec_len};
 ghost use Rattle.std.specs.Prelude.{vec_capacity};
 ghost use Rattle.std.specs.List.{AllZip, Contains};
 ghost use Rattle.cal_run.specs.Workers.{FitSomeTable, HaveMade, seats_of};
 ghost use Rattle.cal_run.specs.declared.fault.SimFault.TheVariants.{Gate as GateFault, Spawn};
-ghost use Rattle.cal_threads.specs.Gates.{EndedBy, MayRefuseOne};
-ghost use Rattle.cal_threads.specs.Promises.{IsKept, IsOf, MayEnd};
+ghost use Rattle.cal_threads.specs.Faults.{IsLeastOfAll};
+ghost use Rattle.cal_threads.specs.Gates.{LetsEachThrough, MayRefuseOne};
+ghost use Rattle.cal_threads.specs.Promises.{IsKept, IsOf, MayEnd, MayGive};
 
 use crate::faults::{both, least};
 use crate::gate::Gate;
@@ -17,8 +18,8 @@ use std::alloc::Global;
 use std::snapshot::Snapshot;
 use std::thread::{Promise, PromisedHandle, Scope, Threads};
 
-/// That kernel thread `k` comes back in its seat and has made its turns; or that memory was refused
-/// to it, or the gate may have ended it.
+/// That kernel thread `k` comes back in its seat and has made its turns, each of which the gate let
+/// through; or that memory was refused to it, or the gate may have ended it.
 #[derive(Drop)]
 pub(crate) struct Turned<'a, G: Gate> {
     was: Snapshot<Worker>,
@@ -28,7 +29,7 @@ pub(crate) struct Turned<'a, G: Gate> {
 }
 
 impl<'a, G: Gate> Promise<Result<Worker, SimFault>> for Turned<'a, G> {
-    ghost kept_by = { λ p r. MatchResult r (IsKept p) (EndedBy (MayEnd G.answers_turn p)) };
+    ghost kept_by = { MayGive G.answers_turn };
 }
 
 /// The thread of a kernel thread.
@@ -48,6 +49,8 @@ pub(crate) fn run_workers<'s, R: Threads, E, G: Gate + Sync>(
     requires none { HaveMade arrivals.now 0 workers.items }
     ensures made { IfOk result (λ v. HaveMade arrivals.now (length arrivals.now.turns) v.items) }
     ensures seats { IfOk result (λ v. seats_of v.items ≡ seats_of workers.items) }
+    ensures asked { IfOk result (λ _. LetsEachThrough
+        (G.answers_turn gate.now) (vec_len workers) (length arrivals.now.turns)) }
     ensures ended { IfErr result (λ e. e ≡ GateFault → MayRefuseOne
         (G.answers_turn gate.now) (vec_len workers) (length arrivals.now.turns)) }
 {
@@ -107,8 +110,11 @@ fn join_workers<'a, G: Gate>(
 ) -> Result<Vec<Worker>, SimFault>
     requires empty { workers.items ≡ [] }
     requires room { vec_len threads ≤ vec_capacity workers }
-    ensures made { IfOk result (λ v. AllZip (λ t w. IsKept t.promise w)
+    ensures made { IfOk result (λ v. AllZip (λ t w. IsKept G.answers_turn t.promise w)
         threads.entry.items v.items) }
+    ensures least { IfErr result (λ fault. (results : _)
+        × AllZip (λ t r. MayGive G.answers_turn t.promise r) threads.entry.items results
+        × IsLeastOfAll results fault) }
     ensures ended { IfErr result (λ e. e ≡ GateFault → (t : _)
         × Contains threads.entry.items t × MayEnd G.answers_turn t.promise) }
 {

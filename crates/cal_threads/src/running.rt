@@ -4,8 +4,9 @@ ghost use Rattle.std.specs.Prelude.{◌≡◌, ◌⊎◌, IfOk, IfErr, MatchResu
 ghost use Rattle.cal_run.specs.Parts.{AreParts, HasPassed, rounds_of};
 ghost use Rattle.cal_run.specs.Workers.{FitSomeTable, HaveMade, seats_of};
 ghost use Rattle.cal_run.specs.declared.fault.SimFault.TheVariants.{Gate as GateFault, Spawn};
-ghost use Rattle.cal_threads.specs.Gates.{EndedBy, MayRefuse, MayRefuseOne};
-ghost use Rattle.cal_threads.specs.Promises.{HasMadePasses, HasMadeRounds};
+ghost use Rattle.cal_threads.specs.Gates.{EndedBy, LetsEachThrough, LetsThrough};
+ghost use Rattle.cal_threads.specs.Gates.{MayRefuse, MayRefuseOne};
+ghost use Rattle.cal_threads.specs.Promises.{AsksEachPass, HasMadePasses, HasMadeRounds};
 
 use crate::faults::both;
 use crate::gate::Gate;
@@ -20,8 +21,8 @@ use std::sync::Wait;
 use std::thread;
 use std::thread::{Promise, PromisedHandle, Scope, Threads};
 
-/// That the scheduler comes back in its seat and has made its passes; or that memory was refused to
-/// it, or the gate may have ended it.
+/// That the scheduler comes back in its seat and has made its passes, each of which the gate let
+/// through; or that memory was refused to it, or the gate may have ended it.
 #[derive(Drop)]
 struct Passed<'a, G: Gate> {
     was: Snapshot<Scheduler>,
@@ -30,7 +31,8 @@ struct Passed<'a, G: Gate> {
 }
 
 impl<'a, G: Gate> Promise<Result<Scheduler, SimFault>> for Passed<'a, G> {
-    ghost kept_by = { λ p r. MatchResult r (HasMadePasses p.arrivals.now p.was.value)
+    ghost kept_by = { λ p r. MatchResult r
+        (AsksEachPass (G.answers_pass p.gate.now) p.arrivals.now p.was.value)
         (EndedBy (MayRefuse (G.answers_pass p.gate.now) (length p.arrivals.now.passes))) };
 }
 
@@ -67,6 +69,10 @@ pub fn run_threads<R: Threads + Wait + Sync, G: Gate + Sync>(
     requires parts { AreParts parts.scheduler.table arrivals.now 0 0 0 parts }
     ensures ran { IfOk result (AreParts parts.scheduler.table arrivals.now
         (length arrivals.now.passes) (length arrivals.now.turns) (rounds_of arrivals.now)) }
+    ensures passes_asked { IfOk result (λ _.
+        LetsThrough (G.answers_pass gate.now) (length arrivals.now.passes)) }
+    ensures turns_asked { IfOk result (λ _. LetsEachThrough
+        (G.answers_turn gate.now) (vec_len parts.workers) (length arrivals.now.turns)) }
     ensures ended { IfErr result (λ e. e ≡ GateFault →
         MayRefuse (G.answers_pass gate.now) (length arrivals.now.passes)
         ⊎ MayRefuseOne (G.answers_turn gate.now) (vec_len parts.workers)
@@ -81,6 +87,11 @@ pub fn run_threads<R: Threads + Wait + Sync, G: Gate + Sync>(
             ensures ran { IfOk result (AreParts parts.scheduler.table arrivals.entry.now
                 (length arrivals.entry.now.passes) (length arrivals.entry.now.turns)
                 (rounds_of arrivals.entry.now)) }
+            ensures passes_asked { IfOk result (λ _.
+                LetsThrough (G.answers_pass gate.entry.now) (length arrivals.entry.now.passes)) }
+            ensures turns_asked { IfOk result (λ _.
+                LetsEachThrough (G.answers_turn gate.entry.now) (vec_len parts.workers)
+                (length arrivals.entry.now.turns)) }
             ensures ended { IfErr result (λ e. e ≡ GateFault →
                 MayRefuse (G.answers_pass gate.entry.now) (length arrivals.entry.now.passes)
                 ⊎ MayRefuseOne (G.answers_turn gate.entry.now) (vec_len parts.workers)
@@ -102,6 +113,10 @@ fn run_within<'s, R: Threads, E, G: Gate + Sync>(
     requires parts { AreParts parts.scheduler.table arrivals.now 0 0 0 parts }
     ensures ran { IfOk result (AreParts parts.scheduler.table arrivals.now
         (length arrivals.now.passes) (length arrivals.now.turns) (rounds_of arrivals.now)) }
+    ensures passes_asked { IfOk result (λ _.
+        LetsThrough (G.answers_pass gate.now) (length arrivals.now.passes)) }
+    ensures turns_asked { IfOk result (λ _. LetsEachThrough
+        (G.answers_turn gate.now) (vec_len parts.workers) (length arrivals.now.turns)) }
     ensures ended { IfErr result (λ e. e ≡ GateFault →
         MayRefuse (G.answers_pass gate.now) (length arrivals.now.passes)
         ⊎ MayRefuseOne (G.answers_turn gate.now) (vec_len parts.workers)
@@ -143,6 +158,8 @@ fn run_others<'s, R: Threads, E, G: Gate + Sync>(
         HaveMade arrivals.now (length arrivals.now.turns) r.0.items) }
     ensures seats { IfOk result (λ r. seats_of r.0.items ≡ seats_of workers.items) }
     ensures rounds { IfOk result (λ r. HasMadeRounds (length arrivals.now.passes) watch r.1) }
+    ensures asked { IfOk result (λ _. LetsEachThrough
+        (G.answers_turn gate.now) (vec_len workers) (length arrivals.now.turns)) }
     ensures ended { IfErr result (λ e. e ≡ GateFault → MayRefuseOne
         (G.answers_turn gate.now) (vec_len workers) (length arrivals.now.turns)) }
 {

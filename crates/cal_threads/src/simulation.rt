@@ -2,7 +2,7 @@
 
 ghost use Rattle.std.specs.Prelude.{◌≡◌, ◌<◌, ◌⊎◌, ℕ, [], IfOk, IfErr, length, map, min};
 ghost use Rattle.cal_kthread.specs.End.Account.{IsAccounted};
-ghost use Rattle.cal_kthread.specs.Journal.{commands_of};
+ghost use Rattle.cal_kthread.specs.Journal.{IsJournal, commands_of};
 ghost use Rattle.cal_kthread.specs.Turn.Turns.{AreTurns};
 ghost use Rattle.cal_linear.specs.Law.{IsLinearised};
 ghost use Rattle.cal_linear.specs.Linear.{linear};
@@ -16,6 +16,7 @@ ghost use Rattle.cal_run.specs.Outcome.Headline.{Headline};
 ghost use Rattle.cal_run.specs.Outcome.{EachStandsOnce, IsRun, figures_of, most_rounds};
 ghost use Rattle.cal_run.specs.declared.fault.SimFault.TheVariants.{Gate as GateFault};
 ghost use Rattle.cal_signal.specs.Pages.{FitsPage};
+ghost use Rattle.cal_threads.specs.Gates.{LetsEachThrough, LetsThrough};
 ghost use Rattle.cal_threads.specs.Gates.{MayRefuse, MayRefuseOne};
 ghost use Rattle.cal_trace.specs.Arrivals.FitsTable.{FitsTable};
 
@@ -33,7 +34,7 @@ use std::thread::Threads;
 /// answers false, that worker ends. Asks that the arrivals fit the table.
 ///
 /// What it comes to is what every run comes to, whatever the order of the threads' steps, and the
-/// headline holds of it.
+/// headline holds of it. Each pass and each turn of it is one that the gate let through.
 ///
 /// `Memory` where memory was refused, `Spawn` where a thread could not be started, and `Gate` where
 /// the gate ended a worker, which comes only where it may answer false; of several faults the one
@@ -54,6 +55,8 @@ pub fn simulate<R: Threads + Wait + Sync, G: Gate + Sync>(
     ensures turns { IfOk result (λ outcome. (k : ℕ) → k < threads_of_table config.now →
         AreTurns (turns_given arrivals.now.requests arrivals.now.turns k) []
         (journal_at outcome.journals k)) }
+    ensures kept { IfOk result (λ outcome. (k : ℕ) →
+        IsJournal (journal_at outcome.journals k)) }
     ensures rounds { IfOk result (λ outcome.
         length outcome.watched ≡ min (length arrivals.now.passes) most_rounds) }
     ensures looks { IfOk result (λ outcome. (k : ℕ) →
@@ -71,6 +74,10 @@ pub fn simulate<R: Threads + Wait + Sync, G: Gate + Sync>(
     ensures account { IfOk result (λ outcome. IsAccounted outcome.journals outcome.left) }
     ensures once { IfOk result (λ outcome. EachStandsOnce arrivals.now outcome) }
     ensures headline { IfOk result (Headline config.now) }
+    ensures passes_asked { IfOk result (λ _.
+        LetsThrough (G.answers_pass gate.now) (length arrivals.now.passes)) }
+    ensures turns_asked { IfOk result (λ _. LetsEachThrough
+        (G.answers_turn gate.now) (threads_of_table config.now) (length arrivals.now.turns)) }
     ensures gate { IfErr result (λ fault. fault ≡ GateFault →
         MayRefuse (G.answers_pass gate.now) (length arrivals.now.passes)
         ⊎ MayRefuseOne (G.answers_turn gate.now) (threads_of_table config.now)

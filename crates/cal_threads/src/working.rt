@@ -4,7 +4,7 @@
 ghost use Rattle.std.specs.Prelude.{◌≡◌, IfOk, IfErr, length, min};
 ghost use Rattle.cal_run.specs.Parts.{HasPassed, scheduler_seat_of, watch_seat_of};
 ghost use Rattle.cal_run.specs.Workers.{FitSomeTable, HasMade, seat_of};
-ghost use Rattle.cal_threads.specs.Gates.{EndedBy, MayRefuse};
+ghost use Rattle.cal_threads.specs.Gates.{EndedBy, LetsThrough, MayRefuse};
 
 use crate::gate::Gate;
 use cal_run::{SimFault, Worker, pass_given, round_given};
@@ -21,6 +21,8 @@ pub(crate) fn make_passes<G: Gate>(
     requires none { HasPassed arrivals.now 0 scheduler }
     ensures passed { IfOk result (HasPassed arrivals.now (length arrivals.now.passes)) }
     ensures seat { IfOk result (λ s. scheduler_seat_of s ≡ scheduler_seat_of scheduler) }
+    ensures asked { IfOk result (λ _.
+        LetsThrough (G.answers_pass gate.now) (length arrivals.now.passes)) }
     ensures ended { IfErr result (EndedBy
         (MayRefuse (G.answers_pass gate.now) (length arrivals.now.passes))) }
 {
@@ -44,6 +46,8 @@ pub(crate) fn make_turns<G: Gate>(
     requires none { HasMade arrivals.now k 0 worker }
     ensures made { IfOk result (HasMade arrivals.now k (length arrivals.now.turns)) }
     ensures seat { IfOk result (λ w. seat_of w.thread ≡ seat_of worker.thread) }
+    ensures asked { IfOk result (λ _.
+        LetsThrough (G.answers_turn gate.now k) (length arrivals.now.turns)) }
     ensures ended { IfErr result (EndedBy
         (MayRefuse (G.answers_turn gate.now k) (length arrivals.now.turns))) }
 {

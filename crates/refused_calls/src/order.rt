@@ -5,11 +5,9 @@ ghost use Rattle.cal_linear.specs.Runs.{AreOfOneRun, AreWatched};
 use crate::attempt::{answer, begin, wrong};
 use crate::given::Given;
 use crate::texts::write_events;
-use cal_kthread::laws::others_change_nothing;
 use cal_linear::{fitting_looks_are_publications, linearise};
 use cal_machine::Config;
 use cal_run::{Outcome, lockstep};
-use cal_world::threads_keep_journals;
 use std::io;
 
 /// The steps of a run on one thread.
@@ -17,8 +15,6 @@ pub fn of_run(rt: &HostRuntime, given: &Given) -> io::Result<bool> {
     let arrivals = given.arrivals(rt.alloc())?;
     given.config.limits();
     fitting_looks_are_publications();
-    others_change_nothing();
-    threads_keep_journals();
     match lockstep(rt.alloc(), &given.config, &arrivals) {
         Ok(outcome) => of_outcome(rt, &given.config, &outcome),
         Err(_) => Err(wrong()),

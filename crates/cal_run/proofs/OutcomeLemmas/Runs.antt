@@ -176,6 +176,7 @@ module _ (table : Table) (s : SchedulerView) (w : watching.WatchView) (workers :
         passes = passed ∙ take-length arrivals.passes;
         threads = many_journals;
         turns = made_turns arrivals made;
+        kept = kept_journals;
         rounds = rounds;
         looks = looks_fit;
         watched = are_watched;

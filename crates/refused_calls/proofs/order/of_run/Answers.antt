@@ -3,5 +3,4 @@ use Rattle.refused_calls.proofs.order.of_run.Goals as goal
 
 pub of_outcome-requires-clause-run : goal.of_outcome-requires-clause-run
 of_outcome-requires-clause-run c =
-    is_of_one_run c.others_change_nothing.ensures c.args.given.now.config _ c.in-Ok.outcome c.limits.ensures c.in-Ok.ensures.run c.in-Ok.ensures.headline c.threads_keep_journals.ensures.legal
-    c.fitting_looks_are_publications.ensures
+    is_of_one_run c.args.given.now.config _ c.in-Ok.outcome c.in-Ok.ensures.run c.in-Ok.ensures.headline c.fitting_looks_are_publications.ensures
