@@ -1,6 +1,8 @@
 //! What no clause says: that pages open, that looks succeed, and threads that meet over a page.
 ghost use Rattle.std.specs.Prelude.{◌≡◌};
 
+mod rows;
+
 use cal_signal::{
     Look, Observer, OpenLook, OpenPage, PublishFault, Publisher, Record, close_page, close_watched,
     look_open, open_page, open_watched, read_back,
@@ -84,53 +86,6 @@ fn half_written_page(rt: HostRuntime) -> Result<(), Fail> {
     assert!(rt; finds(&mut observer, whole(1, record(5, 10))));
     let end = close_page(publisher, observer);
     assert!(rt; end.published == 1 && end.seen == 1);
-    Ok(())
-}
-
-/// A look of nine loads, where the version is even. None where it is odd.
-fn whole_look(observer: Observer) -> Option<(Look, Observer)> {
-    let Ok(look) = observer.start() else {
-        return None;
-    };
-    let look = load(look, 9);
-    if look.loaded() != 9 {
-        return None;
-    }
-    Some(look.finish())
-}
-
-/// A look of nine loads, after three of which this record is published.
-fn look_beside(
-    publisher: &mut Publisher,
-    observer: Observer,
-    rec: Record,
-) -> Option<(Look, Observer)> {
-    let Ok(look) = observer.start() else {
-        return None;
-    };
-    let look = load(look, 3);
-    let _ = publisher.publish(rec);
-    let look = load(look, 6);
-    if look.loaded() != 9 {
-        return None;
-    }
-    Some(look.finish())
-}
-
-/// A look between whose loads a record is published finds two versions; the next one finds the
-/// record.
-#[test]
-fn stopped_look(rt: HostRuntime) -> Result<(), Fail> {
-    let (mut publisher, observer) = open_page(rt.alloc())?;
-    let Some((look, observer)) = look_beside(&mut publisher, observer, record(6, 20)) else {
-        panic!(rt; "the look was not begun")
-    };
-    assert!(rt; look == busy(0, 2));
-    let Some((look, observer)) = whole_look(observer) else {
-        panic!(rt; "the look was not begun")
-    };
-    assert!(rt; look == whole(1, record(6, 20)));
-    assert!(rt; observer.floor() == 1 && publisher.last().0 == 1);
     Ok(())
 }
 

@@ -4,51 +4,36 @@
 use cal_machine::Config;
 use cal_policy::{Actions, PassEntry, is_input, orderly, plain_pass};
 use cal_trace::read_history;
-use std::alloc::Global;
+use std::process::Abort;
 use std::test::Fail;
 
-/// Whether the plain pass on the input of this entry, after these, makes its actions.
-fn is_made(
-    alloc: Global,
+/// The plain pass on the input of this entry, after these, makes its actions.
+fn assert_made<R: Abort + AllocGlobal>(
+    rt: &R,
     config: &Config,
     before: &[PassEntry],
     entry: &PassEntry,
-) -> Result<bool, Fail> {
-    if !orderly(config, before) || !is_input(config, before, &entry.input) {
-        return Ok(false);
-    }
-    let mut made = Actions::reserved(alloc)?;
+) -> Result<(), Fail> {
+    assert!(rt; orderly(config, before) && is_input(config, before, &entry.input));
+    let mut made = Actions::reserved(rt.alloc())?;
     plain_pass(config, before, &entry.input, &mut made);
-    Ok(made.as_slice() == entry.actions.as_slice())
+    assert_eq!(rt;
+        made.as_slice(),
+        entry.actions.as_slice(),
+        "pass {}",
+        before.len()
+    );
+    Ok(())
 }
 
-/// Whether each pass of the history from the third on is made after those before it.
-fn are_made(alloc: Global, table: &str, history: &str) -> Result<bool, Fail> {
-    let config = Config::read(alloc, table.as_bytes())?;
-    let history = read_history(alloc, &config, history.as_bytes())?;
+/// Each pass of the history from the third on is made after those before it.
+fn assert_all_made<R: Abort + AllocGlobal>(rt: &R, state: State) -> Result<(), Fail> {
+    let (table, history) = state;
+    let config = Config::read(rt.alloc(), table.as_bytes())?;
+    let history = read_history(rt.alloc(), &config, history.as_bytes())?;
+    assert!(rt; history.len() > 2);
     for p in 2..history.len() {
-        if !is_made(alloc, &config, &history[..p], &history[p])? {
-            return Ok(false);
-        }
-    }
-    Ok(history.len() > 2)
-}
-
-#[test]
-fn worked_passes(rt: HostRuntime) -> Result<(), Fail> {
-    let rows = [
-        SIBLING_FIRST,
-        PREEMPT_BEST_EFFORT,
-        YIELD_BEFORE_PARK,
-        CAP_COUNTS_BOOKED,
-        BANDWIDTH_VICTIM_AND_CAP_RECOVERS,
-        SIBLING_NOT_OVER,
-        BAN_AND_UNBAN,
-        PREEMPT_LATENCY_CRITICAL,
-        NO_PREEMPTION,
-    ];
-    for (k, (table, history)) in rows.iter().enumerate() {
-        assert!(rt; are_made(rt.alloc(), *table, *history)?, "state {k}");
+        assert_made(rt, &config, &history[..p], &history[p])?;
     }
     Ok(())
 }
@@ -58,6 +43,11 @@ type State = (&'static str, &'static str);
 
 /// Two threads left their cores, and one has work again: of the free cores the one beside its
 /// task's own is granted (class 1).
+#[test]
+fn sibling_first(rt: HostRuntime) -> Result<(), Fail> {
+    assert_all_made(&rt, SIBLING_FIRST)
+}
+
 const SIBLING_FIRST: State = (
     "\
 cores = 4
@@ -92,6 +82,11 @@ end,3
 
 /// A core of a best-effort task is revoked for a latency-critical one (class 4), and no other while
 /// it is being left.
+#[test]
+fn preempt_best_effort(rt: HostRuntime) -> Result<(), Fail> {
+    assert_all_made(&rt, PREEMPT_BEST_EFFORT)
+}
+
 const PREEMPT_BEST_EFFORT: State = (
     "\
 cores = 2
@@ -131,6 +126,11 @@ end,4
 );
 
 /// A thread that yielded before it took its Park shows that it left: its core is free.
+#[test]
+fn yield_before_park(rt: HostRuntime) -> Result<(), Fail> {
+    assert_all_made(&rt, YIELD_BEFORE_PARK)
+}
+
 const YIELD_BEFORE_PARK: State = (
     "\
 cores = 2
@@ -173,6 +173,11 @@ end,4
 
 /// A core that is being left counts too: at its cap, which rises by one, the task gets no other
 /// core.
+#[test]
+fn cap_counts_booked(rt: HostRuntime) -> Result<(), Fail> {
+    assert_all_made(&rt, CAP_COUNTS_BOOKED)
+}
+
 const CAP_COUNTS_BOOKED: State = (
     "\
 cores = 4
@@ -213,6 +218,11 @@ end,3
 
 /// Above the limit the first of two tasks with as many misses loses its highest core and gets a
 /// cap; at the limit its cap rises again.
+#[test]
+fn bandwidth_victim_and_cap_recovers(rt: HostRuntime) -> Result<(), Fail> {
+    assert_all_made(&rt, BANDWIDTH_VICTIM_AND_CAP_RECOVERS)
+}
+
 const BANDWIDTH_VICTIM_AND_CAP_RECOVERS: State = (
     "\
 cores = 4
@@ -258,6 +268,11 @@ end,4
 
 /// A request runs longer than its task allows, beside a task that holds no more than its guarantee:
 /// nothing is banned.
+#[test]
+fn sibling_not_over(rt: HostRuntime) -> Result<(), Fail> {
+    assert_all_made(&rt, SIBLING_NOT_OVER)
+}
+
 const SIBLING_NOT_OVER: State = (
     "\
 cores = 2
@@ -286,6 +301,11 @@ end,3
 
 /// Beside a request that runs longer than its task allows the sibling is banned and revoked, and
 /// unbanned when it is done.
+#[test]
+fn ban_and_unban(rt: HostRuntime) -> Result<(), Fail> {
+    assert_all_made(&rt, BAN_AND_UNBAN)
+}
+
 const BAN_AND_UNBAN: State = (
     "\
 cores = 2
@@ -327,6 +347,11 @@ end,6
 );
 
 /// A core beyond a task's guarantee is revoked for one whose guarantee is not met (class 5).
+#[test]
+fn preempt_latency_critical(rt: HostRuntime) -> Result<(), Fail> {
+    assert_all_made(&rt, PREEMPT_LATENCY_CRITICAL)
+}
+
 const PREEMPT_LATENCY_CRITICAL: State = (
     "\
 cores = 2
@@ -358,6 +383,11 @@ end,3
 );
 
 /// Without a guarantee nothing is taken.
+#[test]
+fn no_preemption(rt: HostRuntime) -> Result<(), Fail> {
+    assert_all_made(&rt, NO_PREEMPTION)
+}
+
 const NO_PREEMPTION: State = (
     "\
 cores = 2
