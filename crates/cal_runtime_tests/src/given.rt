@@ -1,7 +1,8 @@
-//! What several of these tests take: a table, records, and the actions of a pass.
+//! What several of these tests take: a table, records, and what passes see and do.
 
-use cal_policy::Action;
+use cal_policy::{Action, PassEntry, Seen};
 use cal_signal::Record;
+use std::alloc::{AllocError, Global};
 
 /// Two cores and one latency-critical task of one thread, congested at a delay above 10.
 pub const ONE_THREAD: &[u8] = b"cores = 2
@@ -31,4 +32,44 @@ pub fn grant(core: u8, thread: u8, class: u8) -> Option<Action> {
 /// Whether these are all the actions of a pass.
 pub fn are_all(actions: &[Action], first: Option<Action>, second: Option<Action>) -> bool {
     actions.len() < 3 && actions.first().copied() == first && actions.get(1).copied() == second
+}
+
+/// How many actions a pass has, and its first two.
+pub type Did = (usize, Option<Action>, Option<Action>);
+
+/// The pass that does this first, then that, and no more.
+pub fn does(first: Option<Action>, second: Option<Action>) -> Did {
+    let count = match (first, second) {
+        (None, None) => 0,
+        (_, None) => 1,
+        _ => 2,
+    };
+    (count, first, second)
+}
+
+/// What a pass did.
+fn did(actions: &[Action]) -> Did {
+    (
+        actions.len(),
+        actions.first().copied(),
+        actions.get(1).copied(),
+    )
+}
+
+/// What the first passes did, at most so many.
+pub fn first_passes(
+    alloc: Global,
+    history: &[PassEntry],
+    most: usize,
+) -> Result<Vec<Did>, AllocError> {
+    let mut passes = Vec::new(alloc);
+    for entry in history.iter().take(most) {
+        passes.push(did(entry.actions.as_slice()))?;
+    }
+    Ok(passes)
+}
+
+/// What a pass saw of the first thread.
+pub fn seen(entry: &PassEntry) -> Option<Seen> {
+    entry.input.seen.as_slice().first().copied()
 }

@@ -72,8 +72,8 @@ enum Step {
     Send(usize, Command),
     /// Its turn at this time, before which nothing arrives.
     Turn(usize, u64),
-    /// Its turn at this time, before which the request of this name and this work arrives.
-    Arrive(usize, u64, u64, u64),
+    /// Its turn at this time, before which this request arrives.
+    Arrive(usize, u64, Request),
 }
 
 /// The steps, one after the other. False where a command was not sent, or a turn not made.
@@ -86,7 +86,7 @@ fn all_steps(threads: &mut Vec<KernelThread>, senders: &mut Vec<Sender>, steps: 
         let done = match *step {
             Step::Send(k, command) => sent(senders, k, command),
             Step::Turn(k, now) => turn_of(threads, k, now, None),
-            Step::Arrive(k, now, id, work) => turn_of(threads, k, now, Some(request(id, work))),
+            Step::Arrive(k, now, request) => turn_of(threads, k, now, Some(request)),
         };
         if !done {
             return false;

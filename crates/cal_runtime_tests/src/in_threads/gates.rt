@@ -1,23 +1,18 @@
 //! Gates at which workers wait for one another, and one that refuses.
 
-use super::run;
-use crate::given::{ONE_THREAD, are_all, grant};
+use super::{PREEMPTION, PREEMPTION_TABLE, run};
+use crate::given::{Did, ONE_THREAD, does, first_passes, grant};
 use cal_command::Command;
 use cal_kthread::Entry;
-use cal_policy::{Action, Cause, PassEntry, Seen};
+use cal_policy::{Action, Cause, Seen};
 use cal_run::{Outcome, SimFault};
 use cal_threads::Gate;
 use std::sync::atomic::{AtomicU64, Ordering};
 use std::test::Fail;
 use std::thread;
 
-/// Two cores, a latency-critical task of one thread and a best-effort task of two.
-const PREEMPTION_TABLE: &[u8] =
-    b"cores = 2\nbandwidth_limit = 1000\n[[task]]\nkind = \"lc\"\nguaranteed = 1\nlimit = 1\n\
-    delay = 10\nrequest = 1000\n[[task]]\nkind = \"be\"\nguaranteed = 0\nlimit = 2\ndelay = 0\n\
-    request = 0\n";
-
-const PREEMPTION: &[u8] = b"caladan-arrivals,1
+/// The arrivals of the preemption, with one pass and one turn more.
+const LONGER_PREEMPTION: &[u8] = b"caladan-arrivals,1
 pass,100,0
 pass,200,0
 pass,300,0
@@ -48,6 +43,62 @@ fn wait_for(count: &AtomicU64, least: u64, polls: u64) -> bool {
         thread::yield_now();
     }
     false
+}
+
+/// Lets pass 1 and turn 2 of threads 0 and 1 be made once all three are asked for.
+#[derive(Drop)]
+struct Meeting {
+    come: [AtomicU64; 3],
+}
+
+impl Meeting {
+    /// Sets the flag of this worker, and says whether those of all three come to be set.
+    fn meet(&self, worker: usize) -> bool {
+        if let Some(flag) = self.come.get(worker) {
+            flag.store(1, Ordering::SeqCst);
+        }
+        for _ in 0..10_000_000_u64 {
+            if self.have_met() {
+                return true;
+            }
+            thread::yield_now();
+        }
+        false
+    }
+
+    fn have_met(&self) -> bool {
+        for flag in &self.come {
+            if flag.load(Ordering::SeqCst) == 0 {
+                return false;
+            }
+        }
+        true
+    }
+}
+
+impl Gate for Meeting {
+    ghost answers_pass = { λ gate p answer. Unit {0} };
+
+    ghost answers_turn = { λ gate k j answer. Unit {0} };
+
+    fn before_pass(&self, p: u64) -> bool {
+        p != 1 || self.meet(2)
+    }
+
+    fn before_turn(&self, k: usize, j: u64) -> bool {
+        k > 1 || j != 2 || self.meet(k)
+    }
+}
+
+// With `workers_on_one_thread` the first of the three waits in vain.
+#[test]
+fn three_workers_meet(rt: HostRuntime) -> Result<(), Fail> {
+    let gate = Meeting {
+        come: [AtomicU64::new(0), AtomicU64::new(0), AtomicU64::new(0)],
+    };
+    let answer = run(&rt, rt.alloc(), PREEMPTION_TABLE, PREEMPTION, &gate)?;
+    assert_eq!(rt; answer.map(|_| ()), Ok(()));
+    Ok(())
 }
 
 /// How many passes, and how many turns of each of three threads, were asked for.
@@ -108,31 +159,20 @@ impl Gate for InStep {
     }
 }
 
-/// Whether these are the actions of the first passes.
-fn begins_with(history: &[PassEntry], passes: &[(Option<Action>, Option<Action>)]) -> bool {
-    for (entry, (first, second)) in history.iter().zip(passes.iter()) {
-        if !are_all(entry.actions.as_slice(), *first, *second) {
-            return false;
-        }
-    }
-    history.len() >= passes.len()
-}
-
-/// Whether the best-effort task has both cores, is preempted on the first and has it back.
-fn is_preempted(outcome: &Outcome) -> bool {
+/// The best-effort task has both cores, is preempted on the first and has it back.
+fn preempted() -> [Did; 7] {
     let core = 0;
     let cause = Cause::Preempt { task: 0 };
     let (free, revoke) = (Action::Free { core }, Action::Revoke { core, cause });
-    let passes = [
-        (None, None),
-        (grant(0, 1, 3), None),
-        (grant(1, 2, 1), None),
-        (Some(revoke), None),
-        (Some(free), grant(0, 0, 3)),
-        (None, None),
-        (Some(free), grant(0, 1, 1)),
-    ];
-    begins_with(outcome.history.as_slice(), &passes)
+    [
+        does(None, None),
+        does(grant(0, 1, 3), None),
+        does(grant(1, 2, 1), None),
+        does(Some(revoke), None),
+        does(Some(free), grant(0, 0, 3)),
+        does(None, None),
+        does(Some(free), grant(0, 1, 1)),
+    ]
 }
 
 // With `workers_on_one_thread` pass 1 waits in vain. With `always_out_of_memory`, or with always
@@ -142,8 +182,9 @@ fn passes_and_turns_in_step(rt: HostRuntime) -> Result<(), Fail> {
     let gate = InStep {
         asked: Asked::new(),
     };
-    let outcome = run(&rt, rt.alloc(), PREEMPTION_TABLE, PREEMPTION, &gate)??;
-    assert!(rt; is_preempted(&outcome));
+    let outcome = run(&rt, rt.alloc(), PREEMPTION_TABLE, LONGER_PREEMPTION, &gate)??;
+    let passes = first_passes(rt.alloc(), outcome.history.as_slice(), 7)?;
+    assert_eq!(rt; passes.as_slice(), preempted().as_slice());
     Ok(())
 }
 
@@ -181,29 +222,26 @@ request,0,0,7,1,3
 end,5
 ";
 
-/// Whether pass 0 read record 1 and granted core 0, and thread 0 took the command.
-fn is_granted_at_once(outcome: &Outcome) -> bool {
-    let Some(first) = outcome.history.as_slice().first() else {
-        return false;
-    };
-    let read = match first.input.seen.as_slice().first() {
-        Some(Seen::Whole { number, .. }) => *number == 1,
-        _ => false,
-    };
-    let granted = match first.actions.as_slice().first() {
-        Some(Action::Grant { core, .. }) => *core == 0,
-        _ => false,
-    };
-    let Some(journal) = outcome.journals.as_slice().first() else {
-        return false;
-    };
-    let mut took = false;
-    for entry in journal.as_slice() {
-        if *entry == Entry::Took(1, Command::Run(0)) {
-            took = true;
-        }
+/// The place of the record that pass 0 read of thread 0, and what it did.
+fn first_pass(outcome: &Outcome) -> Option<(u64, Option<Action>)> {
+    let entry = outcome.history.as_slice().first()?;
+    match entry.input.seen.as_slice().first()? {
+        Seen::Whole { number, .. } => Some((*number, entry.actions.as_slice().first().copied())),
+        _ => None,
     }
-    read && granted && took
+}
+
+/// What thread 0 did after its first record, as far as its second.
+fn second_turn(outcome: &Outcome) -> Option<Entry> {
+    let journal = outcome.journals.as_slice().first()?.as_slice();
+    let mut published = false;
+    for entry in journal {
+        if published {
+            return Some(*entry);
+        }
+        published = matches!(entry, Entry::Published(1, _));
+    }
+    None
 }
 
 // With `threads_share_nothing` pass 0 reads no record. A run on one thread that makes its rounds in
@@ -214,7 +252,11 @@ fn pass_between_two_turns(rt: HostRuntime) -> Result<(), Fail> {
         asked: Asked::new(),
     };
     let outcome = run(&rt, rt.alloc(), ONE_THREAD, ONE_GRANT, &gate)??;
-    assert!(rt; is_granted_at_once(&outcome));
+    assert_eq!(rt; first_pass(&outcome), Some((1, grant(0, 0, 3))));
+    assert_eq!(rt;
+        second_turn(&outcome),
+        Some(Entry::Took(1, Command::Run(0)))
+    );
     Ok(())
 }
 
@@ -238,7 +280,7 @@ impl Gate for Refusing {
 
 #[test]
 fn gate_refuses(rt: HostRuntime) -> Result<(), Fail> {
-    let answer = run(&rt, rt.alloc(), ONE_THREAD, ONE_GRANT, &Refusing)?;
+    let answer = run(&rt, rt.alloc(), PREEMPTION_TABLE, PREEMPTION, &Refusing)?;
     assert_eq!(rt; answer.map(|_| ()), Err(SimFault::Gate));
     Ok(())
 }

@@ -21,17 +21,17 @@ fn are_made(threads: &mut Vec<KernelThread>, senders: &mut Vec<Sender>) -> bool
 {
     let steps = [
         // Of each, the first request becomes the front; the second one stays in the queue.
-        Step::Arrive(0, 10, 10, 1),
-        Step::Arrive(0, 20, 11, 1),
-        Step::Arrive(1, 10, 20, 1),
-        Step::Arrive(1, 20, 21, 1),
+        Step::Arrive(0, 10, request(10, 1)),
+        Step::Arrive(0, 20, request(11, 1)),
+        Step::Arrive(1, 10, request(20, 1)),
+        Step::Arrive(1, 20, request(21, 1)),
         // The next thread after the last of its task is the first.
         Step::Send(2, Command::Run(3)),
         Step::Turn(2, 30),
         Step::Turn(2, 40),
         // With a request of its own it steals none.
-        Step::Arrive(0, 50, 12, 1),
-        Step::Arrive(2, 60, 30, 1),
+        Step::Arrive(0, 50, request(12, 1)),
+        Step::Arrive(2, 60, request(30, 1)),
         Step::Turn(2, 70),
         Step::Turn(2, 80),
     ];

@@ -4,7 +4,7 @@ ghost use Rattle.std.specs.Prelude.{◌≡◌, length, map};
 ghost use Rattle.cal_kthread.specs.Team.{IsTeam, place_of};
 ghost use Rattle.cal_machine.specs.Tasks.{threads_in};
 
-use super::{Step, TWO_THREADS, all_steps, ends_of, left_of_all, names_of};
+use super::{Step, TWO_THREADS, all_steps, ends_of, left_of_all, names_of, request};
 use cal_command::Command;
 use cal_kthread::{KernelEnd, KernelThread, Request, RequestList, Team, open_threads};
 use cal_machine::Config;
@@ -64,15 +64,15 @@ fn arrived_is_served_or_left(rt: HostRuntime) -> Result<(), Fail> {
         ..
     } = open_threads(rt.alloc(), &config)?;
     let steps = [
-        Step::Arrive(0, 10, 7, 1),
-        Step::Arrive(0, 20, 8, 1),
-        Step::Arrive(0, 25, 9, 2),
+        Step::Arrive(0, 10, request(7, 1)),
+        Step::Arrive(0, 20, request(8, 1)),
+        Step::Arrive(0, 25, request(9, 2)),
         Step::Send(1, Command::Run(1)),
         Step::Turn(1, 30),
         Step::Send(0, Command::Run(0)),
-        Step::Arrive(0, 50, 10, 1),
-        Step::Arrive(0, 60, 11, 1),
-        Step::Arrive(1, 70, 12, 3),
+        Step::Arrive(0, 50, request(10, 1)),
+        Step::Arrive(0, 60, request(11, 1)),
+        Step::Arrive(1, 70, request(12, 3)),
     ];
     assert!(rt; all_steps(&mut threads, &mut senders, &steps));
     assert!(rt; end_as_meant(rt.alloc(), &config, threads)?);

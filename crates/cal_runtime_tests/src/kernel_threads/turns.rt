@@ -1,35 +1,72 @@
 //! Turns of one kernel thread.
+ghost use Rattle.std.specs.Prelude.{◌≡◌, length, map};
+ghost use Rattle.cal_kthread.specs.Team.{IsTeam, place_of};
+ghost use Rattle.cal_machine.specs.Tasks.{threads_in};
 
-use super::{Step, all_steps, request};
+use super::{Step, all_steps, ends_of, request};
 use crate::given::{ONE_THREAD, record};
 use cal_command::Command;
-use cal_kthread::{Entry, Team, open_threads};
+use cal_kthread::{Entry, KernelThread, Request, Team, open_threads, settle};
 use cal_machine::Config;
+use std::alloc::Global;
 use std::test::Fail;
 
+/// What the first thread did, where there is one.
+fn journal_of(threads: &[KernelThread]) -> Option<&[Entry]> {
+    Some(threads.first()?.journal())
+}
+
+/// What the only thread has left, once its turns are over. None also where there is no request.
+fn left_after(
+    alloc: Global,
+    config: &Config,
+    threads: Vec<KernelThread>,
+) -> Result<Option<Request>, Fail>
+    requires count { length threads.items ≡ threads_in config.now.tasks }
+    requires team { IsTeam (map (λ t. place_of t.thread) threads.items) }
+{
+    let mut ends = ends_of(alloc, threads)?;
+    settle(config, ends.as_mut_slice());
+    match ends.pop() {
+        Some(mut end) => Ok(end.left()),
+        None => Err(Fail::new("there is no thread")),
+    }
+}
+
+/// A request of two turns, which is served: nothing is left.
 #[test]
 fn one_request_served(rt: HostRuntime) -> Result<(), Fail> {
     let config = Config::read(rt.alloc(), ONE_THREAD)?;
-    let mut team = open_threads(rt.alloc(), &config)?;
+    let Team {
+        mut threads,
+        mut senders,
+        ..
+    } = open_threads(rt.alloc(), &config)?;
+    let request = Request {
+        id: 1,
+        work: 2,
+        misses: 7,
+    };
     let steps = [
-        Step::Arrive(0, 100, 1, 2),
+        Step::Arrive(0, 100, request),
         Step::Send(0, Command::Run(0)),
         Step::Turn(0, 120),
         Step::Turn(0, 140),
         Step::Turn(0, 150),
     ];
-    assert!(rt; all_steps(&mut team.threads, &mut team.senders, &steps));
+    assert!(rt; all_steps(&mut threads, &mut senders, &steps));
     let journal = [
-        Entry::Arrived(request(1, 2)),
+        Entry::Arrived(request),
         Entry::Published(1, record([0, 0, 1, 100, 0, 0, 100, 0, 0])),
         Entry::Took(1, Command::Run(0)),
-        Entry::Published(2, record([1, 1, 0, 0, 120, 3, 120, 0, 0])),
+        Entry::Published(2, record([1, 1, 0, 0, 120, 7, 120, 0, 0])),
         Entry::Served { id: 1 },
-        Entry::Published(3, record([1, 1, 0, 0, 0, 6, 140, 0, 0])),
+        Entry::Published(3, record([1, 1, 0, 0, 0, 14, 140, 0, 0])),
         Entry::Yielded,
-        Entry::Published(4, record([1, 0, 0, 0, 0, 6, 150, 0, 0])),
+        Entry::Published(4, record([1, 0, 0, 0, 0, 14, 150, 0, 0])),
     ];
-    assert!(rt; is_only_thread_that_did(team, &journal));
+    assert_eq!(rt; journal_of(&threads), Some(journal.as_slice()));
+    assert_eq!(rt; left_after(rt.alloc(), &config, threads)?, None);
     Ok(())
 }
 
@@ -45,7 +82,7 @@ fn yield_before_park(rt: HostRuntime) -> Result<(), Fail> {
         Step::Send(0, Command::Park),
         Step::Send(0, Command::Run(0)),
         Step::Turn(0, 230),
-        Step::Arrive(0, 240, 5, 2),
+        Step::Arrive(0, 240, request(5, 2)),
     ];
     assert!(rt; all_steps(&mut team.threads, &mut team.senders, &steps));
     let journal = [
@@ -58,14 +95,6 @@ fn yield_before_park(rt: HostRuntime) -> Result<(), Fail> {
         Entry::Took(3, Command::Run(0)),
         Entry::Published(3, record([3, 1, 0, 0, 240, 3, 240, 0, 0])),
     ];
-    assert!(rt; is_only_thread_that_did(team, &journal));
+    assert_eq!(rt; journal_of(&team.threads), Some(journal.as_slice()));
     Ok(())
-}
-
-/// Is there one thread, that did this?
-fn is_only_thread_that_did(team: Team, journal: &[Entry]) -> bool {
-    match team.threads.as_slice() {
-        [thread] => thread.journal()[..] == journal[..],
-        _ => false,
-    }
 }

@@ -6,11 +6,11 @@ use crate::given::{ONE_THREAD, are_all, grant};
 use crate::kernel_threads::turn;
 use cal_kthread::{KernelThread, Request};
 use cal_machine::Config;
-use cal_policy::{Action, Holder, Placement, Seen};
+use cal_policy::{Action, Holder, PassEntry, Placement, Seen, Verdict, audit};
 use cal_run::{Parts, Worker, open_parts};
 use cal_sched::Scheduler;
 use cal_trace::read_arrivals;
-use std::alloc::Global;
+use std::alloc::{AllocError, Global};
 use std::test::Fail;
 
 /// A scheduler of one task of one thread on two cores, and the thread.
@@ -127,6 +127,29 @@ fn is_served(scheduler: &mut Scheduler, thread: &mut KernelThread) -> bool
         && stands(scheduler, 0, Holder::Free)
 }
 
+/// Whether a copy of the entry is equal to it.
+fn is_copied(alloc: Global, entry: &PassEntry) -> Result<bool, AllocError> {
+    let copy = entry.copy(alloc)?;
+    let (input, other) = (&copy.input, &entry.input);
+    Ok(
+        (input.now, input.bandwidth) == (other.now, other.bandwidth)
+            && input.seen.as_slice() == other.seen.as_slice()
+            && input.rooms.as_slice() == other.rooms.as_slice()
+            && copy.actions.as_slice() == entry.actions.as_slice(),
+    )
+}
+
+/// What the audit says of the passes, each of which is copied as it is.
+fn verdict(alloc: Global, history: &[PassEntry]) -> Result<Verdict, Fail> {
+    for entry in history {
+        if !is_copied(alloc, entry)? {
+            return Err(Fail::new("a copy is another entry"));
+        }
+    }
+    let config = Config::read(alloc, ONE_THREAD)?;
+    Ok(audit(alloc, &config, history)?)
+}
+
 // A thread has a request, is given a core, serves the request and yields.
 #[test]
 fn scheduler_and_thread(rt: HostRuntime) -> Result<(), Fail> {
@@ -136,5 +159,6 @@ fn scheduler_and_thread(rt: HostRuntime) -> Result<(), Fail> {
     } = open(rt.alloc())?;
     assert!(rt; is_granted(&mut scheduler, &mut thread));
     assert!(rt; is_served(&mut scheduler, &mut thread));
+    assert_eq!(rt; verdict(rt.alloc(), scheduler.history())?, Verdict::Legal);
     Ok(())
 }

@@ -1,6 +1,8 @@
-//! The rounds of a whole run on one thread.
+//! Whole runs on one thread: the rounds of the watch, and a theft.
 
-use crate::given::ONE_THREAD;
+use crate::given::{ONE_THREAD, does, first_passes, grant, record};
+use cal_command::Command;
+use cal_kthread::Entry;
 use cal_machine::Config;
 use cal_run::{Outcome, lockstep};
 use cal_signal::Look;
@@ -12,10 +14,10 @@ use std::test::Fail;
 const ARRIVALS: &[u8] =
     b"caladan-arrivals,1\npass,100,0\npass,116,0\nturn,105\nturn,125\nrequest,0,0,7,1,3\nend,5\n";
 
-/// The run of the arrivals, where there is memory.
-fn run(alloc: Global) -> Option<Outcome> {
-    let config = Config::read(alloc, ONE_THREAD).ok()?;
-    let arrivals = read_arrivals(alloc, &config, ARRIVALS).ok()?;
+/// The run of these arrivals, where there is memory.
+fn run(alloc: Global, table: &[u8], rows: &[u8]) -> Option<Outcome> {
+    let config = Config::read(alloc, table).ok()?;
+    let arrivals = read_arrivals(alloc, &config, rows).ok()?;
     lockstep(alloc, &config, &arrivals).ok()
 }
 
@@ -33,11 +35,61 @@ fn found(outcome: &Outcome, round: usize) -> Option<(u64, u64)> {
 // (`second_observer_gives_zero`).
 #[test]
 fn watched_rounds(rt: HostRuntime) -> Result<(), Fail> {
-    let Some(outcome) = run(rt.alloc()) else {
+    let Some(outcome) = run(rt.alloc(), ONE_THREAD, ARRIVALS) else {
         return Err(Fail::new("there is memory"));
     };
     assert_eq!(rt; found(&outcome, 0), Some((1, 105)));
     assert!(rt; matches!(found(&outcome, 1), Some((2, _))));
     assert_eq!(rt; found(&outcome, 2), None);
+    Ok(())
+}
+
+/// Two cores and one latency-critical task of two threads.
+const TWO_THREADS: &[u8] =
+    b"cores = 2\nbandwidth_limit = 1000\n[[task]]\nkind = \"lc\"\nguaranteed = 2\nlimit = 2\n\
+    delay = 10\nrequest = 1000\n";
+
+/// Three requests for thread 0, and none for thread 1.
+const ONE_IS_BUSY: &[u8] = b"caladan-arrivals,1
+pass,100,0
+pass,200,0
+pass,300,0
+turn,150
+turn,250
+turn,350
+request,0,0,1,9,0
+request,0,1,2,9,0
+request,0,2,3,1,0
+end,9
+";
+
+/// What this thread did, where there is such a thread.
+fn journal_of(outcome: &Outcome, k: usize) -> Option<&[Entry]> {
+    Some(outcome.journals.as_slice().get(k)?.as_slice())
+}
+
+// The thread that was granted a core last steals the newest request and serves it in one turn.
+// Refused here: a thief that never steals (`never_steals`).
+#[test]
+fn steal_last_request(rt: HostRuntime) -> Result<(), Fail> {
+    let Some(outcome) = run(rt.alloc(), TWO_THREADS, ONE_IS_BUSY) else {
+        return Err(Fail::new("there is memory"));
+    };
+    let passes = first_passes(rt.alloc(), outcome.history.as_slice(), 4)?;
+    let wanted = [
+        does(None, None),
+        does(grant(0, 0, 3), None),
+        does(grant(1, 1, 1), None),
+    ];
+    assert_eq!(rt; passes.as_slice(), wanted.as_slice());
+    let journal = [
+        Entry::Published(1, record([0, 0, 0, 0, 0, 0, 150, 0, 0])),
+        Entry::Published(2, record([0, 0, 0, 0, 0, 0, 250, 0, 0])),
+        Entry::Took(1, Command::Run(1)),
+        Entry::Stole { from: 0, id: 3 },
+        Entry::Served { id: 3 },
+        Entry::Published(3, record([1, 2, 0, 0, 0, 0, 350, 0, 0])),
+    ];
+    assert_eq!(rt; journal_of(&outcome, 1), Some(journal.as_slice()));
     Ok(())
 }

@@ -1,87 +1,91 @@
 //! Passes over one bare page and ring.
 
 use super::bare;
-use crate::given::{are_all, grant, record};
+use crate::given::{Did, ONE_THREAD, does, first_passes, grant, record, seen};
 use cal_command::Command;
-use cal_policy::{Action, Seen};
+use cal_machine::Config;
+use cal_policy::{Action, PassEntry, Record, Seen, orderly};
 use cal_sched::{PassFault, Scheduler};
 use cal_signal::Publisher;
+use cal_trace::write_report;
+use std::alloc::{AllocError, Global};
+use std::process::Abort;
 use std::test::Fail;
-
-/// Whether the thread publishes the record of these words at this place.
-fn publishes(publisher: &mut Publisher, place: u64, words: [u64; 9]) -> bool {
-    publisher.publish(record(words)) == Ok(place)
-}
-
-/// One pass. Whether it does this first, then that, and no more.
-fn passes(
-    scheduler: &mut Scheduler,
-    now: u64,
-    first: Option<Action>,
-    second: Option<Action>,
-) -> bool {
-    if scheduler.pass(now, 0) != Ok(()) {
-        return false;
-    }
-    let Some(entry) = scheduler.history().last() else {
-        return false;
-    };
-    are_all(entry.actions.as_slice(), first, second)
-}
-
-/// Whether the last pass saw this of the one thread.
-fn saw(scheduler: &Scheduler, wanted: Seen) -> bool {
-    match scheduler.history().last() {
-        Some(entry) => entry.input.seen.as_slice().first().copied() == Some(wanted),
-        None => false,
-    }
-}
 
 const FREE: Option<Action> = Some(Action::Free { core: 0 });
 
-/// The record that acknowledges a command that was not sent.
-const NOT_SENT: [u64; 9] = [5, 0, 1, 100, 0, 0, 120, 0, 0];
+/// The record at place `n`, 1 to 6: it acknowledges `n - 1` commands, though its thread took none.
+fn false_record(n: u64) -> Record {
+    let stamp = match n {
+        1 => 100,
+        6 => 120,
+        _ => 108_u64.saturating_add(n.saturating_mul(2)),
+    };
+    record([n.saturating_sub(1), 0, 1, 100, 0, 0, stamp, 0, 0])
+}
 
-/// Whether the thread, which shows three Runs taken and its core left, is granted the core each
-/// time, though its taker took none.
-fn is_believed(scheduler: &mut Scheduler, publisher: &mut Publisher) -> bool {
-    for n in 1..4_u64 {
-        let words = [n, 0, 1, 100, 0, 0, 110 + 2 * n, 0, 0];
-        if !publishes(publisher, n + 1, words)
-            || !passes(scheduler, 111 + 2 * n, FREE, grant(0, 0, 2))
-        {
+/// Publishes the record at this place, and makes a pass. False where one of them is refused.
+fn shown_and_passed(
+    scheduler: &mut Scheduler,
+    publisher: &mut Publisher,
+    place: u64,
+    now: u64,
+) -> bool {
+    publisher.publish(false_record(place)) == Ok(place) && scheduler.pass(now, 0) == Ok(())
+}
+
+/// Six records, and a pass after each. False where one of them is refused.
+fn all_shown(scheduler: &mut Scheduler, publisher: &mut Publisher) -> bool {
+    for place in 1..7 {
+        if !shown_and_passed(scheduler, publisher, place, 109 + 2 * place) {
             return false;
         }
     }
     true
 }
 
-/// Whether the thread is believed once more, and not at its next record, which acknowledges a
-/// command that was not sent, since its ring is full.
-fn is_ahead(scheduler: &mut Scheduler, publisher: &mut Publisher) -> bool {
-    let number = 6;
-    let rec = record(NOT_SENT);
-    publishes(publisher, 5, [4, 0, 1, 100, 0, 0, 118, 0, 0])
-        && passes(scheduler, 119, FREE, None)
-        && publishes(publisher, number, NOT_SENT)
-        && passes(scheduler, 121, None, None)
-        && saw(scheduler, Seen::Ahead { number, rec })
+/// What each pass saw of the thread.
+fn all_seen(alloc: Global, history: &[PassEntry]) -> Result<Vec<Option<Seen>>, AllocError> {
+    let mut looks = Vec::new(alloc);
+    for entry in history {
+        looks.push(seen(entry))?;
+    }
+    Ok(looks)
 }
 
-/// Whether the thread is granted a core, is believed while its ring has room, and no more.
-fn is_refused_ahead(scheduler: &mut Scheduler, publisher: &mut Publisher) -> bool {
-    publishes(publisher, 1, [0, 0, 1, 100, 0, 0, 100, 0, 0])
-        && passes(scheduler, 111, grant(0, 0, 3), None)
-        && is_believed(scheduler, publisher)
-        && is_ahead(scheduler, publisher)
+/// What they are to see: the last record is ahead of what was sent, until one more was.
+fn wanted_looks() -> [Option<Seen>; 8] {
+    let whole = |number: u64| {
+        let rec = false_record(number);
+        Some(Seen::Whole { number, rec })
+    };
+    let rec = false_record(6);
+    let ahead = Some(Seen::Ahead { number: 6, rec });
+    [
+        whole(1),
+        whole(2),
+        whole(3),
+        whole(4),
+        whole(5),
+        ahead,
+        ahead,
+        whole(6),
+    ]
 }
 
-/// Whether that record is believed once the command was sent.
-fn is_behind(scheduler: &mut Scheduler) -> bool {
-    let rec = record(NOT_SENT);
-    passes(scheduler, 123, grant(0, 0, 2), None)
-        && passes(scheduler, 125, FREE, None)
-        && saw(scheduler, Seen::Whole { number: 6, rec })
+/// What they are to do: the ring is full after four Runs, and after the fifth.
+fn wanted_passes() -> [Did; 8] {
+    let again = does(FREE, grant(0, 0, 2));
+    [
+        does(grant(0, 0, 3), None),
+        again,
+        again,
+        again,
+        does(FREE, None),
+        does(None, None),
+        does(grant(0, 0, 2), None),
+        does(FREE, None),
+    ]
 }
 
 /// What a thread acknowledges that was sent is believed, until its ring is full and it acknowledges
@@ -89,9 +93,60 @@ fn is_behind(scheduler: &mut Scheduler) -> bool {
 #[test]
 fn false_records(rt: HostRuntime) -> Result<(), Fail> {
     let (mut scheduler, mut publisher, mut taker) = bare(&rt)?;
-    assert!(rt; is_refused_ahead(&mut scheduler, &mut publisher));
-    assert!(rt; matches!(taker.take(), Some((1, Command::Run(0)))));
-    assert!(rt; is_behind(&mut scheduler));
+    assert!(rt; all_shown(&mut scheduler, &mut publisher));
+    assert_eq!(rt; taker.take(), Some((1, Command::Run(0))));
+    assert!(rt; scheduler.pass(123, 0) == Ok(()) && scheduler.pass(125, 0) == Ok(()));
+    let looks = all_seen(rt.alloc(), scheduler.history())?;
+    assert_eq!(rt; looks.as_slice(), wanted_looks().as_slice());
+    let passes = first_passes(rt.alloc(), scheduler.history(), 9)?;
+    assert_eq!(rt; passes.as_slice(), wanted_passes().as_slice());
+    Ok(())
+}
+
+/// So many passes, with clocks from 0. False where one is refused.
+fn pass_often(scheduler: &mut Scheduler, passes: u64) -> bool {
+    for now in 0..passes {
+        if scheduler.pass(now, 0) != Ok(()) {
+            return false;
+        }
+    }
+    true
+}
+
+/// The report of that many passes that found the page busy.
+fn busy_report(alloc: Global, passes: u64) -> Result<String, AllocError> {
+    let mut text = String::new(alloc);
+    for pass in 0..passes {
+        writeln!(text, "pass {pass} now {pass} bandwidth 0\n  kept 0 busy")?;
+    }
+    writeln!(text, "end {passes} passes\ntask 0 lc held 0 leaving 0")?;
+    Ok(text)
+}
+
+/// The report of a history of the one thread.
+fn report_of<R: Abort + AllocGlobal>(rt: &R, history: &[PassEntry]) -> Result<Vec<u8>, Fail> {
+    let config = Config::read(rt.alloc(), ONE_THREAD)?;
+    assert!(rt; orderly(&config, history));
+    let mut text = Vec::new(rt.alloc());
+    write_report(&config, history, &mut text)?;
+    Ok(text)
+}
+
+/// Each of a hundred passes over an open page finds it busy, with the odd version twice, and does
+/// nothing, as the report says.
+#[test]
+fn open_page_is_busy(rt: HostRuntime) -> Result<(), Fail> {
+    let (mut scheduler, publisher, _taker) = bare(&rt)?;
+    let Ok(_page) = publisher.begin(false_record(1)) else {
+        return Err(Fail::new("the record was refused"));
+    };
+    assert!(rt; pass_often(&mut scheduler, 100));
+    let (first, second) = (1, 1);
+    for look in all_seen(rt.alloc(), scheduler.history())? {
+        assert_eq!(rt; look, Some(Seen::Busy { first, second }));
+    }
+    let report = report_of(&rt, scheduler.history())?;
+    assert_eq!(rt; report.as_slice(), busy_report(rt.alloc(), 100)?.as_bytes());
     Ok(())
 }
 

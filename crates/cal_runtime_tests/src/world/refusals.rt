@@ -38,64 +38,73 @@ fn answer(alloc: Global, world: &mut World, step: Step) -> Result<(), Illegal> {
     world.step(&event(alloc, step)?)
 }
 
-/// The place of the first row whose step a world answers otherwise, if there is one.
-fn first_other(
-    alloc: Global,
-    world: &mut World,
-    rows: &[(Step, Result<(), Illegal>)],
-) -> Option<usize> {
-    for (k, (step, wanted)) in rows.iter().enumerate() {
-        if answer(alloc, world, *step) != *wanted {
-            return Some(k);
-        }
-    }
-    None
-}
-
-/// The same place, of a new world.
-fn first_other_of_new(
-    alloc: Global,
-    rows: &[(Step, Result<(), Illegal>)],
-) -> Result<Option<usize>, Fail> {
+/// What a new world answers these steps.
+fn answers(alloc: Global, steps: &[Step]) -> Result<Vec<Result<(), Illegal>>, Fail> {
     let config = Config::read(alloc, ONE_THREAD)?;
     let mut world = World::start(alloc, &config)?;
-    Ok(first_other(alloc, &mut world, rows))
+    let mut answers = Vec::new(alloc);
+    for step in steps {
+        answers.push(answer(alloc, &mut world, *step))?;
+    }
+    Ok(answers)
 }
 
+/// Of a world in which nothing happened.
 #[test]
 fn world_refusals(rt: HostRuntime) -> Result<(), Fail> {
+    let answers = answers(rt.alloc(), &[Step::Take, Step::Yield, Step::Read(0)])?;
+    let wanted = [Err(Illegal::NothingSent), Err(Illegal::NotOn), Ok(())];
+    assert_eq!(rt; answers.as_slice(), wanted.as_slice());
+    Ok(())
+}
+
+/// Each other refusal once, up to the Take of what was sent.
+#[test]
+fn refusals_up_to_a_take(rt: HostRuntime) -> Result<(), Fail> {
     let taken = Record {
         taken: 1,
         ..WAITING
     };
-    let rows = [
-        (Step::Take, Err(Illegal::NothingSent)),
-        (Step::Yield, Err(Illegal::NotOn)),
-        (Step::Watch(1, 0), Err(Illegal::NoThread)),
-        (Step::Decide(&[]), Err(Illegal::OutOfTurn)),
-        (Step::Publish(taken), Err(Illegal::NotItsState)),
-        (Step::Publish(WAITING), Ok(())),
-        (Step::Skip, Err(Illegal::OutOfTurn)),
-        (Step::Read(2), Err(Illegal::NoSuchPlace)),
-        (Step::Read(1), Ok(())),
-        (Step::Read(1), Err(Illegal::OutOfTurn)),
-        (Step::Decide(&[]), Err(Illegal::NotThePass)),
-        (Step::Decide(&[GRANT]), Ok(())),
-        (Step::Take, Ok(())),
+    let steps = [
+        Step::Watch(1, 0),
+        Step::Decide(&[]),
+        Step::Publish(taken),
+        Step::Publish(WAITING),
+        Step::Skip,
+        Step::Read(2),
+        Step::Read(1),
+        Step::Read(1),
+        Step::Decide(&[]),
+        Step::Decide(&[GRANT]),
+        Step::Take,
     ];
-    assert_eq!(rt; first_other_of_new(rt.alloc(), &rows)?, None);
+    let wanted = [
+        Err(Illegal::NoThread),
+        Err(Illegal::OutOfTurn),
+        Err(Illegal::NotItsState),
+        Ok(()),
+        Err(Illegal::OutOfTurn),
+        Err(Illegal::NoSuchPlace),
+        Ok(()),
+        Err(Illegal::OutOfTurn),
+        Err(Illegal::NotThePass),
+        Ok(()),
+        Ok(()),
+    ];
+    assert_eq!(rt; answers(rt.alloc(), &steps)?.as_slice(), wanted.as_slice());
     Ok(())
 }
 
 /// The watch's floor is not the scheduler's.
 #[test]
 fn watch_floor(rt: HostRuntime) -> Result<(), Fail> {
-    let rows = [
-        (Step::Publish(WAITING), Ok(())),
-        (Step::Watch(0, 1), Ok(())),
-        (Step::Watch(0, 0), Err(Illegal::NoSuchPlace)),
-        (Step::Read(0), Ok(())),
+    let steps = [
+        Step::Publish(WAITING),
+        Step::Watch(0, 1),
+        Step::Watch(0, 0),
+        Step::Read(0),
     ];
-    assert_eq!(rt; first_other_of_new(rt.alloc(), &rows)?, None);
+    let wanted = [Ok(()), Ok(()), Err(Illegal::NoSuchPlace), Ok(())];
+    assert_eq!(rt; answers(rt.alloc(), &steps)?.as_slice(), wanted.as_slice());
     Ok(())
 }
