@@ -3,5 +3,6 @@ pub mod Booleans
 pub mod Counted
 pub mod Each
 pub mod EachAfter
+pub mod OneLookMore
 pub mod OneMore
 pub mod OneNumberMore

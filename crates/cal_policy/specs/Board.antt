@@ -1,8 +1,10 @@
 -- When the plain data that a pass keeps is what the actions and looks so far say.
 pub mod CoreSets
 pub mod Counts
+pub mod KeepingSets
 pub mod Losing
 pub mod Survey
+pub mod ThreadSet
 use Rattle.std.specs.Prelude.{◌≡◌, ℕ, ◌<◌, ◌≤◌, ◌^◌, List, min, Option, Some, None}
 use Rattle.std.specs.Prelude.{slice_index, slice_index_or, option_map, [], ◌∷◌, ◌++◌, length}
 use Rattle.std.specs.Option.{IfSome}
@@ -36,6 +38,7 @@ use Rattle.cal_policy.specs.Setting.{Setting, so_far, kept_now, kept_before}
 use Rattle.cal_policy.specs.Pass.Grants.{is_granted_in}
 use Rattle.cal_policy.specs.Board.Survey.{Surveys}
 use Rattle.cal_policy.specs.Board.CoreSets.{Sorts, IsSetOfBanned}
+use Rattle.cal_policy.specs.Board.KeepingSets.{KeepsSets}
 
 -- a number of commands as it is kept: no record acknowledges 2^64, so what is above need not be
 -- told apart
@@ -144,13 +147,14 @@ pub record BoardSound (threads : ℕ) (b : Board) : Type 0 where
 abbrev pub NamesTable : Table → Action → Type 0
 NamesTable table action = NamesCores table.cores (threads_of_table table) action
 
--- the board's threads are the table's, its counts are those of its cores, and its sets have each
--- core where its holder says
+-- the board's threads are the table's, its counts are those of its cores, its sets have each core
+-- where its holder says, and each thread where its kept record says
 pub record IsReady (table : Table) (b : Board) : Type 0 where
   pub sound : BoardSound MOST_THREADS b
   pub own : BoardSound (threads_of_table table) b
   pub counts : Surveys table (holder_in b.holding) b.survey
   pub sets : Sorts (holder_in b.holding) b.sets
+  pub keeping : KeepsSets b.keeping
 
 -- the set has the cores that were granted in this pass
 pub record HasGranted (granted : CoreSet) (acts : List Action) : Type 0 where

@@ -8,6 +8,7 @@ pub mod holders;
 pub mod records;
 pub mod replay;
 pub mod survey;
+pub mod thread_set;
 
 ghost use Rattle.std.specs.Prelude.{◌≡◌, ◌≤◌, ◌++◌, ◌∷◌, [], List, length};
 ghost use Rattle.cal_machine.specs.declared.machine.TheConstants.{MOST_CORES};
@@ -17,6 +18,7 @@ ghost use Rattle.cal_policy.specs.declared.history.look.Seen.{Seen};
 ghost use Rattle.cal_machine.specs.Table.{Table, IsTable};
 ghost use Rattle.cal_policy.specs.Board.{Agrees, IsReady, HasGranted, KeepingAgrees};
 ghost use Rattle.cal_policy.specs.Board.{KeepsBefore, NamesCores, NamesTable};
+ghost use Rattle.cal_policy.specs.Board.KeepingSets.{KeepsSets};
 
 use crate::board::bans::Bans;
 use crate::board::caps::Caps;
@@ -139,6 +141,8 @@ impl Board {
                 kept: self.keeping.kept,
                 before: self.keeping.before,
                 shown: self.keeping.shown,
+                moved: self.keeping.moved,
+                waiting: self.keeping.waiting,
             },
             fresh: self.fresh,
         }
@@ -146,7 +150,8 @@ impl Board {
 
     /// Begins a pass with its looks: no core was granted in it yet.
     pub fn begin(&mut self, seen: &[Seen])
-        requires { length seen.now ≤ MOST_THREADS }
+        requires looks { length seen.now ≤ MOST_THREADS }
+        requires sets { KeepsSets self.old.keeping }
         ensures agrees { (x : List Action) → Agrees self.old x → Agrees self.new x }
         ensures fresh { HasGranted self.new.fresh [] }
         ensures ready { (table : Table) → IsReady table self.old → IsReady table self.new }

@@ -39,3 +39,12 @@ one_of_two false = refl
 pub count_both : (p : ℕ → Bool) (n : ℕ) → count_below p n + count_below (λ k. not (p k)) n ≡ n
 count_both p zero = refl
 count_both p (suc n) = omega (arith, count_both p n, one_of_two (p n))
+
+-- numbers at which it is 0 make it no greater
+pub greatest_past : (f : ℕ → ℕ) (n more : ℕ) → ((j : ℕ) → n ≤ j → j < n + more → f j ≡ 0) → greatest_below f (n + more) ≡ greatest_below f n
+greatest_past f n zero none = let e : n + 0 ≡ n = omega arith in rw e refl
+greatest_past f n (suc more) none =
+    let e : n + suc more ≡ suc (n + more) = omega arith in
+    let past = none (n + more) (omega arith) (omega arith) in
+    let before = greatest_past f n more (λ j a b. none j a (omega (arith, b))) in
+    rw (e, past, before) (omega arith)

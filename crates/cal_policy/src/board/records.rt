@@ -1,15 +1,17 @@
 //! What the looks so far have shown.
 
-ghost use Rattle.std.specs.Prelude.{◌≡◌, ℕ, ◌<◌, ◌≤◌, ◌++◌, ◌∷◌, [], List, length};
-ghost use Rattle.std.specs.Prelude.{replicate, slice_index, slice_index_or};
+ghost use Rattle.std.specs.Prelude.{◌≡◌, ℕ, ◌<◌, ◌≤◌, ◌==◌, ◌++◌, ◌∷◌, [], List, length};
+ghost use Rattle.std.specs.Prelude.{replicate, slice_index, if◌then◌else◌};
 ghost use Rattle.std.specs.Option.{unwrap_or};
 ghost use Rattle.cal_machine.specs.declared.numbering.TheConstants.{MOST_THREADS};
 ghost use Rattle.cal_policy.specs.declared.history.look.Seen.{Seen};
 ghost use Rattle.cal_signal.specs.Records.{zero_record};
 ghost use Rattle.cal_signal.specs.Shown.{nothing_shown};
-ghost use Rattle.cal_policy.specs.History.Looks.{to_keep_at, shown_at};
+ghost use Rattle.cal_policy.specs.History.Looks.{record_to_keep, shown_by};
 ghost use Rattle.cal_policy.specs.Board.{KeepingAgrees, KeepsBefore};
+ghost use Rattle.cal_policy.specs.Board.KeepingSets.{KeepsSets, kept_in, shown_in, shows_waiting};
 
+use crate::board::thread_set::ThreadSet;
 use crate::history::look::Seen;
 use cal_machine::MOST_THREADS;
 use cal_signal::{Record, Shown};
@@ -23,6 +25,10 @@ pub struct Keeping {
     pub before: [u64; MOST_THREADS],
     /// That of its last look with a record, whatever was judged of it.
     pub shown: [Shown; MOST_THREADS],
+    /// The threads whose kept record has other misses since the last pass's looks.
+    pub moved: ThreadSet,
+    /// The threads whose kept record shows a request that waits.
+    pub waiting: ThreadSet,
 }
 
 fn zero_records() -> [Record; MOST_THREADS]
@@ -43,47 +49,11 @@ fn no_misses() -> [u64; MOST_THREADS]
     [0; MOST_THREADS]
 }
 
-/// The misses of each kept record.
-fn misses_of(kept: &[Record; MOST_THREADS]) -> [u64; MOST_THREADS]
-    ensures { (k : ℕ) → k < MOST_THREADS →
-        slice_index result k ≡ (slice_index_or kept.now k zero_record).misses }
+/// Whether a record shows a request that waits, queued or suspended.
+fn is_waiting(rec: &Record) -> bool
+    ensures { result ≡ shows_waiting rec.now }
 {
-    let mut misses = no_misses();
-    for (k, rec) in kept.iter().enumerate() {
-        misses[k] = rec.misses;
-    }
-    misses
-}
-
-/// Keeps the record of each whole look.
-fn keep(kept: &mut [Record; MOST_THREADS], seen: &[Seen])
-    requires { length seen.now ≤ MOST_THREADS }
-    ensures { (k : ℕ) → k < MOST_THREADS →
-        slice_index_or kept.new k zero_record ≡ unwrap_or (to_keep_at seen.now k)
-        (slice_index_or kept.old k zero_record) }
-{
-    for (k, look) in seen.iter().enumerate() {
-        if let Seen::Whole { rec, .. } = look {
-            kept[k] = *rec;
-        }
-    }
-}
-
-/// Notes what each look with a record showed.
-fn note(shown: &mut [Shown; MOST_THREADS], seen: &[Seen])
-    requires { length seen.now ≤ MOST_THREADS }
-    ensures { (k : ℕ) → k < MOST_THREADS →
-        slice_index_or shown.new k nothing_shown ≡ unwrap_or (shown_at seen.now k)
-        (slice_index_or shown.old k nothing_shown) }
-{
-    for (k, look) in seen.iter().enumerate() {
-        match *look {
-            Seen::Whole { number, rec }
-            | Seen::Ahead { number, rec }
-            | Seen::Foreign { number, rec } => shown[k] = Shown { number, rec },
-            Seen::Busy { .. } => {}
-        }
-    }
+    rec.queued > 0 || rec.paused > 0
 }
 
 impl Keeping {
@@ -91,24 +61,92 @@ impl Keeping {
     pub fn new() -> Keeping
         ensures agrees { KeepingAgrees result [] }
         ensures before { KeepsBefore result [] }
+        ensures sets { KeepsSets result }
     {
         Keeping {
             kept: zero_records(),
             before: no_misses(),
             shown: none_shown(),
+            moved: ThreadSet::empty(),
+            waiting: ThreadSet::empty(),
+        }
+    }
+
+    /// Takes up the misses of each kept record, before the looks of the next pass. Only the threads
+    /// that moved are gone over.
+    fn settle(&mut self)
+        requires sets { KeepsSets self.old }
+        ensures kept { self.new.kept ≡ self.old.kept }
+        ensures shown { self.new.shown ≡ self.old.shown }
+        ensures before { (k : ℕ) → k < MOST_THREADS →
+            slice_index self.new.before k ≡ (kept_in self.old k).misses }
+        ensures sets { KeepsSets self.new }
+    {
+        let mut first = 0;
+        while let Some(k) = self.moved.next(first, MOST_THREADS) {
+            self.before[k] = self.kept[k].misses;
+            first = k + 1;
+        }
+        self.moved = ThreadSet::empty();
+    }
+
+    /// Keeps a record of thread `k`.
+    fn keep(&mut self, k: usize, rec: Record)
+        requires thread { k < MOST_THREADS }
+        ensures kept { (j : ℕ) → j < MOST_THREADS →
+            kept_in self.new j ≡ (if j == k then rec else kept_in self.old j) }
+        ensures before { self.new.before ≡ self.old.before }
+        ensures shown { self.new.shown ≡ self.old.shown }
+        ensures sets { KeepsSets self.old → KeepsSets self.new }
+    {
+        if self.kept[k].misses != rec.misses {
+            self.moved.insert(k);
+        }
+        if is_waiting(&rec) {
+            self.waiting.insert(k);
+        } else {
+            self.waiting.remove(k);
+        }
+        self.kept[k] = rec;
+    }
+
+    /// Takes one look, at thread `k`.
+    fn take(&mut self, k: usize, look: Seen)
+        requires thread { k < MOST_THREADS }
+        ensures kept { (j : ℕ) → j < MOST_THREADS → kept_in self.new j
+            ≡ (if j == k then unwrap_or (record_to_keep look) (kept_in self.old j)
+            else kept_in self.old j) }
+        ensures shown { (j : ℕ) → j < MOST_THREADS → shown_in self.new j
+            ≡ (if j == k then unwrap_or (shown_by look) (shown_in self.old j)
+            else shown_in self.old j) }
+        ensures before { self.new.before ≡ self.old.before }
+        ensures sets { KeepsSets self.old → KeepsSets self.new }
+    {
+        match look {
+            Seen::Whole { number, rec } => {
+                self.keep(k, rec);
+                self.shown[k] = Shown { number, rec };
+            }
+            Seen::Ahead { number, rec } | Seen::Foreign { number, rec } => {
+                self.shown[k] = Shown { number, rec };
+            }
+            Seen::Busy { .. } => {}
         }
     }
 
     /// Takes the looks of one more pass.
     pub fn look(&mut self, seen: &[Seen])
-        requires { length seen.now ≤ MOST_THREADS }
+        requires looks { length seen.now ≤ MOST_THREADS }
+        requires sets { KeepsSets self.old }
         ensures agrees { (looks : List (List Seen)) → KeepingAgrees self.old looks →
             KeepingAgrees self.new (looks ++ seen.now ∷ []) }
         ensures before { (looks : List (List Seen)) → KeepingAgrees self.old looks →
             KeepsBefore self.new looks }
+        ensures sets { KeepsSets self.new }
     {
-        self.before = misses_of(&self.kept);
-        keep(&mut self.kept, seen);
-        note(&mut self.shown, seen);
+        self.settle();
+        for (k, look) in seen.iter().enumerate() {
+            self.take(k, *look);
+        }
     }
 }

@@ -20,6 +20,7 @@ ghost use Rattle.cal_policy.specs.Pass.AtHand.{IsAtHand, StandsIn, setting_in};
 ghost use Rattle.cal_policy.specs.Pass.Coupled.{both_of, BothName};
 
 use crate::board::Board;
+use crate::board::core_sets::next_core;
 use crate::board::counts::is_over;
 use crate::board::holders::Holder;
 use crate::history::action::{Action, Cause};
@@ -180,7 +181,7 @@ impl Pass<'_> {
 }
 
 /// Bans the sibling of each core on which a request runs too long, and revokes it where it is held.
-/// The cores are gone over upwards, pair by pair, and a pair gives at most one ban.
+/// The cores that are taken are gone over upwards, pair by pair, and a pair gives at most one ban.
 pub fn ban_siblings(config: &Config, input: &Input, board: &mut Board, out: &mut Actions)
     requires of_table { IsOfTable config.now input.now board.old }
     requires room { length out.old + MOST_CORES ≤ MOST_ACTIONS }
@@ -190,7 +191,9 @@ pub fn ban_siblings(config: &Config, input: &Input, board: &mut Board, out: &mut
     ensures ready { IsReady config.now board.new }
     ensures length { length out.new ≤ length out.old + MOST_CORES }
 {
-    for pair in 0..config.machine().cores() / 2 {
+    let mut next = 0;
+    while let Some(core) = next_core(config, &board.sets.taken, 2 * next) {
+        let pair = core / 2;
         let pass = Pass {
             config,
             input,
@@ -198,5 +201,6 @@ pub fn ban_siblings(config: &Config, input: &Input, board: &mut Board, out: &mut
         };
         let both = pass.ban_in_pair(pair);
         make_both(config, board, out, both);
+        next = pair + 1;
     }
 }

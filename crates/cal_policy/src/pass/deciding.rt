@@ -10,6 +10,7 @@ ghost use Rattle.cal_policy.specs.Pass.Bans.{NoPairBanned};
 ghost use Rattle.cal_policy.specs.Pass.{pass_of};
 ghost use Rattle.cal_policy.specs.Board.{Agrees, KeepingAgrees, Stands};
 ghost use Rattle.cal_policy.specs.Board.{IsReady, IsOfTable, AgreesAfter, HasSizes};
+ghost use Rattle.cal_policy.specs.Board.KeepingSets.{KeepsSets};
 
 use crate::board::Board;
 use crate::history::action_list::Actions;
@@ -23,7 +24,8 @@ use cal_machine::Config;
 
 /// Begins a pass with the looks of its input.
 fn begin(board: &mut Board, input: &Input)
-    requires { length input.now.seen ≤ MOST_THREADS }
+    requires looks { length input.now.seen ≤ MOST_THREADS }
+    requires sets { KeepsSets board.old.keeping }
     ensures stands { (table : Table) (h : List PassEntry) → Agrees board.old (actions_of h) →
         KeepingAgrees board.old.keeping (looks_of h) →
         Stands board.new (setting table h input.entry.now) [] }

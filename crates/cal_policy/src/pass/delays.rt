@@ -43,7 +43,7 @@ impl Pass<'_> {
         record_delay(self.input.now, &self.board.keeping.kept[thread])
     }
 
-    /// The delay of a task: the greatest of its threads'.
+    /// The delay of a task: the greatest of its threads'. Only those that wait are gone over.
     fn task_delay(&self, task: usize) -> u64
         requires at_hand { IsAtHand self.now }
         requires task { task < length self.now.config.now.tasks }
@@ -52,9 +52,11 @@ impl Pass<'_> {
     {
         let (first, count) = self.config.threads_of(task);
         let mut greatest: u64 = 0;
-        for j in 0..count {
-            let delay = self.thread_delay(first + j);
+        let mut next = first;
+        while let Some(k) = self.board.keeping.waiting.next(next, first + count) {
+            let delay = self.thread_delay(k);
             greatest = greatest.max(delay);
+            next = k + 1;
         }
         greatest
     }

@@ -63,4 +63,5 @@ returns-clause-ready c =
           (Sorts_moved old.holding c.apply.new.self core old.sets c.move_core.new.self
           (λ j off. c.apply.ensures.others j (λ same. off (c.core_changed_by-core.ensures.changed ∙ same)))
           c.requires.ready.sets (subst At c.holder_at-after.ensures c.move_core.ensures.sorted) c.move_core.ensures.others k lt);
+      keeping = c.requires.ready.keeping;
     }

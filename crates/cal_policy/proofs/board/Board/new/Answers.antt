@@ -15,4 +15,5 @@ returns-clause-ready c = λ table. record {
       c.new-2.ensures.held c.new-2.ensures.booked c.new-2.ensures.placed c.new-2.ensures.awaited;
   sets = λ k lt. let At : Holder → Type 0 = λ a. IsSorted k a c.new-3.result in
       subst At (sym (c.new.ensures.free k)) (c.new-3.ensures.sorted k lt);
+  keeping = c.new-6.ensures.sets;
 }

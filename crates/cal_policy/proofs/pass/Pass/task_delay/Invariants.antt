@@ -1,4 +1,4 @@
-use Rattle.std.proofs.Common.{◌≡◌, List}
+use Rattle.std.proofs.Common.{◌≡◌, ◌+◌, ◌-◌, ◌≤◌, List}
 use Rattle.cal_policy.specs.declared.history.action.Action.{Action}
 use Rattle.cal_policy.specs.declared.history.entry.PassEntry.{PassEntry}
 use Rattle.cal_policy.specs.Pass.AtHand.{StandsIn, setting_in}
@@ -7,6 +7,13 @@ use Rattle.cal_policy.specs.Pass.Choice.{greatest_below}
 use Rattle.cal_policy.specs.Pass.Grants.{thread_delay}
 use Rattle.cal_policy.proofs.pass.Pass.task_delay.Given as goal
 
-abbrev pub invariant-loop-j : goal.invariant-loop-j
-invariant-loop-j l = (h : List PassEntry) (acts : List Action) → StandsIn l.self h acts →
-    l.greatest ≡ greatest_below (λ j. thread_delay (setting_in l.self h) (thread_of l.self.config.now l.task j)) l.j
+abbrev pub invariant-loop-next : goal.invariant-loop-next
+invariant-loop-next l = record {
+  greatest : (h : List PassEntry) (acts : List Action) → StandsIn l.self h acts →
+      l.greatest ≡ greatest_below (λ j. thread_delay (setting_in l.self h) (thread_of l.self.config.now l.task j)) (l.next - l.first);
+  from : l.first ≤ l.next;
+  to : l.next ≤ l.first + l.count;
+}
+
+abbrev pub decreases-loop-next : goal.decreases-loop-next
+decreases-loop-next l = l.first + l.count - l.next

@@ -1,4 +1,4 @@
-use Rattle.std.proofs.Common.{◌+◌, ◌*◌, ◌≤◌, List, length}
+use Rattle.std.proofs.Common.{◌+◌, ◌-◌, ◌*◌, ◌≤◌, List, length}
 use Rattle.cal_policy.specs.declared.history.entry.PassEntry.{PassEntry}
 use Rattle.cal_policy.specs.History.Lists.{in_pair}
 use Rattle.cal_policy.specs.Setting.{setting}
@@ -7,10 +7,14 @@ use Rattle.cal_policy.specs.Board.{Stands, IsReady}
 use Rattle.cal_policy.proofs.PassLemmas.PartSoFar.{Reached}
 use Rattle.cal_policy.proofs.pass.bans.ban_siblings.Given as goal
 
-abbrev pub invariant-loop-pair : goal.invariant-loop-pair
-invariant-loop-pair l = record {
+abbrev pub invariant-loop-core : goal.invariant-loop-core
+invariant-loop-core l = record {
   acts : (h : List PassEntry) → let s = setting l.fn.config h l.fn.input in Stands l.fn.board s l.fn.out →
-      Reached (in_pair (bans_at s)) s l.fn.out l.out l.board l.pair;
+      Reached (in_pair (bans_at s)) s l.fn.out l.out l.board l.next;
   ready : IsReady l.config l.board;
-  length : length l.out ≤ length l.fn.out + 2 * l.pair;
+  length : length l.out ≤ length l.fn.out + 2 * l.next;
+  next : 2 * l.next ≤ l.config.cores;
 }
+
+abbrev pub decreases-loop-core : goal.decreases-loop-core
+decreases-loop-core l = l.config.cores - l.next
