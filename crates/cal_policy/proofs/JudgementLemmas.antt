@@ -1,3 +1,5 @@
 -- What is judged of looks, and the input that comes of them.
+pub mod Gone
 pub mod Judged
+pub mod OneByOne
 pub mod OpenInput

@@ -1,4 +1,7 @@
 -- How looks are judged, which inputs a pass may be given, and which histories are orderly.
+pub mod Gone
 pub mod Judging
+pub mod OneByOne
 pub mod OpenInput
 pub mod Orderly
+pub mod Taken
