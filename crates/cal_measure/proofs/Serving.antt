@@ -1,0 +1,51 @@
+-- Turns and services, one turn more.
+use Rattle.std.proofs.Common.{◌≡◌, ℕ, Bool, true, false, ◌||◌, cond, List, [], ◌∷◌, ◌++◌, Option, Some, None, refl, ap, sym, ◌∙◌}
+use Rattle.std.specs.Option.{is_some, option_or}
+use Rattle.cal_measure.specs.Services.{any_serves, since_service, first_at_work, begun_since}
+use Rattle.cal_measure.specs.declared.turns.Turn.{Turn}
+
+or_assoc : (a b c : Bool) → (a || (b || c)) ≡ ((a || b) || c)
+or_assoc true b c = refl
+or_assoc false b c = refl
+
+or_false : (a : Bool) → (a || false) ≡ a
+or_false true = refl
+or_false false = refl
+
+or_true : (a : Bool) → (a || true) ≡ true
+or_true true = refl
+or_true false = refl
+
+any_push : (turns : List Turn) (turn : Turn) → any_serves (turns ++ turn ∷ []) ≡ (any_serves turns || is_some turn.served)
+any_push [] turn = or_false (is_some turn.served)
+any_push (t ∷ turns) turn = ap (λ b. is_some t.served || b) (any_push turns turn) ∙ or_assoc (is_some t.served) (any_serves turns) (is_some turn.served)
+
+-- a turn that served leaves nothing since
+since_push_some : (turns : List Turn) (turn : Turn) → is_some turn.served ≡ true → since_service (turns ++ turn ∷ []) ≡ []
+since_push_some [] turn e = rw e refl
+since_push_some (t ∷ turns) turn e = rw (any_push turns turn, e, or_true, or_true) (since_push_some turns turn e)
+
+cond_push : (b : Bool) (xs ys : List Turn) (turn : Turn) → cond b xs ys ++ turn ∷ [] ≡ cond b (xs ++ turn ∷ []) (ys ++ turn ∷ [])
+cond_push true xs ys turn = refl
+cond_push false xs ys turn = refl
+
+-- one that did not comes after the others
+since_push_none : (turns : List Turn) (turn : Turn) → is_some turn.served ≡ false → since_service (turns ++ turn ∷ []) ≡ since_service turns ++ turn ∷ []
+since_push_none [] turn e = rw e refl
+since_push_none (t ∷ turns) turn e =
+    rw (any_push turns turn, e, or_false, since_push_none turns turn e) (sym (cond_push (is_some t.served || any_serves turns) (since_service turns) (t ∷ turns) turn))
+
+-- the first at work, one turn more
+at_work_push : (turns : List Turn) (turn : Turn) → first_at_work (turns ++ turn ∷ []) ≡ option_or (first_at_work turns) (cond turn.at_work (Some turn.stamp) None)
+at_work_push [] turn = refl
+at_work_push (t ∷ turns) turn = at_work_step t.at_work t.stamp (first_at_work turns) _ _ (at_work_push turns turn) where
+  at_work_step : (b : Bool) (stamp : ℕ) (o p q : Option ℕ) → p ≡ option_or o q → cond b (Some stamp) p ≡ option_or (cond b (Some stamp) o) q
+  at_work_step true stamp o p q e = refl
+  at_work_step false stamp o p q e = e
+
+pub begun_push_some : (turns : List Turn) (turn : Turn) → is_some turn.served ≡ true → begun_since (turns ++ turn ∷ []) ≡ None
+begun_push_some turns turn e = rw (since_push_some turns turn e) refl
+
+pub begun_push_none : (turns : List Turn) (turn : Turn) → is_some turn.served ≡ false →
+    begun_since (turns ++ turn ∷ []) ≡ option_or (begun_since turns) (cond turn.at_work (Some turn.stamp) None)
+begun_push_none turns turn e = rw (since_push_none turns turn e) (at_work_push (since_service turns) turn)

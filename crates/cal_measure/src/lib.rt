@@ -1,0 +1,14 @@
+//! What a run comes to in numbers: of each task's requests how long they took, of its cores how
+//! many it had and why it lost them.
+//!
+//! The numbers are defined over the journals and the history of a run (`specs/`), and each one is
+//! proved to be that of its definition. What is measured, and how, is this project's own.
+#![tactic(auto)]
+
+mod services;
+mod spread;
+mod turns;
+
+pub use services::{Service, services_of};
+pub use spread::{Spread, spread_of};
+pub use turns::{Turn, turns_of};

@@ -1,0 +1,83 @@
+//! The requests that a kernel thread served, and when.
+
+ghost use Rattle.std.specs.Prelude.{◌≡◌, ◌++◌, ◌∷◌, [], List, OnOk, Some, None, if◌then◌else◌};
+ghost use Rattle.cal_measure.specs.Services.{begun_since, service_by, services_of};
+ghost use Rattle.cal_measure.specs.Turns.{one_of};
+ghost use Rattle.cal_measure.specs.declared.turns.Turn.{Turn};
+
+use crate::turns::Turn;
+use std::alloc::{AllocError, Global};
+
+/// A request that was served.
+#[derive(Clone, Copy, Debug, PartialEq, Eq)]
+pub struct Service {
+    /// The request's name.
+    pub id: u64,
+    /// The stamp of the first publication with it at work, in clock ticks.
+    pub begun: u64,
+    /// The stamp of the publication of the turn that served it, in clock ticks.
+    pub answered: u64,
+}
+
+/// The stamp of a turn that worked.
+fn stamp_at_work(turn: Turn) -> Option<u64>
+    ensures { result ≡ if turn.at_work then Some turn.stamp else None }
+{
+    if turn.at_work { Some(turn.stamp) } else { None }
+}
+
+/// When the request at work was begun, if there is one, with one turn more.
+fn begun_after(begun: Option<u64>, turn: Turn) -> Option<u64>
+    ensures { (turns : List Turn) → begun ≡ begun_since turns →
+        result ≡ begun_since (turns ++ turn ∷ []) }
+{
+    if turn.served.is_some() {
+        None
+    } else {
+        match begun {
+            Some(stamp) => Some(stamp),
+            None => stamp_at_work(turn),
+        }
+    }
+}
+
+/// The request that a turn served, if it did.
+fn service_by(begun: Option<u64>, turn: Turn) -> Option<Service>
+    ensures { (turns : List Turn) → begun ≡ begun_since turns →
+        one_of result ≡ service_by turns turn }
+{
+    match turn.served {
+        None => None,
+        Some(id) => Some(Service {
+            id,
+            begun: begun.unwrap_or(turn.stamp),
+            answered: turn.stamp,
+        }),
+    }
+}
+
+/// Puts a service, if there is one, at the end of a list. The error is out of memory.
+fn put_one(services: &mut Vec<Service>, service: Option<Service>) -> Result<(), AllocError>
+    ensures { OnOk result (services.new.items ≡ services.old.items ++ one_of service) }
+{
+    match service {
+        None => Ok(()),
+        Some(service) => {
+            services.push(service)?;
+            Ok(())
+        }
+    }
+}
+
+/// Puts the requests that were served in these turns, in order, at the end of a list. The error is
+/// out of memory.
+pub fn services_of(turns: &[Turn], services: &mut Vec<Service>) -> Result<(), AllocError>
+    ensures { OnOk result (services.new.items ≡ services.old.items ++ services_of turns.now) }
+{
+    let mut begun = None;
+    for turn in turns {
+        put_one(services, service_by(begun, *turn))?;
+        begun = begun_after(begun, *turn);
+    }
+    Ok(())
+}
