@@ -5,10 +5,16 @@
 //! proved to be that of its definition. What is measured, and how, is this project's own.
 #![tactic(auto)]
 
+mod clocks;
+mod requests;
 mod services;
 mod spread;
+mod states;
 mod turns;
 
+pub use clocks::{ArrivalClocks, last_clock};
+pub use requests::{TaskRequests, requests_of};
 pub use services::{Service, services_of};
 pub use spread::{Spread, spread_of};
+pub use states::CoreState;
 pub use turns::{Turn, turns_of};

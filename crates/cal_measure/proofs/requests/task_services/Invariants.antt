@@ -1,0 +1,7 @@
+use Rattle.std.proofs.Common.{◌≡◌}
+use Rattle.cal_policy.specs.Tasks.{thread_of}
+use Rattle.cal_measure.specs.Requests.{joined_below, services_at}
+use Rattle.cal_measure.proofs.requests.task_services.Given as goal
+
+abbrev pub invariant-loop-j : goal.invariant-loop-j
+invariant-loop-j l = l.services.items ≡ joined_below (λ j. services_at l.journals (thread_of l.config l.task j)) l.j
