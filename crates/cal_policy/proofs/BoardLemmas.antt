@@ -4,6 +4,7 @@ pub mod AsKept
 pub mod BannedSet
 pub mod BansKept
 pub mod CommandNumbers
+pub mod FitLooks
 pub mod Holders
 pub mod Replayed
 pub mod Sorted

@@ -18,7 +18,7 @@ ghost use Rattle.cal_policy.specs.declared.history.look.Seen.{Seen};
 ghost use Rattle.cal_machine.specs.Table.{Table, IsTable};
 ghost use Rattle.cal_policy.specs.Board.{Agrees, IsReady, HasGranted, KeepingAgrees};
 ghost use Rattle.cal_policy.specs.Board.{KeepsBefore, NamesCores, NamesTable};
-ghost use Rattle.cal_policy.specs.Board.KeepingSets.{KeepsSets};
+ghost use Rattle.cal_policy.specs.Board.KeepingSets.{FitAfter, KeepsSets};
 
 use crate::board::bans::Bans;
 use crate::board::caps::Caps;
@@ -143,6 +143,7 @@ impl Board {
                 shown: self.keeping.shown,
                 moved: self.keeping.moved,
                 waiting: self.keeping.waiting,
+                settled: self.keeping.settled,
             },
             fresh: self.fresh,
         }
@@ -150,8 +151,7 @@ impl Board {
 
     /// Begins a pass with its looks: no core was granted in it yet.
     pub fn begin(&mut self, seen: &[Seen])
-        requires looks { length seen.now ≤ MOST_THREADS }
-        requires sets { KeepsSets self.old.keeping }
+        requires { length seen.now ≤ MOST_THREADS }
         ensures agrees { (x : List Action) → Agrees self.old x → Agrees self.new x }
         ensures fresh { HasGranted self.new.fresh [] }
         ensures ready { (table : Table) → IsReady table self.old → IsReady table self.new }
@@ -162,5 +162,22 @@ impl Board {
     {
         self.fresh = CoreSet::empty();
         self.keeping.look(seen);
+    }
+
+    /// Begins a pass with its looks, which fit those before. Only those that are not as the ones
+    /// before are taken.
+    pub fn begin_fit(&mut self, seen: &[Seen])
+        requires looks { length seen.now ≤ MOST_THREADS }
+        requires sets { KeepsSets self.old.keeping }
+        ensures agrees { (x : List Action) → Agrees self.old x → Agrees self.new x }
+        ensures fresh { HasGranted self.new.fresh [] }
+        ensures ready { (table : Table) → IsReady table self.old → IsReady table self.new }
+        ensures keeping { (looks : List (List Seen)) → KeepingAgrees self.old.keeping looks →
+            FitAfter looks seen.now → KeepingAgrees self.new.keeping (looks ++ seen.now ∷ []) }
+        ensures before { (looks : List (List Seen)) → KeepingAgrees self.old.keeping looks →
+            KeepsBefore self.new.keeping looks }
+    {
+        self.fresh = CoreSet::empty();
+        self.keeping.look_fit(seen);
     }
 }

@@ -1,7 +1,7 @@
 //! What the looks so far have shown.
 
 ghost use Rattle.std.specs.Prelude.{◌≡◌, ℕ, ◌<◌, ◌≤◌, ◌==◌, ◌++◌, ◌∷◌, [], List, length};
-ghost use Rattle.std.specs.Prelude.{replicate, slice_index, if◌then◌else◌};
+ghost use Rattle.std.specs.Prelude.{replicate, slice_index, if◌then◌else◌, IsTrue};
 ghost use Rattle.std.specs.Option.{unwrap_or};
 ghost use Rattle.cal_machine.specs.declared.numbering.TheConstants.{MOST_THREADS};
 ghost use Rattle.cal_policy.specs.declared.history.look.Seen.{Seen};
@@ -10,6 +10,9 @@ ghost use Rattle.cal_signal.specs.Shown.{nothing_shown};
 ghost use Rattle.cal_policy.specs.History.Looks.{record_to_keep, shown_by};
 ghost use Rattle.cal_policy.specs.Board.{KeepingAgrees, KeepsBefore};
 ghost use Rattle.cal_policy.specs.Board.KeepingSets.{KeepsSets, kept_in, shown_in, shows_waiting};
+ghost use Rattle.cal_policy.specs.Board.KeepingSets.{FitAfter};
+ghost use Rattle.cal_policy.specs.Judgement.Judging.{IsFitLook};
+ghost use Rattle.cal_policy.specs.declared.history.look.Seen.TheVariants.{Whole};
 
 use crate::board::thread_set::ThreadSet;
 use crate::history::look::Seen;
@@ -29,6 +32,8 @@ pub struct Keeping {
     pub moved: ThreadSet,
     /// The threads whose kept record shows a request that waits.
     pub waiting: ThreadSet,
+    /// Threads whose kept record is the one last shown.
+    pub settled: ThreadSet,
 }
 
 fn zero_records() -> [Record; MOST_THREADS]
@@ -69,11 +74,25 @@ impl Keeping {
             shown: none_shown(),
             moved: ThreadSet::empty(),
             waiting: ThreadSet::empty(),
+            settled: ThreadSet::empty(),
         }
     }
 
-    /// Takes up the misses of each kept record, before the looks of the next pass. Only the threads
-    /// that moved are gone over.
+    /// Takes up the misses of each kept record, before the looks of the next pass.
+    fn settle_all(&mut self)
+        ensures kept { self.new.kept ≡ self.old.kept }
+        ensures shown { self.new.shown ≡ self.old.shown }
+        ensures before { (k : ℕ) → k < MOST_THREADS →
+            slice_index self.new.before k ≡ (kept_in self.old k).misses }
+        ensures sets { KeepsSets self.old → KeepsSets self.new }
+    {
+        for k in 0..MOST_THREADS {
+            self.before[k] = self.kept[k].misses;
+        }
+        self.moved = ThreadSet::empty();
+    }
+
+    /// The same, where only the threads that moved are gone over.
     fn settle(&mut self)
         requires sets { KeepsSets self.old }
         ensures kept { self.new.kept ≡ self.old.kept }
@@ -90,13 +109,14 @@ impl Keeping {
         self.moved = ThreadSet::empty();
     }
 
-    /// Keeps a record of thread `k`.
-    fn keep(&mut self, k: usize, rec: Record)
+    /// Keeps a record of thread `k`, which it showed at place `number`.
+    fn keep(&mut self, k: usize, number: u64, rec: Record)
         requires thread { k < MOST_THREADS }
         ensures kept { (j : ℕ) → j < MOST_THREADS →
             kept_in self.new j ≡ (if j == k then rec else kept_in self.old j) }
+        ensures shown { (j : ℕ) → j < MOST_THREADS → shown_in self.new j
+            ≡ (if j == k then record { number = number; rec = rec } else shown_in self.old j) }
         ensures before { self.new.before ≡ self.old.before }
-        ensures shown { self.new.shown ≡ self.old.shown }
         ensures sets { KeepsSets self.old → KeepsSets self.new }
     {
         if self.kept[k].misses != rec.misses {
@@ -107,7 +127,34 @@ impl Keeping {
         } else {
             self.waiting.remove(k);
         }
+        self.settled.insert(k);
         self.kept[k] = rec;
+        self.shown[k] = Shown { number, rec };
+    }
+
+    /// Notes what thread `k` showed, where that is not kept.
+    fn note(&mut self, k: usize, number: u64, rec: Record)
+        requires thread { k < MOST_THREADS }
+        ensures kept { self.new.kept ≡ self.old.kept }
+        ensures shown { (j : ℕ) → j < MOST_THREADS → shown_in self.new j
+            ≡ (if j == k then record { number = number; rec = rec } else shown_in self.old j) }
+        ensures before { self.new.before ≡ self.old.before }
+        ensures sets { KeepsSets self.old → KeepsSets self.new }
+    {
+        self.settled.remove(k);
+        self.shown[k] = Shown { number, rec };
+    }
+
+    /// Whether a fit look at this place finds thread `k` with the record that is kept already.
+    fn is_as_kept(&self, k: usize, number: u64) -> bool
+        requires thread { k < MOST_THREADS }
+        requires sets { KeepsSets self.now }
+        ensures { (rec : Record) → IsTrue result →
+            IsFitLook (shown_in self.now k) (Whole number rec) →
+            (rec ≡ kept_in self.now k)
+            × (record { number = number; rec = rec } ≡ shown_in self.now k) }
+    {
+        self.settled.has(k) && self.shown[k].number == number
     }
 
     /// Takes one look, at thread `k`.
@@ -123,30 +170,62 @@ impl Keeping {
         ensures sets { KeepsSets self.old → KeepsSets self.new }
     {
         match look {
-            Seen::Whole { number, rec } => {
-                self.keep(k, rec);
-                self.shown[k] = Shown { number, rec };
-            }
+            Seen::Whole { number, rec } => self.keep(k, number, rec),
             Seen::Ahead { number, rec } | Seen::Foreign { number, rec } => {
-                self.shown[k] = Shown { number, rec };
+                self.note(k, number, rec);
             }
             Seen::Busy { .. } => {}
         }
     }
 
+    /// Takes one fit look, at thread `k`. A whole one at the place that was shown before changes
+    /// nothing.
+    fn take_fit(&mut self, k: usize, look: Seen)
+        requires thread { k < MOST_THREADS }
+        requires sets { KeepsSets self.old }
+        ensures kept { IsFitLook (shown_in self.old k) look → (j : ℕ) → j < MOST_THREADS →
+            kept_in self.new j ≡ (if j == k
+            then unwrap_or (record_to_keep look) (kept_in self.old j) else kept_in self.old j) }
+        ensures shown { IsFitLook (shown_in self.old k) look → (j : ℕ) → j < MOST_THREADS →
+            shown_in self.new j ≡ (if j == k
+            then unwrap_or (shown_by look) (shown_in self.old j) else shown_in self.old j) }
+        ensures before { self.new.before ≡ self.old.before }
+        ensures sets { KeepsSets self.new }
+    {
+        match look {
+            Seen::Whole { number, .. } if self.is_as_kept(k, number) => {}
+            _ => self.take(k, look),
+        }
+    }
+
     /// Takes the looks of one more pass.
     pub fn look(&mut self, seen: &[Seen])
+        requires { length seen.now ≤ MOST_THREADS }
+        ensures agrees { (looks : List (List Seen)) → KeepingAgrees self.old looks →
+            KeepingAgrees self.new (looks ++ seen.now ∷ []) }
+        ensures before { (looks : List (List Seen)) → KeepingAgrees self.old looks →
+            KeepsBefore self.new looks }
+        ensures sets { KeepsSets self.old → KeepsSets self.new }
+    {
+        self.settle_all();
+        for (k, look) in seen.iter().enumerate() {
+            self.take(k, *look);
+        }
+    }
+
+    /// Takes the looks of one more pass, which fit those before.
+    pub fn look_fit(&mut self, seen: &[Seen])
         requires looks { length seen.now ≤ MOST_THREADS }
         requires sets { KeepsSets self.old }
         ensures agrees { (looks : List (List Seen)) → KeepingAgrees self.old looks →
-            KeepingAgrees self.new (looks ++ seen.now ∷ []) }
+            FitAfter looks seen.now → KeepingAgrees self.new (looks ++ seen.now ∷ []) }
         ensures before { (looks : List (List Seen)) → KeepingAgrees self.old looks →
             KeepsBefore self.new looks }
         ensures sets { KeepsSets self.new }
     {
         self.settle();
         for (k, look) in seen.iter().enumerate() {
-            self.take(k, *look);
+            self.take_fit(k, *look);
         }
     }
 }

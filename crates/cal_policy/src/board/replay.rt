@@ -8,6 +8,7 @@ ghost use Rattle.cal_policy.specs.declared.history.entry.PassEntry.{PassEntry};
 ghost use Rattle.cal_policy.specs.History.{actions_of, looks_of, looks_before};
 ghost use Rattle.cal_policy.specs.Judgement.Orderly.{IsOrderly};
 ghost use Rattle.cal_policy.specs.Board.{Agrees, KeepingAgrees, KeepsBefore, IsReady, NamesTable};
+ghost use Rattle.cal_policy.specs.Board.KeepingSets.{FitAfter};
 
 use crate::board::Board;
 use crate::history::action::Action;
@@ -39,7 +40,7 @@ fn step_each(config: &Config, board: &mut Board, actions: &[Action])
     }
 }
 
-/// Brings the board up to one more pass.
+/// Brings the board up to one more pass, whose looks fit those before.
 pub fn replay(config: &Config, board: &mut Board, entry: &PassEntry)
     requires ready { IsReady config.now board.old }
     requires looks { length entry.now.input.seen ≤ MOST_THREADS }
@@ -47,12 +48,13 @@ pub fn replay(config: &Config, board: &mut Board, entry: &PassEntry)
     ensures agrees { (h : List PassEntry) → Agrees board.old (actions_of h) →
         Agrees board.new (actions_of (h ++ entry.now ∷ [])) }
     ensures keeping { (h : List PassEntry) → KeepingAgrees board.old.keeping (looks_of h) →
+        FitAfter (looks_of h) entry.now.input.seen →
         KeepingAgrees board.new.keeping (looks_of (h ++ entry.now ∷ [])) }
     ensures before { (h : List PassEntry) → KeepingAgrees board.old.keeping (looks_of h) →
         KeepsBefore board.new.keeping (looks_of h) }
     ensures ready { IsReady config.now board.new }
 {
-    board.begin(entry.input.seen.as_slice());
+    board.begin_fit(entry.input.seen.as_slice());
     step_each(config, board, entry.actions.as_slice());
 }
 

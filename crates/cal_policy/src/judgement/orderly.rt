@@ -202,7 +202,7 @@ fn replay_fitting(config: &Config, board: &mut Board, entry: &PassEntry) -> bool
     if !looks_fit(&board.keeping, config, &entry.input) {
         return false;
     }
-    board.begin(entry.input.seen.as_slice());
+    board.begin_fit(entry.input.seen.as_slice());
     step_fitting(config, board, entry.actions.as_slice())
 }
 

@@ -10,7 +10,7 @@ ghost use Rattle.cal_policy.specs.Pass.Bans.{NoPairBanned};
 ghost use Rattle.cal_policy.specs.Pass.{pass_of};
 ghost use Rattle.cal_policy.specs.Board.{Agrees, KeepingAgrees, Stands};
 ghost use Rattle.cal_policy.specs.Board.{IsReady, IsOfTable, AgreesAfter, HasSizes};
-ghost use Rattle.cal_policy.specs.Board.KeepingSets.{KeepsSets};
+ghost use Rattle.cal_policy.specs.Board.KeepingSets.{FitAfter, KeepsSets};
 
 use crate::board::Board;
 use crate::history::action_list::Actions;
@@ -22,16 +22,16 @@ use crate::pass::grants::{best_effort_grants, critical_grants};
 use crate::pass::unbans::end_bans;
 use cal_machine::Config;
 
-/// Begins a pass with the looks of its input.
+/// Begins a pass with the looks of its input, which fit those before.
 fn begin(board: &mut Board, input: &Input)
     requires looks { length input.now.seen ≤ MOST_THREADS }
     requires sets { KeepsSets board.old.keeping }
     ensures stands { (table : Table) (h : List PassEntry) → Agrees board.old (actions_of h) →
-        KeepingAgrees board.old.keeping (looks_of h) →
+        KeepingAgrees board.old.keeping (looks_of h) → FitAfter (looks_of h) input.entry.now.seen →
         Stands board.new (setting table h input.entry.now) [] }
     ensures ready { (table : Table) → IsReady table board.old → IsReady table board.new }
 {
-    board.begin(input.seen.as_slice());
+    board.begin_fit(input.seen.as_slice());
 }
 
 /// Makes the parts of a pass, each after the one before.
@@ -52,7 +52,7 @@ fn make_parts(config: &Config, input: &Input, board: &mut Board, out: &mut Actio
     best_effort_grants(config, input, board, out);
 }
 
-/// Appends the actions of the next pass, on this input, to an empty list, and brings the board up
+/// Appends the actions of the next pass, on this input, which fits, to an empty list, and brings the board up
 /// to that pass. Every pass is decided here: the plain one from the board of its whole history, and
 /// a Book's from the board that it keeps.
 pub fn decide(config: &Config, input: &Input, board: &mut Board, out: &mut Actions)
@@ -61,6 +61,7 @@ pub fn decide(config: &Config, input: &Input, board: &mut Board, out: &mut Actio
     requires empty { out.old ≡ [] }
     ensures acts { (h : List PassEntry) → NoPairBanned (actions_of h) →
         Agrees board.old (actions_of h) → KeepingAgrees board.old.keeping (looks_of h) →
+        FitAfter (looks_of h) input.entry.now.seen →
         (out.new ≡ pass_of (setting config.now h input.entry.now))
         × AgreesAfter board.new h (record { input = input.entry.now; actions = out.new }) }
     ensures ready { IsReady config.now board.new }

@@ -22,13 +22,14 @@ loop-entry-preserved c =
     let n = c.loop-entry.entry-index in
     let history = c.args.history.now in
     let h = take n history in
+    let here = slice_get_read history (length history) n c.entry-item.result refl c.loop-entry-test.true c.entry-item.is in
     let longer = take_item history n c.entry-item.result c.loop-entry-test.true c.entry-item.is in
     let A : List PassEntry → Type 0 = λ l. Agrees c.replay.new.board (actions_of l) in
     let K : List PassEntry → Type 0 = λ l. KeepingAgrees c.replay.new.board.keeping (looks_of l) in
     let B : ℕ → Type 0 = λ m. KeepsBefore c.replay.new.board.keeping (looks_of (take m history)) in
     let same : n ≡ n + 1 - 1 = omega arith in record {
       agrees = subst A longer (c.replay.ensures.agrees h i.agrees);
-      keeping = subst K longer (c.replay.ensures.keeping h i.keeping);
+      keeping = subst K longer (c.replay.ensures.keeping h i.keeping (c.requires.entries n c.entry-item.result here).looks.fit);
       before = subst B same (c.replay.ensures.before h i.keeping);
       ready = c.replay.ensures.ready;
     }

@@ -1,5 +1,5 @@
 -- Each thread that waits counts, and those between have no delay.
-use Rattle.std.proofs.Common.{◌≡◌, ◌+◌, ◌-◌, ◌<◌, ◌≤◌, ℕ, ap, sym, ◌∙◌, arith}
+use Rattle.std.proofs.Common.{◌≡◌, ◌+◌, ◌-◌, ◌≤◌, ℕ, ap, sym, ◌∙◌, arith}
 use Rattle.cal_machine.specs.Tasks.{first_thread}
 use Rattle.cal_policy.specs.Pass.AtHand.{setting_in}
 use Rattle.cal_policy.specs.Tasks.{thread_of}

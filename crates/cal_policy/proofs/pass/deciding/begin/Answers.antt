@@ -4,5 +4,5 @@ use Rattle.cal_policy.proofs.PassLemmas.FromParts.{Stands_begin}
 use Rattle.cal_policy.proofs.pass.deciding.begin.Goals as goal
 
 pub returns-clause-stands : goal.returns-clause-stands
-returns-clause-stands c = λ table h a k. Stands_begin (setting table h c.args.input.now) _ (c.begin.ensures.agrees (actions_of h) a) c.begin.ensures.fresh
-    (rw c.as_slice.ensures at (c.begin.ensures.keeping (looks_of h) k)) (c.begin.ensures.before (looks_of h) k)
+returns-clause-stands c = λ table h a k fit. Stands_begin (setting table h c.args.input.now) _ (c.begin_fit.ensures.agrees (actions_of h) a) c.begin_fit.ensures.fresh
+    (rw c.as_slice.ensures at (c.begin_fit.ensures.keeping (looks_of h) k) fit) (c.begin_fit.ensures.before (looks_of h) k)

@@ -3,6 +3,6 @@ use Rattle.cal_policy.proofs.PassLemmas.FromParts.{Stands_end}
 use Rattle.cal_policy.proofs.pass.deciding.decide.Goals as goal
 
 pub returns-clause-acts : goal.returns-clause-acts
-returns-clause-acts c = λ h apart a k.
-    let r = c.make_parts.ensures.acts h apart (c.begin.ensures.stands c.args.config.now h a k) in
+returns-clause-acts c = λ h apart a k fit.
+    let r = c.make_parts.ensures.acts h apart (c.begin.ensures.stands c.args.config.now h a k fit) in
     (r.0, Stands_end (setting c.args.config.now h c.args.input.now) _ _ r.1)

@@ -13,7 +13,7 @@ loop-k-preserved c =
     let i = c.loop-k.invariant in
     let k = c.loop-k.k in
     let seen = c.args.seen.now in
-    let lt : k < 128 = omega (arith, c.requires.looks) in
+    let lt : k < 128 = omega (arith, c.requires) in
     let new = c.take.new.self in
     let cur = c.loop-k.self in
     let old = c.args.self.now in record {
@@ -24,7 +24,7 @@ loop-k-preserved c =
           (ap (option_and_then shown_by) (slice_get-get_or seen k _ (omega arith))) c.take.ensures.shown lt i.shown_done i.shown_left;
       shown_left = left_one_less (shown_in new) (shown_in cur) (shown_in old) _ k c.take.ensures.shown i.shown_left;
       before = λ j low. rw c.take.ensures.before (i.before j low);
-      sets = c.take.ensures.sets i.sets;
+      sets = λ was. c.take.ensures.sets (i.sets was);
     }
 
 pub returns-clause-agrees : goal.returns-clause-agrees

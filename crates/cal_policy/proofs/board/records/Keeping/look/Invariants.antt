@@ -1,4 +1,4 @@
-use Rattle.std.proofs.Common.{◌≡◌, ℕ, ◌<◌, ◌≤◌, length, slice_index}
+use Rattle.std.proofs.Common.{◌≡◌, ℕ, ◌<◌, ◌≤◌, slice_index}
 use Rattle.std.specs.Option.{unwrap_or}
 use Rattle.cal_policy.specs.History.Looks.{to_keep_at, shown_at}
 use Rattle.cal_policy.specs.Board.KeepingSets.{KeepsSets, kept_in, shown_in}
@@ -11,5 +11,5 @@ invariant-loop-k l = record {
   shown_done : (j : ℕ) → j < l.k → shown_in l.self j ≡ unwrap_or (shown_at l.seen j) (shown_in l.fn.self j);
   shown_left : (j : ℕ) → l.k ≤ j → j < 128 → shown_in l.self j ≡ shown_in l.fn.self j;
   before : (j : ℕ) → j < 128 → slice_index l.self.before j ≡ (kept_in l.fn.self j).misses;
-  sets : KeepsSets l.self;
+  sets : KeepsSets l.fn.self → KeepsSets l.self;
 }

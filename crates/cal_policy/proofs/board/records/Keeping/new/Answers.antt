@@ -19,4 +19,5 @@ pub returns-clause-sets : goal.returns-clause-sets
 returns-clause-sets c = record {
   still = λ k lt e. rw (c.no_misses.ensures, c.zero_records.ensures) (get_or_same 128 k 0 ∙ sym (ap (λ (r : Record). r.misses) (get_or_same 128 k zero_record)));
   waiting = λ k lt. rw c.zero_records.ensures (c.empty-2.ensures k ∙ sym (ap shows_waiting (get_or_same 128 k zero_record)));
+  settled = λ k lt e. let none = c.empty-3.ensures k in cc;
 }

@@ -1,5 +1,5 @@
-use Rattle.std.proofs.Common.{◌≡◌, ℕ, ◌-◌, ◌<◌, ◌≤◌, length, slice_index}
-use Rattle.cal_policy.specs.Board.KeepingSets.{KeepsSets, kept_in}
+use Rattle.std.proofs.Common.{◌≡◌, ℕ, ◌-◌, ◌<◌, ◌≤◌, slice_index}
+use Rattle.cal_policy.specs.Board.KeepingSets.{kept_in}
 use Rattle.cal_policy.proofs.board.records.Keeping.settle.Given as goal
 
 abbrev pub invariant-loop-k : goal.invariant-loop-k
@@ -8,6 +8,7 @@ invariant-loop-k l = record {
   shown : l.self.shown ≡ l.fn.self.shown;
   moved : l.self.moved ≡ l.fn.self.moved;
   waiting : l.self.waiting ≡ l.fn.self.waiting;
+  settled : l.self.settled ≡ l.fn.self.settled;
   done : (j : ℕ) → j < l.first → j < 128 → slice_index l.self.before j ≡ (kept_in l.fn.self j).misses;
   left : (j : ℕ) → l.first ≤ j → slice_index l.self.before j ≡ slice_index l.fn.self.before j;
 }
