@@ -1,6 +1,8 @@
 //! A guard that never looks back: it keeps what the history so far comes to, and lets through what
 //! is permitted.
 
+mod looks;
+
 ghost use Rattle.std.specs.Prelude.{◌≡◌, ◌<◌, ◌++◌, ◌↔◌, [], List, length};
 ghost use Rattle.std.specs.Prelude.{IsOk, IfOk, IfErr, OnErr, IsTrue};
 ghost use Rattle.cal_machine.specs.declared.machine.TheConstants.{MOST_CORES};

@@ -19,7 +19,7 @@ mod verdict;
 pub use auditor::Auditor;
 pub use board::holders::{Holder, Placement};
 pub use book::Book;
-pub use cal_signal::{Look, Record, later, shaped};
+pub use cal_signal::{Look, Record, Shown, later, shaped};
 pub use history::action::{Action, Cause};
 pub use history::action_list::{ActionList, Actions, MOST_ACTIONS};
 pub use history::entry::{MOST_PASSES, PassEntry};
