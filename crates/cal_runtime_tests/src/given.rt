@@ -3,6 +3,8 @@
 use cal_policy::{Action, PassEntry, Seen};
 use cal_signal::Record;
 use std::alloc::{AllocError, Global};
+use std::fmt::Debug;
+use std::process::Abort;
 
 /// Two cores and one latency-critical task of one thread, congested at a delay above 10.
 pub const ONE_THREAD: &[u8] = b"cores = 2
@@ -14,6 +16,11 @@ limit = 1
 delay = 10
 request = 50
 ";
+
+/// What was found is what was meant. Where it is not, the test ends and shows both.
+pub fn assert_same<R: Abort, T: PartialEq + Debug + Drop>(rt: &R, found: T, meant: T) {
+    assert_eq!(rt; found, meant);
+}
 
 /// A record of these words, in their order.
 pub fn record(words: [u64; 9]) -> Record {
@@ -27,11 +34,6 @@ pub fn grant(core: u8, thread: u8, class: u8) -> Option<Action> {
         thread,
         class,
     })
-}
-
-/// Whether these are all the actions of a pass.
-pub fn are_all(actions: &[Action], first: Option<Action>, second: Option<Action>) -> bool {
-    actions.len() < 3 && actions.first().copied() == first && actions.get(1).copied() == second
 }
 
 /// How many actions a pass has, and its first two.

@@ -1,12 +1,13 @@
 //! Gates at which workers wait for one another, and one that refuses.
 
 use super::{PREEMPTION, PREEMPTION_TABLE, run};
-use crate::given::{Did, ONE_THREAD, does, first_passes, grant};
+use crate::given::{Did, ONE_THREAD, assert_same, does, first_passes, grant};
 use cal_command::Command;
 use cal_kthread::Entry;
 use cal_policy::{Action, Cause, Seen};
 use cal_run::{Outcome, SimFault};
 use cal_threads::Gate;
+use std::process::Abort;
 use std::sync::atomic::{AtomicU64, Ordering};
 use std::test::Fail;
 use std::thread;
@@ -97,7 +98,7 @@ fn three_workers_meet(rt: HostRuntime) -> Result<(), Fail> {
         come: [AtomicU64::new(0), AtomicU64::new(0), AtomicU64::new(0)],
     };
     let answer = run(&rt, rt.alloc(), PREEMPTION_TABLE, PREEMPTION, &gate)?;
-    assert_eq!(rt; answer.map(|_| ()), Ok(()));
+    assert_same(&rt, answer.map(|_| ()), Ok(()));
     Ok(())
 }
 
@@ -175,6 +176,13 @@ fn preempted() -> [Did; 7] {
     ]
 }
 
+/// The first seven passes do that.
+fn assert_preempted<R: Abort + AllocGlobal>(rt: &R, outcome: &Outcome) -> Result<(), Fail> {
+    let passes = first_passes(rt.alloc(), outcome.history.as_slice(), 7)?;
+    assert_same(rt, passes.as_slice(), preempted().as_slice());
+    Ok(())
+}
+
 // With `workers_on_one_thread` pass 1 waits in vain. With `always_out_of_memory`, or with always
 // Spawn or Gate, there is no outcome.
 #[test]
@@ -183,9 +191,7 @@ fn passes_and_turns_in_step(rt: HostRuntime) -> Result<(), Fail> {
         asked: Asked::new(),
     };
     let outcome = run(&rt, rt.alloc(), PREEMPTION_TABLE, LONGER_PREEMPTION, &gate)??;
-    let passes = first_passes(rt.alloc(), outcome.history.as_slice(), 7)?;
-    assert_eq!(rt; passes.as_slice(), preempted().as_slice());
-    Ok(())
+    assert_preempted(&rt, &outcome)
 }
 
 /// Lets pass 0 be made once turn 1 of thread 0 is asked for, and that turn once pass 1 is.
@@ -252,11 +258,9 @@ fn pass_between_two_turns(rt: HostRuntime) -> Result<(), Fail> {
         asked: Asked::new(),
     };
     let outcome = run(&rt, rt.alloc(), ONE_THREAD, ONE_GRANT, &gate)??;
-    assert_eq!(rt; first_pass(&outcome), Some((1, grant(0, 0, 3))));
-    assert_eq!(rt;
-        second_turn(&outcome),
-        Some(Entry::Took(1, Command::Run(0)))
-    );
+    assert_same(&rt, first_pass(&outcome), Some((1, grant(0, 0, 3))));
+    let took = Entry::Took(1, Command::Run(0));
+    assert_same(&rt, second_turn(&outcome), Some(took));
     Ok(())
 }
 
@@ -281,6 +285,6 @@ impl Gate for Refusing {
 #[test]
 fn gate_refuses(rt: HostRuntime) -> Result<(), Fail> {
     let answer = run(&rt, rt.alloc(), PREEMPTION_TABLE, PREEMPTION, &Refusing)?;
-    assert_eq!(rt; answer.map(|_| ()), Err(SimFault::Gate));
+    assert_same(&rt, answer.map(|_| ()), Err(SimFault::Gate));
     Ok(())
 }

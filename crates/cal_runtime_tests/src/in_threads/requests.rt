@@ -1,12 +1,14 @@
 //! Where the requests of a run in threads stand at its end.
 
 use super::{PREEMPTION, PREEMPTION_TABLE, run};
+use crate::given::assert_same;
 use cal_kthread::Entry;
 use cal_machine::Config;
-use cal_policy::{Verdict, audit};
+use cal_policy::{PassEntry, Verdict, audit};
 use cal_run::Outcome;
 use cal_threads::FreeGate;
 use std::alloc::{AllocError, Global};
+use std::process::Abort;
 use std::test::Fail;
 
 /// How many entries of the journal tell that this request was served.
@@ -33,19 +35,28 @@ fn places_of(outcome: &Outcome, wanted: u64) -> usize {
     places
 }
 
+/// Each id of these stands in one place.
+fn assert_each_once<R: Abort>(rt: &R, outcome: &Outcome, first: u64, count: u64) {
+    for id in first..first.saturating_add(count) {
+        assert_same(rt, (id, places_of(outcome, id)), (id, 1));
+    }
+}
+
+/// There are seven passes, and the audit says that they are legal.
+fn assert_legal<R: Abort + AllocGlobal>(rt: &R, history: &[PassEntry]) -> Result<(), Fail> {
+    let config = Config::read(rt.alloc(), PREEMPTION_TABLE)?;
+    let verdict = audit(rt.alloc(), &config, history)?;
+    assert_same(rt, (history.len(), verdict), (7, Verdict::Legal));
+    Ok(())
+}
+
 /// What is so of each run in threads of the preemption: seven passes, legal ones, and each request
 /// served once or left in one place.
 #[test]
 fn sim_is_legal(rt: HostRuntime) -> Result<(), Fail> {
     let outcome = run(&rt, rt.alloc(), PREEMPTION_TABLE, PREEMPTION, &FreeGate)??;
-    let config = Config::read(rt.alloc(), PREEMPTION_TABLE)?;
-    let history = outcome.history.as_slice();
-    assert_eq!(rt; history.len(), 7);
-    assert_eq!(rt; audit(rt.alloc(), &config, history)?, Verdict::Legal);
-    for id in 1..4 {
-        assert_eq!(rt; places_of(&outcome, id), 1, "request {id}");
-    }
-    Ok(())
+    assert_each_once(&rt, &outcome, 1, 3);
+    assert_legal(&rt, outcome.history.as_slice())
 }
 
 /// Four cores and a latency-critical task of four threads.
@@ -76,8 +87,6 @@ fn rows(alloc: Global) -> Result<String, AllocError> {
 fn hundred_requests(rt: HostRuntime) -> Result<(), Fail> {
     let rows = rows(rt.alloc())?;
     let outcome = run(&rt, rt.alloc(), FOUR_THREADS, rows.as_bytes(), &FreeGate)??;
-    for id in 0..100 {
-        assert_eq!(rt; places_of(&outcome, id), 1, "request {id}");
-    }
+    assert_each_once(&rt, &outcome, 0, 100);
     Ok(())
 }

@@ -4,16 +4,18 @@ ghost use Rattle.cal_kthread.specs.Team.{IsTeam, place_of};
 ghost use Rattle.cal_machine.specs.Tasks.{threads_in};
 
 use super::{Step, all_steps, ends_of, request};
-use crate::given::{ONE_THREAD, record};
+use crate::given::{ONE_THREAD, assert_same, record};
 use cal_command::Command;
 use cal_kthread::{Entry, KernelThread, Request, Team, open_threads, settle};
 use cal_machine::Config;
 use std::alloc::Global;
+use std::process::Abort;
 use std::test::Fail;
 
-/// What the first thread did, where there is one.
-fn journal_of(threads: &[KernelThread]) -> Option<&[Entry]> {
-    Some(threads.first()?.journal())
+/// The first thread did this.
+fn assert_did<R: Abort>(rt: &R, threads: &[KernelThread], journal: &[Entry]) {
+    let did = threads.first().map(|thread| thread.journal());
+    assert_same(rt, did, Some(journal));
 }
 
 /// What the only thread has left, once its turns are over. None also where there is no request.
@@ -65,8 +67,8 @@ fn one_request_served(rt: HostRuntime) -> Result<(), Fail> {
         Entry::Yielded,
         Entry::Published(4, record([1, 0, 0, 0, 0, 14, 150, 0, 0])),
     ];
-    assert_eq!(rt; journal_of(&threads), Some(journal.as_slice()));
-    assert_eq!(rt; left_after(rt.alloc(), &config, threads)?, None);
+    assert_did(&rt, &threads, &journal);
+    assert_same(&rt, left_after(rt.alloc(), &config, threads)?, None);
     Ok(())
 }
 
@@ -95,6 +97,6 @@ fn yield_before_park(rt: HostRuntime) -> Result<(), Fail> {
         Entry::Took(3, Command::Run(0)),
         Entry::Published(3, record([3, 1, 0, 0, 240, 3, 240, 0, 0])),
     ];
-    assert_eq!(rt; journal_of(&team.threads), Some(journal.as_slice()));
+    assert_did(&rt, &team.threads, &journal);
     Ok(())
 }

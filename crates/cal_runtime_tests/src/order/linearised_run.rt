@@ -7,13 +7,14 @@ ghost use Rattle.cal_runtime_tests.specs.WorkedRow.{passes as worked_passes};
 ghost use Rattle.cal_runtime_tests.specs.WorkedRow.{journal as worked_journal};
 
 use super::worked_run::{at_work, journal, passes, served, waiting};
-use crate::given::{ONE_THREAD, grant};
+use crate::given::{ONE_THREAD, assert_same, grant};
 use cal_linear::linearise;
 use cal_machine::Config;
 use cal_policy::{Action, PassEntry, Verdict, audit};
 use cal_signal::Record;
 use cal_world::{Event, Illegal, Stopped, run_events};
 use std::alloc::{AllocError, Global};
+use std::process::Abort;
 use std::test::Fail;
 
 /// Whether the table has one thread, and the passes are legal there.
@@ -101,17 +102,24 @@ fn wanted() -> [Line; 8] {
     ]
 }
 
+/// The events are listed in that order.
+fn assert_in_order<R: Abort + AllocGlobal>(rt: &R, listed: &[Event]) -> Result<(), Fail> {
+    let lines = lines(rt.alloc(), listed)?;
+    assert_same(rt, lines.as_slice(), wanted().as_slice());
+    Ok(())
+}
+
 #[test]
 fn linearised_run(rt: HostRuntime) -> Result<(), Fail> {
     let config = Config::read(rt.alloc(), ONE_THREAD)?;
     let listed = events(rt.alloc(), &config)?;
-    assert_eq!(rt; lines(rt.alloc(), &listed)?.as_slice(), wanted().as_slice());
-    assert_eq!(rt; core_after(rt.alloc(), &config, &listed), Ok(Some(0)));
+    assert_in_order(&rt, &listed)?;
+    assert_same(&rt, core_after(rt.alloc(), &config, &listed), Ok(Some(0)));
     let refused = Stopped {
         at: 0,
         why: Illegal::NothingSent,
     };
     let moved = fourth_first(listed)?;
-    assert_eq!(rt; core_after(rt.alloc(), &config, &moved), Err(refused));
+    assert_same(&rt, core_after(rt.alloc(), &config, &moved), Err(refused));
     Ok(())
 }

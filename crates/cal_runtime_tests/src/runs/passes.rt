@@ -2,7 +2,7 @@
 
 ghost use Rattle.std.specs.Prelude.{◌≡◌, ◌<◌, length, IfOk};
 
-use crate::given::{ONE_THREAD, are_all, grant};
+use crate::given::{ONE_THREAD, assert_same, does, first_passes, grant, seen};
 use crate::kernel_threads::turn;
 use cal_kthread::{KernelThread, Request};
 use cal_machine::Config;
@@ -11,6 +11,7 @@ use cal_run::{Parts, Worker, open_parts};
 use cal_sched::Scheduler;
 use cal_trace::read_arrivals;
 use std::alloc::{AllocError, Global};
+use std::process::Abort;
 use std::test::Fail;
 
 /// A scheduler of one task of one thread on two cores, and the thread.
@@ -59,34 +60,19 @@ fn with_last(scheduler: Scheduler, workers: Vec<Worker>) -> Result<Opened, Fail>
     }
 }
 
-/// One pass, which finds the record with this number on the first thread's page. Whether it does
-/// this alone, or nothing.
-fn passes(scheduler: &mut Scheduler, now: u64, found: u64, wanted: Option<Action>) -> bool
+/// Whether a pass is made.
+fn passes(scheduler: &mut Scheduler, now: u64) -> bool
     ensures { scheduler.new.table ≡ scheduler.old.table }
 {
-    if scheduler.pass(now, 0) != Ok(()) {
-        return false;
-    }
-    let Some(entry) = scheduler.history().last() else {
-        return false;
-    };
-    is_found(entry.input.seen.as_slice(), found) && are_all(entry.actions.as_slice(), wanted, None)
+    scheduler.pass(now, 0) == Ok(())
 }
 
-/// Whether the first look is the whole one at this place.
-fn is_found(seen: &[Seen], found: u64) -> bool {
-    match seen.first() {
-        Some(Seen::Whole { number, .. }) => *number == found,
-        _ => false,
-    }
-}
-
-/// Whether the first task books so many cores, and this one has the first core.
-fn stands(scheduler: &Scheduler, booked: u8, holder: Holder) -> bool
+/// How many cores the first task books, and who has the first core.
+fn standing(scheduler: &Scheduler) -> (u8, Holder)
     requires task { 0 < length scheduler.now.table.tasks }
     requires core { 0 < scheduler.now.table.cores }
 {
-    scheduler.booked(0) == booked && scheduler.holder(0) == holder
+    (scheduler.booked(0), scheduler.holder(0))
 }
 
 /// Whether a turn is made.
@@ -94,10 +80,8 @@ fn turned(thread: &mut KernelThread, now: u64, arriving: Option<Request>) -> boo
     turn(thread, now, arriving) == Ok(true)
 }
 
-/// Whether the thread, to which a request comes, is granted core 0.
-fn is_granted(scheduler: &mut Scheduler, thread: &mut KernelThread) -> bool
-    requires task { 0 < length scheduler.old.table.tasks }
-    requires core { 0 < scheduler.old.table.cores }
+/// A request comes to the thread, and a pass looks at it.
+fn comes(scheduler: &mut Scheduler, thread: &mut KernelThread) -> bool
     ensures { scheduler.new.table ≡ scheduler.old.table }
 {
     let request = Request {
@@ -105,26 +89,49 @@ fn is_granted(scheduler: &mut Scheduler, thread: &mut KernelThread) -> bool
         work: 2,
         misses: 7,
     };
-    let held = Placement {
-        thread: 0,
-        number: 1,
-    };
-    turned(thread, 100, Some(request))
-        && passes(scheduler, 111, 1, grant(0, 0, 3))
-        && stands(scheduler, 1, Holder::Held(held))
+    turned(thread, 100, Some(request)) && passes(scheduler, 111)
 }
 
-/// Whether the thread takes the core, serves the request and yields, and the core is free then.
+/// The thread takes its core, serves the request and yields, with a pass after the first of these
+/// turns and after the last.
 fn is_served(scheduler: &mut Scheduler, thread: &mut KernelThread) -> bool
-    requires task { 0 < length scheduler.old.table.tasks }
-    requires core { 0 < scheduler.old.table.cores }
+    ensures { scheduler.new.table ≡ scheduler.old.table }
 {
     turned(thread, 120, None)
-        && passes(scheduler, 130, 2, None)
+        && passes(scheduler, 130)
         && turned(thread, 140, None)
         && turned(thread, 150, None)
-        && passes(scheduler, 160, 4, Some(Action::Free { core: 0 }))
-        && stands(scheduler, 0, Holder::Free)
+        && passes(scheduler, 160)
+}
+
+/// The place of the record that a pass read of the first thread.
+fn place_read(entry: &PassEntry) -> Option<u64> {
+    match seen(entry)? {
+        Seen::Whole { number, .. } => Some(number),
+        _ => None,
+    }
+}
+
+/// The passes read the first record, the second and the fourth, and grant the core and free it.
+fn assert_passed<R: Abort + AllocGlobal>(rt: &R, history: &[PassEntry]) -> Result<(), Fail> {
+    let mut places = Vec::new(rt.alloc());
+    for entry in history {
+        places.push(place_read(entry))?;
+    }
+    assert_same(
+        rt,
+        places.as_slice(),
+        [Some(1), Some(2), Some(4)].as_slice(),
+    );
+    let free = Some(Action::Free { core: 0 });
+    let meant = [
+        does(grant(0, 0, 3), None),
+        does(None, None),
+        does(free, None),
+    ];
+    let did = first_passes(rt.alloc(), history, 4)?;
+    assert_same(rt, did.as_slice(), meant.as_slice());
+    Ok(())
 }
 
 /// Whether a copy of the entry is equal to it.
@@ -150,15 +157,26 @@ fn verdict(alloc: Global, history: &[PassEntry]) -> Result<Verdict, Fail> {
     Ok(audit(alloc, &config, history)?)
 }
 
-// A thread has a request, is given a core, serves the request and yields.
+/// A thread has a request, is given a core, serves the request and yields.
 #[test]
 fn scheduler_and_thread(rt: HostRuntime) -> Result<(), Fail> {
     let Opened {
         mut scheduler,
         mut thread,
     } = open(rt.alloc())?;
-    assert!(rt; is_granted(&mut scheduler, &mut thread));
+    let held = Placement {
+        thread: 0,
+        number: 1,
+    };
+    assert!(rt; comes(&mut scheduler, &mut thread));
+    assert_same(&rt, standing(&scheduler), (1, Holder::Held(held)));
     assert!(rt; is_served(&mut scheduler, &mut thread));
-    assert_eq!(rt; verdict(rt.alloc(), scheduler.history())?, Verdict::Legal);
+    assert_same(&rt, standing(&scheduler), (0, Holder::Free));
+    assert_passed(&rt, scheduler.history())?;
+    assert_same(
+        &rt,
+        verdict(rt.alloc(), scheduler.history())?,
+        Verdict::Legal,
+    );
     Ok(())
 }

@@ -1,6 +1,6 @@
 //! Whole runs on one thread: the rounds of the watch, and a theft.
 
-use crate::given::{ONE_THREAD, does, first_passes, grant, record};
+use crate::given::{ONE_THREAD, assert_same, does, first_passes, grant, record};
 use cal_command::Command;
 use cal_kthread::Entry;
 use cal_machine::Config;
@@ -8,6 +8,7 @@ use cal_run::{Outcome, lockstep};
 use cal_signal::Look;
 use cal_trace::read_arrivals;
 use std::alloc::Global;
+use std::process::Abort;
 use std::test::Fail;
 
 /// Two passes, two turns, and one request before the first turn.
@@ -30,6 +31,12 @@ fn found(outcome: &Outcome, round: usize) -> Option<(u64, u64)> {
     }
 }
 
+/// There are two rounds, which found the records of the first two turns.
+fn assert_watched<R: Abort>(rt: &R, outcome: &Outcome) {
+    let rounds = [found(outcome, 0), found(outcome, 1), found(outcome, 2)];
+    assert_same(rt, rounds, [Some((1, 105)), Some((2, 0)), None]);
+}
+
 // Each round ends with a look: round 0 finds the first turn's record, round 1 the second's. Refused
 // here: a second observer that gives the zero record and forgets what it loaded
 // (`second_observer_gives_zero`).
@@ -38,9 +45,7 @@ fn watched_rounds(rt: HostRuntime) -> Result<(), Fail> {
     let Some(outcome) = run(rt.alloc(), ONE_THREAD, ARRIVALS) else {
         return Err(Fail::new("there is memory"));
     };
-    assert_eq!(rt; found(&outcome, 0), Some((1, 105)));
-    assert!(rt; matches!(found(&outcome, 1), Some((2, _))));
-    assert_eq!(rt; found(&outcome, 2), None);
+    assert_watched(&rt, &outcome);
     Ok(())
 }
 
@@ -68,20 +73,15 @@ fn journal_of(outcome: &Outcome, k: usize) -> Option<&[Entry]> {
     Some(outcome.journals.as_slice().get(k)?.as_slice())
 }
 
-// The thread that was granted a core last steals the newest request and serves it in one turn.
-// Refused here: a thief that never steals (`never_steals`).
-#[test]
-fn steal_last_request(rt: HostRuntime) -> Result<(), Fail> {
-    let Some(outcome) = run(rt.alloc(), TWO_THREADS, ONE_IS_BUSY) else {
-        return Err(Fail::new("there is memory"));
-    };
+/// Each thread is granted a core, and the second one steals and serves in its third turn.
+fn assert_stolen<R: Abort + AllocGlobal>(rt: &R, outcome: &Outcome) -> Result<(), Fail> {
     let passes = first_passes(rt.alloc(), outcome.history.as_slice(), 4)?;
-    let wanted = [
+    let meant = [
         does(None, None),
         does(grant(0, 0, 3), None),
         does(grant(1, 1, 1), None),
     ];
-    assert_eq!(rt; passes.as_slice(), wanted.as_slice());
+    assert_same(rt, passes.as_slice(), meant.as_slice());
     let journal = [
         Entry::Published(1, record([0, 0, 0, 0, 0, 0, 150, 0, 0])),
         Entry::Published(2, record([0, 0, 0, 0, 0, 0, 250, 0, 0])),
@@ -90,6 +90,16 @@ fn steal_last_request(rt: HostRuntime) -> Result<(), Fail> {
         Entry::Served { id: 3 },
         Entry::Published(3, record([1, 2, 0, 0, 0, 0, 350, 0, 0])),
     ];
-    assert_eq!(rt; journal_of(&outcome, 1), Some(journal.as_slice()));
+    assert_same(rt, journal_of(outcome, 1), Some(journal.as_slice()));
     Ok(())
+}
+
+// The thread that was granted a core last steals the newest request and serves it in one turn.
+// Refused here: a thief that never steals (`never_steals`).
+#[test]
+fn steal_last_request(rt: HostRuntime) -> Result<(), Fail> {
+    let Some(outcome) = run(rt.alloc(), TWO_THREADS, ONE_IS_BUSY) else {
+        return Err(Fail::new("there is memory"));
+    };
+    assert_stolen(&rt, &outcome)
 }

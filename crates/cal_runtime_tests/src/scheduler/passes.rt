@@ -1,7 +1,7 @@
 //! Passes over one bare page and ring.
 
 use super::bare;
-use crate::given::{Did, ONE_THREAD, does, first_passes, grant, record, seen};
+use crate::given::{Did, ONE_THREAD, assert_same, does, first_passes, grant, record, seen};
 use cal_command::Command;
 use cal_machine::Config;
 use cal_policy::{Action, PassEntry, Record, Seen, orderly};
@@ -88,19 +88,24 @@ fn wanted_passes() -> [Did; 8] {
     ]
 }
 
+/// The passes saw and did what is meant.
+fn assert_meant<R: Abort + AllocGlobal>(rt: &R, history: &[PassEntry]) -> Result<(), Fail> {
+    let looks = all_seen(rt.alloc(), history)?;
+    assert_same(rt, looks.as_slice(), wanted_looks().as_slice());
+    let passes = first_passes(rt.alloc(), history, 9)?;
+    assert_same(rt, passes.as_slice(), wanted_passes().as_slice());
+    Ok(())
+}
+
 /// What a thread acknowledges that was sent is believed, until its ring is full and it acknowledges
 /// a command that was not.
 #[test]
 fn false_records(rt: HostRuntime) -> Result<(), Fail> {
     let (mut scheduler, mut publisher, mut taker) = bare(&rt)?;
     assert!(rt; all_shown(&mut scheduler, &mut publisher));
-    assert_eq!(rt; taker.take(), Some((1, Command::Run(0))));
+    assert_same(&rt, taker.take(), Some((1, Command::Run(0))));
     assert!(rt; scheduler.pass(123, 0) == Ok(()) && scheduler.pass(125, 0) == Ok(()));
-    let looks = all_seen(rt.alloc(), scheduler.history())?;
-    assert_eq!(rt; looks.as_slice(), wanted_looks().as_slice());
-    let passes = first_passes(rt.alloc(), scheduler.history(), 9)?;
-    assert_eq!(rt; passes.as_slice(), wanted_passes().as_slice());
-    Ok(())
+    assert_meant(&rt, scheduler.history())
 }
 
 /// So many passes, with clocks from 0. False where one is refused.
@@ -132,6 +137,21 @@ fn report_of<R: Abort + AllocGlobal>(rt: &R, history: &[PassEntry]) -> Result<Ve
     Ok(text)
 }
 
+/// Each pass found the page busy, with the odd version twice, and the report says so.
+fn assert_busy<R: Abort + AllocGlobal>(rt: &R, history: &[PassEntry]) -> Result<(), Fail> {
+    let (first, second) = (1, 1);
+    for entry in history {
+        assert_same(rt, seen(entry), Some(Seen::Busy { first, second }));
+    }
+    let report = report_of(rt, history)?;
+    assert_same(
+        rt,
+        report.as_slice(),
+        busy_report(rt.alloc(), 100)?.as_bytes(),
+    );
+    Ok(())
+}
+
 /// Each of a hundred passes over an open page finds it busy, with the odd version twice, and does
 /// nothing, as the report says.
 #[test]
@@ -141,13 +161,7 @@ fn open_page_is_busy(rt: HostRuntime) -> Result<(), Fail> {
         return Err(Fail::new("the record was refused"));
     };
     assert!(rt; pass_often(&mut scheduler, 100));
-    let (first, second) = (1, 1);
-    for look in all_seen(rt.alloc(), scheduler.history())? {
-        assert_eq!(rt; look, Some(Seen::Busy { first, second }));
-    }
-    let report = report_of(&rt, scheduler.history())?;
-    assert_eq!(rt; report.as_slice(), busy_report(rt.alloc(), 100)?.as_bytes());
-    Ok(())
+    assert_busy(&rt, scheduler.history())
 }
 
 /// Makes passes until one is refused, at most so many.

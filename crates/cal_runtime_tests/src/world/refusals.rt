@@ -1,8 +1,9 @@
 //! Which event a world refuses, and why.
 
 use super::*;
-use crate::given::ONE_THREAD;
+use crate::given::{ONE_THREAD, assert_same};
 use cal_machine::Config;
+use std::process::Abort;
 use std::test::Fail;
 
 /// An event of the one thread, or a watch of another.
@@ -49,13 +50,23 @@ fn answers(alloc: Global, steps: &[Step]) -> Result<Vec<Result<(), Illegal>>, Fa
     Ok(answers)
 }
 
+/// A new world answers these steps so.
+fn assert_answers<R: Abort + AllocGlobal>(
+    rt: &R,
+    steps: &[Step],
+    meant: &[Result<(), Illegal>],
+) -> Result<(), Fail> {
+    let answers = answers(rt.alloc(), steps)?;
+    assert_same(rt, answers.as_slice(), meant);
+    Ok(())
+}
+
 /// Of a world in which nothing happened.
 #[test]
 fn world_refusals(rt: HostRuntime) -> Result<(), Fail> {
-    let answers = answers(rt.alloc(), &[Step::Take, Step::Yield, Step::Read(0)])?;
-    let wanted = [Err(Illegal::NothingSent), Err(Illegal::NotOn), Ok(())];
-    assert_eq!(rt; answers.as_slice(), wanted.as_slice());
-    Ok(())
+    let steps = [Step::Take, Step::Yield, Step::Read(0)];
+    let meant = [Err(Illegal::NothingSent), Err(Illegal::NotOn), Ok(())];
+    assert_answers(&rt, &steps, &meant)
 }
 
 /// Each other refusal once, up to the Take of what was sent.
@@ -78,7 +89,7 @@ fn refusals_up_to_a_take(rt: HostRuntime) -> Result<(), Fail> {
         Step::Decide(&[GRANT]),
         Step::Take,
     ];
-    let wanted = [
+    let meant = [
         Err(Illegal::NoThread),
         Err(Illegal::OutOfTurn),
         Err(Illegal::NotItsState),
@@ -91,8 +102,7 @@ fn refusals_up_to_a_take(rt: HostRuntime) -> Result<(), Fail> {
         Ok(()),
         Ok(()),
     ];
-    assert_eq!(rt; answers(rt.alloc(), &steps)?.as_slice(), wanted.as_slice());
-    Ok(())
+    assert_answers(&rt, &steps, &meant)
 }
 
 /// The watch's floor is not the scheduler's.
@@ -104,7 +114,6 @@ fn watch_floor(rt: HostRuntime) -> Result<(), Fail> {
         Step::Watch(0, 0),
         Step::Read(0),
     ];
-    let wanted = [Ok(()), Ok(()), Err(Illegal::NoSuchPlace), Ok(())];
-    assert_eq!(rt; answers(rt.alloc(), &steps)?.as_slice(), wanted.as_slice());
-    Ok(())
+    let meant = [Ok(()), Ok(()), Err(Illegal::NoSuchPlace), Ok(())];
+    assert_answers(&rt, &steps, &meant)
 }
