@@ -1,10 +1,34 @@
-# make install PREFIX=/usr/local: the C library, its headers and a pkg-config file. All else is by rt.
+# make                 proves and builds the two programs, caladan_sim and caladan_view, and says how far it is
+# make NAME            one of them, or caladan_c, the C library
+# make check           the gate
+# make install PREFIX=/usr/local      programs, C library, headers, pkg-config, manual pages and completions
+# make install_library PREFIX=..      the C library, its headers and the pkg-config file alone
+# What is proved is kept in crates/*/out, so make goes on where it was ended.
 PREFIX ?= /usr/local
+share = $(PREFIX)/share
+programs = caladan_sim caladan_view
 archive = crates/caladan_c/out/libcaladan_c.a
 
-.PHONY: install
-install: $(archive)
+.PHONY: all $(programs) caladan_c check install install_library
+
+all: $(programs)
+
+# One at a time: they stand on the same crates.
+.NOTPARALLEL:
+
+$(programs) caladan_c:
+	tools/prove $@
+
+check:
+	.ci/run
+
+install: $(programs) install_library
+	mkdir -p $(PREFIX)/bin
+	for each in $(programs); do install -m 755 crates/$$each/out/$$each $(PREFIX)/bin || exit; done
+	tools/manual $(share) $(PREFIX)/bin/caladan_sim $(PREFIX)/bin/caladan_view
+
+install_library: $(archive)
 	tools/install_c_library $(PREFIX)
 
 $(archive):
-	cd crates/caladan_c && rt lib
+	tools/prove caladan_c
