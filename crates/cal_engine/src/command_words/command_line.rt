@@ -12,8 +12,9 @@ use crate::command_words::help_texts;
 use clap::{Arg, ArgAction, ArgMatches, Command, Error};
 use std::alloc::{AllocError, Global};
 
-/// What both programs say of their version: that of the project, and of the files that they write.
-pub const VERSION: &str = "1 (writes history 2; reads signals and history 1 and 2, arrivals 1)";
+/// What both programs say of their version: that of the project, as the file VERSION has it, and of
+/// the files that they read and write.
+pub const VERSION: &str = "2 (writes history 2; reads signals and history 1 and 2, arrivals 1)";
 
 /// What the program is to do with its input (this project's own words).
 #[derive(Clone, Copy, Debug, PartialEq, Eq)]
