@@ -10,7 +10,7 @@ use std::alloc::{AllocError, Global};
 /// How many commands may be on a ring that were sent and not yet taken.
 const PLACES: usize = 4;
 
-/// A ring of four places, all free, on which nothing was sent: its two ends. An error is want of
+/// A ring of four places, all free, on which nothing was sent: its two ends. Fails only when out of
 /// memory.
 pub fn open_ring(alloc: Global) -> Result<(Sender, Taker), AllocError>
     ensures one_ring { IfOk result (λ r. r.0.ring ≡ r.1.ring) }
@@ -30,8 +30,8 @@ pub struct RingEnd {
     pub taken: u64,
 }
 
-/// Closes a ring, whose two ends are handed in. What was taken is the first `taken` commands of
-/// what was sent. Commands left on the ring are dropped with it; they count in `sent`.
+/// Closes a ring, given its two ends. What was taken is the first `taken` commands of what was
+/// sent. Commands left on the ring are dropped with it; they count in `sent`.
 pub fn close_ring(sender: Sender, taker: Taker) -> RingEnd
     requires { sender.ring ≡ taker.ring }
     ensures sent { result.sent ≡ length sender.sent }

@@ -1,6 +1,5 @@
 -- The most entries of a journal, and the room that a turn asks for. The other definitions cite the
--- constants of the code alone. Here each number stands once: a constant with another number is
--- refused.
+-- constants of the code alone. Each number is here once: a constant with another number is refused.
 use Rattle.std.specs.Prelude.{◌≡◌, ◌^◌, refl}
 use Rattle.cal_kthread.specs.declared.kernel_thread.TheConstants.{MOST_ENTRIES, TURN_ENTRIES}
 

@@ -1,7 +1,7 @@
 -- A turn: its five steps, each a function of the thread before it and of what its calls answered.
--- It gives the thread after it, and what goes into the journal. The steps are this project's own;
--- that a thread which finds no work gives up its core, and first tries to steal from the others of
--- its task, is Caladan's.
+-- It gives the thread after it, and what goes into the journal. The steps are Doranjei's; that a
+-- thread which finds no work gives up its core, and first tries to steal from the others of its
+-- task, is Caladan's.
 pub mod Agreement
 pub mod Thread
 pub mod Turns

@@ -60,8 +60,8 @@ impl KernelThread {
     /// `JournalFull` where fewer than 6 of the journal's 1,048,576 places are left, which is
     /// checked first; `Memory` where room for 6 entries or for the request was refused. Then
     /// nothing has changed. Beyond that room a turn takes no memory. (That a thread which finds no
-    /// work first tries to steal and then gives up its core is Caladan's; the steps are this
-    /// project's own.)
+    /// work first tries to steal and then gives up its core is Caladan's; the steps are
+    /// Doranjei's.)
     pub fn turn(&mut self, now: u64, request: Option<Request>) -> Result<(), TurnFault>
         requires started { 1 ≤ now }
         requires later { (last_published self.old.thread.publisher.published).stamp ≤ now }

@@ -63,13 +63,13 @@ pub fn drained_is_accounted()
     ensures { DrainedIsAccounted }
 {}
 
-/// Where the account holds, an id that arrived once stands in exactly one place: in one Served
-/// entry of one thread, or in one request that one thread had left.
+/// Where the account holds, an id that arrived once is in exactly one place: in one Served entry of
+/// one thread, or in one request that one thread had left.
 pub fn once_is_in_one_place()
     ensures { OnceIsInOnePlace }
 {}
 
-/// Where the account holds, an id that did not arrive stands nowhere.
+/// Where the account holds, an id that did not arrive is nowhere.
 pub fn never_is_nowhere()
     ensures { NeverIsNowhere }
 {}

@@ -2,11 +2,11 @@
 //!
 //! A kernel thread has one end of a page, on which it publishes, the taking end of a ring, from
 //! which it takes the scheduler's commands, a queue of its own, and a thief's end of the queue of
-//! each other thread of its task. Its life is a list of turns. What it did stands in its journal.
+//! each other thread of its task. Its life is a list of turns. Its journal records what it did.
 //!
 //! That threads of a task steal from one another, publish signals and give up a core where they
-//! find no work is Caladan's. The steps of a turn, the journal and the account at the end are this
-//! project's own.
+//! find no work is Caladan's. The steps of a turn, the journal and the account at the end are
+//! Doranjei's.
 //!
 //! Not promised: that a request is ever served, by whom, or in which order; that a steal wins.
 #![tactic(auto)]

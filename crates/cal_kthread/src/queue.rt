@@ -19,7 +19,7 @@ use std::marker::Model;
 const FIRST_ROOM: usize = 4;
 
 /// The own end of a queue, first in first out. Its thread pushes at the back and pops at the front.
-/// (That threads of a task steal from one another is Caladan's; the shares are this project's own.)
+/// (That threads of a task steal from one another is Caladan's; the shares are Doranjei's.)
 ///
 /// A contract sees which queue it is, how many of its shares this end has, what it pushed, what
 /// it popped (or got back from thieves), and what it handed out at the end, which is nothing so
@@ -43,7 +43,7 @@ impl Model for OwnQueue {
 }
 
 impl OwnQueue {
-    /// An empty queue, with all of its shares. An error is want of memory.
+    /// An empty queue, with all of its shares. Fails only when out of memory.
     pub fn open(alloc: Global) -> Result<OwnQueue, AllocError>
         ensures shares { IfOk result (λ q. q.shares ≡ queue_shares) }
         ensures empty { IfOk result (λ q. (q.pushed ≡ []) × (q.had ≡ []) × (q.handed ≡ [])) }
@@ -52,8 +52,8 @@ impl OwnQueue {
         Ok(OwnQueue { worker })
     }
 
-    /// A thief for this queue, who gets one share. An error is want of memory, and then nothing has
-    /// changed.
+    /// A thief for this queue, who gets one share. Fails only when out of memory, and then nothing
+    /// has changed.
     pub fn lend(&mut self) -> Result<Thief, AllocError>
         requires { 1 < self.old.shares }
         ensures { MatchResult result
@@ -66,7 +66,7 @@ impl OwnQueue {
         Ok(Thief { stealer, pass })
     }
 
-    /// Puts a request at the back. An error is want of memory or that the queue cannot grow
+    /// Puts a request at the back. Fails only when out of memory or when the queue cannot grow
     /// further, and then nothing has changed.
     pub fn push(&mut self, waiting: Waiting) -> Result<(), AllocError>
         ensures { MatchResult result

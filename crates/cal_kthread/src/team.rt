@@ -35,8 +35,8 @@ pub struct Team {
 }
 
 /// A team of kernel threads, one for each of the table's: each with a page, a ring and a queue of
-/// its own, and with one share of the queue of each other thread of its task. An error is want of
-/// memory.
+/// its own, and with one share of the queue of each other thread of its task. Fails only when out
+/// of memory.
 pub fn open_threads(alloc: Global, config: &Config) -> Result<Team, AllocError>
     ensures count { IfOk result (λ team. length team.threads.items ≡ threads_in config.now.tasks) }
     ensures opened { IfOk result (λ team.

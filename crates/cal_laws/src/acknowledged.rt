@@ -6,7 +6,7 @@ use crate::safe::legal_is_safe;
 
 /// A core is freed only where it is one of the machine's and is held or being left, and the kept
 /// record of its thread has `taken` at least the number of the Run that put it there and `running`
-/// 0. (After Caladan's yields; the test is this project's own.)
+/// 0. (After Caladan's yields; the test is Doranjei's.)
 pub fn freed_cores_were_left()
     ensures { FreedCoresWereLeft }
 {

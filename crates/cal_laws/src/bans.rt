@@ -17,8 +17,7 @@ pub fn no_banned_is_granted()
 /// Each ban is due at its place: a thread of a latency-critical task holds the sibling, its kept
 /// record shows it there at a request begun longer ago, in clock ticks, than its task allows,
 /// neither core is banned, and the core is free, being left, or held with room by a task above its
-/// guarantee. (After Caladan's controller of hyperthread siblings; the exact rule is this project's
-/// own.)
+/// guarantee. (After Caladan's controller of hyperthread siblings; the exact rule is Doranjei's.)
 pub fn bans_are_due()
     ensures { BansAreDue }
 {

@@ -8,7 +8,7 @@ use cal_policy::{legal_is_sound, victim_has_most_misses};
 /// that the task holds, and no candidate has had more misses since the pass before, none with as
 /// many has a lesser number. Else it is one above the task's last cap, and the task is the first of
 /// the best-effort ones whose cap is below their limit. (After Caladan's bandwidth controller; the
-/// exact rule is this project's own.)
+/// exact rule is Doranjei's.)
 pub fn caps_are_due()
     ensures { CapsAreDue }
 {

@@ -16,7 +16,7 @@ use cal_policy::{
 /// - For a ban: the action just before is the ban, which was due, and the core is held by a task
 ///   above its guarantee.
 ///
-/// (The causes are this project's own, after Caladan's core allocator and its controllers.)
+/// (The causes are Doranjei's, after Caladan's core allocator and its controllers.)
 pub fn revocations_have_cause()
     ensures { RevocationsHaveCause }
 {

@@ -8,7 +8,7 @@ use cal_policy::{chosen_has_waited_longest, chosen_is_of_least_class, legal_is_s
 /// What a pass takes for the class of a core is the class that the core is of: 1 idle beside a core
 /// of the task, 2 idle and last granted to the task, 3 idle otherwise, 4 held by a best-effort
 /// task, 5 lent by a latency-critical one above its guarantee; each where none before it applies.
-/// (After Caladan's core allocator; the classes are this project's own.)
+/// (After Caladan's core allocator; the classes are Doranjei's.)
 pub fn classes_are_told()
     ensures { ClassesAreTold }
 {}
@@ -16,7 +16,7 @@ pub fn classes_are_told()
 /// A core is granted only for a task that is congested and may book one more. Of all pairs of class
 /// and core that are possible for the task it is the least; its thread has the greatest delay of
 /// the task's threads that have no core and whose ring has room, and among equals the least number.
-/// (After Caladan's core allocator; the order of choice is this project's own.)
+/// (After Caladan's core allocator; the order of choice is Doranjei's.)
 pub fn grants_are_best()
     ensures { GrantsAreBest }
 {

@@ -6,7 +6,7 @@
 //! action by action can cite it. To cite a law, call its function: its contract is then a fact of
 //! the proof.
 //!
-//! The rules are this project's own, but where a law says that it is after Caladan.
+//! A law says so if it is after Caladan; all others are Doranjei's.
 #![tactic(auto)]
 
 mod acknowledged;

@@ -18,8 +18,7 @@ pub fn tasks_keep_to_limits()
 }
 
 /// A task is granted a core only where it has booked less than its limit and, if it is best-effort,
-/// less than its cap. (After Caladan's controller of memory bandwidth; the cap is this project's
-/// own.)
+/// less than its cap. (After Caladan's controller of memory bandwidth; the cap is Doranjei's.)
 pub fn grants_keep_to_caps()
     ensures { GrantsKeepToCaps }
 {
@@ -30,7 +29,7 @@ pub fn grants_keep_to_caps()
 
 /// At every point a best-effort task holds no more cores than its cap, but between a cut of its cap
 /// and the revocation that follows at once: there it holds at most one more. (After Caladan's
-/// controller of memory bandwidth; the cap is this project's own.)
+/// controller of memory bandwidth; the cap is Doranjei's.)
 pub fn tasks_keep_to_caps()
     ensures { TasksKeepToCaps }
 {
@@ -42,7 +41,7 @@ pub fn tasks_keep_to_caps()
 
 /// A core is revoked only from a task that holds more than it is guaranteed: so none holds less
 /// than its guarantee for having lost a core, whatever the cause. (After Caladan's guaranteed and
-/// burstable cores; this project's own rule.)
+/// burstable cores; Doranjei's rule.)
 pub fn revocations_leave_guarantees()
     ensures { RevocationsLeaveGuarantees }
 {

@@ -3,7 +3,7 @@
 ghost use Rattle.cal_laws.specs.OldDelay.{RecordDelayIsOfQueue, DelaysAreOfQueues};
 
 /// A record whose last two words are 0 shows the delay of its queue alone: how long its oldest
-/// queued request has waited, in clock ticks as handed in.
+/// queued request has waited, in clock ticks as given.
 pub fn record_delay_is_of_queue()
     ensures { RecordDelayIsOfQueue }
 {}

@@ -3,7 +3,7 @@
 ghost use Rattle.cal_linear.specs.Law.{FittingLooksArePublications, LinearIsLegal};
 
 /// Where a scheduler decided a legal history and its threads kept journals, each on its own, the
-/// steps of all stand in one legal list: `linear`.
+/// steps of all are in one legal list: `linear`.
 pub fn linear_is_legal()
     ensures { LinearIsLegal }
 {}

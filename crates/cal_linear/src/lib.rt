@@ -2,10 +2,10 @@
 //!
 //! A scheduler keeps a history and each kernel thread a journal, each on its own and in its own
 //! order. Where they are of one run, as the ends of the run promise together (`AreOfOneRun`,
-//! `AreWatched`), their steps stand in one order that is a legal list of events. So what holds of
+//! `AreWatched`), their steps are in one order that is a legal list of events. So what holds of
 //! every legal list holds of what they did.
 //!
-//! The order is this project's own. Not promised: that it is the order in time between threads.
+//! The order is Doranjei's. Not promised: that it is the order in time between threads.
 #![tactic(auto)]
 
 mod front;

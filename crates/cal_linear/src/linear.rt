@@ -23,7 +23,7 @@ use std::alloc::{AllocError, Global};
 /// give a Take, a Yield and a Publish, other entries nothing.
 ///
 /// The list is legal, and the history, the journals' steps and the whole looks are its projections.
-/// Its error is want of memory alone.
+/// Fails only when out of memory.
 pub fn linearise(
     alloc: Global,
     config: &Config,

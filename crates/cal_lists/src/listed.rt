@@ -1,4 +1,4 @@
-//! A list that is made from a vector as it stands.
+//! A list that is made from a vector, unchanged.
 
 ghost use Rattle.std.specs.Prelude.{◌≡◌};
 

@@ -1,4 +1,4 @@
--- What is said of a set of cores.
+-- Definitions over a set of cores.
 use Rattle.std.specs.Prelude.{◌≡◌, ◌<◌, ◌≤◌, ◌==◌, ℕ, Bool, true, false}
 use Rattle.std.specs.Int.{bit_at}
 use Rattle.cal_machine.specs.declared.core_set.CoreSet.{CoreSet}

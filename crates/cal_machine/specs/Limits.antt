@@ -1,5 +1,5 @@
--- The limits of the machine and its table, this project's own, and the number of each. The other
--- definitions cite the constants of the code alone. Here each number stands once: a constant with
+-- The limits of the machine and its table, Doranjei's, and the number of each. The other
+-- definitions cite the constants of the code alone. Each number is here once: a constant with
 -- another number is refused.
 use Rattle.std.specs.Prelude.{◌≡◌, ◌^◌, refl}
 use Rattle.cal_machine.specs.declared.machine.TheConstants.{MOST_CORES}

@@ -15,7 +15,7 @@ abbrev pub or_fault : {A : Type 0} → ConfigFault → Option A → Result A Con
 or_fault fault (Some x) = Ok x
 or_fault fault None = Err fault
 
--- The checks fail with this fault. Want of memory says nothing of them: it may come at any place.
+-- The checks fail with this fault. Out of memory says nothing of them: it may come at any place.
 abbrev pub Fails : {A : Type 0} → ConfigFault → Result A ConfigFault → Type 0
 Fails Memory checks = ⊤
 Fails fault checks = checks ≡ Err fault

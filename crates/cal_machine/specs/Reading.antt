@@ -1,5 +1,4 @@
 -- Reading the task table: its checks in their order, of which the first that fails is the fault.
--- The form and all limits are this project's own.
 use Rattle.std.specs.Prelude.{◌==◌, ◌&&◌, ◌+◌, ℕ, ℤ, List, [], ◌∷◌, codes, not, nat_le, Option}
 use Rattle.std.specs.Prelude.{Some, None, option_and_then, Result, Ok, Err, if◌then◌else◌}
 use Rattle.std.specs.Str.{is_utf8}
@@ -19,7 +18,7 @@ use Rattle.cal_machine.specs.declared.fault.ConfigFault.TheVariants.{TooManyThre
 use Rattle.cal_machine.specs.declared.numbering.TheConstants.{MOST_THREADS}
 use Rattle.cal_machine.specs.declared.task_table.TheConstants.{MOST_TASKS, MOST_LIMIT, MOST_TICKS}
 
--- The numbers of the top table, and its tasks as they stand.
+-- The numbers of the top table, and its tasks as the text has them.
 pub record TopFields : Type 0 where
   pub cores : ℤ
   pub bandwidth_limit : ℤ

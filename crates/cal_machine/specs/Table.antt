@@ -1,4 +1,4 @@
--- The task table, and what every accepted one is. All limits are this project's own.
+-- The task table, and what every accepted one is.
 use Rattle.std.specs.Prelude.{◌≡◌, ◌≤◌, ℕ, List, All, length}
 use Rattle.cal_machine.specs.Machine.{IsMachine}
 use Rattle.cal_machine.specs.Tasks.{threads_in, guaranteed_in}

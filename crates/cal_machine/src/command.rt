@@ -1,7 +1,6 @@
 //! What the scheduler tells a kernel thread.
 
-/// A command to a kernel thread (this project's own form: Caladan's scheduler interrupts a core
-/// instead).
+/// A command to a kernel thread (Doranjei's form: Caladan's scheduler interrupts a core instead).
 #[derive(Clone, Copy, Debug, PartialEq, Eq)]
 pub enum Command {
     /// Run on this core.

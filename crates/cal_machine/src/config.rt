@@ -111,7 +111,7 @@ impl Config {
         self.machine
     }
 
-    /// The bandwidth above which a best-effort task loses a core, in units as handed in.
+    /// The bandwidth above which a best-effort task loses a core, in units as given.
     pub fn bandwidth_limit(&self) -> u64
         ensures { result ≡ self.now.bandwidth_limit }
     {

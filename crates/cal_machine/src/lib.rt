@@ -3,11 +3,11 @@
 //! A `Machine` is a number of cores, two and two siblings; a `CoreSet` is a set of cores; a
 //! `Config` is the accepted task table, which says for each task what it may have and numbers the
 //! kernel threads of all tasks one after the other. Two small values that several crates speak of
-//! stand here too: `Command`, what the scheduler tells a kernel thread, and `Request`, a piece of
+//! are here too: `Command`, what the scheduler tells a kernel thread, and `Request`, a piece of
 //! work for one.
 //!
-//! The form and the limits are this project's own. Nothing here decides who gets a core: the rules
-//! of a pass are cal_policy's.
+//! The form and the limits are Doranjei's. Nothing here decides who gets a core: the rules of a
+//! pass are cal_policy's.
 #![tactic(auto)]
 
 mod command;

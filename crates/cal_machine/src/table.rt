@@ -40,7 +40,7 @@ fn as_text(bytes: &[u8]) -> Option<&str>
     }
 }
 
-/// The numbers of the top table, and its tasks as they stand.
+/// The numbers of the top table, and its tasks as the text has them.
 #[derive(Clone, Copy)]
 struct TopFields<'a> {
     cores: i64,

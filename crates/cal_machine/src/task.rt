@@ -18,9 +18,9 @@ pub struct Task {
     pub guaranteed: u8,
     /// The most cores that it can have at once, and its number of kernel threads: 1 to 16.
     pub limit: u8,
-    /// The queueing delay above which it is congested, in clock ticks as handed in.
+    /// The queueing delay above which it is congested, in clock ticks as given.
     pub delay: u64,
-    /// The age of a request above which its core's sibling is banned, in clock ticks as handed in.
-    /// Not used for a best-effort task.
+    /// The age of a request above which its core's sibling is banned, in clock ticks as given. Not
+    /// used for a best-effort task.
     pub request: u64,
 }

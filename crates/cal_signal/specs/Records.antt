@@ -7,7 +7,7 @@ abbrev pub IsLater : Record → Record → Type 0
 IsLater a b = (a.taken ≤ b.taken) × (a.misses ≤ b.misses) × (a.stamp ≤ b.stamp)
 
 -- running names no core above the last of 128, and 16 counts of misses have a sum: these are
--- MOST_CORES and MOST_LIMIT of cal_machine, on which this crate does not stand
+-- MOST_CORES and MOST_LIMIT of cal_machine, on which this crate does not depend
 abbrev pub IsShaped : Record → Type 0
 IsShaped a = (a.running ≤ 128) × (a.misses ≤ 2 ^ 56)
 

@@ -3,10 +3,9 @@
 //!
 //! A page is a seqlock on `atomic_table`: a version word and nine words. The version is `2i` while
 //! record `i` is the last one, and `2i + 1` while the next one is being written. Publishing and
-//! looking wait for nobody, and no lock stands round either. A look gives a whole record that was
-//! published, with its place, and no record older than the last look gave; or it is busy. That is
-//! the textbook seqlock; the words of a record, what it may be and the calls in steps are this
-//! project's own.
+//! looking wait for nobody, and there are no locks. A look gives a whole record that was published,
+//! with its place, and no record older than the last look gave; or it is busy. That is the textbook
+//! seqlock; the words of a record, what it may be and the calls in steps are Doranjei's.
 //!
 //! Not promised: that a look beside a publisher succeeds, or any order between two observers.
 #![tactic(auto)]

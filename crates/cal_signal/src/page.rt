@@ -12,7 +12,7 @@ use crate::words::WORDS;
 use std::alloc::{AllocError, Global};
 use std::sync::Arc;
 
-/// A new page with one observer. Want of memory is the only error.
+/// A new page with one observer. Out of memory is the only error.
 pub fn open_page(alloc: Global) -> Result<(Publisher, Observer), AllocError>
     ensures one_page { IfOk result (λ ends. ends.0.page ≡ ends.1.page) }
     ensures fresh { IfOk result (λ ends. (ends.0.published ≡ []) × (ends.1.loads ≡ [])
@@ -36,7 +36,7 @@ pub fn open_page(alloc: Global) -> Result<(Publisher, Observer), AllocError>
     Ok((publisher, observer))
 }
 
-/// A new page with two observers. Want of memory is the only error.
+/// A new page with two observers. Out of memory is the only error.
 pub fn open_watched(alloc: Global) -> Result<(Publisher, Observer, Observer), AllocError>
     ensures one_page { IfOk result (λ ends. (ends.0.page ≡ ends.1.page)
         × (ends.0.page ≡ ends.2.page)) }
@@ -193,7 +193,7 @@ pub fn close_page(publisher: Publisher, observer: Observer) -> PageEnd
 pub struct WatchEnd {
     /// The last place.
     pub published: u64,
-    /// The floor of the observer that was handed in first.
+    /// The floor of the observer that was given first.
     pub first: u64,
     /// The floor of the other.
     pub second: u64,

@@ -5,7 +5,7 @@ ghost use Rattle.cal_signal.specs.Tests.{is_later, is_shaped};
 
 /// What a kernel thread shows of itself, nine words in this order.
 ///
-/// Times are clock ticks as they were handed in.
+/// Times are clock ticks as given.
 #[derive(Clone, Copy, Debug, PartialEq, Eq)]
 pub struct Record {
     /// Commands taken so far.

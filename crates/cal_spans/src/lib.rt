@@ -2,7 +2,7 @@
 //! and its bans, by one walk over its passes.
 //!
 //! The spans of a history are `spans_of`; what they tell of every history, and of every orderly
-//! one, stands in `laws`. A `Tracker` and a `BanTracker` walk along a history as it comes, and keep
+//! one, is in `laws`. A `Tracker` and a `BanTracker` walk along a history as it comes, and keep
 //! nothing of what has ended.
 #![tactic(auto)]
 

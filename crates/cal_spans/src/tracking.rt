@@ -143,7 +143,7 @@ impl Tracker {
     }
 }
 
-/// Puts a span, if there is one, at the end of a list. The error is want of memory.
+/// Puts a span, if there is one, at the end of a list. Fails only when out of memory.
 fn put_one(spans: &mut Vec<Span>, span: Option<Span>) -> Result<(), AllocError>
     ensures { OnOk result (spans.new.items ≡ spans.old.items ++ one_of span) }
 {
@@ -173,7 +173,7 @@ impl Gathering {
         }
     }
 
-    /// Goes on by one pass. The error is want of memory.
+    /// Goes on by one pass. Fails only when out of memory.
     fn note_pass(&mut self, pass: usize, actions: &[Action]) -> Result<(), AllocError>
         ensures { OnOk result ((moves : List Move) → Gathers self.old moves
             → Gathers self.new (moves ++ map (made_in pass) actions.now)) }
@@ -184,7 +184,7 @@ impl Gathering {
         Ok(())
     }
 
-    /// Goes on by one action. The error is want of memory.
+    /// Goes on by one action. Fails only when out of memory.
     fn note(&mut self, pass: usize, action: Action) -> Result<(), AllocError>
         ensures { OnOk result ((moves : List Move) → Gathers self.old moves
             → Gathers self.new (moves ++ made_in pass action ∷ [])) }
@@ -194,8 +194,8 @@ impl Gathering {
         Ok(())
     }
 
-    /// All spans: those that ended, and then those that the cores below `cores` are in. The error
-    /// is want of memory.
+    /// All spans: those that ended, and then those that the cores below `cores` are in. Fails only
+    /// when out of memory.
     fn into_spans(self, cores: u8) -> Result<Vec<Span>, AllocError>
         ensures { (moves : List Move) → Gathers self moves
             → IfOk result (λ spans. spans.items ≡ ended_of moves ++ open_of moves cores) }
@@ -209,7 +209,7 @@ impl Gathering {
 }
 
 /// The spans of a history, of a machine with so many cores: those that ended, in the order in which
-/// they did, and then those that go on at its end, by core. The error is want of memory.
+/// they did, and then those that go on at its end, by core. Fails only when out of memory.
 ///
 /// It takes any history. Of an orderly one each span ends with a Free.
 pub fn spans_of(alloc: Global, cores: u8, history: &[PassEntry]) -> Result<Vec<Span>, AllocError>

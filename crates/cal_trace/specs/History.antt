@@ -118,7 +118,7 @@ add_action so_far entry (Ok action) =
     check (nat_lt (length entry.actions) MOST_ACTIONS) kind.Range
     (Ok (record so_far { at_hand = Some (with_action action entry) }))
 
--- a look row, where the next look is that of this thread, if one can stand here
+-- a look row, where the next look is that of this thread, if one may come here
 abbrev pub take_look : SoFar PassEntry → LookForm → Fields → Result ℕ FaultKind →
     Result (SoFar PassEntry) FaultKind
 take_look so_far look fields (Err k) = Err k

@@ -1,5 +1,5 @@
 -- The most passes and turns of a file. The other definitions cite the constants of the code alone.
--- Here each number stands once: a constant with another number is refused.
+-- Each number is here once: a constant with another number is refused.
 use Rattle.std.specs.Prelude.{◌≡◌, ◌^◌, refl}
 use Rattle.cal_trace.specs.declared.arrivals.reading.TheConstants.{MOST_TURNS}
 use Rattle.cal_policy.specs.declared.history.entry.TheConstants.{MOST_PASSES}

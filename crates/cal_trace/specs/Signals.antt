@@ -101,7 +101,7 @@ look_row form.Header k last fields = Err kind.Order
 look_row form.Pass k last fields = Err kind.Order
 look_row form.End k last fields = Err kind.Order
 
--- a look row, where the next look is that of this thread, if one can stand here
+-- a look row, where the next look is that of this thread, if one may come here
 abbrev pub take_look : SoFar SignalPass → Form → Fields → Result ℕ FaultKind →
     Result (SoFar SignalPass) FaultKind
 take_look so_far form fields (Err k) = Err k

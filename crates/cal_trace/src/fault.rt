@@ -7,7 +7,7 @@ use std::alloc::{AllocError, AllocFailed};
 use std::{error, fmt};
 use thiserror::Error;
 
-/// What is wrong with a row (this project's own). `kind as u8` is its number, 1 to 9.
+/// What is wrong with a row. `kind as u8` is its number, 1 to 9.
 ///
 /// A file's fault is the first of its rows that has one; within a row the checks come in the order
 /// `Fields`, `Order` for the row's kind at its place, `Number`, `Order` for its thread, its turn or
@@ -23,7 +23,7 @@ pub enum FaultKind {
     Fields = 3,
     /// A field is not a number: `0`, or digits with no zero in front, below 2^64.
     Number = 4,
-    /// The row cannot stand here, is missing, comes after the end row, is of another thread than
+    /// The row may not come here, is missing, comes after the end row, is of another thread than
     /// the next, counts wrongly, or is a request that does not come after the last one.
     Order = 5,
     /// A number is out of its range.

@@ -3,7 +3,7 @@
 //!
 //! What is read is exactly what the rows say that `csv` gives of a text, or the first check that
 //! fails, with its row. What is written is exactly the text, and a history that was written is read
-//! back as it was. Arrivals that were read fit their table. All formats are this project's own.
+//! back as it was. Arrivals that were read fit their table.
 //!
 //! Nothing here judges: whether a look or a history is the policy's is for cal_policy to say.
 #![tactic(auto)]

@@ -21,13 +21,12 @@ use cal_policy::{Action, Cause, PassEntry, Seen};
 use std::io;
 use std::io::Write;
 
-/// The report of a history as it grows, one pass after the other (this project's own format): a
-/// line for each pass, for each look that was not kept and for each action, and at its end how many
-/// passes there are and a line for each task with the cores that it holds and leaves after the last
-/// pass.
+/// The report of a history as it grows, one pass after the other: a line for each pass, for each
+/// look that was not kept and for each action, and at its end how many passes there are and a line
+/// for each task with the cores that it holds and leaves after the last pass.
 ///
 /// It keeps nothing of a pass that was written but its count, and takes no memory of its own. The
-/// error is what the writer answered; then nothing is said of how much was written.
+/// error is what the writer returned; how much was written is unspecified.
 #[derive(Drop)]
 pub struct Report {
     passes: u64,
@@ -85,8 +84,8 @@ impl Report {
 /// Writes the report of a whole history, as `Report` has it. The history is to be orderly, which
 /// each legal one is.
 ///
-/// The error is what the writer answered; then nothing is said of how much was written. It takes no
-/// memory of its own.
+/// The error is what the writer returned; how much was written is unspecified. It takes no memory
+/// of its own.
 pub fn write_report<W: Write>(
     config: &Config,
     history: &[PassEntry],

@@ -19,7 +19,7 @@ use crate::fault::{FaultKind, TraceFault};
 use csv::{ByteRecord, ErrorKind, Reader, ReaderBuilder};
 use std::alloc::Global;
 
-/// What an error of `csv` is: want of memory by its name, else the reader's.
+/// What an error of `csv` is: out of memory by its name, else the reader's.
 fn kind_of(error: &csv::Error) -> FaultKind
     ensures { result ≡ kind_of (error_kind error.now) }
 {
@@ -55,8 +55,8 @@ impl<'a> Rows<'a> {
         }
     }
 
-    /// Goes to the next row, and says whether there is one. The error is want of memory, or `Read`
-    /// where `csv` answered any other; its row is the next one.
+    /// Goes to the next row, and says whether there is one. Fails when out of memory, or with
+    /// `Read` where `csv` answered any other; its row is the next one.
     pub(crate) fn step(&mut self) -> Result<bool, TraceFault>
         requires { IsReading self.old }
         ensures steps { IfOk result (λ found. StepsOn self.old self.new found) }

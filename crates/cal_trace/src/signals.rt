@@ -9,8 +9,7 @@ use cal_policy::FoundLook;
 /// The looks of one pass, one for each thread, in thread order.
 pub type SignalLooks = Listed<FoundLook>;
 
-/// The signals of one pass: a clock and a bandwidth figure, as handed in, and a look at each
-/// thread.
+/// The signals of one pass: a clock and a bandwidth figure, as given, and a look at each thread.
 #[derive(Drop)]
 pub struct SignalPass {
     /// The clock, in ticks.

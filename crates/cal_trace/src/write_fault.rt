@@ -3,11 +3,11 @@
 use std::io;
 use thiserror::Error;
 
-/// Why a text could not be written. `fault as u8` is its number. After it nothing is said of how
-/// much was written.
+/// Why a text could not be written. `fault as u8` is its number. After it how much was written is
+/// unspecified.
 #[derive(Clone, Copy, Debug, PartialEq, Eq, Error)]
 pub enum WriteFault {
-    /// The writer answered an error other than want of memory.
+    /// The writer returned an error other than out of memory.
     #[error("the writer failed")]
     Write = 1,
     /// The writer answered that memory ran out.

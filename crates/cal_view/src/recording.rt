@@ -36,8 +36,8 @@ pub fn record<R: Read + Drop, W: Write>(
     write_recorded(table, input.as_slice(), history.as_slice(), writer)
 }
 
-/// Writes a history, with what stands before it. The fault is `Write`, where the writer answers an
-/// error; then nothing is said of how much was written.
+/// Writes a history, with what stands before it. The fault is `Write`, if the writer returns an
+/// error; how much was written is unspecified.
 fn write_recorded<W: Write>(
     table: bool,
     input: &[u8],
@@ -57,7 +57,7 @@ fn write_recorded<W: Write>(
     }
 }
 
-/// Writes the task table of an input as it stands there and the line after it, where they are asked
+/// Writes the task table of an input as it is there and the line after it, where they are asked
 /// for.
 fn write_front<W: Write>(table: bool, input: &[u8], writer: &mut W) -> io::Result<()>
     ensures { OnOk result (Appends (W.contents writer.old) (W.contents writer.new)

@@ -79,7 +79,7 @@ pub record IsDrained (e : KernelEnd) : Type 0 where
   pub held : e.rest.held ≡ []
   pub queue : AllTaken e.rest.queue.pushed e.rest.queue.had e.rest.queue.handed
 
--- an end but for the shares and the thieves that it has: what the gathering of the shares leaves as
+-- an end except the shares and the thieves that it has: what the gathering of the shares leaves as
 -- it was
 abbrev pub stripped : KernelEnd → KernelEnd
 stripped e = record e {

@@ -35,13 +35,13 @@ abbrev pub StandsInOnePlace : List (List Entry) → List (List Request) → ℕ 
 StandsInOnePlace journals lefts id = (Once (ServedAt journals id) × Nowhere (LeftAt lefts id))
     ⊎ (Nowhere (ServedAt journals id) × Once (LeftAt lefts id))
 
--- The law of one place: an id that arrived once stands in exactly one place.
+-- The law of one place: an id that arrived once is in exactly one place.
 abbrev pub OnceIsInOnePlace : Type 0
 OnceIsInOnePlace = (journals : List (List Entry)) (lefts : List (List Request)) (id : ℕ) →
     IsAccounted journals lefts
     → arrived_times id journals ≡ 1 → StandsInOnePlace journals lefts id
 
--- The law of no place: an id that did not arrive stands nowhere.
+-- The law of no place: an id that did not arrive is nowhere.
 abbrev pub NeverIsNowhere : Type 0
 NeverIsNowhere = (journals : List (List Entry)) (lefts : List (List Request)) (id : ℕ) →
     IsAccounted journals lefts

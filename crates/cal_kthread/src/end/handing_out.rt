@@ -13,7 +13,7 @@ use std::alloc::{AllocError, Global};
 /// up to None. Asks for ends that `settle` has settled, of which nothing was handed out before.
 /// With the journals they are the team's account.
 ///
-/// An error is want of memory; what was handed out by then is gone. Either way an end keeps its
+/// Fails only when out of memory; what was handed out by then is gone. Either way an end keeps its
 /// number, its journal and its ends of its page and its ring.
 pub fn hand_out_all(alloc: Global, ends: &mut [KernelEnd]) -> Result<Vec<RequestList>, AllocError>
     requires settled { IsSettled ends.old }

@@ -1,4 +1,4 @@
-//! What stands in the journal of a kernel thread.
+//! The entries of a kernel thread's journal.
 
 use cal_command::Command;
 use cal_machine::Request;

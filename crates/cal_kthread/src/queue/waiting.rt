@@ -7,6 +7,6 @@ use cal_machine::Request;
 pub struct Waiting {
     /// The request, as it came.
     pub request: Request,
-    /// When it came, in clock ticks as they were handed in.
+    /// When it came, in clock ticks as given.
     pub arrived: u64,
 }

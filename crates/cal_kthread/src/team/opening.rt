@@ -23,7 +23,7 @@ pub(crate) struct Opened {
 }
 
 /// A kernel thread of this number that did nothing yet, with a page, a ring and a queue of its own,
-/// and no thieves. An error is want of memory.
+/// and no thieves. Fails only when out of memory.
 pub(crate) fn open_thread(alloc: Global, number: u8) -> Result<Opened, AllocError>
     ensures number { IfOk result (λ opened. opened.thread.number ≡ number) }
     ensures fresh { IfOk result (λ opened. IsFresh opened.thread) }

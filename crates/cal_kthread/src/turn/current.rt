@@ -10,6 +10,6 @@ pub(crate) struct Current {
     pub(crate) waiting: Waiting,
     /// How many turns of work are left.
     pub(crate) remaining: u64,
-    /// When it was begun or resumed, in clock ticks as they were handed in.
+    /// When it was begun or resumed, in clock ticks as given.
     pub(crate) started: u64,
 }

@@ -6,12 +6,12 @@ use Rattle.cal_trace.specs.declared.fault.FaultKind.{FaultKind}
 use Rattle.cal_trace.specs.declared.fault.FaultKind.TheVariants as kind
 use Rattle.cal_trace.specs.declared.fault.TraceFault.{TraceFault}
 
--- what an error of the reader of rows is: want of memory by its name, else Read
+-- what an error of the reader of rows is: out of memory by its name, else Read
 abbrev pub kind_of : ErrorKind → FaultKind
 kind_of why.OutOfMemory = kind.Memory
 kind_of error = kind.Read
 
--- P, but for want of memory, which no row decides
+-- P holds, unless the fault is Memory, which no row determines
 abbrev pub ButMemory : FaultKind → Type 0 → Type 0
 ButMemory kind.Memory P = ⊤
 ButMemory kind.Read P = P
@@ -23,7 +23,7 @@ ButMemory kind.Range P = P
 ButMemory kind.Backwards P = P
 ButMemory kind.Repeated P = P
 
--- P, but for a fault of memory or of the reader of rows, which no row decides
+-- P holds, unless the fault is of memory or of the reader of rows, which no row determines
 abbrev pub Decided : FaultKind → Type 0 → Type 0
 Decided kind.Memory P = ⊤
 Decided kind.Read P = ⊤

@@ -54,11 +54,11 @@ module _ {Pass : Type 0} (looks_in : Pass → ℕ) where
   is_full threads None = true
   is_full threads (Some pass) = looks_in pass == threads
 
-  -- whether a pass row or the end row can stand here
+  -- whether a pass row or the end row may come here
   abbrev pub is_between : ℕ → SoFar Pass → Bool
   is_between threads so_far = not so_far.ended && is_full threads so_far.at_hand
 
-  -- the thread whose look comes next, where a look can stand here
+  -- the thread whose look comes next, where a look may come here
   abbrev pub next_thread : ℕ → Option Pass → Result ℕ FaultKind
   next_thread threads None = Err kind.Order
   next_thread threads (Some pass) =

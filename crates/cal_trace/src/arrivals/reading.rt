@@ -22,7 +22,7 @@ pub const MOST_TURNS: usize = 174_762;
 /// What a row of a file of arrivals is, by its first field and its number of fields.
 #[derive(Clone, Copy)]
 pub(crate) enum Form {
-    /// The header once more, which cannot stand here.
+    /// The header once more, which may not come here.
     Header,
     /// A pass.
     Pass,

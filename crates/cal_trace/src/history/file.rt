@@ -29,8 +29,8 @@ fn extent_of(config: &Config) -> Extent
     }
 }
 
-/// The passes of a history, of version 1 or 2, one after the other as their rows are read (this
-/// project's own format). It keeps nothing of a pass that it has given but how many there were.
+/// The passes of a history, of version 1 or 2, one after the other as their rows are read. It keeps
+/// nothing of a pass that it has given but how many there were.
 ///
 /// A pass is given before the rows after it were read, so the file may still be refused: what is
 /// made of its passes counts only once the end has come.
@@ -61,7 +61,7 @@ impl<'a> HistoryRows<'a> {
 
     /// The next pass, or `None` where the file ended as it must. The error is the first check that
     /// fails, in the order of the rows and of the checks of a row: `Memory` and `Read` come as
-    /// `read_history` says. It is not called again after `None` or an error.
+    /// `read_history` says. Must not be called again after `None` or an error.
     pub fn next(&mut self) -> Result<Option<PassEntry>, TraceFault>
         requires { IsOpen self.old }
         // The passes given so far and those still to come are those of the text, or its fault is
@@ -77,7 +77,7 @@ impl<'a> HistoryRows<'a> {
     }
 }
 
-/// Reads a history, of version 1 or 2, for a table (this project's own format).
+/// Reads a history, of version 1 or 2, for a table.
 ///
 /// The error is the first check that fails, in the order of the rows and of the checks of a row.
 /// `Memory` comes only where memory was refused. `Read` comes only where `csv` fails to read, which

@@ -31,7 +31,7 @@ pub(crate) enum LookForm {
 /// What a row of a history is, by its first field and its number of fields.
 #[derive(Clone, Copy)]
 pub(crate) enum Form {
-    /// The header once more, which cannot stand here.
+    /// The header once more, which may not come here.
     Header,
     /// A pass begins.
     Pass,
@@ -135,7 +135,7 @@ impl OpenEntry {
     ghost use Rattle.cal_trace.specs.Rows.LookRows.{check};
     ghost use Rattle.cal_trace.specs.declared.fault.FaultKind.TheVariants as kind;
 
-    // One more look. The error is want of memory.
+    // One more look. Fails only when out of memory.
     fn add_look(&mut self, looked: SeenRow) -> Result<(), FaultKind>
         ensures added { OnOk result
             (entry_at_hand self.new ≡ with_look looked (entry_at_hand self.old)) }
@@ -208,7 +208,7 @@ impl PassAtHand for OpenEntry {
     }
 }
 
-/// What the rows of a history so far have given, but for the passes that were handed out.
+/// What the rows of a history so far have given, except the passes that were given out.
 #[derive(Drop)]
 pub(crate) struct HistoryReading {
     version: Version,

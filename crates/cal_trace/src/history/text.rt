@@ -13,11 +13,10 @@ use cal_policy::{Action, Cause, PassEntry, Record, Seen};
 use std::io;
 use std::io::Write;
 
-/// Writes a history, in version 2 of its format (this project's own).
+/// Writes a history, in version 2 of its format.
 ///
 /// A look for which the entry says nothing of its thread's ring is written with room 0. The error
-/// is what the writer answered; then nothing is said of how much was written. It takes no memory of
-/// its own.
+/// is what the writer returned; how much was written is unspecified. It takes no memory of its own.
 pub fn write_history<W: Write>(history: &[PassEntry], writer: &mut W) -> Result<(), WriteFault>
     ensures { OnOk result (Appends (W.contents writer.old) (W.contents writer.new)
         (history_text history.now)) }

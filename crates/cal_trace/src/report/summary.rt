@@ -17,8 +17,8 @@ use std::io::Write;
 /// many commands it took, how many records it published, how many requests it served, and how many
 /// were left with it.
 ///
-/// A thread past the end of `left` was left nothing. The error is what the writer answered; then
-/// nothing is said of how much was written. It takes no memory of its own.
+/// A thread past the end of `left` was left nothing. The error is what the writer returned; how
+/// much was written is unspecified. It takes no memory of its own.
 pub fn write_summary<W: Write>(
     passes: usize,
     turns: usize,

@@ -15,7 +15,7 @@ use crate::rows::Rows;
 use csv::ByteRecord;
 use std::alloc::Global;
 
-/// What the rows of a file of passes so far have given, but for the passes that were handed out.
+/// What the rows of a file of passes so far have given, except the passes that were given out.
 pub(crate) trait PassReading: Sized + Drop {
     /// A pass of the file.
     type Pass: Drop;
@@ -61,7 +61,7 @@ pub(crate) trait PassReading: Sized + Drop {
 }
 
 /// The next pass, or `None` where the file ended as it must. The error is the first check that
-/// fails. It is not called again after `None` or an error.
+/// fails. Must not be called again after `None` or an error.
 pub(crate) fn next_pass<R: PassReading>(
     rows: &mut Rows,
     reading: &mut R,

@@ -28,7 +28,7 @@ pub(crate) trait PassAtHand: Sized + Drop {
     // What a pass is after its pass row.
     ghost begun: { PassRow → Self.Pass };
 
-    /// A pass with room for the looks of so many threads. The error is want of memory.
+    /// A pass with room for the looks of so many threads. Fails only when out of memory.
     fn begin(alloc: Global, threads: usize, row: PassRow) -> Result<Self, FaultKind>
         ensures begun { IfOk result (λ hand. pass hand ≡ begun row) }
         ensures memory { IfErr result (λ k. k ≡ kind.Memory) };
@@ -42,7 +42,7 @@ pub(crate) trait PassAtHand: Sized + Drop {
         ensures { result ≡ pass self };
 }
 
-/// What the rows so far have given, but for the passes that were handed out.
+/// What the rows so far have given, except the passes that were given out.
 #[derive(Drop)]
 pub(crate) struct PassesSoFar<P> {
     alloc: Global,
@@ -68,7 +68,7 @@ impl<P: PassAtHand> PassesSoFar<P> {
         }
     }
 
-    // Whether a pass row or the end row can stand here.
+    // Whether a pass row or the end row may come here.
     fn is_between(&self, threads: usize) -> bool
         ensures { result ≡ is_between P.looks_in threads (so_far P.pass [] self.now) }
     {
@@ -78,7 +78,7 @@ impl<P: PassAtHand> PassesSoFar<P> {
         }
     }
 
-    /// The thread whose look comes next, where a look can stand here.
+    /// The thread whose look comes next, where a look may come here.
     pub(crate) fn next_thread(&self, threads: usize) -> Result<usize, FaultKind>
         ensures { result ≡ next_thread P.looks_in threads (so_far P.pass [] self.now).at_hand }
     {

@@ -17,9 +17,8 @@ use crate::signals::{SignalPass, SignalPasses, Signals};
 use cal_machine::Config;
 use std::alloc::Global;
 
-/// The passes of a file of signals, of version 1 or 2, one after the other as their rows are read
-/// (this project's own format). It keeps nothing of a pass that it has given but what each thread
-/// showed last.
+/// The passes of a file of signals, of version 1 or 2, one after the other as their rows are read.
+/// It keeps nothing of a pass that it has given but what each thread showed last.
 ///
 /// A pass is given before the rows after it were read, so the file may still be refused: what is
 /// made of its passes counts only once the end has come.
@@ -52,7 +51,7 @@ impl<'a> SignalRows<'a> {
 
     /// The next pass, or `None` where the file ended as it must. The error is the first check that
     /// fails, in the order of the rows and of the checks of a row: `Memory` and `Read` come as
-    /// `read_signals` says. It is not called again after `None` or an error.
+    /// `read_signals` says. Must not be called again after `None` or an error.
     pub fn next(&mut self) -> Result<Option<SignalPass>, TraceFault>
         requires { IsOpen self.old }
         // The passes given so far and those still to come are those of the text, or its fault is
@@ -68,8 +67,7 @@ impl<'a> SignalRows<'a> {
     }
 }
 
-/// Reads a file of signals, of version 1 or 2, for the threads of a table (this project's own
-/// format).
+/// Reads a file of signals, of version 1 or 2, for the threads of a table.
 ///
 /// The error is the first check that fails, in the order of the rows and of the checks of a row.
 /// `Memory` comes only where memory was refused. `Read` comes only where `csv` fails to read, which

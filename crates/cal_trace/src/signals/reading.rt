@@ -19,7 +19,7 @@ use std::alloc::Global;
 /// What a row of a file of signals is, by its first field and its number of fields.
 #[derive(Clone, Copy)]
 pub(crate) enum Form {
-    /// The header once more, which cannot stand here.
+    /// The header once more, which may not come here.
     Header,
     /// A pass begins.
     Pass,
@@ -96,7 +96,7 @@ impl PassAtHand for OpenPass {
     }
 }
 
-/// What the rows of signals so far have given, but for the passes that were handed out.
+/// What the rows of signals so far have given, except the passes that were given out.
 #[derive(Drop)]
 pub(crate) struct SignalReading {
     version: Version,

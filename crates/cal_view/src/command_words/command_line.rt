@@ -5,7 +5,7 @@ use cal_engine::VERSION;
 use clap::{Arg, ArgAction, ArgMatches, Command, Error};
 use std::alloc::{AllocError, Global};
 
-/// What the program is to do with its input (this project's own words).
+/// What the program is to do with its input.
 #[derive(Clone, Copy, Debug, PartialEq, Eq)]
 pub enum Job {
     /// Write the history that signals lead to, with the task table in front or without it.
@@ -30,7 +30,7 @@ pub enum Job {
 ///
 /// The error is clap's own. A word that is not in the table is refused; a request for help is an
 /// error of the kind `DisplayHelp`, one for the version of the kind `DisplayVersion`, whose texts
-/// go to the standard output; want of memory has the kind `OutOfMemory`.
+/// go to the standard output; out of memory has the kind `OutOfMemory`.
 pub fn words<'a>(alloc: Global, words: &'a [&'a str]) -> Result<Job, Error> {
     let matches = program(alloc)?.try_get_matches_from(words)?;
     Ok(job_of(&matches))

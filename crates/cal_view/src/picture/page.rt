@@ -68,7 +68,7 @@ impl Page {
         self.refused = true;
     }
 
-    /// What was put. The error is want of memory.
+    /// What was put. Fails only when out of memory.
     pub fn whole(&self) -> Result<&str, AllocError> {
         if self.refused {
             return Err(AllocError);
