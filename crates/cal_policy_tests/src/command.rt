@@ -2,6 +2,7 @@
 ghost use Rattle.std.specs.Prelude.{◌≡◌};
 ghost use Rattle.cal_command.specs.Commands.{IsSendable};
 
+use crate::given::assert_same;
 use cal_command::{Command, Sender, Taker, close_ring, open_ring};
 use std::alloc::{AllocError, Global};
 use std::sync::Wait;
@@ -20,10 +21,10 @@ fn ring_of_four(rt: HostRuntime) -> Result<(), Fail> {
     assert!(rt; sender.room());
     sender.send(Command::Park);
     assert!(rt; !sender.room());
-    assert!(rt; matches!(taker.take(), Some((1, Command::Run(0)))));
+    assert_same(&rt, taker.take(), Some((1, Command::Run(0))));
     assert!(rt; sender.room());
     let end = close_ring(sender, taker);
-    assert!(rt; end.sent == 4 && end.taken == 1);
+    assert_same(&rt, (end.sent, end.taken), (4, 1));
     Ok(())
 }
 

@@ -9,6 +9,8 @@
 #[cfg(test)]
 mod command;
 #[cfg(test)]
+mod given;
+#[cfg(test)]
 mod guard;
 #[cfg(test)]
 mod lists;

@@ -3,6 +3,7 @@ ghost use Rattle.std.specs.Prelude.{◌≡◌};
 
 mod rows;
 
+use crate::given::assert_same;
 use cal_signal::{
     Look, Observer, OpenLook, OpenPage, PublishFault, Publisher, Record, close_page, close_watched,
     look_open, open_page, open_watched, read_back,
@@ -59,11 +60,11 @@ fn publishes(publisher: &mut Publisher, place: u64, rec: Record) -> bool
     publisher.publish(rec) == Ok(place)
 }
 
-/// Whether a look finds this.
-fn finds(observer: &mut Observer, wanted: Look) -> bool
+/// What a look finds.
+fn found(observer: &mut Observer) -> Look
     ensures { observer.new.page ≡ observer.old.page }
 {
-    observer.observe() == wanted
+    observer.observe()
 }
 
 #[test]
@@ -73,17 +74,17 @@ fn half_written_page(rt: HostRuntime) -> Result<(), Fail> {
         panic!(rt; "the record was refused")
     };
     let page = store(page, 3);
-    assert!(rt; finds(&mut observer, busy(1, 1)));
+    assert_same(&rt, found(&mut observer), busy(1, 1));
     let (page, observer, look) = look_open(page, observer);
-    assert!(rt; look == busy(1, 1));
+    assert_same(&rt, look, busy(1, 1));
     let Err((look, mut observer)) = observer.start() else {
         panic!(rt; "an even version")
     };
-    assert!(rt; look == busy(1, 1));
+    assert_same(&rt, look, busy(1, 1));
     let page = store(page, 6);
     assert!(rt; page.stored() == 9);
     let publisher = page.finish();
-    assert!(rt; finds(&mut observer, whole(1, record(5, 10))));
+    assert_same(&rt, found(&mut observer), whole(1, record(5, 10)));
     let end = close_page(publisher, observer);
     assert!(rt; end.published == 1 && end.seen == 1);
     Ok(())
@@ -208,12 +209,12 @@ fn publisher_beside_two_observers(rt: HostRuntime) -> Result<(), Fail> {
 #[test]
 fn second_observer_sees_what_the_first_sees(rt: HostRuntime) -> Result<(), Fail> {
     let (mut publisher, mut observer, mut watcher) = open_watched(rt.alloc())?;
-    assert!(rt; finds(&mut watcher, whole(0, Record::ZERO)));
+    assert_same(&rt, found(&mut watcher), whole(0, Record::ZERO));
     assert!(rt; publishes(&mut publisher, 1, record(5, 10)));
-    assert!(rt; finds(&mut watcher, whole(1, record(5, 10))));
+    assert_same(&rt, found(&mut watcher), whole(1, record(5, 10)));
     assert!(rt; publishes(&mut publisher, 2, record(6, 20)));
     assert!(rt; publishes(&mut publisher, 3, record(7, 30)));
-    assert!(rt; finds(&mut observer, whole(3, record(7, 30))));
+    assert_same(&rt, found(&mut observer), whole(3, record(7, 30)));
     let end = close_watched(publisher, observer, watcher);
     assert!(rt; end.published == 3 && end.first == 3 && end.second == 1);
     Ok(())

@@ -4,6 +4,7 @@
 ghost use Rattle.std.specs.Prelude.{◌≡◌};
 
 use super::{busy, load, record, whole};
+use crate::given::assert_same;
 use cal_signal::{
     Look, Observer, OpenPage, PublishFault, Publisher, Record, close_page, open_page, read_back,
 };
@@ -34,9 +35,9 @@ fn publish_faults(rt: HostRuntime) -> Result<(), Fail> {
         Err(PublishFault::Backwards),
         Err(PublishFault::BadShape),
     ];
-    assert_eq!(rt; publish_each(&mut publisher), refused);
+    assert_same(&rt, publish_each(&mut publisher), refused);
     let (_, _, last) = read_back(publisher, observer);
-    assert_eq!(rt; last, record(5, 10));
+    assert_same(&rt, last, record(5, 10));
     Ok(())
 }
 
@@ -58,9 +59,13 @@ fn two_looks(publisher: &mut Publisher, observer: &mut Observer) -> [Look; 2]
 fn looks_skip_records(rt: HostRuntime) -> Result<(), Fail> {
     let (mut publisher, mut observer) = open_page(rt.alloc())?;
     let looks = two_looks(&mut publisher, &mut observer);
-    assert_eq!(rt; looks, [whole(1, record(0, 10)), whole(3, record(0, 30))]);
+    assert_same(
+        &rt,
+        looks,
+        [whole(1, record(0, 10)), whole(3, record(0, 30))],
+    );
     let end = close_page(publisher, observer);
-    assert_eq!(rt; (end.published, end.seen), (3, 3));
+    assert_same(&rt, (end.published, end.seen), (3, 3));
     Ok(())
 }
 
@@ -174,6 +179,6 @@ fn stopped_look(rt: HostRuntime) -> Result<(), Fail> {
         whole(3, record(7, 30)),
     ];
     let found = stopped_looks(rt.alloc());
-    assert_eq!(rt; found.as_deref(), Some(wanted.as_slice()));
+    assert_same(&rt, found.as_deref(), Some(wanted.as_slice()));
     Ok(())
 }
