@@ -22,7 +22,8 @@ $(programs) caladan_c:
 check:
 	.ci/run
 
-install: $(programs) install_library
+install: $(programs) caladan_c
+	tools/install_c_library $(PREFIX)
 	mkdir -p $(PREFIX)/bin
 	for each in $(programs); do install -m 755 crates/$$each/out/$$each $(PREFIX)/bin || exit; done
 	tools/manual $(share) $(PREFIX)/bin/caladan_sim $(PREFIX)/bin/caladan_view
