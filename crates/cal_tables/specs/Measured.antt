@@ -1,0 +1,22 @@
+-- The numbers of a run.
+use Rattle.std.specs.Prelude.{◌≡◌, ℕ, List, length, Some, slice_get}
+use Rattle.cal_machine.specs.Table.{Table}
+use Rattle.cal_measure.specs.Requests.{AreRequestsOf}
+use Rattle.cal_measure.specs.declared.requests.TaskRequests.{TaskRequests}
+use Rattle.cal_run.specs.Outcome.{IsRun}
+use Rattle.cal_run.specs.declared.outcome.Outcome.{Outcome}
+use Rattle.cal_trace.specs.declared.arrivals.Arrivals.{Arrivals}
+
+-- for each task, in task order, the numbers of its requests in this run
+pub record AreNumbersOf (table : Table) (arrivals : Arrivals) (outcome : Outcome)
+    (numbers : List TaskRequests) : Type 0 where
+  pub many : length numbers ≡ length table.tasks
+  pub each : (t : ℕ) (of_task : TaskRequests) → slice_get numbers t ≡ Some of_task →
+      AreRequestsOf table arrivals outcome.journals outcome.left t of_task
+
+-- a run on these arrivals came to some outcome, and these are its numbers
+pub record IsMeasured (table : Table) (arrivals : Arrivals)
+    (numbers : List TaskRequests) : Type 0 where
+  pub outcome : Outcome
+  pub run : IsRun table arrivals outcome
+  pub are : AreNumbersOf table arrivals outcome numbers

@@ -1,0 +1,11 @@
+//! What a task table makes of arrivals, in numbers: a run on one thread, measured.
+//!
+//! Which numbers these are is proved (`measured`); how they are written is only tested.
+#![tactic(auto)]
+
+mod input;
+mod measuring;
+mod sheet;
+mod writing;
+
+pub use measuring::{measure, measured};

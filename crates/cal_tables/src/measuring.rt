@@ -1,0 +1,93 @@
+//! A run on one thread, measured.
+
+ghost use Rattle.std.specs.Prelude.{◌≡◌, ◌≢◌, IfErr, IfOk};
+ghost use Rattle.cal_measure.specs.Clocks.{AreClocksOf};
+ghost use Rattle.cal_trace.specs.Arrivals.FitsTable.{FitsTable};
+ghost use Rattle.cal_tables.specs.Measured.{AreNumbersOf, IsMeasured};
+
+use crate::input::run_input;
+use crate::writing::sheet_of;
+use cal_engine::{RunFault, read_input};
+use cal_machine::Config;
+use cal_measure::{ArrivalClocks, TaskRequests, requests_of};
+use cal_run::{Outcome, lockstep};
+use cal_trace::Arrivals;
+use std::alloc::{AllocError, Global};
+use std::io::{Read, Write};
+
+/// The numbers of each task's requests, in task order. The error is out of memory.
+fn numbers_of(
+    alloc: Global,
+    config: &Config,
+    arrivals: &Arrivals,
+    clocks: &ArrivalClocks,
+    outcome: &Outcome,
+) -> Result<Vec<TaskRequests>, AllocError>
+    requires fits { FitsTable config.now arrivals.now }
+    requires clocks { AreClocksOf arrivals.now.turns arrivals.now.requests clocks.now }
+    ensures { IfOk result (λ numbers.
+        AreNumbersOf config.now arrivals.now outcome.now numbers.items) }
+{
+    let journals = outcome.journals.as_slice();
+    let left = outcome.left.as_slice();
+    let mut numbers = Vec::new(alloc);
+    for task in 0..config.tasks() {
+        let of_task = requests_of(alloc, config, arrivals, clocks, journals, left, task)?;
+        numbers.push(of_task)?;
+    }
+    Ok(numbers)
+}
+
+/// Makes a whole run on one thread on these arrivals, and measures it: the numbers of each task's
+/// requests, in task order. Its fault is `Memory`.
+pub fn measured(
+    alloc: Global,
+    config: &Config,
+    arrivals: &Arrivals,
+) -> Result<Vec<TaskRequests>, RunFault>
+    requires fits { FitsTable config.now arrivals.now }
+    ensures numbers { IfOk result (λ numbers.
+        IsMeasured config.now arrivals.now numbers.items) }
+    ensures kind { IfErr result (λ fault. fault ≡ RunFault.Memory) }
+{
+    let outcome = lockstep(alloc, config, arrivals)?;
+    let turns = arrivals.turns.as_slice();
+    let clocks = ArrivalClocks::of(alloc, turns, arrivals.requests.as_slice())?;
+    let numbers = numbers_of(alloc, config, arrivals, &clocks, &outcome)?;
+    Ok(numbers)
+}
+
+/// What is written of the run on an input, in memory.
+fn measured_text(alloc: Global, input: &[u8], csv: bool) -> Result<String, RunFault> {
+    let (config, arrivals) = run_input(alloc, input)?;
+    let numbers = measured(alloc, &config, &arrivals)?;
+    let sheet = sheet_of(alloc, &config, numbers.as_slice())?;
+    let text = if csv {
+        sheet.csv(alloc)?
+    } else {
+        sheet.text(alloc)?
+    };
+    Ok(text)
+}
+
+/// Reads an input of a task table and arrivals to its end, makes a whole run of them on one thread,
+/// and writes its numbers: in columns that line up, or as CSV. Nothing is written before the run
+/// was made and its text stands in memory.
+///
+/// The faults are those of the word `lockstep`, in its order.
+pub fn measure<R: Read + Drop, W: Write>(
+    alloc: Global,
+    mut reader: R,
+    csv: bool,
+    writer: &mut W,
+) -> Result<(), RunFault>
+    // Nothing is written before the run was made.
+    ensures untouched { IfErr result (λ fault. fault ≢ RunFault.Write → writer.new ≡ writer.old) }
+{
+    let input = read_input(alloc, &mut reader)?;
+    let text = measured_text(alloc, input.as_slice(), csv)?;
+    match writer.write_all(text.as_bytes()) {
+        Ok(()) => Ok(()),
+        Err(_) => Err(RunFault::Write),
+    }
+}

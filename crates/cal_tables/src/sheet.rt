@@ -1,0 +1,100 @@
+//! A table of words, as text whose columns line up or as CSV.
+
+use std::alloc::{AllocError, Global};
+
+/// Rows of cells. The first cell of a row says what the others are.
+#[derive(Drop)]
+pub struct Sheet {
+    rows: Vec<Vec<String>>,
+}
+
+/// The greatest length of a cell in a column.
+fn width(rows: &[Vec<String>], column: usize) -> usize {
+    let mut width = 0usize;
+    for row in rows {
+        if let Some(cell) = row.as_slice().get(column) {
+            width = width.max(cell.len());
+        }
+    }
+    width
+}
+
+/// Puts so many blanks.
+fn put_blanks(text: &mut String, count: usize) -> Result<(), AllocError> {
+    for _ in 0..count {
+        text.push_str(" ")?;
+    }
+    Ok(())
+}
+
+/// Puts a cell of a column: the first to the left, each other one to the right of its column.
+fn put_cell(
+    text: &mut String,
+    rows: &[Vec<String>],
+    column: usize,
+    cell: &str,
+) -> Result<(), AllocError> {
+    let blanks = width(rows, column).saturating_sub(cell.len());
+    if column == 0 {
+        text.push_str(cell)?;
+        return put_blanks(text, blanks);
+    }
+    text.push_str("  ")?;
+    put_blanks(text, blanks)?;
+    text.push_str(cell)?;
+    Ok(())
+}
+
+/// Puts a row whose columns line up with those of all rows.
+fn put_row(text: &mut String, rows: &[Vec<String>], row: &[String]) -> Result<(), AllocError> {
+    for column in 0..row.len() {
+        put_cell(text, rows, column, row[column].as_str())?;
+    }
+    text.push_str("\n")?;
+    Ok(())
+}
+
+/// Puts a row as one of a CSV file.
+fn put_csv_row(text: &mut String, row: &[String]) -> Result<(), AllocError> {
+    for column in 0..row.len() {
+        if column > 0 {
+            text.push_str(",")?;
+        }
+        text.push_str(row[column].as_str())?;
+    }
+    text.push_str("\n")?;
+    Ok(())
+}
+
+impl Sheet {
+    /// A table of no rows.
+    pub fn new(alloc: Global) -> Sheet {
+        Sheet {
+            rows: Vec::new(alloc),
+        }
+    }
+
+    /// Puts a row at the end. The error is out of memory.
+    pub fn put(&mut self, row: Vec<String>) -> Result<(), AllocError> {
+        self.rows.push(row)?;
+        Ok(())
+    }
+
+    /// The rows in columns that line up. The error is out of memory.
+    pub fn text(&self, alloc: Global) -> Result<String, AllocError> {
+        let mut text = String::new(alloc);
+        for row in self.rows.as_slice() {
+            put_row(&mut text, self.rows.as_slice(), row.as_slice())?;
+        }
+        Ok(text)
+    }
+
+    /// The rows as a CSV file. The error is out of memory.
+    pub fn csv(&self, alloc: Global) -> Result<String, AllocError> {
+        let mut text = String::new(alloc);
+        for row in self.rows.as_slice() {
+            put_csv_row(&mut text, row.as_slice())?;
+        }
+        Ok(text)
+    }
+}
