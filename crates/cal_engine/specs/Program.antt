@@ -1,7 +1,8 @@
--- What a job of the program answers and writes.
+-- What a job of the program answers and writes, and with which status the program ends.
 use Rattle.std.specs.Prelude.{◌≡◌, ℕ, List, Option, Result, Ok, Err, IfOk}
 use Rattle.cal_policy.specs.declared.verdict.Verdict.{Verdict}
 use Rattle.cal_policy.specs.declared.verdict.Verdict.TheVariants.{Legal, Illegal}
+use Rattle.cal_engine.specs.Faults.{status_of}
 use Rattle.cal_engine.specs.Outcome.{Failed, IsAudit, Reports}
 use Rattle.cal_engine.specs.Runs.{Run, decided_run_of, recorded_run_of, within_limit}
 use Rattle.cal_engine.specs.Running.{run_input_of, Runs, RunsInThreads}
@@ -39,3 +40,16 @@ DoesJob (job.Sim summary) answer input old new =
     IfOk answer (λ status. status ≡ 0)
 DoesJob job.Audit answer input old new =
     AuditsBy answer (within_limit input (recorded_run_of input)) old new
+
+-- the status with which the program ends after an answer, or after a fault
+abbrev pub exit_status : Result ℕ RunFault → ℕ
+exit_status (Ok status) = status
+exit_status (Err f) = status_of f
+
+-- the job was done on this input, or there was a fault that says what it must of the input, and the
+-- status is that of the answer
+pub record EndsJob (job : Job) (status : ℕ) (input : List ℕ) (old new : Option (List ℕ)) : Type 0
+  where
+    pub answer : Result ℕ RunFault
+    pub does : DoesJob job answer input old new
+    pub ends : status ≡ exit_status answer

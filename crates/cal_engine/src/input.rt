@@ -3,7 +3,7 @@
 pub mod parts;
 pub mod separator;
 
-ghost use Rattle.std.specs.Prelude.{◌≤◌, ◌<◌, length, IfOk, IfErr, IfSome, IsErrOf};
+ghost use Rattle.std.specs.Prelude.{◌≤◌, ◌<◌, ℕ, List, length, IfOk, IfErr, IfSome, IsErrOf};
 ghost use Rattle.std.specs.Io.KnownBytes.{Consumes, IsAtEnd};
 ghost use Rattle.cal_engine.specs.Input.{IsOfReading};
 
@@ -19,9 +19,10 @@ const CHUNK: usize = 65_536;
 
 /// All the bytes that a reader gives, read to its end.
 ///
-/// `RunFault::Read` comes where the reader answers an error, whichever it is. `RunFault::Length`
-/// comes after `INPUT_LIMIT` bytes and one more, whatever the reader does, so a reader that never
-/// ends meets it. `RunFault::Memory` comes where memory was refused.
+/// `RunFault::Read` comes where the reader answers an error, whichever it is, and never after more
+/// than `INPUT_LIMIT` bytes. `RunFault::Length` comes after `INPUT_LIMIT` bytes and one more,
+/// whatever the reader does, so a reader that never ends meets it. `RunFault::Memory` comes where
+/// memory was refused.
 pub fn read_input<R: Read>(alloc: Global, reader: &mut R) -> Result<Vec<u8>, RunFault>
     ensures short { IfOk result (λ text. length text.items ≤ INPUT_LIMIT) }
     ensures all { IfOk result (λ text. Consumes (R.remaining reader.old) (R.remaining reader.new)
@@ -29,6 +30,10 @@ pub fn read_input<R: Read>(alloc: Global, reader: &mut R) -> Result<Vec<u8>, Run
     ensures end { IfOk result (λ _. IsAtEnd (R.remaining reader.new)) }
     ensures long { IsErrOf result RunFault.Length → IfSome (R.remaining reader.old) (λ bytes.
         INPUT_LIMIT < length bytes) }
+    // What was read before the reader failed is within the limit, and no more was taken from it.
+    ensures failed { IsErrOf result RunFault.Read → (bytes : List ℕ) ×
+        (length bytes ≤ INPUT_LIMIT) ×
+        Consumes (R.remaining reader.old) (R.remaining reader.new) bytes }
     ensures kinds { IfErr result IsOfReading }
 {
     let mut text = Vec::new(alloc);

@@ -1,11 +1,15 @@
 //! A whole run of the program: words and an input in; an answer, an error line and an exit status
 //! out.
 
-ghost use Rattle.std.specs.Prelude.{◌≡◌, ◌≢◌, ◌⊎◌, ◌↔◌, IfErr, IfOk, IfSome};
+ghost use Rattle.std.specs.Prelude.{◌≡◌, ◌≢◌, ◌⊎◌, ◌↔◌, IfErr, IfOk, IfSome, IsErrOf};
+ghost use Rattle.std.specs.Prelude.{drop, map, string_bytes};
 ghost use Rattle.clap.specs.Values.{kind_of};
 ghost use Rattle.clap.specs.declared.error.kind.ErrorKind.TheVariants.{DisplayHelp, DisplayVersion};
+ghost use Rattle.clap.specs.declared.error.kind.ErrorKind.TheVariants.{OutOfMemory};
+ghost use Rattle.cal_engine.specs.CommandWords.{Asks};
 ghost use Rattle.cal_engine.specs.Faults.{status_of};
-ghost use Rattle.cal_engine.specs.Program.{DoesJob, verdict_status};
+ghost use Rattle.cal_engine.specs.Program.{verdict_status, DoesJob, EndsJob};
+ghost use Rattle.cal_engine.specs.declared.command_words.command_line.Job.{Job as JobOf};
 
 use crate::command_words::command_line::{Job, words};
 use crate::fault::{RunFault, fault_line, status};
@@ -34,7 +38,14 @@ pub fn run_program<H: Threads + Wait + Sync, R: Read + Drop, W: Write, E: Write>
     reader: R,
     output: &mut W,
     errors: &mut E,
-) -> u8 {
+) -> u8
+    // What the words ask for was done on the input, and the status is that of the answer.
+    ensures job { IfSome (R.remaining reader) (λ input. (job : JobOf) →
+        Asks (map string_bytes (drop 1 named.now)) job →
+        EndsJob job result input (W.contents output.old) (W.contents output.new)) }
+    // Where the words or the input are refused nothing is written on the output.
+    ensures refused { result ≡ 2 → output.new ≡ output.old }
+{
     match answer_words(rt, alloc, named, reader, output, errors) {
         Ok(status) => status,
         Err(fault) => end_with(&fault, errors),
@@ -50,7 +61,13 @@ fn answer_words<H: Threads + Wait + Sync, R: Read + Drop, W: Write, E: Write>(
     reader: R,
     output: &mut W,
     errors: &mut E,
-) -> Result<u8, RunFault> {
+) -> Result<u8, RunFault>
+    ensures job { IfSome (R.remaining reader) (λ input. (job : JobOf) →
+        Asks (map string_bytes (drop 1 named.now)) job →
+        DoesJob job result input (W.contents output.old) (W.contents output.new)) }
+    ensures refused { IfOk result (λ status. status ≡ 2 → output.new ≡ output.old) }
+    ensures untouched { IfErr result (λ fault. fault ≢ RunFault.Write → output.new ≡ output.old) }
+{
     let given = words_after_first(alloc, named)?;
     match words(alloc, given.as_slice()) {
         Ok(job) => do_job(rt, alloc, job, reader, output),
@@ -59,10 +76,15 @@ fn answer_words<H: Threads + Wait + Sync, R: Read + Drop, W: Write, E: Write>(
 }
 
 /// The words after the first one.
-fn words_after_first<'a>(alloc: Global, named: &'a [String]) -> Result<Vec<&'a str>, AllocError> {
+fn words_after_first<'a>(alloc: Global, named: &'a [String]) -> Result<Vec<&'a str>, AllocError>
+    ensures { IfOk result (λ given.
+        map (λ word. word.now) given.items ≡ map string_bytes (drop 1 named.now)) }
+{
     let mut given = Vec::new(alloc);
-    for word in named.iter().skip(1) {
-        given.push(word.as_str())?;
+    if let Some((_, after)) = named.split_first() {
+        for word in after {
+            given.push(word.as_str())?;
+        }
     }
     Ok(given)
 }
@@ -84,8 +106,10 @@ fn do_job<H: Threads + Wait + Sync, R: Read + Drop, W: Write>(
     reader: R,
     output: &mut W,
 ) -> Result<u8, RunFault>
-    ensures { IfSome (R.remaining reader) (λ input.
+    ensures job { IfSome (R.remaining reader) (λ input.
         DoesJob job result input (W.contents output.old) (W.contents output.new)) }
+    ensures status { IfOk result (λ status. status ≢ 2) }
+    ensures untouched { IfErr result (λ fault. fault ≢ RunFault.Write → output.new ≡ output.old) }
 {
     match job {
         Job::Decide => {
@@ -133,6 +157,9 @@ pub fn refuse_words<W: Write, E: Write>(
     ensures apart { IfOk result (λ status. (status ≡ 0 → errors.new ≡ errors.old)
         × (status ≡ 2 → output.new ≡ output.old)) }
     ensures kind { IfErr result (λ fault. (fault ≡ RunFault.Memory) ⊎ (fault ≡ RunFault.Write)) }
+    // Out of memory comes before anything is written.
+    ensures memory { kind_of error.now ≡ OutOfMemory → IsErrOf result RunFault.Memory }
+    ensures untouched { IfErr result (λ fault. fault ≢ RunFault.Write → output.new ≡ output.old) }
 {
     if error.kind() == ErrorKind::OutOfMemory {
         return Err(RunFault::Memory);
