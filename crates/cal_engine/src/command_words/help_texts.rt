@@ -3,9 +3,9 @@
 
 /// Of the program as a whole.
 pub const PROGRAM: &str = "\
-Without a word it does what `decide` does. Each word reads one input from the standard input: a task
-table (TOML), the line ---, and a trace (CSV). `caladan_sim WORD --help` says which trace and what
-is written, with a whole input to copy; docs/FORMATS.md has all of it.
+Without a word it runs `decide`. Each word reads one input from the standard input: a task table
+(TOML), the line ---, and a trace (CSV). `caladan_sim WORD --help` describes the trace and the
+output, with a whole input to copy; docs/FORMATS.md describes everything.
 
 Exit status: 0 done, 1 an illegal history, 2 bad words or a refused input, 3 memory, output or a
 thread was refused. A fault is one line on the standard error.";
@@ -46,7 +46,7 @@ task 0 lc held 1 leaving 0";
 pub const LOCKSTEP: &str = "\
 Standard input: a task table (TOML), the line ---, and arrivals (CSV): the clocks of the passes and
 of the kernel threads' turns, and the requests that come to the threads.
-Standard output: the history of the run, which `audit` reads behind the table; with --summary, what
+Standard output: the history of the run, which `audit` reads after the table; with --summary, what
 each kernel thread did.
 Exit status: 0 done, 2 a refused input, 3 memory or output was refused.
 
@@ -85,8 +85,8 @@ end,2";
 pub const SIM: &str = "\
 Standard input: a task table (TOML), the line ---, and arrivals (CSV): the clocks of the passes and
 of the kernel threads' turns, and the requests that come to the threads.
-Standard output: the history of the run, which `audit` reads behind the table; with --summary, what
-each kernel thread did. The threads meet otherwise in each run, so what is written varies.
+Standard output: the history of the run, which `audit` reads after the table; with --summary, what
+each kernel thread did. Threads interleave differently on every run, so the output varies.
 Exit status: 0 done, 2 a refused input, 3 memory, output or a thread was refused.
 
 To try it:
@@ -124,8 +124,8 @@ end,2";
 pub const AUDIT: &str = "\
 Standard input: a task table (TOML), the line ---, and a history (CSV), as `lockstep`, `sim` and
 `caladan_view history` write it.
-Standard output: of a history that is the policy's the report and the line `legal`, else the one
-line `illegal pass P`, with the first pass, from 0, that is not.
+Standard output: if every pass is the policy's, the report and the line `legal`; else the one line
+`illegal pass P`, where P is the first pass, from 0, that is not.
 Exit status: 0 legal, 1 illegal, 2 a refused input, 3 memory or output was refused.
 
 To try it:
