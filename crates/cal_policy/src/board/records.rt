@@ -180,21 +180,21 @@ impl Keeping {
 
     /// Takes one fit look, at thread `k`. A whole one at the place that was shown before changes
     /// nothing.
-    fn take_fit(&mut self, k: usize, look: Seen)
+    fn take_fit(&mut self, k: usize, look: &Seen)
         requires thread { k < MOST_THREADS }
         requires sets { KeepsSets self.old }
-        ensures kept { IsFitLook (shown_in self.old k) look → (j : ℕ) → j < MOST_THREADS →
+        ensures kept { IsFitLook (shown_in self.old k) look.now → (j : ℕ) → j < MOST_THREADS →
             kept_in self.new j ≡ (if j == k
-            then unwrap_or (record_to_keep look) (kept_in self.old j) else kept_in self.old j) }
-        ensures shown { IsFitLook (shown_in self.old k) look → (j : ℕ) → j < MOST_THREADS →
+            then unwrap_or (record_to_keep look.now) (kept_in self.old j) else kept_in self.old j) }
+        ensures shown { IsFitLook (shown_in self.old k) look.now → (j : ℕ) → j < MOST_THREADS →
             shown_in self.new j ≡ (if j == k
-            then unwrap_or (shown_by look) (shown_in self.old j) else shown_in self.old j) }
+            then unwrap_or (shown_by look.now) (shown_in self.old j) else shown_in self.old j) }
         ensures before { self.new.before ≡ self.old.before }
         ensures sets { KeepsSets self.new }
     {
         match look {
-            Seen::Whole { number, .. } if self.is_as_kept(k, number) => {}
-            _ => self.take(k, look),
+            Seen::Whole { number, .. } if self.is_as_kept(k, *number) => {}
+            _ => self.take(k, *look),
         }
     }
 
@@ -225,7 +225,7 @@ impl Keeping {
     {
         self.settle();
         for (k, look) in seen.iter().enumerate() {
-            self.take_fit(k, *look);
+            self.take_fit(k, look);
         }
     }
 }

@@ -45,23 +45,16 @@ impl Pass<'_> {
 
     /// What was chosen for the task: a core of class 1 to 3 is granted, one of another class is
     /// revoked for it.
-    fn chosen(
-        &self,
-        task: usize,
-        thread: Option<Candidate>,
-        core: Option<Candidate>,
-    ) -> Option<Action>
+    fn chosen(&self, task: usize, thread: Candidate, core: Option<Candidate>) -> Option<Action>
         requires at_hand { IsAtHand self.now }
         requires task { task < length self.now.config.now.tasks }
-        requires thread { IfSome thread
-            (λ best. best.number < limit_of self.now.config.now task) }
+        requires thread { thread.number < limit_of self.now.config.now task }
         requires core { IfSome core (λ best.
             (best.number < self.now.config.now.cores) × (best.rank < 256)) }
         ensures chosen { (h : List PassEntry) →
-            option_to_list result ≡ grant_of (setting_in self.now h) task thread core }
+            option_to_list result ≡ grant_of (setting_in self.now h) task (Some thread) core }
         ensures names { IfSome result (NamesTable self.now.config.now) }
     {
-        let thread = thread?;
         let core = core?;
         if core.rank >= 4 {
             let cause = Cause::Preempt { task: task as u8 };
@@ -78,7 +71,8 @@ impl Pass<'_> {
         })
     }
 
-    /// What the task gets, if it is congested and may book one more core.
+    /// What the task gets, if it is congested and may book one more core. No core is looked for
+    /// where none of its threads may be granted one.
     fn grant_due(&self, task: usize) -> Option<Action>
         requires at_hand { IsAtHand self.now }
         requires task { task < length self.now.config.now.tasks }
@@ -92,7 +86,9 @@ impl Pass<'_> {
         if !self.may_book(task) {
             return None;
         }
-        let thread = self.choose_thread(task);
+        let Some(thread) = self.choose_thread(task) else {
+            return None;
+        };
         let core = self.choose_core(task);
         self.chosen(task, thread, core)
     }
