@@ -157,6 +157,21 @@ fn verdict(alloc: Global, history: &[PassEntry]) -> Result<Verdict, Fail> {
     Ok(audit(alloc, &config, history)?)
 }
 
+/// The thread is granted core 0 for the request that comes to it, and has left it at the end.
+fn assert_granted_and_freed<R: Abort>(rt: &R, scheduler: &mut Scheduler, thread: &mut KernelThread)
+    requires task { 0 < length scheduler.old.table.tasks }
+    requires core { 0 < scheduler.old.table.cores }
+{
+    let held = Placement {
+        thread: 0,
+        number: 1,
+    };
+    assert!(rt; comes(scheduler, thread));
+    assert_same(rt, standing(scheduler), (1, Holder::Held(held)));
+    assert!(rt; is_served(scheduler, thread));
+    assert_same(rt, standing(scheduler), (0, Holder::Free));
+}
+
 /// A thread has a request, is given a core, serves the request and yields.
 #[test]
 fn scheduler_and_thread(rt: HostRuntime) -> Result<(), Fail> {
@@ -164,14 +179,7 @@ fn scheduler_and_thread(rt: HostRuntime) -> Result<(), Fail> {
         mut scheduler,
         mut thread,
     } = open(rt.alloc())?;
-    let held = Placement {
-        thread: 0,
-        number: 1,
-    };
-    assert!(rt; comes(&mut scheduler, &mut thread));
-    assert_same(&rt, standing(&scheduler), (1, Holder::Held(held)));
-    assert!(rt; is_served(&mut scheduler, &mut thread));
-    assert_same(&rt, standing(&scheduler), (0, Holder::Free));
+    assert_granted_and_freed(&rt, &mut scheduler, &mut thread);
     assert_passed(&rt, scheduler.history())?;
     assert_same(
         &rt,
