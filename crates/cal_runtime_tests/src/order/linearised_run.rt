@@ -1,7 +1,6 @@
 //! `linearise` puts the worked run in order, and a world accepts the list, but not the Take before
 //! what it takes was sent.
 ghost use Rattle.std.specs.Prelude.{◌≡◌, ◌∷◌, [], IfOk, IsTrue};
-ghost use Rattle.cal_policy.specs.Tasks.{threads_of_table};
 ghost use Rattle.cal_linear.specs.Runs.{AreOfOneRun};
 ghost use Rattle.cal_runtime_tests.specs.WorkedRow.{passes as worked_passes};
 ghost use Rattle.cal_runtime_tests.specs.WorkedRow.{journal as worked_journal};
