@@ -46,7 +46,7 @@ trace_reason_of kind.Memory row = codes "memory"
 trace_reason_of k row =
     codes "trace row " ++ decimal row ++ codes " fault " ++ decimal (trace_number_of k)
 
--- the reason as the program names it (this project's own words)
+-- the reason as the program names it
 abbrev pub reason_of : RunFault → List ℕ
 reason_of fault.Read = codes "input read"
 reason_of fault.Length = codes "input length"

@@ -35,6 +35,6 @@ parts_at (line ∷ lines) =
     if is_separator line then Some ([], concat lines)
     else option_map (λ parts. (line ++ parts.0, parts.1)) (parts_at lines)
 
--- the task table and the trace of an input (this project's own form)
+-- the task table and the trace of an input
 abbrev pub input_parts : List ℕ → Option (List ℕ × List ℕ)
 input_parts text = parts_at (lines_of text)

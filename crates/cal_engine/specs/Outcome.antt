@@ -14,13 +14,13 @@ use Rattle.cal_engine.specs.Runs.{Run}
 use Rattle.cal_engine.specs.declared.fault.RunFault.{RunFault}
 use Rattle.cal_engine.specs.declared.fault.RunFault.TheVariants as fault
 
--- P, but for want of memory
+-- P holds, unless the fault is Memory
 abbrev pub ConfigDecided : ConfigFault → Type 0 → Type 0
 ConfigDecided config.Memory P = ⊤
 ConfigDecided _ P = P
 
--- P, but for want of memory, which no input decides; no fault of a reader, a writer or a thread,
--- which no input has
+-- P holds, unless the fault is Memory, which no input determines; no fault of a reader, a writer or
+-- a thread, which no input has
 abbrev pub Decided : RunFault → Type 0 → Type 0
 Decided fault.Length P = P
 Decided fault.Separator P = P
@@ -33,7 +33,8 @@ Decided fault.Spawn P = ⊥
 Decided fault.Gate P = ⊥
 
 -- What a fault says of the input: nothing where the reader failed; that there is a run where the
--- writer did, since writing comes last; else that it is the input's first, want of memory aside.
+-- writer did, since writing comes last; else that it is the input's first, running out of memory
+-- aside.
 abbrev pub Failed : {X : Type 0} → RunFault → Result X RunFault → Type 0
 Failed fault.Read outcome = ⊤
 Failed fault.Write outcome = IsOk outcome

@@ -54,7 +54,7 @@ decided_run (Ok parts) =
 abbrev pub decided_run_of : List ℕ → Result Run RunFault
 decided_run_of input = decided_run (parts_of input)
 
--- the table and the history of a file, as it stands there
+-- the table and the history of a file, as it is there
 abbrev pub recorded_on : Table → Result (List PassEntry) TraceFault → Result Run RunFault
 recorded_on table (Err f) = Err (fault.Trace f)
 recorded_on table (Ok history) = Ok (record { table = table; history = history })

@@ -12,23 +12,22 @@ use std::error::Error;
 use std::fmt;
 use std::io::Write;
 
-/// Why a run gave no answer (this project's own faults; docs/FORMATS.md has their lines and
-/// statuses).
+/// Why a run gave no answer (docs/FORMATS.md has the faults' lines and statuses).
 #[derive(Clone, Copy, Debug, PartialEq, Eq)]
 pub enum RunFault {
-    /// The reader answered an error.
+    /// The reader returned an error.
     Read,
     /// The input has more than 67,108,864 bytes.
     Length,
     /// No line of the input is the separator.
     Separator,
-    /// What stands before the separator is no task table.
+    /// The part before the separator is not a task table.
     Config(ConfigFault),
-    /// What stands after the separator is not the trace that was asked for.
+    /// The part after the separator is not the trace that was asked for.
     Trace(TraceFault),
     /// Memory was refused.
     Memory,
-    /// The writer answered an error.
+    /// The writer returned an error.
     Write,
     /// A thread could not be started. Only a run in threads answers it.
     Spawn,
@@ -146,7 +145,7 @@ impl From<WriteFault> for RunFault {
 
 /// Writes the one line that the program says of a fault: its name, the reason, and a line feed.
 ///
-/// `WriteFault::Write` comes where the writer answers an error. It takes no memory.
+/// `WriteFault::Write` comes if the writer returns an error. It takes no memory.
 pub fn fault_line<W: Write>(fault: &RunFault, writer: &mut W) -> Result<(), WriteFault>
     ensures { OnOk result (Appends (W.contents writer.old) (W.contents writer.new)
         (fault_line_of fault.now)) }

@@ -11,7 +11,7 @@ use crate::fault::RunFault;
 use std::alloc::Global;
 use std::io::Read;
 
-/// The most bytes that an input may have (this project's own limit).
+/// The most bytes that an input may have.
 pub const INPUT_LIMIT: usize = 67_108_864;
 
 // How many bytes are asked of the reader at a time.

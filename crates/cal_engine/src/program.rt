@@ -30,7 +30,7 @@ use std::thread::Threads;
 /// Only a run in threads, of the word `sim`, uses `rt`, and waits, at its joins.
 ///
 /// The answer goes to `output`, and help too; what is wrong with the words (`clap`'s text) or the
-/// one line of a fault goes to `errors`. All of it is this project's own, but for `clap`'s texts.
+/// one line of a fault goes to `errors`. The texts are Doranjei's or `clap`'s.
 pub fn run_program<H: Threads + Wait + Sync, R: Read + Drop, W: Write, E: Write>(
     rt: &H,
     alloc: Global,

@@ -1,5 +1,5 @@
-//! A guard that never looks back: it keeps what the history so far comes to, and lets through what
-//! is permitted.
+//! A guard that never looks back: it keeps the state after the history so far, and lets through
+//! what is permitted.
 
 mod looks;
 
@@ -27,8 +27,8 @@ use cal_policy::state::{Holder, booked_by, cap_of, fits, held_by, judged_by};
 use cal_policy::{Action, Input, Look, Seen};
 use std::alloc::{AllocError, Global};
 
-/// What the history so far comes to, and the actions that the pass has so far. Only opening a guard
-/// takes memory; a pass costs a copy of the state and, for each action, the cores and tasks.
+/// The state after the history so far, and the actions that the pass has so far. Only opening a
+/// guard takes memory; a pass costs a copy of the state and, for each action, the cores and tasks.
 ///
 /// Every call is to be given the table that the guard was opened for. What a guard says holds of
 /// every permitted history with which it agrees.
@@ -49,7 +49,7 @@ pub fn groups_make_a_pass()
 {}
 
 impl Guard {
-    /// The guard of the empty history. Its error is want of memory alone.
+    /// The guard of the empty history. Fails only when out of memory.
     pub fn open(alloc: Global, config: &Config) -> Result<Guard, AllocError>
         ensures keeps { IfOk result (λ guard. Keeps guard []) }
         ensures of { IfOk result (λ guard. IsGuardOf config.now guard) }
@@ -59,7 +59,7 @@ impl Guard {
         Ok(Guard { passing })
     }
 
-    /// What a look at thread `k` comes to after the history.
+    /// The judgement of a look at thread `k` after the history.
     pub fn judge(&self, config: &Config, k: usize, look: Look) -> Seen
         requires { k < threads_of_table config.now }
         ensures { (h : List PassEntry) → Keeps self.now h →

@@ -31,7 +31,7 @@ use cal_policy::{Action, Input, MOST_ACTIONS, Seen};
 /// The state inside a pass.
 #[derive(Drop)]
 pub struct Passing {
-    /// What all actions and looks so far come to.
+    /// The state after all actions and looks so far.
     pub board: Board,
     /// The threads that were sent a command in this pass.
     pub sent: CoreSet,

@@ -110,7 +110,7 @@ abbrev pub ShownIsOneMore : Type 0
 ShownIsOneMore = (looks : List (List Seen)) (seen : List Seen) (k : ℕ) →
     last_shown (looks ++ seen ∷ []) k ≡ unwrap_or (shown_at seen k) (last_shown looks k)
 
--- what is judged of a look is said of that very look
+-- the judgement of a look is of that very look
 abbrev pub JudgedIsOfItsLook : Type 0
 JudgedIsOfItsLook = (cores : ℕ) (x : List Action) (k : ℕ) (look : Look) →
     look_of (judged cores x k look) ≡ look

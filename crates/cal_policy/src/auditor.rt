@@ -53,7 +53,7 @@ fn is_next(config: &Config, book: &mut Book, entry: &PassEntry, actions: &mut Ac
 }
 
 impl Auditor {
-    /// The audit of the empty history. Its error is want of memory alone.
+    /// The audit of the empty history. Fails only when out of memory.
     pub fn open(alloc: Global, config: &Config) -> Result<Auditor, AllocError>
         ensures audits { IfOk result (λ auditor. IsAuditOf config.now [] auditor) }
         ensures of { IfOk result (λ auditor. IsAuditorOf config.now auditor) }
@@ -68,7 +68,7 @@ impl Auditor {
         })
     }
 
-    /// Takes the next pass of the history. Any entry may be handed in.
+    /// Takes the next pass of the history. Any entry may be given.
     pub fn next(&mut self, config: &Config, entry: &PassEntry)
         requires of { IsAuditorOf config.now self.old }
         ensures audits { (h : List PassEntry) → length h < 2 ^ 64 →

@@ -30,8 +30,8 @@ use crate::history::action::Action;
 use crate::history::look::Seen;
 use cal_machine::{Config, CoreSet};
 
-/// The state that the actions and looks so far leave. It has no model: what each part means is said
-/// of it by the actions and looks that it agrees with.
+/// The state that the actions and looks so far leave. It has no Model; see `Agrees` and
+/// `KeepingAgrees` (specs/Board.antt) for what each field means.
 #[derive(Drop)]
 pub struct Board {
     /// Who has each core, and what was sent.

@@ -1,4 +1,4 @@
-//! A pass without looking back: a Book keeps what the history so far comes to.
+//! A pass without looking back: a Book keeps the state after the history so far.
 
 ghost use Rattle.std.specs.Prelude.{◌≡◌, ℕ, ◌<◌, ◌++◌, ◌∷◌, ◌↔◌, [], List, Some};
 ghost use Rattle.std.specs.Prelude.{length, take, slice_get, IfOk, IsTrue};
@@ -29,10 +29,10 @@ use cal_machine::{Command, Config};
 use cal_signal::Look;
 use std::alloc::{AllocError, Global};
 
-/// What the history so far comes to: who has each core and since which command, whom it was granted
-/// to last, bans, caps, and of each thread the commands sent to it and the records it showed. It
-/// decides each pass from that alone, so a pass costs the work of that pass however long the
-/// history is. Only opening a book takes memory, and `input`, which lists what is handed to it.
+/// The state after the history so far: who has each core and since which command, whom it was
+/// granted to last, bans, caps, and of each thread the commands sent to it and the records it
+/// showed. It decides each pass from that alone, so a pass costs the work of that pass however long
+/// the history is. Only opening a book takes memory, and `input`, which lists what is handed to it.
 ///
 /// Every call is to be given the table that the book was opened for. What a book says holds of
 /// every legal history with which it agrees.
@@ -42,7 +42,7 @@ pub struct Book {
 }
 
 impl Book {
-    /// The book of the empty history. Its error is want of memory alone.
+    /// The book of the empty history. Fails only when out of memory.
     pub fn open(alloc: Global, config: &Config) -> Result<Book, AllocError>
         ensures agrees { IfOk result (λ book. AgreesWith book []) }
         ensures of { IfOk result (λ book. IsBookOf config.now book) }
@@ -52,7 +52,7 @@ impl Book {
         Ok(Book { board })
     }
 
-    /// What a look at thread `k` comes to after the history.
+    /// The judgement of a look at thread `k` after the history.
     pub fn judge(&self, config: &Config, k: usize, look: Look) -> Seen
         requires { k < threads_of_table config.now }
         ensures { (h : List PassEntry) → AgreesWith self.now h →
@@ -63,8 +63,8 @@ impl Book {
     }
 
     /// The input of the next pass at this clock and bandwidth figure, from what was found of each
-    /// thread, thread 0 first. Its error is want of memory alone. (`OpenInput` makes the same, look
-    /// by look, with its memory taken before the first.)
+    /// thread, thread 0 first. Fails only when out of memory. (`OpenInput` makes the same, look by
+    /// look, with its memory taken before the first.)
     pub fn input(
         &self,
         alloc: Global,

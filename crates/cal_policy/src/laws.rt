@@ -79,7 +79,7 @@ pub fn shown_is_one_more()
     ensures { ShownIsOneMore }
 {}
 
-/// What is judged of a look is said of that very look.
+/// The judgement of a look is of that very look.
 pub fn judged_is_of_its_look()
     ensures { JudgedIsOfItsLook }
 {}

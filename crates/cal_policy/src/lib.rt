@@ -1,8 +1,8 @@
 //! The one-thread policy: what a pass of the scheduler does, decided from the whole history so far
-//! or from a Book that keeps what the history comes to, and the audit of a history against it.
+//! or from a Book that keeps the state after the history, and the audit of a history against it.
 //!
 //! The rules are after Caladan's core allocator and its controllers; the exact ones, and how looks
-//! are judged, are this project's own.
+//! are judged, are Doranjei's.
 #![tactic(auto)]
 
 mod auditor;

@@ -63,7 +63,7 @@ pub fn is_pass(
 
 /// Whether a history is legal: `Legal` exactly where each pass may be given its input and does what
 /// the policy does on it after the passes before; else the first pass that is not so. Any history
-/// may be asked about. Its error is want of memory alone.
+/// may be asked about. Fails only when out of memory.
 pub fn audit(alloc: Global, config: &Config, history: &[PassEntry]) -> Result<Verdict, AllocError>
     ensures { IfOk result (λ verdict. IsVerdict config.now history.now verdict) }
 {

@@ -1,6 +1,6 @@
 //! The tests of the crates below the scheduler, from cal_lists to cal_trace: what no clause of
-//! theirs says, that calls succeed, and rows that were worked out by hand. They stand in one crate
-//! at the top of these, since a crate that has tests is proved a second time with them.
+//! theirs says, that calls succeed, and rows that were worked out by hand. They are in one crate at
+//! the top of these, since a crate that has tests is proved a second time with them.
 //!
 //! A call whose contract says more than its test asks for goes through a small private function
 //! that promises less: then what is not asked for is no burden to the proof of the test.

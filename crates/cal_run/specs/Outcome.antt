@@ -1,4 +1,4 @@
--- What a run comes to: each field is promised by every run, in whichever order its threads made
+-- The outcome of a run: each field is promised by every run, in whichever order its threads made
 -- their steps.
 pub mod GivenOnce
 pub mod Headline
@@ -30,15 +30,15 @@ figures_of entry = record { now = entry.input.now; bandwidth = entry.input.bandw
 abbrev pub most_rounds : ℕ
 most_rounds = 1024
 
--- An id that was given stands in exactly one place: one thread served its request, once, or one
--- thread has it left. An id that was not given stands nowhere.
+-- An id that was given is in exactly one place: one thread served its request, once, or one thread
+-- has it left. An id that was not given is nowhere.
 pub record EachStandsOnce (arrivals : Arrivals) (outcome : Outcome) : Type 0 where
   pub given : (id : ℕ) → IsGiven arrivals.requests id →
       StandsInOnePlace outcome.journals outcome.left id
   pub others : (id : ℕ) → (IsGiven arrivals.requests id → ⊥) →
       Nowhere (ServedAt outcome.journals id) × Nowhere (LeftAt outcome.left id)
 
--- What a run on these arrivals comes to.
+-- The outcome of a run on these arrivals.
 pub record IsRun (table : Table) (arrivals : Arrivals) (outcome : Outcome) : Type 0 where
   -- one pass for each given one, in order, with its clock and its bandwidth figure
   pub passes : map figures_of outcome.history ≡ arrivals.passes
@@ -58,7 +58,7 @@ pub record IsRun (table : Table) (arrivals : Arrivals) (outcome : Outcome) : Typ
   -- the commands that a thread took are the first ones of those sent to it
   pub taken : (k : ℕ) → AreFirst (commands_of (journal_at outcome.journals k))
       (commands_to (actions_of outcome.history) k)
-  -- the steps of all stand in one legal list, whose projections are the history, the steps of each
+  -- the steps of all are in one legal list, whose projections are the history, the steps of each
   -- journal and the watched looks
   pub events : IsLinearised table outcome.history outcome.journals outcome.watched outcome.events
   -- and that list is the one in which `linearise` puts them

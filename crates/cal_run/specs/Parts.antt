@@ -42,7 +42,7 @@ watch_seat_of w = record {
 
 -- They are of this table and of one team: in thread order, the scheduler has the other ends of each
 -- thread's page and ring, and the watch the second observer of each page, which had seen nothing
--- when it was handed in.
+-- when it was given.
 pub record AreOfOneTeam (table : Table) (scheduler : SchedulerSeat) (seats : List Seat)
     (watch : WatchSeat) : Type 0 where
   pub same_table : scheduler.table ≡ table

@@ -1,4 +1,4 @@
-//! A run comes to its outcome.
+//! A run ends in its outcome.
 
 mod pages_and_rings;
 mod thread_ends;
@@ -21,9 +21,9 @@ use cal_sched::SchedulerEnd;
 use cal_trace::Arrivals;
 use std::alloc::Global;
 
-/// What a run comes to, whose passes, turns and rounds were all made. Ends the threads, gathers
+/// The outcome of a run, whose passes, turns and rounds were all made. Ends the threads, gathers
 /// what was left with them, closes their pages and rings, and puts the steps of all into one list.
-/// The error is want of memory alone.
+/// Fails only when out of memory.
 pub fn close_parts(
     alloc: Global,
     config: &Config,

@@ -32,8 +32,8 @@ use std::alloc::Global;
 /// passes and the turns that are given. In round `r` comes first pass `r`, then turn `r` of each
 /// thread in thread order, then round `r` of the watch, each if there is one; then the threads end.
 ///
-/// Asks for arrivals that fit the table. The error is want of memory alone; nothing is left of the
-/// run then. (That one thread makes all steps in this order is this project's own.)
+/// Asks for arrivals that fit the table. Fails only when out of memory; nothing is left of the run
+/// then. (That one thread makes all steps in this order is Doranjei's.)
 ///
 /// Not promised: that a pass sees the turns of the round before, which is tested.
 pub fn lockstep(alloc: Global, config: &Config, arrivals: &Arrivals) -> Result<Outcome, SimFault>

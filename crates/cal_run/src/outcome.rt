@@ -1,4 +1,4 @@
-//! What a run comes to.
+//! The outcome of a run.
 
 pub mod given_once;
 pub mod headline;
@@ -9,7 +9,7 @@ use cal_policy::PassEntry;
 use cal_signal::Round;
 use cal_world::Event;
 
-/// What a run comes to, once its threads have ended and their ends were brought together.
+/// The outcome of a run, once its threads have ended and their ends were brought together.
 #[derive(Drop)]
 pub struct Outcome {
     /// The passes of the scheduler, the first one first.

@@ -18,8 +18,8 @@ use crate::workers::worker::Worker;
 use cal_sched::Scheduler;
 use cal_trace::Arrivals;
 
-/// All passes, turns and rounds of the watch, one round after the other. The error is want of
-/// memory alone.
+/// All passes, turns and rounds of the watch, one round after the other. Fails only when out of
+/// memory.
 pub(crate) fn make_rounds(parts: &mut Parts, arrivals: &Arrivals) -> Result<(), SimFault>
     requires fits { FitSomeTable arrivals.now }
     requires opened { AreParts parts.old.scheduler.table arrivals.now 0 0 0 parts.old }

@@ -10,7 +10,7 @@ use crate::fault::SimFault;
 use crate::workers::worker::Worker;
 use cal_trace::Arrivals;
 
-/// Turn `j` of each thread, in thread order. The error is want of memory alone.
+/// Turn `j` of each thread, in thread order. Fails only when out of memory.
 pub fn turn_each(workers: &mut [Worker], arrivals: &Arrivals, j: usize) -> Result<(), SimFault>
     requires fits { FitSomeTable arrivals.now }
     requires given { j < length arrivals.now.turns }

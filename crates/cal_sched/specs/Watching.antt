@@ -5,8 +5,7 @@ use Rattle.cal_signal.specs.Rounds.{found_at}
 use Rattle.cal_signal.specs.Ends.{ObserverView}
 use Rattle.cal_sched.specs.Looking.{HaveLooked}
 
--- the observers as they were handed in and as they are, the rounds so far, and how many rounds
--- there may be
+-- the observers as given and as they are, the rounds so far, and how many rounds there may be
 pub record WatchView : Type 0 where
   pub given : List ObserverView
   pub observers : List ObserverView
@@ -30,8 +29,8 @@ pub record IsRoundMore (before after : WatchView) : Type 0 where
   pub given : after.given ≡ before.given
   pub most : after.most ≡ before.most
 
--- each round has a look at each page; each observer stays at its page, and what it found since
--- it was handed in is, in order, what the rounds found
+-- each round has a look at each page; each observer stays at its page, and what it found since it
+-- was given is, in order, what the rounds found
 pub record HaveWatched (given observers : List ObserverView)
     (rounds : List (List Look)) : Type 0 where
   pub same_many : length observers ≡ length given

@@ -3,11 +3,11 @@
 //!
 //! A scheduler has one observer and one sender for each kernel thread of its table. A pass looks
 //! once at each page, asks each ring for room, judges what it found, decides, and sends each
-//! command. What was found and what was decided stands in the history. No call waits, and no lock
-//! stands round any.
+//! command. The history records what was found and what was decided. No call waits, and there are
+//! no locks.
 //!
 //! That a scheduler on a core of its own polls the threads' signals and moves cores between tasks
-//! is Caladan's. The commands, their rings and the history are this project's own.
+//! is Caladan's. The commands, their rings and the history are Doranjei's.
 //!
 //! Not promised: that a look succeeds beside a publisher, or that a ring has room beside a taker.
 #![tactic(auto)]

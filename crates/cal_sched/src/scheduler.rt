@@ -83,8 +83,8 @@ pub struct SchedulerEnd {
 
 impl Scheduler {
     /// A scheduler that made no pass yet. Asks for an observer that found nothing yet and a sender
-    /// that sent nothing yet for each kernel thread of the table, in thread order. Its error is
-    /// want of memory alone, and hands all three back.
+    /// that sent nothing yet for each kernel thread of the table, in thread order. Fails only when
+    /// out of memory, and then returns all three.
     pub fn new(
         alloc: Global,
         config: Config,

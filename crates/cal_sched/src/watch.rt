@@ -16,9 +16,8 @@ use std::snapshot::Snapshot;
 /// Rounds of looks at pages, at most as many as the watch was made for. It may be moved to a thread
 /// of its own; no call of it waits, and only `new` takes memory.
 ///
-/// A contract sees the observers as they were handed in and as they are, the rounds so far, and how
-/// many there may be. Of each page the whole looks of the rounds are, in order, what its observer
-/// found.
+/// A contract sees the observers as given and as they are, the rounds so far, and how many there
+/// may be. Of each page the whole looks of the rounds are, in order, what its observer found.
 #[derive(Drop)]
 pub struct Watch {
     observers: Vec<Observer>,
@@ -51,7 +50,7 @@ impl Model for Watch {
 /// The observers of a watch for which memory was refused.
 #[derive(Drop)]
 pub struct NotWatched {
-    /// The observers that were handed in.
+    /// The observers that were given.
     pub observers: Vec<Observer>,
 }
 
@@ -77,7 +76,7 @@ fn make_room(
 
 impl Watch {
     /// A watch of these pages, one observer for each, for that many rounds. Takes all the memory
-    /// that the rounds will need. Its error is want of memory alone, and hands the observers back.
+    /// that the rounds will need. Fails only when out of memory, and then returns the observers.
     pub fn new(alloc: Global, observers: Vec<Observer>, rounds: u64) -> Result<Watch, NotWatched>
         ensures made { IfOk result (λ watch. watch ≡ new_watch observers.items rounds) }
         ensures handed_back { IfErr result (λ refused. refused.observers ≡ observers) }
@@ -120,7 +119,7 @@ impl Watch {
         self.rounds.as_slice()
     }
 
-    /// The observers, in the order in which they were handed in, and the rounds. Takes no memory.
+    /// The observers, in the order in which they were given, and the rounds. Takes no memory.
     pub fn end(self) -> (Vec<Observer>, Vec<Round>)
         ensures observers { result.0.items ≡ self.observers }
         ensures rounds { result.1.items ≡ self.rounds }

@@ -1,8 +1,8 @@
 //! A run in threads: one for the scheduler, one for each kernel thread and one for the watch.
 //!
-//! All are started at the same time, and meet over their pages, rings and queues alone: no lock
-//! stands round any of them, and nobody waits for anybody. Only the joins wait. What the run comes
-//! to is what each run comes to, in whichever order its threads made their steps.
+//! All are started at the same time, and meet over their pages, rings and queues alone: there are
+//! no locks, and nobody waits for anybody. Only the joins wait. Its outcome is the outcome of a
+//! run, in whichever order its threads made their steps.
 //!
 //! Not promised: that a thread gets on, so that the run ends; that any two threads meet.
 #![tactic(auto)]

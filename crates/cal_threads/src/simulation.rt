@@ -1,4 +1,4 @@
-//! A run in threads, from a table and arrivals to what it comes to.
+//! A run in threads, from a table and arrivals to its outcome.
 
 ghost use Rattle.std.specs.Prelude.{◌≡◌, ◌<◌, ◌⊎◌, ℕ, [], IfOk, IfErr, length, map, min};
 ghost use Rattle.cal_kthread.specs.End.Account.{IsAccounted};
@@ -33,8 +33,8 @@ use std::thread::Threads;
 /// for the watch, all at the same time. Before each pass and each turn the gate is asked; where it
 /// answers false, that worker ends. Asks that the arrivals fit the table.
 ///
-/// What it comes to is what every run comes to, whatever the order of the threads' steps, and the
-/// headline holds of it. Each pass and each turn of it is one that the gate let through.
+/// Its outcome is the outcome of a run, whatever the order of the threads' steps, and the headline
+/// holds of it. Each pass and each turn of it is one that the gate let through.
 ///
 /// `Memory` where memory was refused, `Spawn` where a thread could not be started, and `Gate` where
 /// the gate ended a worker, which comes only where it may answer false; of several faults the one

@@ -1,4 +1,4 @@
--- Safe lists of events: legal but for the passes, which may be any that are permitted, whoever
+-- Safe lists of events: legal except for the passes, which may be any that are permitted, whoever
 -- chose their actions.
 use Rattle.std.specs.Prelude.{◌≡◌, ◌≤◌, ℕ, List, length, take, Some, slice_get}
 use Rattle.cal_machine.specs.Table.{Table, IsTable}

@@ -87,7 +87,7 @@ IsThePass table before (Decide entry) =
     (entry.input.seen ≡ looks_since before) × IsPass table (history_in before) entry
 IsThePass table before _ = Unit {0}
 
--- an event, after these, is not refused for this cause. (Want of memory is no matter of events.)
+-- an event, after these, is not refused for this cause. (Out of memory is no matter of events.)
 abbrev pub Passes : Illegal → Table → List Event → Event → Type 0
 Passes NoThread table before event = NamesThread table event
 Passes NothingSent table before event = HasCommand before event

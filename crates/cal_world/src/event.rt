@@ -26,7 +26,7 @@ pub enum Event {
 }
 
 impl Event {
-    /// An equal event. Its error is want of memory alone.
+    /// An equal event. Fails only when out of memory.
     pub fn copy(&self, alloc: Global) -> Result<Event, AllocError>
         ensures { IfOk result (λ event. event ≡ self.now) }
     {

@@ -1,5 +1,5 @@
 //! The model of all schedules: which lists of events there may be, and what holds of every one. The
-//! events and their rules are this project's own.
+//! events and their rules are Doranjei's.
 #![tactic(auto)]
 
 mod event;

@@ -28,8 +28,8 @@ use std::marker::Model;
 /// A list of events, each of which was allowed after those before it. Contracts see the table and
 /// the events.
 ///
-/// It keeps what the events come to as plain data, so that a step costs what its kind asks and not
-/// what went before; but a Decide goes over the whole history, by the plain pass.
+/// It keeps the state after the events as plain data, so that a step costs what its kind asks and
+/// not what went before; but a Decide goes over the whole history, by the plain pass.
 #[derive(Drop)]
 pub struct World {
     alloc: Global,
@@ -50,7 +50,7 @@ impl Model for World {
 }
 
 impl World {
-    /// The world in which nothing has happened. Its error is want of memory alone.
+    /// The world in which nothing has happened. Fails only when out of memory.
     pub fn start(alloc: Global, config: &Config) -> Result<World, AllocError>
         ensures table { IfOk result (λ world. world.table ≡ config.now) }
         ensures events { IfOk result (λ world. world.events ≡ []) }
@@ -86,8 +86,8 @@ impl World {
         }
     }
 
-    /// Why an event may not come next, the least cause; None where it may. Its error is want of
-    /// memory alone.
+    /// Why an event may not come next, the least cause; None where it may. Fails only when out of
+    /// memory.
     fn refusal(&self, event: &Event) -> Result<Option<Illegal>, AllocError>
         ensures legal { IsLegalList self.now.table self.now.events }
         ensures refusal { IfOk result (λ refusal.
@@ -97,8 +97,8 @@ impl World {
         self.present.refusal(self.alloc, &self.config, event)
     }
 
-    /// Takes in an event that is allowed. After an error, which is want of memory, the world is as
-    /// it was.
+    /// Takes in an event that is allowed. Fails only when out of memory; then the world is
+    /// unchanged.
     fn take(&mut self, event: &Event) -> Result<(), AllocError>
         requires { IsAllowed self.old.table self.old.events event.now }
         ensures ok { OnOk result (self.new ≡ and_then self.old event.now) }
@@ -113,8 +113,8 @@ impl World {
     }
 
     /// Makes one step: exactly an event that is allowed after those before it is taken in. Else the
-    /// answer is the least cause that refuses it, and the world is as it was. In place of any other
-    /// answer there may be `Memory`; then too the world is as it was. Either way its events are a
+    /// answer is the least cause that refuses it, and the world is unchanged. In place of any other
+    /// answer there may be `Memory`; then too the world is unchanged. Either way its events are a
     /// legal list.
     pub fn step(&mut self, event: &Event) -> Result<(), Illegal>
         ensures allowed { OnOk result (IsAllowed self.old.table self.old.events event.now) }

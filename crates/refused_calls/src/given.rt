@@ -18,7 +18,7 @@ pub struct Given<'a> {
     pub table: &'a [u8],
     /// The table.
     pub config: Config,
-    /// What stands after the separator.
+    /// The part after the separator.
     pub trace: &'a [u8],
 }
 
@@ -66,7 +66,7 @@ impl<'a> Given<'a> {
     }
 }
 
-/// What stands before the separator and what stands after it.
+/// The parts before and after the separator.
 fn split(text: &[u8]) -> Option<(&[u8], &[u8])> {
     for at in 0..text.len() {
         if text[at..].starts_with(b"\n---\n") {

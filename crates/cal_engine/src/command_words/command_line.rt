@@ -16,7 +16,7 @@ use std::alloc::{AllocError, Global};
 /// the files that they read and write.
 pub const VERSION: &str = "2 (writes history 2; reads signals and history 1 and 2, arrivals 1)";
 
-/// What the program is to do with its input (this project's own words).
+/// What the program is to do with its input.
 #[derive(Clone, Copy, Debug, PartialEq, Eq)]
 pub enum Job {
     /// Decide the passes of a signal trace, and write the report. No words, or `decide`.
@@ -35,7 +35,7 @@ pub enum Job {
 ///
 /// The error is clap's own. A word that is not in the table is refused; a request for help is an
 /// error of the kind `DisplayHelp`, one for the version of the kind `DisplayVersion`, whose texts
-/// go to the standard output; want of memory has the kind `OutOfMemory`.
+/// go to the standard output; out of memory has the kind `OutOfMemory`.
 pub fn words<'a>(alloc: Global, words: &'a [&'a str]) -> Result<Job, Error>
     ensures { (job : Job) → Asks (map (λ word. word.now) words.now) job → IsJob job result }
 {
@@ -97,7 +97,7 @@ fn with_run<'a>(
     program.subcommand(command)
 }
 
-/// A word after which nothing stands.
+/// A word that takes nothing after it.
 fn plain_word<'a>(alloc: Global, word: &'a str, about: &'a str, after: &'a str) -> Command<'a>
     ensures shape { app_of result ≡ new_app word.entry.now }
     ensures local { (out-Command result).has_globals ≡ false }

@@ -3,8 +3,8 @@
 ghost use Rattle.std.specs.Prelude.{◌≡◌, option_map};
 ghost use Rattle.cal_engine.specs.Input.{input_parts, is_separator};
 
-/// The task table and the trace of an input: what stands before its first separator line, and what
-/// stands after it. None where there is no such line. (This project's own form.)
+/// The task table and the trace of an input: the parts before and after its first separator line.
+/// None where there is no such line.
 pub fn split_input(text: &[u8]) -> Option<(&[u8], &[u8])>
     ensures { option_map (λ parts. (parts.0.now, parts.1.now)) result ≡ input_parts text.now }
 {

@@ -6,8 +6,8 @@ ghost use Rattle.std.specs.Io.KnownBytes.{Appends};
 use crate::fault::RunFault;
 use std::io::Write;
 
-/// Writes the whole answer. The fault is `Write`, where the writer answers an error; then nothing
-/// is said of how much was written.
+/// Writes the whole answer. The fault is `Write`, if the writer returns an error; how much was
+/// written is unspecified.
 pub fn write_answer<W: Write>(answer: &[u8], writer: &mut W) -> Result<(), RunFault>
     ensures bytes { OnOk result (Appends (W.contents writer.old) (W.contents writer.new)
         answer.now) }

@@ -26,9 +26,8 @@ use std::io::{Read, Write};
 /// illegal history is an answer and no fault. Nothing is written before the whole input was read
 /// and accepted and the answer is made.
 ///
-/// The faults come in this order: `Read` or `Length` as met, `Separator`, `Config`, `Trace`,
-/// `Write`. `Memory` may come at any place, and only where memory was refused. What it writes is
-/// this project's own.
+/// The faults come in this order: `Read` or `Length`, whichever comes first, `Separator`, `Config`,
+/// `Trace`, `Write`. `Memory` may come at any place, and only where memory was refused.
 pub fn run_audit<R: Read + Drop, W: Write>(
     alloc: Global,
     mut reader: R,
@@ -48,7 +47,7 @@ pub fn run_audit<R: Read + Drop, W: Write>(
     Ok(verdict)
 }
 
-/// The task table of an input, and its history as it stands there. The faults come in this order:
+/// The task table of an input, and its history as it is there. The faults come in this order:
 /// `Separator`, `Config`, `Trace`; `Memory` may come at any place.
 pub fn recorded_run(alloc: Global, input: &[u8]) -> Result<(Config, Vec<PassEntry>), RunFault>
     ensures { Gives (λ r. record { table = r.0; history = r.1.items }) result
@@ -59,8 +58,8 @@ pub fn recorded_run(alloc: Global, input: &[u8]) -> Result<(Config, Vec<PassEntr
     Ok((config, history))
 }
 
-/// The task table of an input, and its history as it stands there, before its first pass. The
-/// faults come in this order: `Separator`, `Config`, `Trace` where the history has not its header;
+/// The task table of an input, and its history as it is there, before its first pass. The faults
+/// come in this order: `Separator`, `Config`, `Trace` where the history has not its header;
 /// `Memory` may come at any place.
 pub fn recorded_passes(alloc: Global, input: &[u8]) -> Result<(Config, HistoryRows<'_>), RunFault>
     ensures ready { IfOk result (λ r. IsOpen r.1) }

@@ -31,8 +31,8 @@ use std::io::{Read, Write};
 /// writes the report and nothing else. Nothing is written before the whole input was read and
 /// accepted and the report is made.
 ///
-/// The faults come in this order: `Read` or `Length` as met, `Separator`, `Config`, `Trace`,
-/// `Write`. `Memory` may come at any place, and only where memory was refused.
+/// The faults come in this order: `Read` or `Length`, whichever comes first, `Separator`, `Config`,
+/// `Trace`, `Write`. `Memory` may come at any place, and only where memory was refused.
 pub fn decide<R: Read + Drop, W: Write>(
     alloc: Global,
     mut reader: R,
@@ -100,7 +100,7 @@ struct OpenReport {
 }
 
 impl OpenReport {
-    /// The report before the first pass. Its error is want of memory alone.
+    /// The report before the first pass. Fails only when out of memory.
     fn open(alloc: Global, config: &Config) -> Result<OpenReport, AllocError>
         ensures tells { IfOk result (Tells []) }
         ensures of { IfOk result (λ report. IsBookOf config.now report.decider.book) }
@@ -206,7 +206,7 @@ struct Decider {
 }
 
 impl Decider {
-    /// Before the first pass. Its error is want of memory alone.
+    /// Before the first pass. Fails only when out of memory.
     fn open(alloc: Global, config: &Config) -> Result<Decider, AllocError>
         ensures agrees { IfOk result (λ decider. AgreesWith decider.book []) }
         ensures of { IfOk result (λ decider. IsBookOf config.now decider.book) }

@@ -18,10 +18,10 @@ use std::io::{Read, Write};
 
 /// Reads an input of a task table and arrivals to its end, makes a whole run of them on one thread,
 /// and writes its history as a file, or its summary, and nothing else. Nothing is written before
-/// the run was made and its text stands in memory.
+/// the run was made and its text is in memory.
 ///
-/// The faults come in this order: `Read` or `Length` as met, `Separator`, `Config`, `Trace`,
-/// `Write`. `Memory` may come at any place, and only where memory was refused.
+/// The faults come in this order: `Read` or `Length`, whichever comes first, `Separator`, `Config`,
+/// `Trace`, `Write`. `Memory` may come at any place, and only where memory was refused.
 pub fn run_lockstep<R: Read + Drop, W: Write>(
     alloc: Global,
     mut reader: R,

@@ -23,11 +23,11 @@ use std::thread::Threads;
 
 /// Reads an input of a task table and arrivals to its end, makes a whole run of them in threads of
 /// their own, and writes its history as a file, or its summary, and nothing else. Nothing is
-/// written before the run was made and its text stands in memory. The joins of the threads wait.
+/// written before the run was made and its text is in memory. The joins of the threads wait.
 ///
-/// The faults come in this order: `Read` or `Length` as met, `Separator`, `Config`, `Trace`,
-/// `Spawn` where a thread could not be started, `Write`. `Memory` may come at any place, and only
-/// where memory was refused.
+/// The faults come in this order: `Read` or `Length`, whichever comes first, `Separator`, `Config`,
+/// `Trace`, `Spawn` where a thread could not be started, `Write`. `Memory` may come at any place,
+/// and only where memory was refused.
 pub fn run_sim<H: Threads + Wait + Sync, R: Read + Drop, W: Write>(
     rt: &H,
     alloc: Global,

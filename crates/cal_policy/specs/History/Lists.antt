@@ -1,4 +1,4 @@
--- What is said of things that happened one after another, each told all that came before it.
+-- What is said of things that happened one after another, each given all that came before it.
 use Rattle.std.specs.Prelude.{ℕ, ◌+◌, ◌*◌, suc, zero, List, [], ◌∷◌, ◌++◌, Option, None}
 use Rattle.std.specs.Option.{option_or}
 

@@ -33,7 +33,7 @@ abbrev pub is_foreign : ℕ → List Action → ℕ → Record → Bool
 is_foreign cores x k rec = not (rec.running == 0)
     && not (nat_le rec.running cores && is_acknowledged_by k rec (holder_of x (rec.running - 1)))
 
--- what a look at thread k comes to after the actions x
+-- the judgement of a look at thread k after the actions x
 abbrev pub judged : ℕ → List Action → ℕ → Look → Seen
 judged cores x k (found.Busy first second) = Busy first second
 judged cores x k (found.Whole number rec) =

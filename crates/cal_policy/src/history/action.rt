@@ -11,7 +11,7 @@ pub enum Cause {
     Preempt { task: u8 },
 }
 
-/// One action of a pass. (After Caladan; the exact actions are this project's own.)
+/// One action of a pass. (After Caladan; the exact actions are Doranjei's.)
 #[derive(Clone, Copy, Debug, PartialEq, Eq)]
 pub enum Action {
     /// The core's thread has acknowledged its Run and left: the core is free.

@@ -35,7 +35,7 @@ impl Model for Actions {
 }
 
 impl Actions {
-    /// An empty list with room for 338 actions. Its error is want of memory alone.
+    /// An empty list with room for 338 actions. Fails only when out of memory.
     pub fn reserved(alloc: Global) -> Result<Actions, AllocError>
         ensures { IfOk result (λ actions. actions ≡ []) }
     {
@@ -75,7 +75,7 @@ impl Actions {
         ActionList::new(items)
     }
 
-    /// A list of these actions that takes room for itself alone. Its error is want of memory.
+    /// A list of these actions that takes room for itself alone. Fails only when out of memory.
     pub fn to_list(&self, alloc: Global) -> Result<ActionList, AllocError>
         ensures { IfOk result (λ list. list ≡ self.now) }
     {

@@ -7,7 +7,7 @@ use crate::history::input::{Input, Rooms};
 use crate::history::look::SeenList;
 use std::alloc::{AllocError, Global};
 
-/// The most passes of a history that a scheduler keeps or a file has (this project's own limit).
+/// The most passes of a history that a scheduler keeps or a file has.
 pub const MOST_PASSES: usize = 1_048_576;
 
 /// One pass: what it was given and what it did. A history is a list of passes.
@@ -20,7 +20,7 @@ pub struct PassEntry {
 }
 
 impl PassEntry {
-    /// An equal entry. Its error is want of memory alone.
+    /// An equal entry. Fails only when out of memory.
     pub fn copy(&self, alloc: Global) -> Result<PassEntry, AllocError>
         ensures { IfOk result (λ entry. entry ≡ self.now) }
     {

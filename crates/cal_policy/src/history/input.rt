@@ -6,8 +6,8 @@ use cal_lists::Listed;
 /// For each thread, in thread order, whether its command ring had room.
 pub type Rooms = Listed<bool>;
 
-/// What a pass is given: a clock (in ticks, as handed in), a bandwidth figure (in the unit of the
-/// table's limit, as handed in), and for each thread its judged look and whether its ring has room.
+/// What a pass is given: a clock (in ticks, as given), a bandwidth figure (in the unit of the
+/// table's limit, as given), and for each thread its judged look and whether its ring has room.
 #[derive(Drop)]
 pub struct Input {
     /// The clock, in ticks.

@@ -59,7 +59,7 @@ fn is_elsewhere(holding: &Holding, cores: u8, k: usize, rec: Record) -> bool
     !is_acknowledged(holding.holders[rec.running as usize - 1], k, &rec)
 }
 
-/// What a look at thread `k` comes to.
+/// The judgement of a look at thread `k`.
 pub fn judged_by(board: &Board, cores: u8, k: usize, look: Look) -> Seen
     requires cores { cores ≤ MOST_CORES }
     requires thread { k < MOST_THREADS }
@@ -189,7 +189,7 @@ pub fn fits(board: &Board, config: &Config, input: &Input) -> bool
     each_as_judged(board, config.machine().cores(), input.seen.as_slice())
 }
 
-/// What a look at thread `k` comes to after a history: a whole record that acknowledges more
+/// The judgement of a look at thread `k` after a history: a whole record that acknowledges more
 /// commands than were sent is ahead; one that shows its thread on a core that the thread does not
 /// have by a Run that it acknowledges is foreign.
 pub fn judge(config: &Config, history: &[PassEntry], k: usize, look: Look) -> Seen

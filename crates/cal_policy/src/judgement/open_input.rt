@@ -56,8 +56,8 @@ impl Model for OpenInput {
 }
 
 impl OpenInput {
-    /// An input with no look yet, and with room for one look at each thread of the table. Its error
-    /// is want of memory alone.
+    /// An input with no look yet, and with room for one look at each thread of the table. Fails
+    /// only when out of memory.
     pub fn reserved(alloc: Global, config: &Config) -> Result<OpenInput, AllocError>
         ensures threads { IfOk result (λ given. given.threads ≡ threads_of_table config.now) }
         ensures empty { IfOk result (λ given. given.seen ≡ []) }
@@ -75,8 +75,7 @@ impl OpenInput {
     }
 
     /// An input with no look yet, in the memory of one that is used up. It takes memory only where
-    /// that has no room for one look at each thread of the table. Its error is want of memory
-    /// alone.
+    /// that has no room for one look at each thread of the table. Fails only when out of memory.
     pub fn again(used: Input, config: &Config) -> Result<OpenInput, AllocError>
         ensures threads { IfOk result (λ given. given.threads ≡ threads_of_table config.now) }
         ensures empty { IfOk result (λ given. given.seen ≡ []) }

@@ -11,7 +11,7 @@ use crate::pass::Pass;
 use cal_signal::Record;
 
 /// How long something that came at `came` has waited, where there is something; in clock ticks as
-/// handed in. What came after the clock has not waited.
+/// given. What came after the clock has not waited.
 fn waited(clock: u64, there: bool, came: u64) -> u64
     ensures { result ≡ grants.waited clock there came }
 {

@@ -16,7 +16,7 @@ use cal_machine::Config;
 /// Appends the actions of the pass on this input after this history, and no others, to an empty
 /// list. It goes over the whole history once, and takes no memory.
 ///
-/// The rules of a pass are after Caladan; the exact ones are this project's own.
+/// The rules of a pass are after Caladan; the exact ones are Doranjei's.
 pub fn plain_pass(config: &Config, history: &[PassEntry], input: &Input, out: &mut Actions)
     requires orderly { IsOrderly config.now history.now }
     requires input { IsInput config.now history.now input.now }

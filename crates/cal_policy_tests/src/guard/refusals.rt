@@ -143,8 +143,8 @@ task = [
 ]
 ";
 
-/// What stands before a pass's actions: all rings full; all with room; and with room, where thread
-/// 0 shows itself on core 3.
+/// What comes before a pass's actions: all rings full; all with room; and with room, where thread 0
+/// shows itself on core 3.
 const FULL: &str = "pass,111,0\nbusy,0,0,1,1\nbusy,1,0,1,1\nbusy,2,0,1,1\nbusy,3,0,1,1\n";
 
 const ROOM: &str = "pass,111,0\nbusy,0,1,1,1\nbusy,1,1,1,1\nbusy,2,1,1,1\nbusy,3,1,1,1\n";

@@ -4,7 +4,7 @@ use super::tables::{EVERY_ROW, history_of};
 use cal_trace::{WriteFault, write_history};
 use std::test::Fail;
 
-/// With one allocation refused, wherever that is, the answer is want of memory by its name, or the
+/// With one allocation refused, wherever that is, the answer is out of memory by its name, or the
 /// ample one. (tools/refusals runs it so.)
 #[test]
 fn every_row_is_read_and_written(rt: HostRuntime) -> Result<(), Fail> {

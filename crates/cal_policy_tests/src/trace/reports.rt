@@ -52,7 +52,7 @@ task 0 lc held 1 leaving 0
 task 1 be held 0 leaving 1 cap 0
 ";
 
-/// With one allocation refused, wherever that is, the answer is want of memory by its name, or the
+/// With one allocation refused, wherever that is, the answer is out of memory by its name, or the
 /// ample one. (tools/refusals runs it so.)
 #[test]
 fn report_of_every_action(rt: HostRuntime) -> Result<(), Fail> {

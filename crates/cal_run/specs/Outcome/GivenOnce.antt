@@ -12,7 +12,7 @@ use Rattle.cal_run.specs.Outcome.{EachStandsOnce}
 use Rattle.cal_run.specs.declared.outcome.Outcome.{Outcome}
 
 -- Where the arrivals fit the table, each thread made the turns that it was given, and the account
--- holds, each id that was given stands in exactly one place, and no other id anywhere.
+-- holds, each id that was given is in exactly one place, and no other id anywhere.
 abbrev pub GivenStandOnce : Type 0
 GivenStandOnce = (table : Table) (arrivals : Arrivals) (outcome : Outcome)
     → FitsTable table arrivals

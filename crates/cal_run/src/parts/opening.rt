@@ -17,12 +17,12 @@ use cal_sched::{Scheduler, Watch};
 use cal_trace::Arrivals;
 use std::alloc::{AllocError, Global};
 
-/// The most rounds that a watch makes (this project's own limit).
+/// The most rounds that a watch makes.
 const MOST_ROUNDS: usize = 1024;
 
 /// The parts of a run on these arrivals: a scheduler, a worker for each kernel thread of the table,
-/// and a watch for as many rounds as passes, 1,024 at most. None of them did anything yet. The
-/// error is want of memory alone.
+/// and a watch for as many rounds as passes, 1,024 at most. None of them did anything yet. Fails
+/// only when out of memory.
 pub fn open_parts(alloc: Global, config: &Config, arrivals: &Arrivals) -> Result<Parts, SimFault>
     requires fits { FitsTable config.now arrivals.now }
     ensures parts { IfOk result (λ parts. AreParts config.now arrivals.now 0 0 0 parts) }
@@ -51,7 +51,7 @@ pub fn open_parts(alloc: Global, config: &Config, arrivals: &Arrivals) -> Result
     })
 }
 
-/// A worker for each of these kernel threads, in the same order. An error is want of memory.
+/// A worker for each of these kernel threads, in the same order. Fails only when out of memory.
 fn open_workers(
     alloc: Global,
     threads: Vec<KernelThread>,

@@ -10,7 +10,7 @@ use cal_sched::{PassFault, Scheduler};
 use cal_trace::Arrivals;
 
 /// Pass `p` of those given, with its clock and its bandwidth figure. Asks that the passes before
-/// were made. The error is want of memory alone: the history never fills. Waits for nobody.
+/// were made. Fails only when out of memory: the history never fills. Waits for nobody.
 pub fn pass_given(scheduler: &mut Scheduler, arrivals: &Arrivals, p: usize) -> Result<(), SimFault>
     requires fits { FitSomeTable arrivals.now }
     requires given { p < length arrivals.now.passes }

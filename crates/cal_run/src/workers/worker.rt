@@ -42,8 +42,8 @@ impl Worker {
     }
 
     /// Its turn `j`, with the clock that is given for it and the request that comes to the thread
-    /// before it, if one does. Asks that the turns before were made. The error is want of memory
-    /// alone: the journal never fills.
+    /// before it, if one does. Asks that the turns before were made. Fails only when out of memory:
+    /// the journal never fills.
     pub fn turn(&mut self, arrivals: &Arrivals, j: usize) -> Result<(), SimFault>
         requires fits { FitSomeTable arrivals.now }
         requires given { j < length arrivals.now.turns }

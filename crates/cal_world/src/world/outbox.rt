@@ -48,7 +48,7 @@ impl Outbox {
         }
     }
 
-    /// Makes room for so many more. Its error is want of memory.
+    /// Makes room for so many more. Fails only when out of memory.
     pub fn reserve(&mut self, additional: usize) -> Result<(), AllocError>
         ensures commands { self.new.commands ≡ self.old.commands }
         ensures room { OnOk result (additional ≤ self.new.room) }

@@ -28,7 +28,7 @@ impl Model for Page {
 }
 
 impl Page {
-    /// The page on which nothing was published. Its error is want of memory alone.
+    /// The page on which nothing was published. Fails only when out of memory.
     pub fn open(alloc: Global) -> Result<Page, AllocError>
         ensures { IfOk result (λ page. page ≡ page_of []) }
     {
@@ -63,7 +63,7 @@ impl Page {
         self.records[self.records.len() - 1]
     }
 
-    /// Puts a record at the next place. After an error, which is want of memory, nothing changed.
+    /// Puts a record at the next place. Fails only when out of memory; then nothing has changed.
     pub fn publish(&mut self, rec: Record) -> Result<(), AllocError>
         ensures ok { OnOk result (self.new ≡ self.old ++ rec ∷ []) }
         ensures err { OnErr result (self.new ≡ self.old) }

@@ -1,4 +1,4 @@
-//! What the events of a world come to.
+//! The state after the events of a world.
 
 ghost use Rattle.std.specs.Prelude.{◌≡◌, ◌<◌, ◌++◌, ◌∷◌, [], List, IfOk};
 ghost use Rattle.std.specs.Prelude.{OnOk, OnErr, length};
@@ -24,7 +24,7 @@ use cal_guard::permitted_is_safe;
 use cal_policy::{PassEntry, Record, Seen, action_is_one_more, look_is_one_more};
 use std::alloc::{AllocError, Global};
 
-/// What the events so far come to, as plain data: a step goes by it and need not look back.
+/// The state after the events so far, as plain data: a step goes by it and need not look back.
 #[derive(Drop)]
 pub(crate) struct Present {
     /// Where each kernel thread stands, in thread order, as the two lists that follow.
@@ -136,7 +136,7 @@ fn raise_watch_floor(standings: &mut Vec<Standing>, k: u8, number: u64)
     standings[k as usize] = standings[k as usize].after_watch(number);
 }
 
-/// The thread publishes a record. After an error, which is want of memory, nothing changed.
+/// The thread publishes a record. Fails only when out of memory; then nothing has changed.
 fn publish(pages: &mut Vec<Page>, k: u8, rec: Record) -> Result<(), AllocError>
     requires { k < length pages.old.items }
     ensures length { length pages.new.items ≡ length pages.old.items }
@@ -162,7 +162,7 @@ fn look_at(pages: &Vec<Page>, k: u8, number: u64) -> Seen
 }
 
 impl Present {
-    /// Of so many threads, with no event. Its error is want of memory alone.
+    /// Of so many threads, with no event. Fails only when out of memory.
     pub fn open(alloc: Global, threads: usize) -> Result<Present, AllocError>
         ensures { IfOk result (λ present. (table : Table) →
             threads ≡ threads_of_table table → IsPresent table [] present) }
@@ -177,8 +177,8 @@ impl Present {
         })
     }
 
-    /// A pass is made: what it sends is sent, and the looks begin anew. After an error, which is
-    /// want of memory, all is what it was.
+    /// A pass is made: what it sends is sent, and the looks begin anew. Fails only when out of
+    /// memory; then nothing has changed.
     fn decide(&mut self, alloc: Global, entry: &PassEntry) -> Result<(), AllocError>
         ensures ok { OnOk result ((table : Table) (before : List Event) →
             IsPresent table before self.old →
@@ -194,8 +194,7 @@ impl Present {
         Ok(())
     }
 
-    /// Takes in an event that is allowed. After an error, which is want of memory, all is what it
-    /// was.
+    /// Takes in an event that is allowed. Fails only when out of memory; then nothing has changed.
     pub fn note(&mut self, alloc: Global, event: &Event) -> Result<(), AllocError>
         requires { KeepsThreadOf self.old event.now }
         ensures ok { OnOk result ((table : Table) (before : List Event) → IsTable table →

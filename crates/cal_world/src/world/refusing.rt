@@ -167,7 +167,7 @@ fn same_looks(a: &[Seen], b: &[Seen]) -> bool
     true
 }
 
-/// Whether the entry is the pass after a legal history. Its error is want of memory alone.
+/// Whether the entry is the pass after a legal history. Fails only when out of memory.
 fn is_next_pass(
     alloc: Global,
     config: &Config,
@@ -183,7 +183,7 @@ fn is_next_pass(
     Ok(is_pass(config, history, entry, &mut actions))
 }
 
-/// Of a Decide after a legal history and these looks. Its error is want of memory alone.
+/// Of a Decide after a legal history and these looks. Fails only when out of memory.
 fn refusal_of_decide(
     alloc: Global,
     config: &Config,
@@ -210,8 +210,8 @@ fn refusal_of_decide(
 }
 
 impl Present {
-    /// Why an event may not come next, the least cause; None where it may. Its error is want of
-    /// memory alone, at a Decide.
+    /// Why an event may not come next, the least cause; None where it may. Fails only when out of
+    /// memory, at a Decide.
     pub fn refusal(
         &self,
         alloc: Global,

@@ -51,7 +51,7 @@ fn note_grant(granted: &mut [Option<u8>; 256], action: Action)
     }
 }
 
-/// Makes room for so many more commands to each thread. Its error is want of memory.
+/// Makes room for so many more commands to each thread. Fails only when out of memory.
 pub(crate) fn make_room(sent: &mut Vec<Outbox>, additional: usize) -> Result<(), AllocError>
     ensures length { length sent.new.items ≡ length sent.old.items }
     ensures same { (x : List Action) → AreSent sent.old.items x → AreSent sent.new.items x }

@@ -9,7 +9,7 @@ ghost use Rattle.cal_world.specs.World.Standing.{IsOf};
 
 use cal_command::Command;
 
-/// What the events so far come to for one kernel thread.
+/// The state after the events so far for one kernel thread.
 #[derive(Clone, Copy, Debug, PartialEq, Eq)]
 pub(crate) struct Standing {
     /// How many commands it took.
