@@ -15,6 +15,15 @@
  *  - malloc, realloc and free are of one allocator, and blocks are aligned to each power of two up to 16
  *    that divides their size. No call comes from a signal handler, nor from the forked child of a
  *    process with threads.
+ *
+ * Whoever serves processes that he does not trust makes his passes by caladan_pass_each: whatever one
+ * of them shows, the others are served. What lies in a process's own memory (its page, its ring) is what
+ * that process says, and no more: how many commands were sent, and so how much room a ring has, the host
+ * knows himself (caladan_thread).
+ *
+ * Since version 1: nothing that was there has changed. New are caladan_pass_each, caladan_first_unfit,
+ * caladan_table, caladan_table_task, caladan_thread, caladan_gone, caladan_revoked, the judgements from
+ * CALADAN_NO_PAIR on, the answer CALADAN_LOST, and the texts.
  */
 #ifndef CALADAN_H
 #define CALADAN_H
@@ -27,7 +36,7 @@ extern "C" {
 #endif
 
 /* The version of this interface, which caladan_version answers. */
-#define CALADAN_VERSION 1
+#define CALADAN_VERSION 2
 
 /* What a call answers. Up to CALADAN_TOO_MANY_THREADS it is the first fault of a table. */
 enum {
@@ -50,7 +59,8 @@ enum {
     CALADAN_NO_ACTION = 17,   /* an action that is none: its kind, its cause, or a field that is not 0 */
     CALADAN_NOT_PERMITTED = 18, /* an action is not permitted at its place */
     CALADAN_NO_JUDGEMENT = 19, /* a number that is no judgement of its look */
-    CALADAN_ILLEGAL = 20      /* a recorded pass is not legal */
+    CALADAN_ILLEGAL = 20,     /* a recorded pass is not legal */
+    CALADAN_LOST = 21         /* no page can show any more that the thread is gone */
 };
 
 /* A scheduler, or nothing. */
@@ -83,15 +93,29 @@ typedef struct caladan_look {
 } caladan_look;
 
 /* What was judged of a look. A record that is ahead (it acknowledges more commands than were sent) or
- * foreign (it shows its thread on a core that the thread was not given) is not kept. */
-enum { CALADAN_KEPT = 1, CALADAN_BUSY = 2, CALADAN_AHEAD = 3, CALADAN_FOREIGN = 4 };
+ * foreign (it shows its thread on a core that the thread was not given) is not kept. The judgements above
+ * CALADAN_BUSY say why caladan_pass_each refused a look; those from CALADAN_NO_PAIR on are of looks that
+ * caladan_pass answers UNFIT to, and nothing else writes them. 'Last' is the last record that a pass
+ * was shown of the thread and did not refuse; before any it is the zero record at place 0. */
+enum {
+    CALADAN_KEPT = 1,
+    CALADAN_BUSY = 2,
+    CALADAN_AHEAD = 3,
+    CALADAN_FOREIGN = 4,
+    CALADAN_NO_PAIR = 5,    /* a busy look whose versions are neither one odd version, given twice, nor an
+                               even one and then a greater */
+    CALADAN_MISSHAPEN = 6,  /* running above 128, or misses above 2^56 */
+    CALADAN_PLACE_FELL = 7, /* its place is lower than the last one's */
+    CALADAN_CHANGED = 8,    /* it is at the last one's place, and another record */
+    CALADAN_WORD_FELL = 9   /* its place is higher, and taken, misses or stamp is lower than the last one's */
+};
 
 /* The kinds of actions, and the causes of a revocation. */
 enum {
     CALADAN_FREE = 1,
     CALADAN_UNBAN = 2,
     CALADAN_BAN = 3,
-    CALADAN_REVOKE = 4, /* the core's thread is to be sent Park */
+    CALADAN_REVOKE = 4, /* the core's thread is to be sent Park: caladan_revoked names it */
     CALADAN_CAP = 5,
     CALADAN_GRANT = 6 /* the thread is to be sent Run of the core */
 };
@@ -149,11 +173,85 @@ uint64_t caladan_bandwidth_limit(caladan *handle);
 uint8_t caladan_pass(caladan *handle, uint64_t now, uint64_t bandwidth, const caladan_look *looks, size_t count,
                      uint8_t *judged, size_t judged_room, caladan_action *actions, size_t room, size_t *made);
 
+/* The next pass, each look by itself: caladan_pass, but that a look which is unfit, ahead or foreign is
+ * refused, and the busy look of versions 1 and 1 is taken in its place (of a page on which the first
+ * record is being written: it fits whatever the thread has shown). Never UNFIT. What is judged of each look
+ * says whether it was taken as it is (KEPT, BUSY) or why it was refused. The other threads' looks and all
+ * rooms count as they are given. A refused look leaves no trace: what the thread has shown last and its
+ * kept record are as before, so its next record, or its successor's, counts as if the refused one had
+ * never been. A history of such passes is legal; recorded are the looks that were taken: caladan_taken
+ * makes them, and the judgement to be recorded of a refused one is CALADAN_BUSY. */
+uint8_t caladan_pass_each(caladan *handle, uint64_t now, uint64_t bandwidth, const caladan_look *looks, size_t count,
+                          uint8_t *judged, size_t judged_room, caladan_action *actions, size_t room, size_t *made);
+
+/* Which look caladan_pass would answer UNFIT to: UNFIT, and *thread is the first thread whose look does
+ * not fit; DONE, each fits; WRONG_COUNT or IS_CLOSED. Only UNFIT writes *thread. Nothing changes. */
+uint8_t caladan_first_unfit(caladan *handle, const caladan_look *looks, size_t count, size_t *thread);
+
+/* What the table says of the machine: DONE or IS_CLOSED. */
+typedef struct caladan_machine {
+    uint8_t cores;            /* 2 to 128 */
+    uint8_t tasks;            /* 1 to 16 */
+    uint8_t threads;          /* 1 to 128 */
+    uint64_t bandwidth_limit; /* the figure above which a best-effort task loses a core */
+} caladan_machine;
+uint8_t caladan_table(caladan *handle, caladan_machine *machine);
+
+/* What the table says of a task: DONE, IS_CLOSED or NO_SUCH. Its threads are `limit` ones from the first on. */
+enum { CALADAN_LATENCY_CRITICAL = 1, CALADAN_BEST_EFFORT = 2 };
+typedef struct caladan_table_row {
+    uint8_t kind;
+    uint8_t guaranteed; /* cores that it may keep */
+    uint8_t limit;      /* the most cores that it can have, and its number of threads */
+    uint8_t first_thread;
+    uint64_t delay;     /* above it the task is congested */
+    uint64_t request;   /* a request that is older bans the sibling of its core */
+} caladan_table_row;
+uint8_t caladan_table_task(caladan *handle, size_t task, caladan_table_row *row);
+
+/* A thread after the passes so far: DONE, IS_CLOSED or NO_SUCH. The room of its ring is CALADAN_PLACES
+ * less sent - taken: no word of the ring itself is needed for it, or to be believed. */
+typedef struct caladan_thread_state {
+    uint8_t task;   /* whose thread it is */
+    uint64_t sent;  /* commands that the passes sent to it (at most 2^64 - 1 is told) */
+    uint64_t taken; /* those that its kept record acknowledges; never above sent */
+} caladan_thread_state;
+uint8_t caladan_thread(caladan *handle, size_t thread, caladan_thread_state *state);
+
+/* What the page of a thread must show once the thread is gone, as a look (with room): it has taken what
+ * was sent, is on no core and has no request; misses and stamp are those that it showed last; its place is the
+ * one after the last. The host publishes it on the page, or gives the look itself to the next pass. It
+ * fits, it is kept, and that pass frees each core that the thread holds or leaves. DONE, IS_CLOSED,
+ * NO_SUCH, or LOST: no page can show it, because the thread has shown more commands taken than were sent (only
+ * caladan_pass lets it), or a number is at its end. Nothing changes; it is good for the next pass only. */
+uint8_t caladan_gone(caladan *handle, size_t thread, caladan_look *look);
+
 /* Who has a core: DONE, IS_CLOSED or NO_SUCH. */
 uint8_t caladan_holder(caladan *handle, uint8_t core, caladan_holder_of_core *holder);
 
 /* What a task has: DONE, IS_CLOSED or NO_SUCH. */
 uint8_t caladan_task(caladan *handle, size_t task, caladan_counts *counts);
+
+/* The thread that is to be sent Park, of a core that the last pass revokes: it is the one that is told
+ * to leave it. DONE, IS_CLOSED, or NO_SUCH where nobody is told to leave the core. */
+static inline uint8_t caladan_revoked(caladan *handle, uint8_t core, uint8_t *thread) {
+    caladan_holder_of_core holder;
+    uint8_t answer = caladan_holder(handle, core, &holder);
+    if (answer != CALADAN_DONE) return answer;
+    if (holder.state != CALADAN_CORE_LEAVING) return CALADAN_NO_SUCH;
+    *thread = holder.thread;
+    return CALADAN_DONE;
+}
+
+/* The look that caladan_pass_each took, of the one that it was given and what it judged of it. */
+static inline caladan_look caladan_taken(const caladan_look *look, uint8_t judged) {
+    caladan_look taken = *look;
+    if (judged > CALADAN_BUSY) {
+        taken.busy = 1;
+        taken.number = taken.second = 1;
+    }
+    return taken;
+}
 
 /* Lets go of what the handle keeps: DONE, or IS_CLOSED. The handle is closed then. */
 uint8_t caladan_close(caladan *handle);
@@ -258,6 +356,41 @@ uint8_t caladan_guard_task(caladan_guard *guard, size_t task, caladan_counts *co
 
 /* Lets go of what the guard keeps: DONE, or IS_CLOSED. The handle is closed then. */
 uint8_t caladan_guard_close(caladan_guard *guard);
+
+/* Texts. Each has one for every number; of a number that is none it says so. */
+static inline const char *caladan_answer_text(uint8_t answer) {
+    static const char *const texts[] = {
+        "done", "the table is not TOML", "the table has an unknown key", "the table lacks a key", "a value has the wrong type",
+        "a value is out of range", "a best-effort task has a guarantee", "the guarantees exceed the cores", "there are too many threads",
+        "out of memory", "the handle is closed", "the handle is open", "no answer", "the count is wrong", "there is too little room",
+        "a look does not fit", "the table has no such core, task or thread", "an action is none", "an action is not permitted",
+        "a number is no judgement of its look", "a pass is not legal", "no page can show that the thread is gone",
+    };
+    return answer < sizeof texts / sizeof *texts ? texts[answer] : "no answer";
+}
+
+static inline const char *caladan_judgement_text(uint8_t judged) {
+    static const char *const texts[] = {
+        "no judgement", "kept", "busy", "ahead: it acknowledges more commands than were sent", "foreign: it shows a core that the thread was not given",
+        "its versions are no busy pair", "misshapen: running or misses is out of range", "its place fell", "another record at the same place",
+        "taken, misses or stamp fell",
+    };
+    return judged < sizeof texts / sizeof *texts ? texts[judged] : "no judgement";
+}
+
+static inline const char *caladan_cause_text(uint8_t cause) {
+    static const char *const texts[] = {"no cause", "for a ban", "for bandwidth", "for a task"};
+    return cause < sizeof texts / sizeof *texts ? texts[cause] : "no cause";
+}
+
+static inline const char *caladan_why_text(uint8_t why) {
+    static const char *const texts[] = {
+        "no reason", "the pass has the most actions", "it does not fit the state", "the core was not left", "the core is banned",
+        "the task is at its limit", "the task is at its cap", "the task is at its guarantee", "the ring is full",
+        "a second command to the thread in this pass", "a banned core is held", "a task is over its cap",
+    };
+    return why < sizeof texts / sizeof *texts ? texts[why] : "no reason";
+}
 
 #ifdef __cplusplus
 }

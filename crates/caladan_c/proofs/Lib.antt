@@ -3,3 +3,4 @@ mod Passed
 mod Gating
 mod OneMore
 mod NoneSuch
+mod OneByOne

@@ -1,7 +1,9 @@
 pub mod Handles
 pub mod Standing
+pub mod Facts
 pub mod Found
 pub mod Told
+pub mod OneByOne
 pub mod Passing
 pub mod Opening
 pub mod Recorded

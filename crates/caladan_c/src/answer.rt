@@ -28,6 +28,8 @@ pub enum Refusal {
     NoAction = 17,
     /// A number is no judgement of its look.
     NoJudgement = 19,
+    /// No page can show that the thread is gone.
+    Lost = 21,
 }
 
 impl Refusal {

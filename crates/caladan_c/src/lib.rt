@@ -8,6 +8,7 @@
 
 mod answer;
 mod audit;
+mod exports;
 mod found;
 mod gate;
 mod handle;
@@ -61,9 +62,9 @@ use told::{Told, tell_all};
 /// The version of this interface.
 #[unsafe(no_mangle)]
 pub extern "C" fn caladan_version() -> u32
-    ensures { result ≡ 1 }
+    ensures { result ≡ 2 }
 {
-    1
+    2
 }
 
 /// A new scheduler on the heap.

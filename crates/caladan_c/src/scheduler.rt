@@ -1,5 +1,8 @@
 //! A scheduler: its table, and the book of its passes.
 
+mod each;
+mod facts;
+
 ghost use Rattle.std.specs.Prelude.{◌≡◌, ◌⊎◌, ◌≤◌, Err, IfOk, IfErr, OnErr, List, [], length};
 ghost use Rattle.std.specs.Prelude.{nat_lt};
 ghost use Rattle.cal_machine.specs.Outcome.{Gives};

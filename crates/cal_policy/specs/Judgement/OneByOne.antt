@@ -1,5 +1,5 @@
--- Looks taken one by one. A look that does not fit what its thread showed before, or that shows what
--- its thread cannot have done, is refused: a busy look is taken in its place. So whatever a thread
+-- Looks taken one by one. A look that does not fit what its thread showed before, or that shows
+-- what its thread cannot have done, is refused: a busy look is taken in its place. So whatever a thread
 -- shows, a pass goes on for the others. This project's own rule.
 use Rattle.std.specs.Prelude.{ℕ, ◌==◌, ◌-◌, ◌^◌, not, min, nat_lt, List, map, Option}
 use Rattle.std.specs.Prelude.{Some, None, if◌then◌else◌}
@@ -23,8 +23,8 @@ use Rattle.cal_policy.specs.History.Looks.{last_shown}
 use Rattle.cal_policy.specs.Judgement.Judging.{judged}
 use Rattle.cal_policy.specs.Judgement.OpenInput.{judged_input}
 
--- why a record at this place does not fit what its thread showed last: it is misshapen, its place is
--- lower, it is another one at the same place, or one of the words that never fall is lower
+-- why a record at this place does not fit what its thread showed last: it is misshapen, its place
+-- is lower, it is another one at the same place, or one of the words that never fall is lower
 abbrev pub misfit_of_record : Shown → ℕ → Record → Option LookFault
 misfit_of_record last number rec =
     if not (is_shaped rec) then Some faults.Misshapen

@@ -47,8 +47,8 @@ RoomsCountAsGiven = (table : Table) (history : List PassEntry) (now bandwidth : 
     (looks : List FoundLook) →
     (taken_input table history now bandwidth looks).rooms ≡ rooms_found looks
 
--- a refused look leaves no trace: after the pass, whatever it did, the thread's kept record and what
--- it showed last are as they were
+-- a refused look leaves no trace: after the pass, whatever it did, the thread's kept record and
+-- what it showed last are as they were
 pub record IsUntouched (table : Table) (history : List PassEntry) (entry : PassEntry) (k : ℕ)
     : Type 0 where
   pub kept : kept_by (looks_of (history ++ entry ∷ [])) k ≡ kept_by (looks_of history) k

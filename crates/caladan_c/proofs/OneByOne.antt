@@ -1,0 +1,112 @@
+-- The looks of a pass that takes them one by one, one more.
+use Rattle.std.proofs.Common.{◌≡◌, ℕ, zero, suc, ◌+◌, ◌<◌, ◌≤◌, ◌++◌, ◌∷◌, [], Bool, true, false, cond, List, Option, Some, None, length, map, take, slice_get, get_or, refl, sym, ap, subst, ◌∙◌, arith, if◌then◌else◌, ◌≢◌, set, inl, inr}
+use Rattle.std.specs.List.{enumerate_from}
+use Rattle.std.specs.Option.{is_some}
+use Rattle.std.proofs.lemmas.List.{map-append, length-map, take_more, take_all, length-take-le}
+use Rattle.std.proofs.lemmas.Bool.Decides.{eqb_tells}
+use Rattle.std.proofs.lemmas.Option.{get_or_from_slice_get}
+use Rattle.cal_lists.proofs.Places.{slice_get_at}
+use Rattle.cal_machine.specs.Table.{Table}
+use Rattle.cal_policy.specs.declared.history.entry.PassEntry.{PassEntry}
+use Rattle.cal_policy.specs.declared.judgement.look_fault.LookFault.{LookFault}
+use Rattle.cal_policy.specs.declared.judgement.open_input.FoundLook.{FoundLook}
+use Rattle.cal_policy.specs.Judgement.OneByOne.{fault_of, refused_look, taken_found, taken_looks}
+use Rattle.cal_policy.specs.Judgement.OpenInput.{IsOfFound, OpenView}
+use Rattle.caladan_c.specs.Found.{found_of, look_in}
+use Rattle.caladan_c.specs.OneByOne.{IsTakenOf, said_of, is_unfit, IsFirstUnfit}
+use Rattle.caladan_c.specs.declared.found.Found.{Found}
+
+numbered_more : {X : Type 0} (n : ℕ) (xs : List X) (x : X) → enumerate_from n (xs ++ x ∷ []) ≡ enumerate_from n xs ++ (n + length xs, x) ∷ []
+numbered_more n [] x = let same : n ≡ n + 0 = omega arith in ap (λ m. (m, x) ∷ []) same
+numbered_more n (y ∷ ys) x =
+    let same : n + 1 + length ys ≡ n + length (y ∷ ys) = omega arith in
+    ap (λ zs. (n, y) ∷ zs) (numbered_more (n + 1) ys x ∙ ap (λ m. enumerate_from (n + 1) ys ++ (m, x) ∷ []) same)
+
+-- what is taken of one look more
+taken_more : (cores : ℕ) (h : List PassEntry) (xs : List FoundLook) (x : FoundLook) →
+    taken_looks cores h (xs ++ x ∷ []) ≡ taken_looks cores h xs ++ taken_found cores h (length xs, x) ∷ []
+taken_more cores h xs x =
+    let zero : 0 + length xs ≡ length xs = omega arith in
+    ap (λ es. map (taken_found cores h) es) (numbered_more 0 xs x) ∙ map-append (taken_found cores h) (enumerate_from 0 xs) ((0 + length xs, x) ∷ [])
+    ∙ ap (λ k. map (taken_found cores h) (enumerate_from 0 xs) ++ taken_found cores h (k, x) ∷ []) zero
+
+-- the look that was taken came in
+pub taken_next : (table : Table) (h : List PassEntry) (looks : List Found) (one : Found) (k : ℕ) (found f : FoundLook) (fault : Option LookFault) (new : OpenView) →
+    length looks ≡ k → found ≡ found_of one → fault ≡ fault_of table.cores h k found.look →
+    f.look ≡ (if is_some fault then refused_look else found.look) → f.room ≡ found.room →
+    IsOfFound table h (taken_looks table.cores h (map found_of looks) ++ f ∷ []) new →
+    IsOfFound table h (taken_looks table.cores h (map found_of (looks ++ one ∷ []))) new
+taken_next table h looks one k found f fault new count is why look room given =
+    let cores = table.cores in
+    let of_fault : f.look ≡ (if is_some (fault_of cores h k found.look) then refused_look else found.look) =
+    look ∙ ap (λ (o : Option LookFault). if is_some o then refused_look else found.look) why in
+    let whole : f ≡ taken_found cores h (k, found) = λ i. record { look = of_fault i; room = room i } in
+    let same : f ≡ taken_found cores h (k, found_of one) = whole ∙ ap (λ (g : FoundLook). taken_found cores h (k, g)) is in
+    let place : k ≡ length (map found_of looks) = sym count ∙ sym (length-map looks found_of) in
+    let more : taken_looks cores h (map found_of looks) ++ f ∷ [] ≡ taken_looks cores h (map found_of (looks ++ one ∷ [])) =
+    ap (λ (g : FoundLook). taken_looks cores h (map found_of looks) ++ g ∷ []) (same ∙ ap (λ m. taken_found cores h (m, found_of one)) place)
+    ∙ sym (taken_more cores h (map found_of looks) (found_of one))
+    ∙ ap (λ xs. taken_looks cores h xs) (sym (map-append found_of looks (one ∷ []))) in
+    subst (λ (xs : List FoundLook). IsOfFound table h xs new) more given
+
+-- what is taken of the first k looks, and of the next one
+pub taken_to : (table : Table) (h : List PassEntry) (looks : List Found) (k : ℕ) (d : Found) (new : OpenView) → k < length looks →
+    (length (take k looks) ≡ k → IsTakenOf table h (take k looks ++ get_or looks k d ∷ []) new) → IsTakenOf table h (take (k + 1) looks) new
+taken_to table h looks k d new lt given =
+    subst (λ (xs : List Found). IsTakenOf table h xs new) (sym (take_more looks k d lt)) (given (length-take-le k looks (let le : k ≤ length looks = omega arith in le)))
+
+-- all the looks
+pub taken_all : (table : Table) (h : List PassEntry) (looks : List Found) (k : ℕ) (new : OpenView) → length looks ≤ k → IsTakenOf table h (take k looks) new → IsTakenOf table h looks new
+taken_all table h looks k new le given = subst (λ (xs : List Found). IsTakenOf table h xs new) (take_all k looks le) given
+
+set_same : (xs : List ℕ) (k v : ℕ) → k < length xs → slice_get (set xs k v) k ≡ Some v
+set_same [] k v lt = absurd (omega (arith, lt))
+set_same (x ∷ xs) zero v lt = refl
+set_same (x ∷ xs) (suc k) v lt = set_same xs k v (omega (arith, lt))
+
+set_other : (xs : List ℕ) (k v j : ℕ) → j ≢ k → slice_get (set xs k v) j ≡ slice_get xs j
+set_other [] k v j ne = refl
+set_other (x ∷ xs) zero v zero ne = absurd (ne refl)
+set_other (x ∷ xs) zero v (suc j) ne = refl
+set_other (x ∷ xs) (suc k) v zero ne = refl
+set_other (x ∷ xs) (suc k) v (suc j) ne = set_other xs k v j (λ e. ne (ap suc e))
+
+-- what C is told of the first k looks, and of the next one
+pub said_to : (cores : ℕ) (h : List PassEntry) (looks : List Found) (out out2 : List ℕ) (k v : ℕ) (d : Found) → k < length out →
+    out2 ≡ set out k v → v ≡ said_of (fault_of cores h k (look_in (get_or looks k d))) (look_in (get_or looks k d)) → k < length looks →
+    ((j : ℕ) (o : Found) → j < k → slice_get looks j ≡ Some o → slice_get out j ≡ Some (said_of (fault_of cores h j (look_in o)) (look_in o))) →
+    (j : ℕ) (o : Found) → j < k + 1 → slice_get looks j ≡ Some o → slice_get out2 j ≡ Some (said_of (fault_of cores h j (look_in o)) (look_in o))
+said_to cores h looks out out2 k v d room is said lt before j o low at = elim (eqb_tells j k) [
+  | inl e ↦
+      let there : get_or looks k d ≡ o = get_or_from_slice_get looks k o d (ap (λ m. slice_get looks m) (sym e.1) ∙ at) in
+      let v_is : v ≡ said_of (fault_of cores h j (look_in o)) (look_in o) =
+      said ∙ ap (λ (f : Found). said_of (fault_of cores h k (look_in f)) (look_in f)) there ∙ ap (λ m. said_of (fault_of cores h m (look_in o)) (look_in o)) (sym e.1) in
+      ap (λ l. slice_get l j) is ∙ ap (λ m. slice_get (set out k v) m) e.1 ∙ set_same out k v room ∙ ap Some v_is
+  | inr n ↦
+      let below : j < k = omega (arith, low, n.1) in
+      ap (λ l. slice_get l j) is ∙ set_other out k v j n.1 ∙ before j o below at
+]
+
+-- the first look that does not fit
+pub first_one : (h : List PassEntry) (looks : List Found) (k : ℕ) (d : Found) → k < length looks → is_some (is_unfit h k (get_or looks k d)) ≡ true →
+    ((j : ℕ) (o : Found) → j < k → slice_get looks j ≡ Some o → is_unfit h j o ≡ None) → IsFirstUnfit h looks k
+first_one h looks k d lt unfit before =
+    let at = slice_get_at looks k lt in
+    let same : get_or looks k d ≡ at.0 = get_or_from_slice_get looks k at.0 d at.1 in
+    record { one = at.0; there = at.1; unfit = ap (λ (o : Found). is_some (is_unfit h k o)) (sym same) ∙ unfit; first = before }
+
+none_some : {X : Type 0} (o : Option X) → is_some o ≡ false → o ≡ None
+none_some None e = refl
+none_some (Some x) e = cc
+
+-- one look more fits
+pub fits_to : (h : List PassEntry) (looks : List Found) (k : ℕ) (d : Found) → is_some (is_unfit h k (get_or looks k d)) ≡ false →
+    ((j : ℕ) (o : Found) → j < k → slice_get looks j ≡ Some o → is_unfit h j o ≡ None) →
+    (j : ℕ) (o : Found) → j < k + 1 → slice_get looks j ≡ Some o → is_unfit h j o ≡ None
+fits_to h looks k d fits before j o low at = elim (eqb_tells j k) [
+  | inl e ↦
+      let there : get_or looks k d ≡ o = get_or_from_slice_get looks k o d (ap (λ m. slice_get looks m) (sym e.1) ∙ at) in
+      let none : is_unfit h k (get_or looks k d) ≡ None = none_some (is_unfit h k (get_or looks k d)) fits in
+      ap (λ m. is_unfit h m o) e.1 ∙ ap (λ (f : Found). is_unfit h k f) (sym there) ∙ none
+  | inr n ↦ let below : j < k = omega (arith, low, n.1) in before j o below at
+]

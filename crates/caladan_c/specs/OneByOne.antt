@@ -1,0 +1,71 @@
+-- The pass that takes looks one by one, as C sees it.
+use Rattle.std.specs.Prelude.{◌≡◌, ℕ, ◌<◌, true, List, map, Option, Some, None, slice_get}
+use Rattle.std.specs.Option.{is_some}
+use Rattle.cal_machine.specs.Table.{Table}
+use Rattle.cal_signal.specs.declared.look.Look.{Look}
+use Rattle.cal_signal.specs.declared.look.Look.TheVariants.{Whole, Busy}
+use Rattle.cal_policy.specs.declared.judgement.look_fault.LookFault.{LookFault}
+use Rattle.cal_policy.specs.declared.judgement.look_fault.LookFault.TheVariants.{NoPair, Misshapen}
+use Rattle.cal_policy.specs.declared.judgement.look_fault.LookFault.TheVariants.{PlaceFell, Changed}
+use Rattle.cal_policy.specs.declared.judgement.look_fault.LookFault.TheVariants.{WordFell, Ahead}
+use Rattle.cal_policy.specs.declared.judgement.look_fault.LookFault.TheVariants.{Foreign}
+use Rattle.cal_policy.specs.declared.history.entry.PassEntry.{PassEntry}
+use Rattle.cal_policy.specs.declared.history.input.Input.{Input}
+use Rattle.cal_policy.specs.History.{looks_of}
+use Rattle.cal_policy.specs.History.Looks.{last_shown}
+use Rattle.cal_policy.specs.Judgement.OneByOne.{misfit_of, fault_of, taken_input, taken_looks}
+use Rattle.cal_policy.specs.Judgement.OpenInput.{OpenView, IsOfFound}
+use Rattle.caladan_c.specs.Found.{look_in, found_of}
+use Rattle.caladan_c.specs.declared.found.Found.{Found}
+
+-- the input of the pass, of what was found of each thread: each refused look is taken as busy
+abbrev pub input_of_each : Table → List PassEntry → ℕ → ℕ → List Found → Input
+input_of_each table history now bandwidth looks =
+    taken_input table history now bandwidth (map found_of looks)
+
+-- an input while its looks come in is what is taken of these
+abbrev pub IsTakenOf : Table → List PassEntry → List Found → OpenView → Type 0
+IsTakenOf table history looks given =
+    IsOfFound table history (taken_looks table.cores history (map found_of looks)) given
+
+-- why a look was refused, as a number
+abbrev pub fault_number : LookFault → ℕ
+fault_number Ahead = 3
+fault_number Foreign = 4
+fault_number NoPair = 5
+fault_number Misshapen = 6
+fault_number PlaceFell = 7
+fault_number Changed = 8
+fault_number WordFell = 9
+
+-- what was judged of a look that was taken as it is, as a number
+abbrev pub look_number : Look → ℕ
+look_number (Whole number rec) = 1
+look_number (Busy first second) = 2
+
+-- what C is told of a look
+abbrev pub said_of : Option LookFault → Look → ℕ
+said_of None look = look_number look
+said_of (Some fault) look = fault_number fault
+
+-- of each look C was told whether it was taken as it is, and else why it was refused
+abbrev pub AreSaid : ℕ → List PassEntry → List Found → List ℕ → Type 0
+AreSaid cores history looks out = (k : ℕ) (one : Found) → slice_get looks k ≡ Some one →
+    slice_get out k ≡ Some (said_of (fault_of cores history k (look_in one)) (look_in one))
+
+-- the look at thread k does not fit what the thread showed before
+abbrev pub is_unfit : List PassEntry → ℕ → Found → Option LookFault
+is_unfit history k one = misfit_of (last_shown (looks_of history) k) (look_in one)
+
+-- thread k is the first whose look does not fit
+pub record IsFirstUnfit (history : List PassEntry) (looks : List Found) (k : ℕ) : Type 0 where
+  pub one : Found
+  pub there : slice_get looks k ≡ Some one
+  pub unfit : is_some (is_unfit history k one) ≡ true
+  pub first : (j : ℕ) (other : Found) → j < k → slice_get looks j ≡ Some other →
+      is_unfit history j other ≡ None
+
+-- every look fits
+abbrev pub AllFit : List PassEntry → List Found → Type 0
+AllFit history looks =
+    (j : ℕ) (other : Found) → slice_get looks j ≡ Some other → is_unfit history j other ≡ None

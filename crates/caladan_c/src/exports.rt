@@ -1,0 +1,4 @@
+//! The calls of version 2 of the interface.
+
+mod each;
+mod facts;

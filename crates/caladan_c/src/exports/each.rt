@@ -1,0 +1,181 @@
+//! Passes that take looks one by one, and which look does not fit.
+
+ghost use Rattle.std.specs.Prelude.{◌≡◌, ◌≢◌, ◌⊎◌, IfOk, IfErr, OnErr, Err, List, length, false};
+ghost use Rattle.std.specs.Option.{is_some, ForSome, IsSomeAnd};
+ghost use Rattle.cal_policy.specs.declared.history.entry.PassEntry.{PassEntry};
+ghost use Rattle.cal_policy.specs.Tasks.{threads_of_table};
+ghost use Rattle.caladan_c.specs.OneByOne.{input_of_each, AreSaid, IsFirstUnfit, AllFit};
+ghost use Rattle.caladan_c.specs.Passing.{StandsAfter, IsPassed, HasRoom, IsShort};
+ghost use Rattle.caladan_c.specs.Told.{AreTold};
+ghost use Rattle.caladan_c.specs.declared.answer.Refusal.TheVariants.{Memory, NoRoom};
+ghost use Rattle.caladan_c.specs.declared.answer.Refusal.TheVariants.{WrongCount};
+
+use crate::answer::Refusal;
+use crate::found::Found;
+use crate::handle::Handle;
+use crate::scheduler::Scheduler;
+use crate::told::{Told, tell_all};
+use cal_policy::MOST_ACTIONS;
+use std::alloc::Global;
+
+/// Makes the next pass as `caladan_pass` does, each look by itself: one that is unfit, ahead or
+/// foreign is taken as a busy one, so it stops nobody and leaves no trace. 0; 10 the handle is
+/// closed; 13 there is not one look for each thread; 14 there is not room for 338 actions and a
+/// judgement of each look; 9 no memory. After another number than 0 nothing has changed, but that
+/// `made` is 0.
+#[unsafe(no_mangle)]
+pub extern "C" fn caladan_pass_each(
+    alloc: Global,
+    handle: &mut Handle,
+    now: u64,
+    bandwidth: u64,
+    looks: &[Found],
+    judged: &mut [u8],
+    actions: &mut [Told],
+    made: &mut usize,
+) -> u8
+    ensures closed { is_some handle.old.pointer.kept ≡ false → result ≡ 10 }
+    ensures passed { result ≡ 0 → ForSome handle.old.pointer.kept (λ s. (h : List PassEntry) →
+        StandsAfter s h → IsSomeAnd handle.new.pointer.kept (λ after.
+        IsPassed s h (input_of_each s.table h now bandwidth looks.now) after ×
+        AreTold after.made made.new actions.new)) }
+    ensures judged { result ≡ 0 → ForSome handle.old.pointer.kept (λ s. (h : List PassEntry) →
+        StandsAfter s h → AreSaid s.table.cores h looks.now judged.new) }
+    ensures wrong_count { ForSome handle.old.pointer.kept (λ s.
+        length looks.now ≢ threads_of_table s.table → result ≡ 13) }
+    ensures no_room { ForSome handle.old.pointer.kept (λ s.
+        length looks.now ≡ threads_of_table s.table →
+        IsShort (threads_of_table s.table) judged.old actions.old → result ≡ 14) }
+    ensures answers { ForSome handle.old.pointer.kept (λ s.
+        length looks.now ≡ threads_of_table s.table →
+        HasRoom (threads_of_table s.table) judged.old actions.old →
+        (result ≡ 0) ⊎ (result ≡ 9)) }
+    ensures refused { result ≢ 0 → (handle.new.pointer.kept ≡ handle.old.pointer.kept)
+        × (actions.new ≡ actions.old) × (judged.new ≡ judged.old) × (made.new ≡ 0) }
+{
+    *made = 0;
+    match handle.take(alloc) {
+        None => Refusal::Closed as u8,
+        Some(mut kept) => {
+            let answer = answer_pass_each(
+                &mut kept, alloc, now, bandwidth, looks, judged, actions, made,
+            );
+            *handle = Handle::of(kept);
+            answer
+        }
+    }
+}
+
+/// The same of an open handle's scheduler.
+fn answer_pass_each(
+    kept: &mut Scheduler,
+    alloc: Global,
+    now: u64,
+    bandwidth: u64,
+    looks: &[Found],
+    judged: &mut [u8],
+    actions: &mut [Told],
+    made: &mut usize,
+) -> u8
+    requires { made.old ≡ 0 }
+    ensures passed { result ≡ 0 → (h : List PassEntry) → StandsAfter kept.old h →
+        IsPassed kept.old h (input_of_each kept.old.table h now bandwidth looks.now) kept.new
+        × AreTold kept.new.made made.new actions.new }
+    ensures judged { result ≡ 0 → (h : List PassEntry) → StandsAfter kept.old h →
+        AreSaid kept.old.table.cores h looks.now judged.new }
+    ensures wrong_count { length looks.now ≢ threads_of_table kept.old.table → result ≡ 13 }
+    ensures no_room { length looks.now ≡ threads_of_table kept.old.table →
+        IsShort (threads_of_table kept.old.table) judged.old actions.old → result ≡ 14 }
+    ensures answers { length looks.now ≡ threads_of_table kept.old.table →
+        HasRoom (threads_of_table kept.old.table) judged.old actions.old →
+        (result ≡ 0) ⊎ (result ≡ 9) }
+    ensures refused { result ≢ 0 → (kept.new ≡ kept.old)
+        × (actions.new ≡ actions.old) × (judged.new ≡ judged.old) × (made.new ≡ 0) }
+{
+    match pass_each(kept, alloc, now, bandwidth, looks, judged, actions, made) {
+        Ok(()) => 0,
+        Err(refusal) => refusal.number(),
+    }
+}
+
+/// The same, with why it did nothing.
+fn pass_each(
+    kept: &mut Scheduler,
+    alloc: Global,
+    now: u64,
+    bandwidth: u64,
+    looks: &[Found],
+    judged: &mut [u8],
+    actions: &mut [Told],
+    made: &mut usize,
+) -> Result<(), Refusal>
+    requires { made.old ≡ 0 }
+    ensures passed { IfOk result (λ _. (h : List PassEntry) → StandsAfter kept.old h →
+        IsPassed kept.old h (input_of_each kept.old.table h now bandwidth looks.now) kept.new
+        × AreTold kept.new.made made.new actions.new) }
+    ensures judged { IfOk result (λ _. (h : List PassEntry) → StandsAfter kept.old h →
+        AreSaid kept.old.table.cores h looks.now judged.new) }
+    ensures wrong_count { length looks.now ≢ threads_of_table kept.old.table →
+        result ≡ Err WrongCount }
+    ensures no_room { length looks.now ≡ threads_of_table kept.old.table →
+        IsShort (threads_of_table kept.old.table) judged.old actions.old → result ≡ Err NoRoom }
+    ensures answers { length looks.now ≡ threads_of_table kept.old.table →
+        HasRoom (threads_of_table kept.old.table) judged.old actions.old →
+        IfErr result (λ why. why ≡ Memory) }
+    ensures refused { OnErr result ((kept.new ≡ kept.old)
+        × (actions.new ≡ actions.old) × (judged.new ≡ judged.old) × (made.new ≡ 0)) }
+{
+    let threads = kept.threads();
+    if looks.len() != threads {
+        return Err(Refusal::WrongCount);
+    }
+    if judged.len() < threads || actions.len() < MOST_ACTIONS {
+        return Err(Refusal::NoRoom);
+    }
+    kept.pass_each(alloc, now, bandwidth, looks, judged)?;
+    *made = tell_all(kept.made(), actions);
+    Ok(())
+}
+
+/// Which look a plain pass may not be given: 0 each fits; 15 one does not fit what its thread
+/// showed before, or has not the right shape, and `thread` is the first such thread; 10 the handle
+/// is closed; 13 there is not one look for each thread. Only 15 writes `thread`, and nothing else
+/// changes.
+#[unsafe(no_mangle)]
+pub extern "C" fn caladan_first_unfit(
+    alloc: Global,
+    handle: &mut Handle,
+    looks: &[Found],
+    thread: &mut usize,
+) -> u8
+    ensures closed { is_some handle.old.pointer.kept ≡ false → result ≡ 10 }
+    ensures first { result ≡ 15 → ForSome handle.old.pointer.kept (λ s. (h : List PassEntry) →
+        StandsAfter s h → IsFirstUnfit h looks.now thread.new) }
+    ensures none { result ≡ 0 → ForSome handle.old.pointer.kept (λ s. (h : List PassEntry) →
+        StandsAfter s h → AllFit h looks.now) }
+    ensures wrong_count { ForSome handle.old.pointer.kept (λ s.
+        length looks.now ≢ threads_of_table s.table → result ≡ 13) }
+    ensures answers { ForSome handle.old.pointer.kept (λ s.
+        length looks.now ≡ threads_of_table s.table → (result ≡ 0) ⊎ (result ≡ 15)) }
+    ensures other { result ≢ 15 → thread.new ≡ thread.old }
+    ensures same { handle.new.pointer.kept ≡ handle.old.pointer.kept }
+{
+    match handle.take(alloc) {
+        None => Refusal::Closed as u8,
+        Some(kept) => {
+            if looks.len() != kept.threads() {
+                *handle = Handle::of(kept);
+                return Refusal::WrongCount as u8;
+            }
+            let first = kept.first_unfit(looks);
+            *handle = Handle::of(kept);
+            match first {
+                Some(first) => {
+                    *thread = first;
+                    Refusal::Unfit as u8
+                }
+                None => 0,
+            }
+        }
+    }
+}

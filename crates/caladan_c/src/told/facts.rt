@@ -1,0 +1,114 @@
+//! What the table says, and what was sent to a thread, as C is told.
+
+ghost use Rattle.std.specs.Prelude.{◌≡◌, ◌<◌, length};
+ghost use Rattle.caladan_c.specs.Facts.{machine_of, row_of, kind_number, found_shown};
+
+use crate::found::Found;
+use cal_machine::{Config, Kind};
+use cal_policy::Shown;
+
+/// What the table says of the machine.
+#[repr(C)]
+#[derive(Clone, Copy)]
+pub struct MachineFacts {
+    /// How many cores there are, 2 to 128.
+    pub cores: u8,
+    /// How many tasks, 1 to 16.
+    pub tasks: u8,
+    /// How many kernel threads, 1 to 128.
+    pub threads: u8,
+    /// The bandwidth figure above which a best-effort task loses a core.
+    pub bandwidth_limit: u64,
+}
+
+/// What the table says of a task.
+#[repr(C)]
+#[derive(Clone, Copy)]
+pub struct TaskRow {
+    /// 1 latency-critical, 2 best-effort.
+    pub kind: u8,
+    /// Cores that it may keep.
+    pub guaranteed: u8,
+    /// The most cores that it can have, and its number of threads.
+    pub limit: u8,
+    /// Its first thread; the others follow.
+    pub first_thread: u8,
+    /// The delay above which it is congested.
+    pub delay: u64,
+    /// The age of a request above which its core's sibling is banned.
+    pub request: u64,
+}
+
+/// A thread after the passes so far.
+#[repr(C)]
+#[derive(Clone, Copy)]
+pub struct ThreadState {
+    /// Its task.
+    pub task: u8,
+    /// Commands sent to it.
+    pub sent: u64,
+    /// Those that its kept record acknowledges.
+    pub taken: u64,
+}
+
+/// A kind, as a number.
+fn tell_kind(kind: Kind) -> u8
+    ensures { result ≡ kind_number kind }
+{
+    match kind {
+        Kind::LatencyCritical => 1,
+        Kind::BestEffort => 2,
+    }
+}
+
+/// The machine, in numbers.
+pub fn tell_machine(config: &Config) -> MachineFacts
+    ensures { result ≡ machine_of config.now }
+{
+    config.limits();
+    MachineFacts {
+        cores: config.machine().cores(),
+        tasks: config.tasks() as u8,
+        threads: config.threads() as u8,
+        bandwidth_limit: config.bandwidth_limit(),
+    }
+}
+
+/// A task of the table, in numbers.
+pub fn tell_task(config: &Config, task: usize) -> TaskRow
+    requires { task < length config.now.tasks }
+    ensures { result ≡ row_of config.now task }
+{
+    config.limits();
+    let row = config.task(task);
+    let (first, _) = config.threads_of(task);
+    TaskRow {
+        kind: tell_kind(row.kind),
+        guaranteed: row.guaranteed,
+        limit: row.limit,
+        first_thread: first as u8,
+        delay: row.delay,
+        request: row.request,
+    }
+}
+
+/// A record and its place, as C hands a look in; there is room.
+pub fn tell_shown(shown: Shown) -> Found
+    ensures { result ≡ found_shown shown }
+{
+    Found {
+        busy: 0,
+        room: 1,
+        number: shown.number,
+        second: 0,
+        taken: shown.rec.taken,
+        running: shown.rec.running,
+        queued: shown.rec.queued,
+        oldest: shown.rec.oldest,
+        started: shown.rec.started,
+        misses: shown.rec.misses,
+        stamp: shown.rec.stamp,
+        paused: shown.rec.paused,
+        since: shown.rec.since,
+    }
+}
