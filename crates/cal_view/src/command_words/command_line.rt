@@ -22,6 +22,11 @@ pub enum Job {
     },
     /// Write a history as trace events.
     Timeline,
+    /// Make a run on arrivals, and write its numbers.
+    Measure {
+        /// Whether they are written as CSV.
+        csv: bool,
+    },
     /// Say how the program is used.
     Help,
 }
@@ -55,6 +60,10 @@ fn program<'a>(alloc: Global) -> Result<Command<'a>, AllocError> {
     let timeline = Command::new(alloc, "timeline")
         .about("Write a history as trace events, for Perfetto and chrome://tracing")
         .after_help(help_texts::TIMELINE);
+    let measure = Command::new(alloc, "measure")
+        .about("Make a run on arrivals, and write its numbers")
+        .after_help(help_texts::MEASURE)
+        .arg(csv_word(alloc))?;
     Command::new(alloc, "caladan_view")
         .version(VERSION)
         .about("Looks at runs of the core scheduler of Caladan: an input on standard input")
@@ -62,7 +71,8 @@ fn program<'a>(alloc: Global) -> Result<Command<'a>, AllocError> {
         .no_binary_name(true)
         .subcommand(history)?
         .subcommand(picture)?
-        .subcommand(timeline)
+        .subcommand(timeline)?
+        .subcommand(measure)
 }
 
 fn table_word<'a>(alloc: Global) -> Arg<'a> {
@@ -70,6 +80,13 @@ fn table_word<'a>(alloc: Global) -> Arg<'a> {
         .long("table")
         .action(ArgAction::SetTrue)
         .help("Put the task table and the line --- in front")
+}
+
+fn csv_word<'a>(alloc: Global) -> Arg<'a> {
+    Arg::new(alloc, "csv")
+        .long("csv")
+        .action(ArgAction::SetTrue)
+        .help("Write the numbers as CSV")
 }
 
 fn from_word<'a>(alloc: Global) -> Arg<'a> {
@@ -101,6 +118,9 @@ fn job_of(matches: &ArgMatches<'_>) -> Job {
             passes: number(own, "passes"),
         },
         Some((name, _)) if name == "timeline" => Job::Timeline,
+        Some((name, own)) if name == "measure" => Job::Measure {
+            csv: own.get_flag("csv"),
+        },
         _ => Job::Help,
     }
 }

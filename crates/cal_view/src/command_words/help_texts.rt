@@ -3,9 +3,9 @@
 
 /// Of the program as a whole.
 pub const PROGRAM: &str = "\
-Each word reads one input from the standard input: a task table (TOML), the line ---, and signals or
-a history (CSV). `caladan_view WORD --help` says which and what is written, with a whole input to
-copy; docs/FORMATS.md has all of it.
+Each word reads one input from the standard input: a task table (TOML), the line ---, and signals, a
+history or arrivals (CSV). `caladan_view WORD --help` says which and what is written, with a whole
+input to copy; docs/FORMATS.md has all of it.
 
 Exit status: 0 done, 2 bad words or a refused input, 3 memory or output was refused. A fault is one
 line on the standard error.";
@@ -96,3 +96,60 @@ pass,121,0
 whole,0,1,2,1,1,0,0,112,0,112,0,0
 end,2
 END";
+
+/// Of the word `measure`.
+pub const MEASURE: &str = "\
+Standard input: a task table (TOML), the line ---, and arrivals (CSV), as `caladan_sim lockstep`
+reads.
+Standard output: the numbers of each task's requests, in the run that `caladan_sim lockstep` makes,
+in clock ticks; with --csv as CSV. A request arrives at the clock of its turn, is begun at the stamp
+of the first publication with it at work, and answered at the stamp of the publication of the turn
+that served it. `response` is from arrival to answer and `wait` from arrival until begun, of those
+that were served: the least, by nearest rank the median, 90, 99 and 99.9 of 100, and the greatest.
+`longest left` is from arrival to the last turn's clock, of those that were left. Of nothing there
+is a dash.
+Exit status: 0 done, 2 a refused input, 3 memory or output was refused.
+
+To try it:
+
+./caladan_view measure <<'END'
+cores = 2
+bandwidth_limit = 1000
+[[task]]
+kind = \"lc\"
+guaranteed = 1
+limit = 1
+delay = 10
+request = 50
+---
+caladan-arrivals,1
+pass,100,0
+pass,120,0
+pass,140,0
+turn,105
+turn,125
+turn,145
+request,0,0,1,1,0
+request,0,2,2,1,0
+end,8
+END
+
+It writes:
+
+measure               task 0 lc
+requests given                2
+requests served               2
+requests left                 0
+response least                0
+response median               0
+response 90 of 100           20
+response 99 of 100           20
+response 99.9 of 100         20
+response greatest            20
+wait least                    0
+wait median                   0
+wait 90 of 100               20
+wait 99 of 100               20
+wait 99.9 of 100             20
+wait greatest                20
+longest left                  -";

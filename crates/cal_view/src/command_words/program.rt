@@ -7,6 +7,7 @@ use crate::picture::draw_picture;
 use crate::recording::record;
 use crate::timeline::write_timeline;
 use cal_engine::{RunFault, read_input, refuse_words, status};
+use cal_tables::measure;
 use std::alloc::Global;
 use std::io::{BufWriter, Read, Write};
 
@@ -83,6 +84,7 @@ fn do_job<R: Read + Drop, W: Write>(
         Job::History { table } => record(alloc, reader, table, &mut buffer)?,
         Job::Picture { from, passes } => picture(alloc, reader, from, passes, &mut buffer)?,
         Job::Timeline => timeline(alloc, reader, &mut buffer)?,
+        Job::Measure { csv } => measure(alloc, reader, csv, &mut buffer)?,
         Job::Help => {}
     }
     match buffer.flush() {
