@@ -35,8 +35,8 @@ pub fn last_clock(turns: &[u64]) -> u64
 }
 
 impl ArrivalClocks {
-    /// The clocks of these requests, which came before turns of these clocks. The error is out of
-    /// memory.
+    /// The clocks of these requests, which came before turns of these clocks. Fails only when out
+    /// of memory.
     pub fn of(
         alloc: Global,
         turns: &[u64],

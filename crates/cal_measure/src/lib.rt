@@ -1,8 +1,8 @@
-//! What a run comes to in numbers: of each task's requests how long they took, of its cores how
+//! The outcome of a run in numbers: of each task's requests how long they took, of its cores how
 //! many it had and why it lost them.
 //!
 //! The numbers are defined over the journals and the history of a run (`specs/`), and each one is
-//! proved to be that of its definition. What is measured, and how, is this project's own.
+//! proved to be that of its definition. What is measured, and how, is Doranjei's.
 #![tactic(auto)]
 
 mod clocks;

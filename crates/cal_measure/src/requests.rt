@@ -38,7 +38,7 @@ pub struct TaskRequests {
     pub so_far: Spread,
 }
 
-/// Puts the requests that a thread served at the end of a list. The error is out of memory.
+/// Puts the requests that a thread served at the end of a list. Fails only when out of memory.
 fn put_services(
     alloc: Global,
     journals: &[Journal],
@@ -57,7 +57,7 @@ fn put_services(
     }
 }
 
-/// The requests that the threads of a task served, thread by thread. The error is out of memory.
+/// The requests that the threads of a task served, thread by thread. Fails only when out of memory.
 fn task_services(
     alloc: Global,
     config: &Config,
@@ -77,7 +77,7 @@ fn task_services(
     Ok(services)
 }
 
-/// How long each of these requests took, from its arrival to its answer. The error is out of
+/// How long each of these requests took, from its arrival to its answer. Fails only when out of
 /// memory.
 fn responses(
     alloc: Global,
@@ -99,8 +99,8 @@ fn responses(
     Ok(times)
 }
 
-/// How long each of these requests waited, from its arrival until it was begun. The error is out of
-/// memory.
+/// How long each of these requests waited, from its arrival until it was begun. Fails only when out
+/// of memory.
 fn waits(
     alloc: Global,
     clocks: &ArrivalClocks,
@@ -127,8 +127,8 @@ fn left_with(left: &[RequestList], thread: usize) -> &[Request]
     }
 }
 
-/// Puts the requests that were left with the threads of a task, thread by thread, into a list. The
-/// error is out of memory.
+/// Puts the requests that were left with the threads of a task, thread by thread, into a list.
+/// Fails only when out of memory.
 fn task_left(
     alloc: Global,
     config: &Config,
@@ -147,8 +147,8 @@ fn task_left(
     Ok(requests)
 }
 
-/// How long each of these requests has waited by a clock, from its arrival on. The error is out of
-/// memory.
+/// How long each of these requests has waited by a clock, from its arrival on. Fails only when out
+/// of memory.
 fn so_far(
     alloc: Global,
     clocks: &ArrivalClocks,
@@ -189,7 +189,7 @@ fn given_to(config: &Config, requests: &[Arrival], task: usize) -> usize
     count
 }
 
-/// What came of the requests of a task, in a run on these arrivals. The error is out of memory.
+/// What came of the requests of a task, in a run on these arrivals. Fails only when out of memory.
 pub fn requests_of(
     alloc: Global,
     config: &Config,

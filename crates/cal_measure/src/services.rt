@@ -56,7 +56,7 @@ fn service_by(begun: Option<u64>, turn: Turn) -> Option<Service>
     }
 }
 
-/// Puts a service, if there is one, at the end of a list. The error is out of memory.
+/// Puts a service, if there is one, at the end of a list. Fails only when out of memory.
 fn put_one(services: &mut Vec<Service>, service: Option<Service>) -> Result<(), AllocError>
     ensures { OnOk result (services.new.items ≡ services.old.items ++ one_of service) }
 {
@@ -69,8 +69,8 @@ fn put_one(services: &mut Vec<Service>, service: Option<Service>) -> Result<(), 
     }
 }
 
-/// Puts the requests that were served in these turns, in order, at the end of a list. The error is
-/// out of memory.
+/// Puts the requests that were served in these turns, in order, at the end of a list. Fails only
+/// when out of memory.
 pub fn services_of(turns: &[Turn], services: &mut Vec<Service>) -> Result<(), AllocError>
     ensures { OnOk result (services.new.items ≡ services.old.items ++ services_of turns.now) }
 {

@@ -52,7 +52,7 @@ fn turn_by(served: Option<u64>, entry: Entry) -> Option<Turn>
     }
 }
 
-/// Puts a turn, if there is one, at the end of a list. The error is out of memory.
+/// Puts a turn, if there is one, at the end of a list. Fails only when out of memory.
 fn put_one(turns: &mut Vec<Turn>, turn: Option<Turn>) -> Result<(), AllocError>
     ensures { OnOk result (turns.new.items ≡ turns.old.items ++ one_of turn) }
 {
@@ -65,7 +65,7 @@ fn put_one(turns: &mut Vec<Turn>, turn: Option<Turn>) -> Result<(), AllocError>
     }
 }
 
-/// The turns that a journal tells of, in order. The error is out of memory.
+/// The turns that a journal tells of, in order. Fails only when out of memory.
 pub fn turns_of(alloc: Global, journal: &[Entry]) -> Result<Vec<Turn>, AllocError>
     ensures { IfOk result (λ turns. turns.items ≡ turns_of journal.now) }
 {

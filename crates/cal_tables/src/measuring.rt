@@ -15,7 +15,7 @@ use cal_trace::Arrivals;
 use std::alloc::{AllocError, Global};
 use std::io::{Read, Write};
 
-/// The numbers of each task's requests, in task order. The error is out of memory.
+/// The numbers of each task's requests, in task order. Fails only when out of memory.
 fn numbers_of(
     alloc: Global,
     config: &Config,
@@ -72,7 +72,7 @@ fn measured_text(alloc: Global, input: &[u8], csv: bool) -> Result<String, RunFa
 
 /// Reads an input of a task table and arrivals to its end, makes a whole run of them on one thread,
 /// and writes its numbers: in columns that line up, or as CSV. Nothing is written before the run
-/// was made and its text stands in memory.
+/// was made and its text is in memory.
 ///
 /// The faults are those of the word `lockstep`, in its order.
 pub fn measure<R: Read + Drop, W: Write>(

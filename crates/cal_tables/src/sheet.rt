@@ -74,13 +74,13 @@ impl Sheet {
         }
     }
 
-    /// Puts a row at the end. The error is out of memory.
+    /// Puts a row at the end. Fails only when out of memory.
     pub fn put(&mut self, row: Vec<String>) -> Result<(), AllocError> {
         self.rows.push(row)?;
         Ok(())
     }
 
-    /// The rows in columns that line up. The error is out of memory.
+    /// The rows in columns that line up. Fails only when out of memory.
     pub fn text(&self, alloc: Global) -> Result<String, AllocError> {
         let mut text = String::new(alloc);
         for row in self.rows.as_slice() {
@@ -89,7 +89,7 @@ impl Sheet {
         Ok(text)
     }
 
-    /// The rows as a CSV file. The error is out of memory.
+    /// The rows as a CSV file. Fails only when out of memory.
     pub fn csv(&self, alloc: Global) -> Result<String, AllocError> {
         let mut text = String::new(alloc);
         for row in self.rows.as_slice() {

@@ -131,7 +131,7 @@ fn line_row(
     Ok(row)
 }
 
-/// The numbers of a run of this table, row by row. The error is out of memory.
+/// The numbers of a run of this table, row by row. Fails only when out of memory.
 pub fn sheet_of(
     alloc: Global,
     config: &Config,

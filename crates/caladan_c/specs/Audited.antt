@@ -26,7 +26,7 @@ pub record IsNewAudit (read : Table) (audit : Audited) : Type 0 where
   pub table : audit.table ≡ read
   pub audits : Audits audit []
 
--- the number is what the text comes to: 0 and an audit of its table, or its first fault's
+-- the number follows from the text: 0 and an audit of its table, or its first fault's
 abbrev pub SaysAudit : Result Table ConfigFault → ℕ → Option Audited → Type 0
 SaysAudit (Ok table) number kept = (number ≡ 0) × IsSomeAnd kept (IsNewAudit table)
 SaysAudit (Err fault) number kept = number ≡ number_of fault

@@ -37,7 +37,7 @@ pub record IsNewGate (read : Table) (gate : Gated) : Type 0 where
   pub table : gate.table ≡ read
   pub guards : GuardsAfter gate []
 
--- the number is what the text comes to: 0 and a gate of its table, or its first fault's
+-- the number follows from the text: 0 and a gate of its table, or its first fault's
 abbrev pub SaysGate : Result Table ConfigFault → ℕ → Option Gated → Type 0
 SaysGate (Ok table) number kept = (number ≡ 0) × IsSomeAnd kept (IsNewGate table)
 SaysGate (Err fault) number kept = number ≡ number_of fault

@@ -29,7 +29,7 @@ pub record IsNew (read : Table) (scheduler : Standing) : Type 0 where
   pub table : scheduler.table ≡ read
   pub stands : StandsAfter scheduler []
 
--- the number is what the text comes to: 0 and a scheduler of its table, or its first fault's
+-- the number follows from the text: 0 and a scheduler of its table, or its first fault's
 abbrev pub Says : Result Table ConfigFault → ℕ → Option Standing → Type 0
 Says (Ok table) number kept = (number ≡ 0) × IsSomeAnd kept (IsNew table)
 Says (Err fault) number kept = number ≡ number_of fault

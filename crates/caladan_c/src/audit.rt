@@ -42,7 +42,7 @@ impl Audit {
         Ok(Audit { config, auditor })
     }
 
-    /// Takes the next pass of the history. Any entry may be handed in.
+    /// Takes the next pass of the history. Any entry may be given.
     pub fn next(&mut self, entry: &PassEntry)
         ensures { HasTaken self.old entry.now self.new }
     {

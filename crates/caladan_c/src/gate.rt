@@ -35,7 +35,7 @@ use std::mem;
 pub struct Gate {
     config: Config,
     guard: Guard,
-    /// The actions of the last pass that was handed in.
+    /// The actions of the last pass that was given.
     chosen: Vec<Action>,
     /// Its input.
     used: Input,

@@ -107,8 +107,8 @@ fn is_misfit(book: &Book, config: &Config, k: usize, one: &Found) -> bool
 
 impl Scheduler {
     /// Makes the next pass, each look by itself: a look that is unfit, ahead or foreign is taken as
-    /// a busy one, and what is told of it says why. Its actions are then in `made`. Its error is
-    /// want of memory alone.
+    /// a busy one, and what is told of it says why. Its actions are then in `made`. Fails only when
+    /// out of memory.
     pub fn pass_each(
         &mut self,
         alloc: Global,
