@@ -14,24 +14,29 @@ enum { COMMANDS = 200000 };
 typedef struct shared {
     caladan_page page;
     caladan_ring ring;
+    _Atomic uint64_t told;
     _Atomic int stop;
 } shared;
 
 /* The word at a place: each is a function of the place, and taken, misses and stamp rise. */
 static uint64_t word_at(uint64_t place, int word) { return place * 16 + (uint64_t)word; }
 
+/* The next command, where there is room: the taker tells how many it took, in a word of its own. */
+static void send_one(shared *both, caladan_sender *sender) {
+    if (caladan_room(sender->sent, atomic_load(&both->told))) caladan_ring_send(sender, sender->sent * 3 + 1);
+}
+
 static void publish_until_stopped(shared *both) {
     caladan_publisher publisher = {&both->page, 0};
     uint64_t words[CALADAN_WORDS];
-    uint64_t sent = 0;
+    caladan_sender sender = {&both->ring, 0};
     while (!atomic_load(&both->stop)) {
         for (int i = 0; i < CALADAN_WORDS; i++) words[i] = word_at(publisher.place + 1, i);
         caladan_publish(&publisher, words);
-        if (sent < COMMANDS && caladan_ring_send(&both->ring, sent * 3 + 1)) sent++;
+        if (sender.sent < COMMANDS) send_one(both, &sender);
     }
     caladan_publish_begin(&publisher);
-    while (sent < COMMANDS)
-        if (caladan_ring_send(&both->ring, sent * 3 + 1)) sent++;
+    while (sender.sent < COMMANDS) send_one(both, &sender);
 }
 
 static int wrong(const char *what, uint64_t place) {
@@ -52,6 +57,15 @@ static int check_busy(const caladan_look *look) {
     return pair ? 0 : wrong("no busy pair", look->number);
 }
 
+/* Takes a command if there is one; false where it is another than the next. */
+static bool take_one(shared *both, uint64_t *taken) {
+    uint64_t command;
+    if (!caladan_ring_take(&both->ring, &command)) return true;
+    if (command != *taken * 3 + 1) return false;
+    atomic_store(&both->told, ++*taken);
+    return true;
+}
+
 int main(int argc, char **argv) {
     uint64_t looks = argc > 1 ? strtoull(argv[1], NULL, 10) : 1000000;
     shared *both = mmap(NULL, sizeof *both, PROT_READ | PROT_WRITE, MAP_SHARED | MAP_ANONYMOUS, -1, 0);
@@ -62,7 +76,7 @@ int main(int argc, char **argv) {
         _exit(0);
     }
     caladan_look look = {0};
-    uint64_t floor = 0, whole = 0, busy = 0, taken = 0, command;
+    uint64_t floor = 0, whole = 0, busy = 0, taken = 0;
     while (whole < looks) {
         caladan_observe(&both->page, &look);
         if (look.busy) {
@@ -74,12 +88,11 @@ int main(int argc, char **argv) {
             if (look.number < floor) return wrong("a place fell", look.number);
             floor = look.number;
         }
-        if (taken < COMMANDS && caladan_ring_take(&both->ring, &command) && command != taken++ * 3 + 1)
-            return wrong("another command", taken);
+        if (taken < COMMANDS && !take_one(both, &taken)) return wrong("another command", taken);
     }
     atomic_store(&both->stop, 1);
     while (taken < COMMANDS)
-        if (caladan_ring_take(&both->ring, &command) && command != taken++ * 3 + 1) return wrong("another command", taken);
+        if (!take_one(both, &taken)) return wrong("another command", taken);
     waitpid(child, NULL, 0);
     for (int again = 0; again < 2; again++) {
         caladan_observe(&both->page, &look);

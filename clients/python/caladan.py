@@ -31,9 +31,35 @@ Look = structure("Look", [("busy", U8), ("room", U8), *((word, U64) for word in 
 Action = structure("Action", [*((word, U8) for word in ("kind", "core", "thread", "core_class", "cause", "by", "task", "cap")), ("started", U64)])
 Counts = structure("Counts", [("held", U8), ("booked", U8), ("cap", U8)])
 Refused = structure("Refused", [("place", SIZE), ("why", U8), ("names", U8)])
-ILLEGAL, NOT_PERMITTED = 20, 18
+Machine = structure("Machine", [("cores", U8), ("tasks", U8), ("threads", U8), ("bandwidth_limit", U64)])
+TableTask = structure("TableTask", [*((word, U8) for word in ("kind", "guaranteed", "limit", "first_thread")), ("delay", U64), ("request", U64)])
+Thread = structure("Thread", [("task", U8), ("sent", U64), ("taken", U64)])
+Holder = structure("Holder", [(word, U8) for word in ("state", "thread", "cause", "cause_of")])
+BUSY, PLACES, LEAVING, REVOKE, GRANT = 2, 4, 2, 4, 6
+UNFIT, NO_SUCH, ILLEGAL, NOT_PERMITTED, LOST = 15, 16, 20, 18, 21
+JUDGEMENT_TEXTS = ("no judgement", "kept", "busy", "ahead: it acknowledges more commands than were sent",
+                   "foreign: it shows a core that the thread was not given", "its versions are no busy pair",
+                   "misshapen: running or misses is out of range", "its place fell", "another record at the same place",
+                   "taken, misses or stamp fell")
 WHY = ("", "too many", "does not fit", "not left", "banned", "at limit", "at cap", "at guarantee", "ring full",
        "second command", "banned held", "over cap")
+
+
+class Unfit(ValueError):
+    """A look does not fit; `thread` is the first thread whose look does not."""
+
+    def __init__(self, thread):
+        super().__init__(UNFIT)
+        self.thread = thread
+
+
+class Lost(ValueError):
+    """No page can show any more that the thread is gone."""
+
+
+def taken(look, judged):
+    """The look that a pass by looks taken one by one took, of the one that it was given."""
+    return look if judged <= BUSY else Look(busy=1, room=look.room, number=1, second=1)
 
 
 class Kept:
@@ -73,11 +99,73 @@ class Scheduler(Counted):
         self.threads = self.call("threads")
 
     def run(self, now, bandwidth, looks):
-        """The next pass: what was judged of each look, and the actions."""
+        """The next pass: what was judged of each look, and the actions. Unfit names the first thread
+        whose look does not fit; nothing has changed then."""
+        answer, *told = self.passed("pass", now, bandwidth, looks)
+        if answer == UNFIT:
+            raise Unfit(self.first_unfit(looks))
+        self.answered(answer)
+        return told
+
+    def run_each(self, now, bandwidth, looks):
+        """The next pass, each look by itself: a look that is unfit, ahead or foreign is taken as a busy
+        one, and its judgement, above BUSY, says why (JUDGEMENT_TEXTS)."""
+        answer, *told = self.passed("pass_each", now, bandwidth, looks)
+        self.answered(answer)
+        return told
+
+    def passed(self, name, now, bandwidth, looks):
         judged, actions, made = (U8 * self.threads)(), (Action * MOST_ACTIONS)(), SIZE()
-        self.answered(self.call("pass", U64(now), U64(bandwidth), (Look * len(looks))(*looks), SIZE(len(looks)),
-                                judged, SIZE(self.threads), actions, SIZE(MOST_ACTIONS), ctypes.byref(made)))
-        return list(judged), actions[:made.value]
+        answer = self.call(name, U64(now), U64(bandwidth), (Look * len(looks))(*looks), SIZE(len(looks)),
+                           judged, SIZE(self.threads), actions, SIZE(MOST_ACTIONS), ctypes.byref(made)) & 255
+        return answer, list(judged), actions[:made.value]
+
+    def first_unfit(self, looks):
+        """The first thread whose look a plain pass would not take, or None."""
+        thread = SIZE()
+        answer = self.call("first_unfit", (Look * len(looks))(*looks), SIZE(len(looks)), ctypes.byref(thread)) & 255
+        if answer == UNFIT:
+            return thread.value
+        self.answered(answer)
+
+    def told(self, name, kind, *arguments):
+        out = kind()
+        self.answered(self.call(name, *arguments, ctypes.byref(out)))
+        return out
+
+    def machine(self):
+        """What the table says of the machine."""
+        return self.told("table", Machine)
+
+    def table(self):
+        """What the table says of each task, in order."""
+        return (self.told("table_task", TableTask, SIZE(task)) for task in range(self.machine().tasks))
+
+    def thread(self, number):
+        """A thread's task, the commands sent to it, and those that its kept record acknowledges."""
+        return self.told("thread", Thread, SIZE(number))
+
+    def has_room(self, number):
+        """Whether the ring of a thread has room, by what was sent and the kept record alone."""
+        thread = self.thread(number)
+        return thread.sent - thread.taken < PLACES
+
+    def gone(self, number):
+        """What the page of a thread must show once the thread is gone, as a look; Lost where none can."""
+        look = Look()
+        answer = self.call("gone", SIZE(number), ctypes.byref(look)) & 255
+        if answer == LOST:
+            raise Lost(number)
+        self.answered(answer)
+        return look
+
+    def commands(self, actions):
+        """What the last pass's actions send: (thread, None) Park, (thread, core) Run of the core."""
+        for action in actions:
+            if action.kind == GRANT:
+                yield action.thread, action.core
+            if action.kind == REVOKE:
+                yield self.told("holder", Holder, U8(action.core)).thread, None
 
 
 class Audit(Kept):

@@ -10,7 +10,7 @@
 #include <time.h>
 #include <unistd.h>
 
-enum { THREADS = 2, CORES = 2, REQUESTS = 5 };
+enum { THREADS = 2, REQUESTS = 5 };
 
 static const char TABLE[] =
     "cores = 2\nbandwidth_limit = 1000\n\n"
@@ -64,17 +64,18 @@ static void be_kernel_thread(shared *all, int k) {
     }
 }
 
-static void send_each(shared *all, const caladan_action *actions, size_t made, uint64_t pass, int holder[CORES]) {
+/* Sends what the actions say: a grant Run, a revocation Park to the thread that is told to leave. */
+static void send_each(caladan *handle, caladan_sender *senders, const caladan_action *actions, size_t made, uint64_t pass) {
     for (size_t i = 0; i < made; i++) {
         const caladan_action *it = &actions[i];
         if (it->kind == CALADAN_GRANT) {
             printf("pass %llu: core %d to thread %d\n", (unsigned long long)pass, it->core, it->thread);
-            holder[it->core] = it->thread;
-            caladan_ring_send(&all->ring[it->thread], it->core + 1u);
+            caladan_ring_send(&senders[it->thread], it->core + 1u);
         }
-        if (it->kind == CALADAN_REVOKE) {
-            printf("pass %llu: core %d taken from thread %d\n", (unsigned long long)pass, it->core, holder[it->core]);
-            caladan_ring_send(&all->ring[holder[it->core]], CALADAN_PARK);
+        uint8_t thread;
+        if (it->kind == CALADAN_REVOKE && caladan_revoked(handle, it->core, &thread) == CALADAN_DONE) {
+            printf("pass %llu: core %d taken from thread %d\n", (unsigned long long)pass, it->core, thread);
+            caladan_ring_send(&senders[thread], CALADAN_PARK);
         }
     }
 }
@@ -90,20 +91,23 @@ static uint64_t schedule(shared *all, caladan *handle) {
     static caladan_action actions[CALADAN_MOST_ACTIONS];
     caladan_look looks[THREADS];
     uint8_t judged[THREADS];
-    int holder[CORES] = {0};
+    caladan_sender senders[THREADS];
+    caladan_thread_state state;
     size_t made;
     uint64_t pass = 0;
+    for (int k = 0; k < THREADS; k++) senders[k] = (caladan_sender){&all->ring[k], 0};
     for (; pass < 100000 && !is_done(all); pass++) {
         for (int k = 0; k < THREADS; k++) {
             caladan_observe(&all->page[k], &looks[k]);
-            looks[k].room = caladan_ring_has_room(&all->ring[k]);
+            if (caladan_thread(handle, (size_t)k, &state)) return 0;
+            looks[k].room = caladan_room(state.sent, state.taken);
         }
-        uint8_t answer = caladan_pass(handle, clock_now(), 0, looks, THREADS, judged, THREADS, actions, CALADAN_MOST_ACTIONS, &made);
+        uint8_t answer = caladan_pass_each(handle, clock_now(), 0, looks, THREADS, judged, THREADS, actions, CALADAN_MOST_ACTIONS, &made);
         if (answer != CALADAN_DONE) {
             fprintf(stderr, "scheduler_loop: pass %llu answers %d\n", (unsigned long long)pass, answer);
             return 0;
         }
-        send_each(all, actions, made, pass, holder);
+        send_each(handle, senders, actions, made, pass);
         usleep(50);
     }
     return is_done(all) ? pass : 0;

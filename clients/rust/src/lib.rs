@@ -65,7 +65,123 @@ pub struct Stopped {
 #[derive(Clone, Copy, Debug, PartialEq, Eq)]
 pub struct Refused(pub u8);
 
+/// What the table says of the machine.
+#[repr(C)]
+#[derive(Clone, Copy, Debug, Default, PartialEq, Eq)]
+pub struct Machine {
+    pub cores: u8,
+    pub tasks: u8,
+    pub threads: u8,
+    pub bandwidth_limit: u64,
+}
+
+/// What the table says of a task: `kind` is 1 for a latency-critical and 2 for a best-effort one.
+#[repr(C)]
+#[derive(Clone, Copy, Debug, Default, PartialEq, Eq)]
+pub struct TableTask {
+    pub kind: u8,
+    pub guaranteed: u8,
+    pub limit: u8,
+    pub first_thread: u8,
+    pub delay: u64,
+    pub request: u64,
+}
+
+/// A thread after the passes so far.
+#[repr(C)]
+#[derive(Clone, Copy, Debug, Default, PartialEq, Eq)]
+pub struct Thread {
+    pub task: u8,
+    /// Commands sent to it.
+    pub sent: u64,
+    /// Those that its kept record acknowledges.
+    pub taken: u64,
+}
+
+impl Thread {
+    /// Whether its ring of four places has room. No word of the ring is read for it.
+    pub fn has_room(&self) -> bool {
+        self.sent - self.taken < 4
+    }
+}
+
+#[repr(C)]
+#[derive(Default)]
+struct Holder {
+    state: u8,
+    thread: u8,
+    cause: u8,
+    cause_of: u8,
+}
+
+/// What was judged of a look.
+#[derive(Clone, Copy, Debug, PartialEq, Eq)]
+pub enum Judged {
+    Kept,
+    Busy,
+    /// It acknowledges more commands than were sent.
+    Ahead,
+    /// It shows its thread on a core that the thread was not given.
+    Foreign,
+    /// Its versions are no busy pair.
+    NoPair,
+    /// `running` or `misses` is out of range.
+    Misshapen,
+    PlaceFell,
+    /// Another record at the same place.
+    Changed,
+    /// `taken`, `misses` or `stamp` fell.
+    WordFell,
+}
+
+impl Judged {
+    fn of(number: u8) -> Judged {
+        match number {
+            1 => Judged::Kept,
+            2 => Judged::Busy,
+            3 => Judged::Ahead,
+            4 => Judged::Foreign,
+            5 => Judged::NoPair,
+            6 => Judged::Misshapen,
+            7 => Judged::PlaceFell,
+            8 => Judged::Changed,
+            _ => Judged::WordFell,
+        }
+    }
+
+    /// Whether a pass by `pass_each` took a busy look in its place.
+    pub fn is_refused(self) -> bool {
+        !matches!(self, Judged::Kept | Judged::Busy)
+    }
+}
+
+/// A command that a pass sends.
+#[derive(Clone, Copy, Debug, PartialEq, Eq)]
+pub enum Command {
+    Run { core: u8 },
+    Park,
+}
+
 extern "C" {
+    #[allow(clippy::too_many_arguments)]
+    fn caladan_pass_each(
+        handle: *mut Handle,
+        now: u64,
+        bandwidth: u64,
+        looks: *const Look,
+        count: usize,
+        judged: *mut u8,
+        judged_room: usize,
+        actions: *mut Action,
+        room: usize,
+        made: *mut usize,
+    ) -> u8;
+    fn caladan_first_unfit(handle: *mut Handle, looks: *const Look, count: usize, thread: *mut usize) -> u8;
+    fn caladan_table(handle: *mut Handle, machine: *mut Machine) -> u8;
+    fn caladan_table_task(handle: *mut Handle, task: usize, row: *mut TableTask) -> u8;
+    fn caladan_thread(handle: *mut Handle, thread: usize, state: *mut Thread) -> u8;
+    fn caladan_gone(handle: *mut Handle, thread: usize, look: *mut Look) -> u8;
+    fn caladan_holder(handle: *mut Handle, core: u8, holder: *mut Holder) -> u8;
     fn caladan_open(table: *const u8, length: usize, handle: *mut Handle) -> u8;
     fn caladan_threads(handle: *mut Handle) -> usize;
     fn caladan_bandwidth_limit(handle: *mut Handle) -> u64;
@@ -175,6 +291,76 @@ impl Scheduler {
             )
         })?;
         Ok((&self.actions[..self.made], &self.judged))
+    }
+
+    /// The next pass, each look by itself: one that is unfit, ahead or foreign is taken as a busy one, so
+    /// it stops nobody and leaves no trace. Its actions, and what was judged of each look.
+    pub fn pass_each(&mut self, now: u64, bandwidth: u64, looks: &[Look]) -> Result<(&[Action], impl Iterator<Item = Judged> + '_), Refused> {
+        answered(unsafe {
+            caladan_pass_each(
+                &mut self.handle,
+                now,
+                bandwidth,
+                looks.as_ptr(),
+                looks.len(),
+                self.judged.as_mut_ptr(),
+                self.judged.len(),
+                self.actions.as_mut_ptr(),
+                self.actions.len(),
+                &mut self.made,
+            )
+        })?;
+        Ok((&self.actions[..self.made], self.judged.iter().map(|number| Judged::of(*number))))
+    }
+
+    /// The first thread whose look `pass` would refuse, if there is one.
+    pub fn first_unfit(&mut self, looks: &[Look]) -> Result<Option<usize>, Refused> {
+        let mut thread = 0;
+        match unsafe { caladan_first_unfit(&mut self.handle, looks.as_ptr(), looks.len(), &mut thread) } {
+            15 => Ok(Some(thread)),
+            answer => answered(answer).map(|()| None),
+        }
+    }
+
+    /// What the table says of the machine.
+    pub fn machine(&mut self) -> Machine {
+        let mut machine = Machine::default();
+        unsafe { caladan_table(&mut self.handle, &mut machine) };
+        machine
+    }
+
+    /// What the table says of each task, in order.
+    pub fn table(&mut self) -> impl Iterator<Item = TableTask> + '_ {
+        (0..).map_while(|task| {
+            let mut row = TableTask::default();
+            answered(unsafe { caladan_table_task(&mut self.handle, task, &mut row) }).ok().map(|()| row)
+        })
+    }
+
+    /// A thread's task, the commands sent to it, and those that its kept record acknowledges.
+    pub fn thread(&mut self, thread: usize) -> Option<Thread> {
+        let mut state = Thread::default();
+        answered(unsafe { caladan_thread(&mut self.handle, thread, &mut state) }).ok().map(|()| state)
+    }
+
+    /// What the page of a thread must show once the thread is gone: 16 where there is no such thread, 21
+    /// where no page can show it.
+    pub fn gone(&mut self, thread: usize) -> Result<Look, Refused> {
+        let mut look = Look::default();
+        answered(unsafe { caladan_gone(&mut self.handle, thread, &mut look) }).map(|()| look)
+    }
+
+    /// What each action of the last pass sends, if anything, and to which thread.
+    pub fn commands(&mut self) -> impl Iterator<Item = (u8, Command)> + '_ {
+        let Scheduler { handle, actions, made, .. } = self;
+        actions[..*made].iter().filter_map(move |action| match action.kind {
+            6 => Some((action.thread, Command::Run { core: action.core })),
+            4 => {
+                let mut holder = Holder::default();
+                answered(unsafe { caladan_holder(handle, action.core, &mut holder) }).ok().map(|()| (holder.thread, Command::Park))
+            }
+            _ => None,
+        })
     }
 
     /// What a task has, where the table has it.
@@ -313,7 +499,7 @@ impl Drop for Guard {
 
 #[cfg(test)]
 mod tests {
-    use super::{Action, Audit, Guard, Look, NotThrough, Refused, Scheduler, Stopped, Verdict};
+    use super::{Action, Audit, Command, Guard, Judged, Look, Machine, NotThrough, Refused, Scheduler, Stopped, Thread, Verdict};
 
     const TABLE: &str = "cores = 2\nbandwidth_limit = 1000\n\n[[task]]\nkind = \"lc\"\nguaranteed = 1\nlimit = 1\ndelay = 10\nrequest = 50\n";
 
@@ -334,6 +520,28 @@ mod tests {
 
     fn grant(class: u8) -> Action {
         Action { kind: 6, core_class: class, ..Action::default() }
+    }
+
+    #[test]
+    fn one_lie_stops_nobody() {
+        let mut scheduler = Scheduler::open(TABLE).unwrap();
+        let lie = Look { room: 1, number: 1, words: [0, 129, 0, 0, 0, 0, 0, 0, 0], ..Look::default() };
+        assert_eq!(scheduler.pass(111, 0, &[lie]), Err(Refused(15)));
+        assert_eq!(scheduler.first_unfit(&[lie]), Ok(Some(0)));
+        let (actions, judged) = scheduler.pass_each(111, 0, &[lie]).unwrap();
+        assert_eq!((actions.len(), judged.collect::<Vec<_>>()), (0, vec![Judged::Misshapen]));
+        assert_eq!(scheduler.first_unfit(&[waits()]), Ok(None));
+        scheduler.pass_each(112, 0, &[waits()]).unwrap();
+        assert_eq!(scheduler.commands().collect::<Vec<_>>(), [(0, Command::Run { core: 0 })]);
+        assert_eq!(scheduler.thread(0), Some(Thread { task: 0, sent: 1, taken: 0 }));
+        assert_eq!(scheduler.thread(1), None);
+        let gone = scheduler.gone(0).unwrap();
+        assert_eq!((gone.number, gone.words), (2, [1, 0, 0, 0, 0, 0, 105, 0, 0]));
+        assert_eq!(scheduler.gone(1), Err(Refused(16)));
+        let (actions, _) = scheduler.pass_each(113, 0, &[gone]).unwrap();
+        assert_eq!(actions[0].kind, 1);
+        assert_eq!(scheduler.machine(), Machine { cores: 2, tasks: 1, threads: 1, bandwidth_limit: 1000 });
+        assert_eq!(scheduler.table().map(|task| task.delay).collect::<Vec<_>>(), [10]);
     }
 
     #[test]

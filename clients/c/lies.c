@@ -1,0 +1,287 @@
+/* Each kind of lie by itself, through caladan_pass_each: it is refused with its own judgement, the other
+ * threads get what they get without it, it leaves no trace, and the pass is legal with the look that was
+ * taken. Then a process that is killed at each step of a publication, whose page is buried and whose
+ * successor gets a core; and the calls of version 2 with closed handles, wrong counts and numbers out of
+ * range. Prints 'lies: ok'. */
+#define _GNU_SOURCE
+#include "caladan_pages.h"
+#include <signal.h>
+#include <stdio.h>
+#include <string.h>
+#include <sys/mman.h>
+#include <sys/wait.h>
+#include <unistd.h>
+
+static const char TABLE[] = "cores = 4\nbandwidth_limit = 1000\n"
+                            "[[task]]\nkind = \"lc\"\nguaranteed = 1\nlimit = 2\ndelay = 10\nrequest = 50\n"
+                            "[[task]]\nkind = \"be\"\nguaranteed = 0\nlimit = 2\ndelay = 0\nrequest = 0\n";
+enum { THREADS = 4, LIAR = 1, STEPS = 11 };
+
+static int failed;
+#define CHECK(is)                                                          \
+    do {                                                                   \
+        if (!(is)) {                                                       \
+            fprintf(stderr, "lies: line %d: not %s\n", __LINE__, #is);     \
+            failed = 1;                                                    \
+        }                                                                  \
+    } while (0)
+
+static caladan open_one(void) {
+    caladan handle = CALADAN_CLOSED;
+    CHECK(caladan_open((const uint8_t *)TABLE, strlen(TABLE), &handle) == CALADAN_DONE);
+    return handle;
+}
+
+typedef struct passed {
+    uint8_t answer;
+    uint8_t judged[THREADS];
+    caladan_action actions[CALADAN_MOST_ACTIONS];
+    size_t made;
+} passed;
+
+static void pass_each(caladan *handle, uint64_t now, const caladan_look *looks, passed *out) {
+    memset(out, 0, sizeof *out);
+    out->answer = caladan_pass_each(handle, now, 0, looks, THREADS, out->judged, THREADS, out->actions, CALADAN_MOST_ACTIONS, &out->made);
+}
+
+static void pass_plain(caladan *handle, uint64_t now, const caladan_look *looks, passed *out) {
+    memset(out, 0, sizeof *out);
+    out->answer = caladan_pass(handle, now, 0, looks, THREADS, out->judged, THREADS, out->actions, CALADAN_MOST_ACTIONS, &out->made);
+}
+
+static bool same_actions(const passed *a, const passed *b) {
+    return a->made == b->made && !memcmp(a->actions, b->actions, a->made * sizeof *a->actions);
+}
+
+/* The liar's thread has a request since tick 1: it is granted a core at tick 100. */
+static void one_waits(caladan_look looks[THREADS]) {
+    memset(looks, 0, THREADS * sizeof *looks);
+    for (int k = 0; k < THREADS; k++) looks[k].room = 1;
+    looks[LIAR].number = 5;
+    looks[LIAR].queued = looks[LIAR].oldest = 1;
+    looks[LIAR].misses = 7;
+    looks[LIAR].stamp = 50;
+}
+
+typedef struct lie {
+    uint8_t judged;
+    caladan_look look;
+} lie;
+
+/* Against a thread that showed place 5, misses 7, stamp 50 and was sent one command, a Run. */
+static const lie LIES[] = {
+    {CALADAN_AHEAD, {.room = 1, .number = 6, .taken = 2, .misses = 7, .stamp = 50}},
+    {CALADAN_AHEAD, {.room = 1, .number = 6, .taken = UINT64_MAX, .misses = 7, .stamp = 50}},
+    {CALADAN_FOREIGN, {.room = 1, .number = 6, .taken = 1, .running = 4, .misses = 7, .stamp = 50}},
+    {CALADAN_FOREIGN, {.room = 1, .number = 6, .taken = 0, .running = 1, .misses = 7, .stamp = 50}},
+    {CALADAN_FOREIGN, {.room = 1, .number = 6, .taken = 1, .running = 100, .misses = 7, .stamp = 50}},
+    {CALADAN_NO_PAIR, {.busy = 1, .room = 1, .number = 12, .second = 10}},
+    {CALADAN_NO_PAIR, {.busy = 1, .room = 1, .number = 12, .second = 12}},
+    {CALADAN_NO_PAIR, {.busy = 1, .room = 1, .number = 11, .second = 12}},
+    {CALADAN_MISSHAPEN, {.room = 1, .number = 6, .running = 129, .misses = 7, .stamp = 50}},
+    {CALADAN_MISSHAPEN, {.room = 1, .number = 6, .misses = (1ull << 56) + 1, .stamp = 50}},
+    {CALADAN_PLACE_FELL, {.room = 1, .number = 4, .misses = 7, .stamp = 50}},
+    {CALADAN_PLACE_FELL, {.room = 1}},
+    {CALADAN_CHANGED, {.room = 1, .number = 5, .queued = 2, .oldest = 1, .misses = 7, .stamp = 50}},
+    {CALADAN_WORD_FELL, {.room = 1, .number = 6, .misses = 6, .stamp = 50}},
+    {CALADAN_WORD_FELL, {.room = 1, .number = 6, .misses = 7, .stamp = 49}},
+};
+
+static int grants_to(const passed *pass, int thread) {
+    int count = 0;
+    for (size_t i = 0; i < pass->made; i++) count += pass->actions[i].kind == CALADAN_GRANT && pass->actions[i].thread == thread;
+    return count;
+}
+
+static void try_lie(const lie *it) {
+    caladan handle = open_one(), busy = open_one();
+    caladan_look looks[THREADS], taken[THREADS];
+    static passed first, told, without;
+    size_t unfit = 99;
+    one_waits(looks);
+    pass_each(&handle, 100, looks, &first);
+    pass_plain(&busy, 100, looks, &without);
+    CHECK(first.answer == CALADAN_DONE && same_actions(&first, &without) && grants_to(&first, LIAR) == 1);
+    looks[LIAR] = it->look;
+    uint8_t fits = caladan_first_unfit(&handle, looks, THREADS, &unfit);
+    bool is_unfit = it->judged >= CALADAN_NO_PAIR;
+    CHECK(fits == (is_unfit ? CALADAN_UNFIT : CALADAN_DONE) && unfit == (is_unfit ? LIAR : 99));
+    for (int again = 0; again < 2; again++) {
+        pass_each(&handle, 101, looks, &told);
+        CHECK(told.answer == CALADAN_DONE && told.judged[LIAR] == it->judged && told.judged[0] == CALADAN_KEPT);
+        for (int k = 0; k < THREADS; k++) taken[k] = caladan_taken(&looks[k], told.judged[k]);
+        pass_plain(&busy, 101, taken, &without);
+        CHECK(without.answer == CALADAN_DONE && same_actions(&told, &without));
+    }
+    /* the honest successor: it took the Run, left, and has a request: its record is kept */
+    looks[LIAR] = (caladan_look){.room = 1, .number = 6, .taken = 1, .misses = 7, .stamp = 50, .queued = 1, .oldest = 1};
+    pass_each(&handle, 102, looks, &told);
+    CHECK(told.answer == CALADAN_DONE && told.judged[LIAR] == CALADAN_KEPT && grants_to(&told, LIAR) == 1);
+    caladan_close(&handle);
+    caladan_close(&busy);
+}
+
+/* A thread that is gone: the look for it frees its core in the next pass. */
+static void try_gone(void) {
+    caladan handle = open_one();
+    caladan_look looks[THREADS], gone;
+    caladan_thread_state state;
+    static passed told;
+    uint8_t core = 99, thread = 99;
+    one_waits(looks);
+    pass_each(&handle, 100, looks, &told);
+    for (size_t i = 0; i < told.made; i++)
+        if (told.actions[i].kind == CALADAN_GRANT && told.actions[i].thread == LIAR) core = told.actions[i].core;
+    CHECK(caladan_thread(&handle, LIAR, &state) == CALADAN_DONE && state.task == 0 && state.sent == 1 && state.taken == 0);
+    CHECK(caladan_room(state.sent, state.taken));
+    CHECK(caladan_revoked(&handle, core, &thread) == CALADAN_NO_SUCH);
+    CHECK(caladan_gone(&handle, LIAR, &gone) == CALADAN_DONE);
+    CHECK(!gone.busy && gone.number == 6 && gone.taken == 1 && !gone.running && gone.misses == 7 && gone.stamp == 50 && !gone.queued);
+    looks[LIAR] = gone;
+    pass_each(&handle, 101, looks, &told);
+    CHECK(told.answer == CALADAN_DONE && told.judged[LIAR] == CALADAN_KEPT);
+    CHECK(told.made > 0 && told.actions[0].kind == CALADAN_FREE && told.actions[0].core == core);
+    CHECK(caladan_thread(&handle, LIAR, &state) == CALADAN_DONE && state.taken == 1);
+    /* only a plain pass lets an ahead record be shown: then there is no such look any more */
+    looks[LIAR] = (caladan_look){.room = 1, .number = 8, .taken = 9, .misses = 7, .stamp = 50};
+    pass_plain(&handle, 102, looks, &told);
+    CHECK(told.answer == CALADAN_DONE && told.judged[LIAR] == CALADAN_AHEAD);
+    CHECK(caladan_gone(&handle, LIAR, &gone) == CALADAN_LOST && gone.number == 6);
+    caladan_close(&handle);
+}
+
+typedef struct shared {
+    caladan_page page;
+    caladan_ring ring;
+} shared;
+
+/* A child publishes one record, then makes so many steps of the next publication, and is killed. */
+static void die_after(shared *both, int steps) {
+    pid_t child = fork();
+    if (child == 0) {
+        caladan_publisher publisher = {&both->page, 0};
+        uint64_t words[CALADAN_WORDS] = {0, 0, 1, 1, 0, 7, 50, 0, 0};
+        caladan_publish(&publisher, words);
+        words[5] = 9, words[6] = 60, words[2] = 2;
+        if (steps > 0) caladan_publish_begin(&publisher);
+        for (int i = 0; i < CALADAN_WORDS && i + 1 < steps; i++) atomic_store(&both->page.words[i], words[i]);
+        if (steps == STEPS) atomic_store(&both->page.version, 4);
+        kill(getpid(), SIGKILL);
+    }
+    waitpid(child, NULL, 0);
+}
+
+static void try_death(shared *both, int steps) {
+    caladan handle = open_one();
+    caladan_look looks[THREADS], gone;
+    static passed told;
+    memset(both, 0, sizeof *both);
+    memset(looks, 0, sizeof looks);
+    for (int k = 0; k < THREADS; k++) looks[k].room = 1;
+    caladan_sender sender = {&both->ring, 0};
+    die_after(both, steps);
+    caladan_observe(&both->page, &looks[LIAR]);
+    looks[LIAR].room = 1;
+    CHECK(looks[LIAR].busy == (steps > 0 && steps < STEPS));
+    pass_each(&handle, 100, looks, &told);
+    CHECK(told.answer == CALADAN_DONE && told.judged[LIAR] == (looks[LIAR].busy ? CALADAN_BUSY : CALADAN_KEPT));
+    if (grants_to(&told, LIAR)) caladan_ring_send(&sender, 1);
+    CHECK(caladan_gone(&handle, LIAR, &gone) == CALADAN_DONE && caladan_bury(&both->page, &both->ring, &gone));
+    caladan_observe(&both->page, &looks[LIAR]);
+    CHECK(!looks[LIAR].busy && looks[LIAR].number == gone.number && looks[LIAR].taken == gone.taken);
+    pass_each(&handle, 101, looks, &told);
+    CHECK(told.answer == CALADAN_DONE && told.judged[LIAR] == CALADAN_KEPT);
+    /* the successor goes on with the page, and gets a core */
+    caladan_publisher successor;
+    uint64_t words[CALADAN_WORDS];
+    CHECK(caladan_adopt(&successor, &both->page, words));
+    words[2] = words[3] = 1;
+    caladan_publish(&successor, words);
+    caladan_observe(&both->page, &looks[LIAR]);
+    pass_each(&handle, 200, looks, &told);
+    CHECK(told.answer == CALADAN_DONE && told.judged[LIAR] == CALADAN_KEPT && grants_to(&told, LIAR) == 1);
+    caladan_close(&handle);
+}
+
+/* One that adopts a page on which a publication was broken off, without the host: nothing falls. */
+static void try_adoption(shared *both, int steps) {
+    memset(both, 0, sizeof *both);
+    die_after(both, steps);
+    caladan_publisher successor;
+    uint64_t words[CALADAN_WORDS];
+    caladan_look look = {0};
+    bool whole = caladan_adopt(&successor, &both->page, words);
+    CHECK(whole == (steps == 0 || steps == STEPS));
+    CHECK(words[0] == 0 && words[5] >= 7 && words[6] >= 50);
+    uint64_t place = caladan_publish(&successor, words);
+    caladan_observe(&both->page, &look);
+    CHECK(!look.busy && look.number == place && place == (steps == STEPS ? 3 : 2) && look.misses >= 7);
+    /* turns: one at a time, and the record stays between them */
+    CHECK(caladan_turn_try(&both->page) && !caladan_turn_try(&both->page));
+    caladan_turn_set(&both->page, 2, caladan_turn_word(&both->page, 2) + 1);
+    caladan_turn_end(&both->page);
+    caladan_observe(&both->page, &look);
+    CHECK(!look.busy && look.number == place + 1 && look.queued == words[2] + 1 && look.stamp == words[6]);
+}
+
+/* A version that falls while one looks is a busy pair all the same. */
+static void try_falling(shared *both) {
+    caladan_look look = {0};
+    memset(both, 0, sizeof *both);
+    atomic_store(&both->page.version, 7);
+    caladan_observe(&both->page, &look);
+    CHECK(look.busy && look.number == 7 && look.second == 7);
+}
+
+static void try_calls(void) {
+    caladan closed = CALADAN_CLOSED, handle = open_one();
+    caladan_look looks[THREADS + 1] = {0}, look = {.number = 77};
+    caladan_machine machine = {.cores = 77};
+    caladan_table_row row = {.kind = 77};
+    caladan_thread_state state = {.task = 77};
+    caladan_action actions[CALADAN_MOST_ACTIONS];
+    uint8_t judged[THREADS] = {77}, thread = 77;
+    size_t made = 77, unfit = 77;
+    CHECK(caladan_version() == 2 && CALADAN_VERSION == 2);
+    CHECK(caladan_pass_each(&closed, 1, 0, looks, THREADS, judged, THREADS, actions, CALADAN_MOST_ACTIONS, &made) == CALADAN_IS_CLOSED && made == 0);
+    CHECK(caladan_pass_each(&handle, 1, 0, looks, THREADS + 1, judged, THREADS, actions, CALADAN_MOST_ACTIONS, &made) == CALADAN_WRONG_COUNT);
+    CHECK(caladan_pass_each(&handle, 1, 0, looks, 0, judged, THREADS, actions, CALADAN_MOST_ACTIONS, &made) == CALADAN_WRONG_COUNT);
+    CHECK(caladan_pass_each(&handle, 1, 0, looks, THREADS, judged, THREADS - 1, actions, CALADAN_MOST_ACTIONS, &made) == CALADAN_NO_ROOM);
+    CHECK(caladan_pass_each(&handle, 1, 0, looks, THREADS, judged, THREADS, actions, CALADAN_MOST_ACTIONS - 1, &made) == CALADAN_NO_ROOM);
+    CHECK(judged[0] == 77);
+    CHECK(caladan_first_unfit(&closed, looks, THREADS, &unfit) == CALADAN_IS_CLOSED && unfit == 77);
+    CHECK(caladan_first_unfit(&handle, looks, THREADS + 1, &unfit) == CALADAN_WRONG_COUNT && unfit == 77);
+    CHECK(caladan_table(&closed, &machine) == CALADAN_IS_CLOSED && machine.cores == 77);
+    CHECK(caladan_table(&handle, &machine) == CALADAN_DONE && machine.cores == 4 && machine.tasks == 2 && machine.threads == 4 && machine.bandwidth_limit == 1000);
+    CHECK(caladan_table_task(&closed, 0, &row) == CALADAN_IS_CLOSED && caladan_table_task(&handle, 2, &row) == CALADAN_NO_SUCH);
+    CHECK(caladan_table_task(&handle, SIZE_MAX, &row) == CALADAN_NO_SUCH && row.kind == 77);
+    CHECK(caladan_table_task(&handle, 0, &row) == CALADAN_DONE && row.kind == CALADAN_LATENCY_CRITICAL && row.guaranteed == 1 && row.limit == 2);
+    CHECK(row.first_thread == 0 && row.delay == 10 && row.request == 50);
+    CHECK(caladan_table_task(&handle, 1, &row) == CALADAN_DONE && row.kind == CALADAN_BEST_EFFORT && row.first_thread == 2);
+    CHECK(caladan_thread(&closed, 0, &state) == CALADAN_IS_CLOSED && caladan_thread(&handle, THREADS, &state) == CALADAN_NO_SUCH);
+    CHECK(caladan_thread(&handle, SIZE_MAX, &state) == CALADAN_NO_SUCH && state.task == 77);
+    CHECK(caladan_thread(&handle, 3, &state) == CALADAN_DONE && state.task == 1 && state.sent == 0 && state.taken == 0);
+    CHECK(caladan_gone(&closed, 0, &look) == CALADAN_IS_CLOSED && caladan_gone(&handle, THREADS, &look) == CALADAN_NO_SUCH);
+    CHECK(caladan_gone(&handle, SIZE_MAX, &look) == CALADAN_NO_SUCH && look.number == 77);
+    CHECK(caladan_gone(&handle, 0, &look) == CALADAN_DONE && look.number == 1 && look.taken == 0 && look.room == 1);
+    CHECK(caladan_revoked(&closed, 0, &thread) == CALADAN_IS_CLOSED && caladan_revoked(&handle, 9, &thread) == CALADAN_NO_SUCH && thread == 77);
+    CHECK(!strcmp(caladan_answer_text(CALADAN_LOST), "no page can show that the thread is gone") && !strcmp(caladan_answer_text(200), "no answer"));
+    CHECK(!strcmp(caladan_judgement_text(CALADAN_PLACE_FELL), "its place fell") && !strcmp(caladan_judgement_text(99), "no judgement"));
+    CHECK(!strcmp(caladan_cause_text(CALADAN_FOR_TASK), "for a task") && !strcmp(caladan_why_text(CALADAN_WHY_OVER_CAP), "a task is over its cap"));
+    caladan_close(&handle);
+}
+
+int main(void) {
+    shared *both = mmap(NULL, sizeof *both, PROT_READ | PROT_WRITE, MAP_SHARED | MAP_ANONYMOUS, -1, 0);
+    if (both == MAP_FAILED) return 2;
+    for (size_t i = 0; i < sizeof LIES / sizeof *LIES; i++) try_lie(&LIES[i]);
+    try_gone();
+    for (int steps = 0; steps <= STEPS; steps++) {
+        try_death(both, steps);
+        try_adoption(both, steps);
+    }
+    try_falling(both);
+    try_calls();
+    puts(failed ? "lies: failed" : "lies: ok");
+    return failed;
+}
