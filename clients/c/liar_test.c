@@ -89,7 +89,7 @@ static void step(honest *it, caladan_ring *ring, uint64_t now, bool best_effort)
     }
     if (!moved) return;
     w[5]++;
-    w[6] = now;
+    if (now > w[6]) w[6] = now; /* the liar before it may have shown a later stamp */
     caladan_publish(&it->publisher, w);
 }
 
