@@ -1,6 +1,6 @@
 /* caladan_pages.h: pages and rings in shared memory, in C11.
  *
- * THIS C IS NOT PROVED. The pages and rings of this project's Rattle crates are; what stands here follows
+ * THIS C IS NOT PROVED. The pages and rings of the Rattle crates are proved; this follows
  * their steps, and is only tested (clients/c/pages_test.c, clients/c/liar_test.c).
  *
  * A page is ten words of 64 bits: a version, then a record's nine words in the order of caladan_look.

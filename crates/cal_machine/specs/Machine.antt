@@ -2,7 +2,7 @@
 use Rattle.std.specs.Prelude.{◌≡◌, ◌≤◌, ◌+◌, ◌-◌, ◌%◌, ◌==◌, ◌&&◌, nat_le, ℕ, Bool, if◌then◌else◌}
 use Rattle.cal_machine.specs.declared.machine.TheConstants.{MOST_CORES}
 
--- A number of cores that a machine may have: even, 2 to MOST_CORES. This project's own limit.
+-- A number of cores that a machine may have: even, 2 to MOST_CORES. Doranjei's own limit.
 pub record IsMachine (cores : ℕ) : Type 0 where
   pub even : cores % 2 ≡ 0
   pub least : 2 ≤ cores

@@ -1,5 +1,5 @@
--- The bans of a history: which core stayed empty for which thread, from which pass to which. This
--- project's own.
+-- The bans of a history: which core stayed empty for which thread, from which pass to which.
+-- Doranjei's own.
 use Rattle.std.specs.Prelude.{◌≡◌, ◌<◌, ℕ, ◌==◌, List, Option, Some, None, option_map}
 use Rattle.std.specs.Prelude.{slice_index_or, if◌then◌else◌}
 use Rattle.cal_policy.specs.History.Lists.{last_of}

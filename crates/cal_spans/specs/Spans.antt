@@ -1,4 +1,4 @@
--- The spans of a history: which thread had which core, from which pass to which. This project's
+-- The spans of a history: which thread had which core, from which pass to which. Doranjei's
 -- own.
 use Rattle.std.specs.Prelude.{ℕ, ◌+◌, ◌==◌, zero, suc, List, [], ◌∷◌, ◌++◌, map, Option, Some, None}
 use Rattle.std.specs.Prelude.{option_map, if◌then◌else◌}

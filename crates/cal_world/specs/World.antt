@@ -1,4 +1,4 @@
--- Which event may come after which: seven rules, and legal lists of events. This project's own.
+-- Which event may come after which: seven rules, and legal lists of events. Doranjei's own.
 pub mod Kept
 pub mod Outbox
 pub mod Present

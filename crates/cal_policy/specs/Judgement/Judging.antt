@@ -1,4 +1,4 @@
--- How looks are judged, and which inputs a pass may be given. This project's own rules.
+-- How looks are judged, and which inputs a pass may be given. Doranjei's own rules.
 use Rattle.std.specs.Prelude.{◌≡◌, ℕ, ◌-◌, ◌==◌, ◌&&◌, Bool, false, not, nat_le}
 use Rattle.std.specs.Prelude.{nat_lt, List, length, Some, slice_get, if◌then◌else◌}
 use Rattle.cal_signal.specs.declared.record.Record.{Record}

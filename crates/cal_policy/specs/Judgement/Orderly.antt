@@ -1,5 +1,5 @@
 -- Histories in which each action fits the state before it. The policy's definitions are read over
--- these. This project's own.
+-- these. Doranjei's own.
 use Rattle.std.specs.Prelude.{◌≡◌, ℕ, ◌&&◌, Bool, true, not, nat_le, nat_lt, List}
 use Rattle.std.specs.Prelude.{◌++◌, length, take, Some, slice_get, IsTrue, ◌==◌}
 use Rattle.cal_machine.specs.Table.{Table}

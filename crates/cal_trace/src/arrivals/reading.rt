@@ -15,8 +15,8 @@ use csv::ByteRecord;
 use std::alloc::Global;
 use std::collections::BTreeSet;
 
-/// The most turns that a file may have: few enough that no thread's journal is ever full. This
-/// project's own limit.
+/// The most turns that a file may have: few enough that no thread's journal is ever full.
+/// Doranjei's own limit.
 pub const MOST_TURNS: usize = 174_762;
 
 /// What a row of a file of arrivals is, by its first field and its number of fields.
