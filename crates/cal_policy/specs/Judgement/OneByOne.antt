@@ -1,6 +1,6 @@
 -- Looks taken one by one. A look that does not fit what its thread showed before, or that shows
--- what its thread cannot have done, is refused: a busy look is taken in its place. So whatever a thread
--- shows, a pass goes on for the others. Doranjei's own rule.
+-- what its thread cannot have done, is refused: a busy look is taken in its place. So whatever a
+-- thread shows, a pass goes on for the others. Doranjei's own rule.
 use Rattle.std.specs.Prelude.{ℕ, ◌==◌, ◌-◌, ◌^◌, not, min, nat_lt, List, map, Option}
 use Rattle.std.specs.Prelude.{Some, None, if◌then◌else◌}
 use Rattle.std.specs.List.{enumerate_from}
