@@ -1,3 +1,4 @@
-//! The policy: worked passes that begin in a state.
+//! The policy: worked passes that begin in a state, and made histories.
 
+mod beside;
 mod states;

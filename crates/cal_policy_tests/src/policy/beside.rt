@@ -1,0 +1,227 @@
+//! Made histories: in each pass the Book takes the inputs that may be given, and does what the
+//! plain pass does. Looks are drawn by chance from fixed seeds: as before, newer, busy, refused by
+//! the commands sent or by what was shown; and clocks fall.
+
+ghost use Rattle.std.specs.Prelude.{◌≡◌, ◌<◌};
+ghost use Rattle.cal_machine.specs.declared.numbering.TheConstants.{MOST_THREADS};
+ghost use Rattle.cal_policy.specs.Board.{HasSizes};
+ghost use Rattle.cal_policy.specs.Book.{IsBookOf};
+
+use cal_machine::Config;
+use cal_policy::state::Board;
+use cal_policy::{
+    Actions, Book, Input, Look, PassEntry, Record, Rooms, SeenList, is_input, orderly, plain_pass,
+};
+use std::alloc::Global;
+use std::test::Fail;
+
+/// Numbers that look as if drawn by chance: the same ones of the same seed.
+#[derive(Drop)]
+struct Draw {
+    seed: u64,
+}
+
+impl Draw {
+    /// A number below `limit`, or 0.
+    fn below(&mut self, limit: u64) -> u64 {
+        let next = self.seed.wrapping_mul(6_364_136_223_846_793_005);
+        self.seed = next.wrapping_add(1_442_695_040_888_963_407);
+        if limit == 0 {
+            return 0;
+        }
+        self.seed / 8_589_934_592 % limit
+    }
+}
+
+/// The word `running` of a thread that shows a core that it has, else 0.
+fn shown_core(config: &Config, board: &Board, k: usize) -> u64
+    requires { k < MOST_THREADS }
+{
+    config.limits();
+    for core in 0..config.machine().cores() {
+        if board.holding.holders[core as usize].is_with(k as u8) {
+            return u64::from(core) + 1;
+        }
+    }
+    0
+}
+
+/// The next record of thread `k`: mostly one that takes all commands and shows its core.
+fn next_record(draw: &mut Draw, config: &Config, board: &Board, k: usize, clock: u64) -> Record
+    requires { k < MOST_THREADS }
+{
+    let last = board.keeping.shown[k].rec;
+    let sent = u64::try_from(board.holding.sent[k]).unwrap_or(0);
+    let taken = match draw.below(32) {
+        0 => sent.saturating_add(1),
+        1 => last.taken,
+        _ => sent,
+    };
+    let running = match draw.below(16) {
+        0 => draw.below(9),
+        1 | 2 | 3 => 0,
+        _ => shown_core(config, board, k),
+    };
+    Record {
+        taken: taken.max(last.taken),
+        running,
+        queued: draw.below(2),
+        oldest: clock.saturating_sub(draw.below(64)),
+        started: clock.saturating_sub(draw.below(128)),
+        misses: last.misses.saturating_add(draw.below(100)),
+        stamp: last.stamp.max(clock),
+        paused: draw.below(4) / 3,
+        since: clock.saturating_sub(draw.below(64)),
+    }
+}
+
+/// What is found of thread `k`: in half of all cases what was found before.
+fn found(draw: &mut Draw, config: &Config, board: &Board, k: usize, clock: u64) -> Look
+    requires { k < MOST_THREADS }
+{
+    let last = board.keeping.shown[k];
+    match draw.below(1024) {
+        0 => Look::Whole {
+            number: last.number,
+            rec: next_record(draw, config, board, k, clock),
+        },
+        1..64 => Look::Busy {
+            first: 1,
+            second: 1,
+        },
+        64..512 => Look::Whole {
+            number: last.number.saturating_add(1),
+            rec: next_record(draw, config, board, k, clock),
+        },
+        _ => Look::Whole {
+            number: last.number,
+            rec: last.rec,
+        },
+    }
+}
+
+/// The input of the next pass, as the book judges what is found.
+fn drawn_input(
+    alloc: Global,
+    config: &Config,
+    book: &Book,
+    draw: &mut Draw,
+    clock: u64,
+) -> Result<Input, Fail> {
+    config.limits();
+    let mut seen = Vec::with_capacity(alloc, config.threads())?;
+    let mut rooms = Vec::with_capacity(alloc, config.threads())?;
+    for k in 0..config.threads() {
+        let look = found(draw, config, book.board(), k, clock);
+        seen.push(book.judge(config, k, look))?;
+        rooms.push(draw.below(8) > 0)?;
+    }
+    Ok(Input {
+        now: clock,
+        bandwidth: draw.below(2000),
+        seen: SeenList::new(seen),
+        rooms: Rooms::new(rooms),
+    })
+}
+
+/// The pass that the book makes on this input.
+fn stepped(alloc: Global, config: &Config, book: &mut Book, input: Input) -> Result<PassEntry, Fail>
+    requires of { IsBookOf config.now book.old }
+    requires sizes { HasSizes config.now input }
+    ensures { IsBookOf config.now book.new }
+{
+    let mut actions = Actions::reserved(alloc)?;
+    book.step(config, &input, &mut actions);
+    let actions = actions.to_list(alloc)?;
+    Ok(PassEntry { input, actions })
+}
+
+/// Whether the plain pass on the input of this entry, after these, makes its actions.
+fn is_made(
+    alloc: Global,
+    config: &Config,
+    before: &[PassEntry],
+    entry: &PassEntry,
+) -> Result<bool, Fail> {
+    if !orderly(config, before) || !is_input(config, before, &entry.input) {
+        return Ok(false);
+    }
+    let mut made = Actions::reserved(alloc)?;
+    plain_pass(config, before, &entry.input, &mut made);
+    Ok(made.as_slice() == entry.actions.as_slice())
+}
+
+/// Whether the input may not be given after these passes.
+fn is_refused(config: &Config, before: &[PassEntry], input: &Input) -> bool {
+    orderly(config, before) && !is_input(config, before, input)
+}
+
+/// Whether the book does in each pass of a drawn history what the plain pass does, and refuses what
+/// may not be given.
+fn are_alike(alloc: Global, config: &Config, seed: u64) -> Result<bool, Fail> {
+    let mut draw = Draw { seed };
+    let mut book = Book::open(alloc, config)?;
+    let mut history = Vec::new(alloc);
+    for pass in 0..30u64 {
+        let back = if draw.below(16) == 0 { 100 } else { 0 };
+        let clock = (1000 + 20 * pass).saturating_sub(back);
+        let input = drawn_input(alloc, config, &book, &mut draw, clock)?;
+        if book.fits(config, &input) {
+            let entry = stepped(alloc, config, &mut book, input)?;
+            if !is_made(alloc, config, history.as_slice(), &entry)? {
+                return Ok(false);
+            }
+            history.push(entry)?;
+        } else if !is_refused(config, history.as_slice(), &input) {
+            return Ok(false);
+        }
+    }
+    Ok(history.len() > 4)
+}
+
+#[test]
+fn book_is_as_the_plain_pass(rt: HostRuntime) -> Result<(), Fail> {
+    let small = Config::read(rt.alloc(), SIXTEEN_THREADS.as_bytes())?;
+    for seed in 0..980u64 {
+        assert!(rt;
+            are_alike(rt.alloc(), &small, seed)?,
+            "16 threads, seed {seed}"
+        );
+    }
+    let large = Config::read(rt.alloc(), MANY_THREADS.as_bytes())?;
+    for seed in 980..1000u64 {
+        assert!(rt;
+            are_alike(rt.alloc(), &large, seed)?,
+            "128 threads, seed {seed}"
+        );
+    }
+    Ok(())
+}
+
+/// Eight cores, and 16 threads of four tasks.
+const SIXTEEN_THREADS: &str = "\
+cores = 8
+bandwidth_limit = 1000
+task = [
+{ kind = \"lc\", guaranteed = 2, limit = 4, delay = 10, request = 50 },
+{ kind = \"lc\", guaranteed = 1, limit = 4, delay = 20, request = 30 },
+{ kind = \"be\", guaranteed = 0, limit = 4, delay = 5, request = 50 },
+{ kind = \"be\", guaranteed = 0, limit = 4, delay = 10, request = 50 },
+]
+";
+
+/// 64 cores, and 128 threads of eight tasks.
+const MANY_THREADS: &str = "\
+cores = 64
+bandwidth_limit = 1000
+task = [
+{ kind = \"lc\", guaranteed = 8, limit = 16, delay = 10, request = 50 },
+{ kind = \"lc\", guaranteed = 8, limit = 16, delay = 20, request = 30 },
+{ kind = \"lc\", guaranteed = 4, limit = 16, delay = 10, request = 100 },
+{ kind = \"lc\", guaranteed = 0, limit = 16, delay = 30, request = 50 },
+{ kind = \"be\", guaranteed = 0, limit = 16, delay = 5, request = 50 },
+{ kind = \"be\", guaranteed = 0, limit = 16, delay = 10, request = 50 },
+{ kind = \"be\", guaranteed = 0, limit = 16, delay = 15, request = 50 },
+{ kind = \"be\", guaranteed = 0, limit = 16, delay = 20, request = 50 },
+]
+";
