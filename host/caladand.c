@@ -10,6 +10,7 @@
 #include <string.h>
 
 #define HOUSE 1000000u /* how often processes are looked after, in nanoseconds */
+#define SHORT 100000u  /* what is not slept, in nanoseconds */
 
 static const char USAGE[] =
     "usage: caladand -n NAME -t TABLE -c CPUS [OPTION ..]\n"
@@ -59,7 +60,7 @@ static void read_option(options *o, int option) {
     case 'c': read_cpus(o, optarg); break;
     case 'o': o->own = (int)number(optarg, 0, CPU_SETSIZE - 1); break;
     case 's': o->seconds = number(optarg, 1, 1000000000); break;
-    case 'g': o->gap = number(optarg, 0, 1000000000); break;
+    case 'g': o->gap = number(optarg, 0, 999999999); break;
     case 'y': o->wait = number(optarg, 0, 1000000000); break;
     case 'k': o->patience = number(optarg, 1, 2000) * 1000000; break;
     case 'w': o->window = number(optarg, 1, 1000000000); break;
@@ -142,6 +143,15 @@ static void keep_house(scheduler *s) {
 
 static bool is_over(const scheduler *s) { return stopped || (s->options.seconds && now_of(s) >= s->options.seconds * 1000000000u); }
 
+/* Long rests are slept, but for their end. */
+static void rest_until(const scheduler *s, uint64_t due) {
+    for (uint64_t now; (now = now_of(s)) < due;) {
+        struct timespec most = {0, (long)(due - now - SHORT)}; /* a gap is a second at most */
+        if (due - now < 2 * SHORT) host_pause();
+        else nanosleep(&most, NULL);
+    }
+}
+
 static void run_piece(scheduler *s) {
     uint64_t house = 0;
     begin_piece(s);
@@ -149,7 +159,7 @@ static void run_piece(scheduler *s) {
         uint64_t from = now_of(s);
         make_pass(s);
         if (from - house > HOUSE) keep_house(s), house = from;
-        while (now_of(s) - from < s->options.gap) host_pause();
+        rest_until(s, from + s->options.gap);
     }
     end_piece(s);
 }

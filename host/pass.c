@@ -3,6 +3,8 @@
 #include <sched.h>
 #include "caladand.h"
 
+#define MOST_LINES ((uint64_t)1 << 40)
+
 /* ---- looking ---- */
 
 /* While a piece ends no ring has room: so the passes grant and revoke nothing, and only free what is left. */
@@ -30,7 +32,9 @@ static uint64_t bandwidth(scheduler *s, uint64_t now) {
     uint64_t misses = 0;
     if (s->options.window == 0 || now - s->figure_at < s->options.window) return s->figure;
     for (size_t k = 0; k < s->machine.threads; k++) misses += s->shown[k].shown.misses;
-    s->figure = (misses - s->figure_misses) * 64 * 1000 / (now - s->figure_at);
+    uint64_t lines = misses - s->figure_misses;
+    if (lines > MOST_LINES) lines = MOST_LINES; /* whoever lies can make it any number */
+    s->figure = lines * 64 * 1000 / (now - s->figure_at);
     s->figure_misses = misses;
     s->figure_at = now;
     return s->figure;

@@ -21,16 +21,21 @@ static void name_of(const scheduler *s, const char *end, char *name, size_t room
     snprintf(name, room, "%s/piece-%06llu%s", s->options.folder, (unsigned long long)s->counts.pieces, end);
 }
 
-/* All of a piece stays in memory until it ends, so that no pass waits for a disk. */
+/* All of a piece stays in memory until it ends, so that no pass waits for a disk, nor for memory. */
+static void make_room(scheduler *s) {
+    if (s->room) return;
+    s->room = malloc(s->options.bytes + MARGIN);
+    if (s->room == NULL) fail("-b", strerror(errno));
+    memset(s->room, 0, s->options.bytes + MARGIN);
+}
+
 static void begin_file(scheduler *s) {
     char name[4096];
     if (s->options.folder == NULL) return;
+    make_room(s);
     name_of(s, ".part", name, sizeof name);
     s->out = fopen(name, "w");
     if (s->out == NULL) fail(name, strerror(errno));
-    if (s->room == NULL) s->room = malloc(s->options.bytes + MARGIN);
-    if (s->room == NULL) fail("-b", strerror(errno));
-    memset(s->room, 0, s->options.bytes + MARGIN); /* so that no pass waits for the memory either */
     setvbuf(s->out, s->room, _IOFBF, s->options.bytes + MARGIN);
     caladan_history_begin(s->out);
 }

@@ -99,11 +99,19 @@ static int file_of_peer(int connection, const struct ucred *peer) {
     return (int)syscall(SYS_pidfd_open, peer->pid, 0);
 }
 
+static void bury(scheduler *s, host_task *task);
+
+static bool has_ended(const host_task *task) {
+    struct pollfd file = {task->file, POLLIN, 0};
+    return task->pid && poll(&file, 1, 0) > 0;
+}
+
 static void admit(scheduler *s, host_task *task) {
     int connection = accept4(task->listener, NULL, NULL, SOCK_CLOEXEC | SOCK_NONBLOCK), file = -1;
     struct ucred peer = {0, 0, 0};
     socklen_t length = sizeof peer;
     if (connection < 0) return;
+    if (has_ended(task)) bury(s, task); /* its predecessor, which may have ended since we looked */
     getsockopt(connection, SOL_SOCKET, SO_PEERCRED, &peer, &length);
     uint32_t status = task->pid ? HOST_TAKEN : peer.uid != geteuid() ? HOST_OTHER_USER : HOST_DONE;
     if (status == HOST_DONE) file = file_of_peer(connection, &peer);
@@ -136,6 +144,7 @@ static void bury(scheduler *s, host_task *task) {
         host_slot *slot = thread->slot;
         thread->sender.ring = &slot->ring;
         atomic_store(&slot->ring.sent, thread->sender.sent);
+        atomic_store(&slot->ring.taken, thread->sender.sent);
         thread->pinned = 0;
         if (thread->by_hand) continue;
         uint8_t said = caladan_gone(&s->handle, k, &thread->gone);
@@ -151,11 +160,8 @@ static void bury(scheduler *s, host_task *task) {
 }
 
 void bury_each(scheduler *s) {
-    struct pollfd files[HOST_TASKS];
-    for (unsigned t = 0; t < s->machine.tasks; t++) files[t] = (struct pollfd){s->task[t].file, POLLIN, 0};
-    if (poll(files, s->machine.tasks, 0) <= 0) return;
     for (unsigned t = 0; t < s->machine.tasks; t++)
-        if (files[t].revents) bury(s, &s->task[t]);
+        if (has_ended(&s->task[t])) bury(s, &s->task[t]);
 }
 
 /* ---- who does not leave ---- */
