@@ -82,9 +82,9 @@ static options read_options(int count, char **words) {
 
 static char *text_of(const char *path) {
     enum { MOST = 1 << 20 };
+    static char text[MOST];
     FILE *file = fopen(path, "r");
-    char *text = calloc(1, MOST);
-    if (file == NULL || text == NULL) fail(path, strerror(errno));
+    if (file == NULL) fail(path, strerror(errno));
     size_t length = fread(text, 1, MOST - 1, file);
     if (ferror(file)) fail(path, strerror(errno));
     fclose(file);
@@ -188,6 +188,5 @@ int main(int count, char **words) {
     latency_print(&s.latency, stdout);
     close_tasks(&s);
     free(s.room);
-    free(s.table);
     return 0;
 }
