@@ -62,12 +62,13 @@ static bool is_granted_to(const latency_thread *threads, uint8_t task, const cal
     return false;
 }
 
-/* A core that was revoked is free. Where its task wants none any more, the move was for nothing. */
-static void decided_free(latency *l, uint8_t core, const latency_thread *threads, const caladan_action *actions, size_t made) {
+/* A core that was revoked is free. Where its task wants none any more, the move was for nothing. A stamp that is
+ * later than the pass is no time. */
+static void decided_free(latency *l, uint64_t now, uint8_t core, const latency_thread *threads, const caladan_action *actions, size_t made) {
     uint64_t stamp = threads[l->left_by[core]].shown.stamp, from = l->revoked[core];
     uint8_t task = l->revoked_for[core];
     if (from == 0) return;
-    add(&l->leaving, stamp > from ? stamp - from : 0);
+    if (stamp <= now) add(&l->leaving, stamp > from ? stamp - from : 0);
     l->revoked[core] = 0;
     if (task == 255 || is_granted_to(threads, task, actions, made)) return;
     l->asked[task] = 0;
@@ -77,19 +78,19 @@ static void decided_free(latency *l, uint8_t core, const latency_thread *threads
 void latency_decided(latency *l, uint64_t now, const latency_thread *threads, size_t count, const caladan_action *actions, size_t made) {
     for (size_t i = 0; i < made; i++) {
         const caladan_action *a = &actions[i];
-        if (a->kind == CALADAN_FREE) decided_free(l, a->core, threads, actions, made);
+        if (a->kind == CALADAN_FREE) decided_free(l, now, a->core, threads, actions, made);
         if (a->kind == CALADAN_REVOKE) decided_revoke(l, now, a);
         if (a->kind == CALADAN_GRANT) decided_grant(l, now, threads, count, a);
     }
 }
 
-void latency_looked(latency *l, const latency_thread *threads, size_t count) {
+void latency_looked(latency *l, uint64_t now, const latency_thread *threads, size_t count) {
     for (size_t k = 0; k < count; k++) {
         const caladan_look *shown = &threads[k].shown;
         if (l->on[k] == 0 || shown->running != l->on[k] || shown->stamp < l->granted[k]) continue;
         uint64_t start = shown->started > l->granted[k] ? shown->started : shown->stamp;
         l->on[k] = 0;
-        if (!threads[k].is_critical) continue;
+        if (!threads[k].is_critical || start > now) continue;
         add(&l->starting, start - l->granted[k]);
         add(&l->moving, start - l->decided[k]);
         add(&l->waiting, start - l->granted[k] + l->waited[k]);

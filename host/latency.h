@@ -30,6 +30,6 @@ typedef struct latency_thread {
 
 void latency_begin_piece(latency *l);
 void latency_decided(latency *l, uint64_t now, const latency_thread *threads, size_t count, const caladan_action *actions, size_t made);
-void latency_looked(latency *l, const latency_thread *threads, size_t count);
+void latency_looked(latency *l, uint64_t now, const latency_thread *threads, size_t count);
 void latency_print(const latency *l, FILE *out);
 #endif

@@ -114,7 +114,7 @@ void make_pass(scheduler *s) {
     move_cores(s, now);
     note_judged(s);
     latency_decided(&s->latency, now, s->shown, count, s->action, s->made);
-    latency_looked(&s->latency, s->shown, count);
+    latency_looked(&s->latency, now, s->shown, count);
     if (s->out) caladan_history_pass(s->out, true, now, figure, s->look, s->judged, count, s->action, s->made);
     s->passes++;
     s->counts.passes++;
