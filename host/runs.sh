@@ -1,4 +1,4 @@
-# runs.sh: what host/check and host/soak share. To be sourced; `top` is the repository, `build` a folder of their own.
+# runs.sh: what host/check, host/soak and host/measure share. To be sourced; `top` is the repository, `build` a folder to build in.
 
 # The processors that we may use: the last two are managed, and one before them is the scheduler's, if there is one.
 allowed=()
@@ -10,14 +10,16 @@ managed=none own=()
 [ "$count" -ge 2 ] && managed=${allowed[count - 2]},${allowed[count - 1]}
 [ "$count" -ge 3 ] && own=(-o "${allowed[count - 3]}")
 
-# What audits: CALADAN_SIM, else the proved program, else one that is built unproved.
+# What audits: CALADAN_SIM, else the proved program. Where neither is there, clients/c/audit.c over the proved library: an
+# unproved caladan_sim takes minutes for a long record.
 if [ -n "${CALADAN_SIM-}" ]; then
     sim=("$CALADAN_SIM" audit)
 elif [ -x "$top/crates/caladan_sim/out/caladan_sim" ]; then
     sim=("$top/crates/caladan_sim/out/caladan_sim" audit)
 else
-    sim=("$top/tools/run_program" caladan_sim audit)
+    sim=("$build/audit")
 fi
+needs_audit() { [ "${sim[0]}" = "$build/audit" ]; }
 
 # is_legal TABLE HISTORY
 is_legal() { [ "$({ cat "$1"; echo ---; cat "$2"; } | "${sim[@]}" 2> /dev/null | tail -n 1)" = legal ]; }
