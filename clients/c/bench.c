@@ -1,5 +1,11 @@
-/* Passes at 128 threads, or as many as the last word says, over threads that take what they are sent, work,
- * yield and ask again. Times each caladan_pass alone. */
+/* Times each pass alone, over made threads that take what they are sent, work, yield and ask again.
+ *
+ *     bench [PASSES [EACH [YIELDS [ASKS [FRESH [MORE [THREADS]]]]]]]
+ *
+ * A thread has its turn in one pass of EACH; on a core it yields in one turn of YIELDS, begins another request in one
+ * of FRESH, and has one more request waiting in one of MORE (0: never); off a core it asks for one in one of ASKS.
+ * As many cores as threads, and a latency-critical task for each eight of them. Compiled with -DGUARD it times
+ * caladan_guard_pass on the same looks and the actions that caladan_pass chose, in place of caladan_pass. */
 #define _GNU_SOURCE
 #include "caladan.h"
 #include <stdio.h>
@@ -7,87 +13,194 @@
 #include <string.h>
 #include <time.h>
 
-enum { MOST = 128 };
-static int THREADS = 128, CORES = 128; /* by the last argument: 16, 64 or 128 of each */
-static uint64_t ns(void) { struct timespec t; clock_gettime(CLOCK_MONOTONIC, &t); return (uint64_t)t.tv_sec * 1000000000u + (uint64_t)t.tv_nsec; }
-static uint64_t seed = 88172645463325252u;
-static uint32_t chance(uint32_t n) { seed ^= seed << 13; seed ^= seed >> 7; seed ^= seed << 17; return (uint32_t)(seed >> 33) % n; }
-static int less(const void *a, const void *b) { uint64_t x = *(const uint64_t *)a, y = *(const uint64_t *)b; return (x > y) - (x < y); }
+enum { MOST = 128, RING = 4, PARK = -1 };
 
-typedef struct { int command[4]; int count; } ring; /* a core, or -1 for Park */
+typedef struct {
+    int command[RING]; /* a core, or PARK */
+    int count;
+} ring;
+
+static int passes = 20000, THREADS = 128;
+static uint32_t each = 4, yields = 16, asks = 16, fresh = 16, more = 64;
 static ring rings[MOST];
 static int core_of[MOST], holder[MOST];
 static caladan_look looks[MOST];
+static caladan_action actions[CALADAN_MOST_ACTIONS];
+static uint8_t judged[MOST];
+static uint64_t changed, on_core, kinds[CALADAN_GRANT + 1];
+static caladan scheduler;
+#ifdef GUARD
+static caladan_guard guard;
+#endif
 
-static uint32_t fresh = 16, more = 64;
-static void turn(int k, uint64_t now, uint32_t yields, uint32_t asks) {
+static uint64_t ns(void) {
+    struct timespec t;
+    clock_gettime(CLOCK_MONOTONIC, &t);
+    return (uint64_t)t.tv_sec * 1000000000u + (uint64_t)t.tv_nsec;
+}
+
+static uint32_t chance(uint32_t n) {
+    static uint64_t seed = 88172645463325252u;
+    seed ^= seed << 13;
+    seed ^= seed >> 7;
+    seed ^= seed << 17;
+    return (uint32_t)(seed >> 33) % n;
+}
+
+static int less(const void *a, const void *b) {
+    uint64_t x = *(const uint64_t *)a, y = *(const uint64_t *)b;
+    return (x > y) - (x < y);
+}
+
+/* The thread takes its next command. */
+static void take(int k, uint64_t now) {
+    caladan_look *it = &looks[k];
+    int core = rings[k].command[0];
+    memmove(rings[k].command, rings[k].command + 1, (RING - 1) * sizeof(int));
+    rings[k].count--;
+    core_of[k] = core;
+    it->taken++;
+    it->running = (uint64_t)(core + 1);
+    it->started = core == PARK ? 0 : now;
+    if (core != PARK) it->queued = 0;
+}
+
+/* The thread is on its core: it yields, or begins another request, or one more waits for it. */
+static void work(int k, uint64_t now) {
+    caladan_look *it = &looks[k];
+    if (chance(yields) == 0) {
+        core_of[k] = PARK;
+        it->running = 0;
+        it->started = 0;
+        it->queued = 0;
+    } else if (chance(fresh) == 0) {
+        it->started = now;
+    } else if (more && chance(more) == 0) {
+        it->queued = 1;
+        it->oldest = now;
+    }
+}
+
+static void turn(int k, uint64_t now) {
     caladan_look *it = &looks[k], old = *it;
     if (rings[k].count) {
-        int c = rings[k].command[0];
-        memmove(rings[k].command, rings[k].command + 1, 3 * sizeof(int));
-        rings[k].count--;
-        core_of[k] = c;
-        it->taken++;
-        it->running = (uint64_t)(c + 1);
-        it->started = c < 0 ? 0 : now;
-        if (c >= 0) it->queued = 0;
-    } else if (core_of[k] >= 0) {
-        if (chance(yields) == 0) { core_of[k] = -1; it->running = 0; it->started = 0; it->queued = 0; }
-        else if (chance(fresh) == 0) it->started = now;          /* another request */
-        else if (more && chance(more) == 0) { it->queued = 1; it->oldest = now; }
-    } else if (chance(asks) == 0) { it->queued = 1; it->oldest = now - 11; }
-    if (memcmp(&old, it, sizeof old)) { it->number++; it->misses += chance(100); it->stamp = now; }
+        take(k, now);
+    } else if (core_of[k] != PARK) {
+        work(k, now);
+    } else if (chance(asks) == 0) {
+        it->queued = 1;
+        it->oldest = now - 11;
+    }
+    if (memcmp(&old, it, sizeof old)) {
+        it->number++;
+        it->misses += chance(100);
+        it->stamp = now;
+    }
+}
+
+static void turn_all(uint64_t now) {
+    for (int k = 0; k < THREADS; k++) {
+        uint64_t was = looks[k].number;
+        if (chance(each) == 0) turn(k, now);
+        looks[k].room = rings[k].count < RING;
+        changed += looks[k].number != was;
+        on_core += core_of[k] != PARK;
+    }
+}
+
+/* What the pass did goes out on the rings. */
+static void send(size_t made) {
+    for (size_t i = 0; i < made; i++) {
+        const caladan_action *a = &actions[i];
+        kinds[a->kind]++;
+        if (a->kind == CALADAN_GRANT) {
+            ring *r = &rings[a->thread];
+            r->command[r->count++] = a->core;
+            holder[a->core] = a->thread;
+        } else if (a->kind == CALADAN_REVOKE) {
+            ring *r = &rings[holder[a->core]];
+            r->command[r->count++] = PARK;
+        }
+    }
+}
+
+static int open_all(void) {
+    static char text[4096];
+    int n = sprintf(text, "cores = %d\nbandwidth_limit = 1000\n", THREADS);
+    for (int t = 0; t < THREADS / 8; t++)
+        n += sprintf(text + n, "[[task]]\nkind = \"lc\"\nguaranteed = 8\nlimit = 8\ndelay = 10\nrequest = 50\n");
+    int said = caladan_open((const uint8_t *)text, (size_t)n, &scheduler);
+#ifdef GUARD
+    if (!said) said = caladan_guard_open((const uint8_t *)text, (size_t)n, &guard);
+#endif
+    if (said) fprintf(stderr, "table fault %d\n", said);
+    for (int k = 0; k < MOST; k++) core_of[k] = holder[k] = PARK;
+    return said;
+}
+
+/* One pass at this clock: what it took in ns, or 0 where it was refused. */
+static uint64_t pass(uint64_t now) {
+    int said;
+    size_t made;
+    uint64_t before = ns();
+    said = caladan_pass(&scheduler, now, 0, looks, (size_t)THREADS, judged, sizeof judged, actions, CALADAN_MOST_ACTIONS, &made);
+    uint64_t after = ns();
+#ifdef GUARD
+    caladan_refused refused;
+    if (!said) {
+        before = ns();
+        said = caladan_guard_pass(&guard, now, 0, looks, (size_t)THREADS, judged, sizeof judged, actions, made, &refused);
+        after = ns();
+    }
+#endif
+    if (said) {
+        fprintf(stderr, "refused %d\n", said);
+        return 0;
+    }
+    send(made);
+    return after > before ? after - before : 1;
+}
+
+static double clock_cost(void) {
+    uint64_t begun = ns();
+    for (int i = 0; i < 1000000; i++) (void)ns();
+    return (double)(ns() - begun) / 1e6;
+}
+
+static void print(uint64_t *took) {
+    double sum = 0, count = passes;
+    for (int p = 0; p < passes; p++) sum += (double)took[p];
+    qsort(took, (size_t)passes, sizeof *took, less);
+    printf("%d passes: mean %.0f ns, median %llu, 1%% %llu, 99%% %llu, max %llu (a clock's call %.0f ns is in each)\n", passes, sum / count,
+           (unsigned long long)took[passes / 2], (unsigned long long)took[passes / 100], (unsigned long long)took[passes * 99L / 100],
+           (unsigned long long)took[passes - 1], clock_cost());
+    printf("a pass: %.1f records changed, %.1f threads on a core; actions: %.2f free %.2f unban %.2f ban %.2f revoke %.2f cap %.2f grant\n",
+           (double)changed / count, (double)on_core / count, (double)kinds[CALADAN_FREE] / count, (double)kinds[CALADAN_UNBAN] / count,
+           (double)kinds[CALADAN_BAN] / count, (double)kinds[CALADAN_REVOKE] / count, (double)kinds[CALADAN_CAP] / count,
+           (double)kinds[CALADAN_GRANT] / count);
 }
 
 int main(int argc, char **argv) {
-    int passes = argc > 1 ? atoi(argv[1]) : 20000;
-    uint32_t each = argc > 2 ? (uint32_t)atoi(argv[2]) : 4;    /* a thread turns in one pass of so many */
-    uint32_t yields = argc > 3 ? (uint32_t)atoi(argv[3]) : 16, asks = argc > 4 ? (uint32_t)atoi(argv[4]) : 16;
-    if (argc > 5) fresh = (uint32_t)atoi(argv[5]);   /* a request takes so many turns */
-    if (argc > 6) more = (uint32_t)atoi(argv[6]);    /* while it works another request waits, in one turn of so many; 0: never */
-    if (argc > 7) THREADS = CORES = atoi(argv[7]);
-    int tasks = THREADS / 8;
-    static uint8_t judged[MOST];
-    static char text[4096];
-    int n = sprintf(text, "cores = %d\nbandwidth_limit = 1000\n", CORES);
-    for (int t = 0; t < tasks; t++) n += sprintf(text + n, "[[task]]\nkind = \"lc\"\nguaranteed = 8\nlimit = 8\ndelay = 10\nrequest = 50\n");
-    caladan h = CALADAN_CLOSED;
-    int said = caladan_open((const uint8_t *)text, (size_t)n, &h);
-    if (said) { fprintf(stderr, "table fault %d\n", said); return 1; }
-    if (caladan_threads(&h) != (size_t)THREADS) return 2;
-    for (int k = 0; k < THREADS; k++) { core_of[k] = -1; looks[k].oldest = 0; }
-    for (int c = 0; c < CORES; c++) holder[c] = -1;
-    static caladan_action actions[CALADAN_MOST_ACTIONS];
-    uint64_t *took = malloc(sizeof *took * (size_t)passes), sum = 0, kinds[7] = {0}, changed = 0, on_core = 0;
-    uint64_t c0 = ns(); for (int i = 0; i < 1000000; i++) (void)ns(); double clock_cost = (double)(ns() - c0) / 1e6;
+    if (argc > 1) passes = atoi(argv[1]);
+    uint32_t *words[] = {&each, &yields, &asks, &fresh, &more};
+    for (int i = 2; i < argc && i < 7; i++) *words[i - 2] = (uint32_t)atoi(argv[i]);
+    if (argc > 7) THREADS = atoi(argv[7]);
+    if (passes < 1 || THREADS < 8 || THREADS > MOST || !each || !yields || !asks || !fresh) return 2;
+    if (open_all()) return 1;
+    if (caladan_threads(&scheduler) != (size_t)THREADS) return 2;
+    uint64_t *took = malloc(sizeof *took * (size_t)passes);
+    if (!took) return 4;
     for (int p = 0; p < passes; p++) {
         uint64_t now = 1000 + 10 * (uint64_t)p;
-        for (int k = 0; k < THREADS; k++) {
-            uint64_t was = looks[k].number;
-            if (chance(each) == 0) turn(k, now, yields, asks);
-            looks[k].room = rings[k].count < 4;
-            changed += looks[k].number != was;
-            on_core += core_of[k] >= 0;
-        }
-        size_t made;
-        uint64_t before = ns();
-        said = caladan_pass(&h, now + 5, 0, looks, (size_t)THREADS, judged, sizeof judged, actions, CALADAN_MOST_ACTIONS, &made);
-        uint64_t after = ns();
-        took[p] = after - before; sum += took[p];
-        if (said) { fprintf(stderr, "pass %d refused %d\n", p, said); return 3; }
-        for (size_t i = 0; i < made; i++) {
-            const caladan_action *a = &actions[i];
-            kinds[a->kind]++;
-            if (a->kind == CALADAN_GRANT) { ring *r = &rings[a->thread]; r->command[r->count++] = a->core; holder[a->core] = a->thread; }
-            if (a->kind == CALADAN_REVOKE) { ring *r = &rings[holder[a->core]]; r->command[r->count++] = -1; }
-        }
+        turn_all(now);
+        took[p] = pass(now + 5);
+        if (!took[p]) return 3;
     }
-    qsort(took, (size_t)passes, sizeof *took, less);
-    printf("%d passes: mean %.0f ns, median %llu, 1%% %llu, 99%% %llu, max %llu (a clock's call %.0f ns is in each)\n", passes, (double)sum / passes,
-        (unsigned long long)took[passes / 2], (unsigned long long)took[passes / 100], (unsigned long long)took[passes * 99 / 100], (unsigned long long)took[passes - 1], clock_cost);
-    printf("a pass: %.1f records changed, %.1f threads on a core; actions: %.2f free %.2f unban %.2f ban %.2f revoke %.2f cap %.2f grant\n", (double)changed / passes, (double)on_core / passes,
-        (double)kinds[1] / passes, (double)kinds[2] / passes, (double)kinds[3] / passes, (double)kinds[4] / passes, (double)kinds[5] / passes, (double)kinds[6] / passes);
-    caladan_close(&h);
+    print(took);
+    caladan_close(&scheduler);
+#ifdef GUARD
+    caladan_guard_close(&guard);
+#endif
     free(took);
     return 0;
 }
