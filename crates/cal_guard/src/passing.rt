@@ -300,7 +300,7 @@ impl Passing {
         }
     }
 
-    /// A state like this one, to try actions on.
+    /// A state like this one, to go back to.
     pub fn duplicate(&self) -> Passing
         ensures { result ≡ self.now }
     {
