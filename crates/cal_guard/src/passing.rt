@@ -304,9 +304,8 @@ impl Passing {
     pub fn duplicate(&self) -> Passing
         ensures { result ≡ self.now }
     {
-        let board = self.board.duplicate();
         Passing {
-            board,
+            board: self.board.duplicate(),
             sent: self.sent,
             made: self.made,
         }
