@@ -6,6 +6,7 @@
 #![tactic(auto)]
 
 mod clocks;
+mod cores;
 mod requests;
 mod services;
 mod spread;
@@ -13,6 +14,7 @@ mod states;
 mod turns;
 
 pub use clocks::{ArrivalClocks, last_clock};
+pub use cores::{MachineCores, TaskActions, TaskCores};
 pub use requests::{TaskRequests, requests_of};
 pub use services::{Service, services_of};
 pub use spread::{Spread, spread_of};
