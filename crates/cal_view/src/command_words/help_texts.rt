@@ -101,13 +101,18 @@ END";
 pub const MEASURE: &str = "\
 Standard input: a task table (TOML), the line ---, and arrivals (CSV), as `caladan_sim lockstep`
 reads.
-Standard output: the numbers of each task's requests, in the run that `caladan_sim lockstep` makes,
-in clock ticks; with --csv as CSV. A request arrives at the clock of its turn, is begun at the stamp
+Standard output: the numbers of each task's requests and cores, in the run that `caladan_sim
+lockstep` makes, in clock ticks; with --csv as CSV. A request arrives at the clock of its turn, is begun at the stamp
 of the first publication with it at work, and answered at the stamp of the publication of the turn
 that served it. `response` is from arrival to answer and `wait` from arrival until begun, of those
 that were served: the least, by nearest rank the median, 90, 99 and 99.9 of 100, and the greatest.
 `longest left` is from arrival to the last turn's clock, of those that were left. Of nothing there
 is a dash.
+Of cores: the grants to the task's threads by class; the cores that it lost, to bans, to the
+bandwidth limit, to congested tasks; those that others lost for it; how often it was given a cap;
+the bans for its threads; the most cores that it held after a pass, and how many over the run's
+clock. `machine` is of the machine's core time: the parts held, being left, banned and empty, and
+free to be granted. A state lasts from its pass's clock to the next pass's.
 Exit status: 0 done, 2 a refused input, 3 memory or output was refused.
 
 To try it:
@@ -152,4 +157,19 @@ wait 90 of 100               20
 wait 99 of 100               20
 wait 99.9 of 100             20
 wait greatest                20
-longest left                  -";
+longest left                  -
+grants class 1                0
+grants class 2                0
+grants class 3                1
+lost to bans                  0
+lost to bandwidth             0
+lost to tasks                 0
+lost by others                0
+caps                          0
+bans                          0
+most cores held               1
+mean cores held           0.500
+machine held              0.250
+machine leaving           0.000
+machine banned            0.000
+machine free              0.750";
