@@ -1,0 +1,5 @@
+pub mod Joined
+pub mod Shorter
+pub mod Tables
+pub mod Columns
+pub mod Variations

@@ -3,9 +3,12 @@
 //! Which numbers these are is proved (`measured`); how they are written is only tested.
 #![tactic(auto)]
 
+mod comparing;
 mod input;
 mod measuring;
 mod sheet;
 mod writing;
 
+pub use comparing::fault::ComparisonFault;
+pub use comparing::{Comparison, Variation, compare, compared, compared_values};
 pub use measuring::{measure, measured};
