@@ -2,12 +2,13 @@
 //! out.
 
 use crate::command_words::command_line::{Job, help, words};
-use crate::command_words::fault::fault_line;
+use crate::command_words::fault::{comparison_fault_line, fault_line};
+use crate::command_words::variation::{key_of, values_of};
 use crate::picture::draw_picture;
 use crate::recording::record;
 use crate::timeline::write_timeline;
 use cal_engine::{RunFault, read_input, refuse_words, status};
-use cal_tables::measure;
+use cal_tables::{ComparisonFault, Variation, compare, measure};
 use std::alloc::Global;
 use std::io::{BufWriter, Read, Write};
 
@@ -52,6 +53,9 @@ fn answer_words<R: Read + Drop, W: Write, E: Write>(
     }
     match words(alloc, given.as_slice()) {
         Ok(Job::Help) => say_help(alloc, errors),
+        Ok(Job::Compare { vary, csv }) => {
+            answer_compare(alloc, reader, vary, csv, output, errors)
+        }
         Ok(job) => {
             do_job(alloc, job, reader, output)?;
             Ok(0)
@@ -85,11 +89,60 @@ fn do_job<R: Read + Drop, W: Write>(
         Job::Picture { from, passes } => picture(alloc, reader, from, passes, &mut buffer)?,
         Job::Timeline => timeline(alloc, reader, &mut buffer)?,
         Job::Measure { csv } => measure(alloc, reader, csv, &mut buffer)?,
-        Job::Help => {}
+        Job::Compare { .. } | Job::Help => {}
     }
     match buffer.flush() {
         Ok(()) => Ok(()),
         Err(_) => Err(RunFault::Write),
+    }
+}
+
+/// Compares the runs of an input, and answers the exit status: its faults name the table or the
+/// value that has them.
+fn answer_compare<R: Read + Drop, W: Write, E: Write>(
+    alloc: Global,
+    reader: R,
+    vary: Option<&str>,
+    csv: bool,
+    output: &mut W,
+    errors: &mut E,
+) -> Result<u8, RunFault> {
+    let values = match vary {
+        Some(vary) => values_of(alloc, vary)?,
+        None => Vec::new(alloc),
+    };
+    let variation = match vary {
+        Some(vary) => Some(Variation {
+            key: key_of(vary),
+            values: values.as_slice(),
+        }),
+        None => None,
+    };
+    match write_comparison(alloc, reader, variation, csv, output) {
+        Ok(()) => Ok(0),
+        Err(fault) => {
+            let _ = comparison_fault_line(&fault, variation, errors);
+            Ok(status(&fault.fault))
+        }
+    }
+}
+
+/// Compares the runs of an input. What is written goes through a buffer.
+fn write_comparison<R: Read + Drop, W: Write>(
+    alloc: Global,
+    reader: R,
+    variation: Option<Variation<'_>>,
+    csv: bool,
+    output: &mut W,
+) -> Result<(), ComparisonFault> {
+    let mut buffer = match BufWriter::new(alloc, output) {
+        Ok(buffer) => buffer,
+        Err(_) => return Err(ComparisonFault::from(RunFault::Memory)),
+    };
+    compare(alloc, reader, variation, csv, &mut buffer)?;
+    match buffer.flush() {
+        Ok(()) => Ok(()),
+        Err(_) => Err(ComparisonFault::from(RunFault::Write)),
     }
 }
 
