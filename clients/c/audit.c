@@ -112,7 +112,7 @@ static int run(caladan_audit *audit, char *row) {
 }
 
 int main(void) {
-    static char text[1 << 20];
+    static char text[(1 << 26) + 2]; /* as much as caladan_sim reads */
     size_t length = fread(text, 1, sizeof text - 1, stdin);
     char *end = strstr(text, "\n---\n");
     if (!end || length == sizeof text - 1) return refuse("no separator, or too long");

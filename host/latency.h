@@ -1,0 +1,35 @@
+/* latency.h: how long the steps of a core's move take, as histograms. */
+#ifndef LATENCY_H
+#define LATENCY_H
+#include "caladan.h"
+#include <stdio.h>
+
+enum { LATENCY_BUCKETS = 40 * 8 };
+
+typedef struct histogram {
+    uint64_t count, bucket[LATENCY_BUCKETS]; /* eight to each power of two */
+} histogram;
+
+typedef struct latency {
+    /* what is under way in this piece; 0 is nothing */
+    uint64_t asked[16];                                        /* of a task: when a core was revoked for it */
+    uint64_t revoked[128];                                     /* of a core: when */
+    uint8_t revoked_for[128], left_by[128];                    /* for which task, or 255; and from which thread */
+    uint64_t granted[128], decided[128], waited[128], on[128]; /* of a thread that is not seen on its core yet */
+    /* of the whole run */
+    uint64_t wasted;
+    histogram leaving, starting, moving, waiting;
+} latency;
+
+/* The record of a thread that counts, and which task's it is. */
+typedef struct latency_thread {
+    caladan_look shown;
+    uint8_t task;
+    bool is_critical;
+} latency_thread;
+
+void latency_begin_piece(latency *l);
+void latency_decided(latency *l, uint64_t now, const latency_thread *threads, size_t count, const caladan_action *actions, size_t made);
+void latency_looked(latency *l, uint64_t now, const latency_thread *threads, size_t count);
+void latency_print(const latency *l, FILE *out);
+#endif

@@ -1,0 +1,239 @@
+/* load.c: two tasks to see the scheduler at work, and to measure. Built over caladan_rt.c it is `load`, over
+ * plain_rt.c, where Linux alone decides, `load_plain`.
+ *
+ *   load spin                 prints how many turns of the loop are a microsecond
+ *   load lc -n NAME -u TASK [-s SECONDS] [-q REQUESTS_A_SECOND] [-m MICROSECONDS] [-i IDLE_NS] [-x CPU] [-k TURNS] [-c COUNTER]
+ *   load be -n NAME -u TASK [-s SECONDS] [-i IDLE_NS] [-b] [-k TURNS] [-c COUNTER]
+ *
+ * lc: requests come at times that are drawn beforehand (Poisson), whether earlier ones are served or not, and the
+ * time of a request counts from there. A request is a number of turns of a loop, so that what does not run
+ * does not count as work. With -x whoever hands requests in spins on that processor, else he sleeps. The first half
+ * second is not measured. be: work without end, in pieces of 10 microseconds, which are counted in the file COUNTER;
+ * -b: each piece reads 64 KiB of 256 MiB. lc reads that file, and says how many pieces were done meanwhile. */
+#define _GNU_SOURCE
+#include "caladan_rt.h"
+#include <errno.h>
+#include <fcntl.h>
+#include <math.h>
+#include <sched.h>
+#include <stdatomic.h>
+#include <stdio.h>
+#include <stdlib.h>
+#include <string.h>
+#include <sys/mman.h>
+#include <time.h>
+#include <unistd.h>
+
+enum { PIECE = 1 << 16, PIECES_OF_A_CHUNK = 100, COUNTERS = 16 };
+#define BUFFER ((size_t)256 << 20)
+#define WARM_UP 500000000u
+
+typedef struct counter {
+    _Alignas(128) _Atomic uint64_t pieces;
+} counter;
+
+static struct {
+    const char *name, *counter;
+    unsigned task;
+    double turns, microseconds, rate, seconds;
+    int cpu;
+    bool bytes;
+    uint64_t idle_ns;
+} options = {.microseconds = 20, .rate = 10000, .seconds = 1, .cpu = -1, .idle_ns = 5000};
+
+static caladan_rt *rt;
+static counter *counters;
+static _Atomic uint64_t *took; /* of each request: its response time, or 0 */
+static char *buffer;
+static volatile uint64_t sink;
+
+static uint64_t spin(uint64_t turns) {
+    uint64_t x = 1;
+    for (; turns; turns--) {
+        x = x * 6364136223846793005u + 1442695040888963407u;
+        __asm__ volatile("" : "+r"(x));
+    }
+    return x;
+}
+
+static uint64_t clock_ns(void) {
+    struct timespec t;
+    clock_gettime(CLOCK_MONOTONIC, &t);
+    return (uint64_t)t.tv_sec * 1000000000u + (uint64_t)t.tv_nsec;
+}
+
+static void die(const char *what, const char *why) {
+    fprintf(stderr, "load: %s: %s\n", what, why);
+    exit(2);
+}
+
+static double turns_of_a_microsecond(void) {
+    double best = 1e18;
+    for (int i = 0; i < 50; i++) {
+        uint64_t from = clock_ns();
+        sink = spin(200000);
+        double ns = (double)(clock_ns() - from);
+        if (ns < best) best = ns;
+    }
+    return 200000 * 1e3 / best;
+}
+
+static void start(caladan_serve *serve) {
+    rt = caladan_rt_start(options.name, options.task, options.idle_ns, serve, NULL);
+    char task[64];
+    snprintf(task, sizeof task, "task %u", options.task);
+    if (rt == NULL) die(task, caladan_rt_why(errno));
+}
+
+/* ---- the latency-critical task ---- */
+
+static void serve_request(void *with, unsigned thread, caladan_request request) {
+    (void)with, (void)thread;
+    spin((uint64_t)(options.turns * options.microseconds));
+    took[request.what] = caladan_rt_now(rt) - request.arrived;
+}
+
+static uint64_t draw(uint64_t *state) {
+    *state ^= *state << 13, *state ^= *state >> 7, *state ^= *state << 17;
+    return *state;
+}
+
+static int compare(const void *a, const void *b) {
+    uint64_t x = *(const uint64_t *)a, y = *(const uint64_t *)b;
+    return (x > y) - (x < y);
+}
+
+static uint64_t pieces(void) {
+    uint64_t sum = 0;
+    for (int i = 0; i < COUNTERS; i++) sum += atomic_load(&counters[i].pieces);
+    return sum;
+}
+
+static void wait_until(uint64_t due) {
+    for (uint64_t now; (now = caladan_rt_now(rt)) < due;) {
+        struct timespec rest = {(time_t)((due - now) / 1000000000u), (long)((due - now) % 1000000000u)};
+        if (options.cpu < 0) nanosleep(&rest, NULL);
+    }
+}
+
+/* Requests from `from` on: arrived[i] of each, `until` they end. Answers how many; *first: the first after `begin`. */
+static size_t hand_in(uint64_t *arrived, size_t room, uint64_t begin, uint64_t end, size_t *first, uint64_t *work) {
+    uint64_t state = 88172645463325252u ^ (uint64_t)getpid() << 20;
+    double at = (double)caladan_rt_now(rt) + 2e7;
+    size_t count = 0;
+    *first = *work = 0;
+    for (bool began = false; count < room && (count % 64 || !caladan_rt_is_over(rt)); count++) {
+        at += -log(((double)(draw(&state) >> 11) + 1) / 9007199254740993.0) * 1e9 / options.rate;
+        uint64_t due = (uint64_t)at;
+        if (due >= end) break;
+        wait_until(due);
+        if (!began && due >= begin) *work = pieces(), *first = count, began = true;
+        arrived[count] = due;
+        caladan_rt_submit(rt, (unsigned)(draw(&state) >> 20) % caladan_rt_threads(rt), (caladan_request){due, count});
+    }
+    return count;
+}
+
+/* Requests that are not served by now count with the time that they have waited. */
+static void report(const uint64_t *arrived, size_t first, size_t count, uint64_t work) {
+    uint64_t now = caladan_rt_now(rt), *times = malloc((count - first) * sizeof *times + 8);
+    size_t unserved = 0, n = count - first;
+    for (size_t i = 0; i < n; i++) {
+        times[i] = took[first + i];
+        if (times[i] == 0) times[i] = now - arrived[first + i], unserved++;
+    }
+    qsort(times, n, sizeof *times, compare);
+#define AT(share) (n ? (double)times[(size_t)((double)(n - 1) * (share))] / 1000 : 0)
+    printf("{\"requests\": %zu, \"unserved\": %zu, \"p50\": %.1f, \"p90\": %.1f, \"p99\": %.1f, \"p999\": %.1f, \"max\": %.1f, \"be_cores\": %.4f}\n", n,
+           unserved, AT(0.5), AT(0.9), AT(0.99), AT(0.999), AT(1), (double)work * 1e-5 / options.seconds);
+    free(times);
+}
+
+static int latency_critical(void) {
+    size_t room = (size_t)(options.rate * (options.seconds + 1) * 1.2) + 1000, first;
+    uint64_t *arrived = malloc(room * sizeof *arrived), work;
+    cpu_set_t cpus;
+    took = calloc(room, sizeof *took);
+    if (took == NULL || arrived == NULL) die("requests", strerror(errno));
+    memset(arrived, 0, room * sizeof *arrived);
+    start(serve_request);
+    CPU_ZERO(&cpus);
+    if (options.cpu >= 0) CPU_SET((size_t)options.cpu, &cpus), sched_setaffinity(0, sizeof cpus, &cpus);
+    uint64_t begin = caladan_rt_now(rt) + WARM_UP, end = begin + (uint64_t)(options.seconds * 1e9);
+    size_t count = hand_in(arrived, room, begin, end, &first, &work);
+    while (caladan_rt_now(rt) < end && !caladan_rt_is_over(rt)) {
+        uint64_t soon = caladan_rt_now(rt) + 20000000;
+        wait_until(soon < end ? soon : end);
+    }
+    work = pieces() - work;
+    usleep(100000);
+    report(arrived, first, count, work);
+    fflush(stdout);
+    _exit(0);
+}
+
+/* ---- the best-effort task ---- */
+
+static void read_piece(unsigned thread) {
+    static _Thread_local size_t at;
+    uint64_t sum = 0;
+    const char *piece = buffer + (at + thread * (BUFFER / 4)) % BUFFER;
+    for (size_t i = 0; i < PIECE; i += 64) sum += *(const volatile uint64_t *)(piece + i);
+    at = (at + PIECE) % BUFFER;
+    sink = sum;
+    caladan_rt_missed(PIECE / 64);
+}
+
+/* A chunk, and another one after it. */
+static void serve_chunk(void *with, unsigned thread, caladan_request request) {
+    (void)with;
+    for (int i = 0; i < PIECES_OF_A_CHUNK; i++) {
+        if (options.bytes) read_piece(thread);
+        else spin((uint64_t)(options.turns * 10));
+        atomic_fetch_add_explicit(&counters[thread % COUNTERS].pieces, 1, memory_order_relaxed);
+    }
+    caladan_rt_submit(rt, thread, (caladan_request){caladan_rt_now(rt), request.what});
+}
+
+static int best_effort(void) {
+    if (options.bytes) {
+        buffer = mmap(NULL, BUFFER, PROT_READ | PROT_WRITE, MAP_PRIVATE | MAP_ANONYMOUS, -1, 0);
+        if (buffer == MAP_FAILED) die("memory", strerror(errno));
+        madvise(buffer, BUFFER, MADV_HUGEPAGE);
+        memset(buffer, 1, BUFFER);
+    }
+    start(serve_chunk);
+    for (unsigned i = 0; i < caladan_rt_threads(rt); i++) caladan_rt_submit(rt, i, (caladan_request){caladan_rt_now(rt), i});
+    uint64_t until = caladan_rt_now(rt) + (uint64_t)(options.seconds * 1e9);
+    while (caladan_rt_now(rt) < until && !caladan_rt_is_over(rt)) usleep(20000);
+    _exit(0);
+}
+
+static void read_option(int option) {
+    switch (option) {
+    case 'n': options.name = optarg; break;
+    case 'u': options.task = (unsigned)atoi(optarg); break;
+    case 'k': options.turns = atof(optarg); break;
+    case 'c': options.counter = optarg; break;
+    case 'x': options.cpu = atoi(optarg); break;
+    case 'm': options.microseconds = atof(optarg); break;
+    case 'q': options.rate = atof(optarg); break;
+    case 's': options.seconds = atof(optarg); break;
+    case 'i': options.idle_ns = strtoull(optarg, NULL, 10); break;
+    case 'b': options.bytes = true; break;
+    default: exit(2);
+    }
+}
+
+int main(int count, char **words) {
+    const char *word = count > 1 ? words[1] : "";
+    if (!strcmp(word, "spin")) return printf("%.2f\n", turns_of_a_microsecond()), 0;
+    for (int c; count > 1 && (c = getopt(count - 1, words + 1, "n:u:k:c:x:m:q:s:i:b")) != -1;) read_option(c);
+    if ((strcmp(word, "lc") && strcmp(word, "be")) || options.name == NULL) die("usage", "load spin | lc | be -n NAME -u TASK ..");
+    if (options.turns == 0) options.turns = turns_of_a_microsecond();
+    int file = options.counter ? open(options.counter, O_RDWR | O_CREAT, 0600) : -1;
+    if (options.counter && (file < 0 || ftruncate(file, COUNTERS * sizeof(counter)))) die(options.counter, strerror(errno));
+    counters = mmap(NULL, COUNTERS * sizeof(counter), PROT_READ | PROT_WRITE, MAP_SHARED | (file < 0 ? MAP_ANONYMOUS : 0), file, 0);
+    if (counters == MAP_FAILED) die("counters", strerror(errno));
+    return !strcmp(word, "lc") ? latency_critical() : best_effort();
+}

@@ -1,0 +1,103 @@
+/* misbehave.c: processes that do not keep their word, to see that only their own task suffers. Each ends after
+ * SECONDS, if it is not killed before.
+ *
+ *   misbehave NAME TASK SECONDS HOW
+ *
+ *   noise    publishes random words at random places
+ *   deaf     takes its Runs and works, and never hears of a Park
+ *   half     is given a core, begins to publish, and stops there
+ *   foreign  hands over the thread number of another process, its parent, as its own
+ *   last     shows the last place that a page has, and ends */
+#define _GNU_SOURCE
+#include <errno.h>
+#include <pthread.h>
+#include <stdio.h>
+#include <stdlib.h>
+#include <string.h>
+#include "host.h"
+
+static host_segment *segment;
+static const char *how;
+static uint64_t until;
+
+static uint64_t now_ns(void) { return host_clock() - segment->epoch; }
+
+static uint64_t draw(uint64_t *state) {
+    *state ^= *state << 13, *state ^= *state >> 7, *state ^= *state << 17;
+    return *state;
+}
+
+static void lie(host_slot *slot) {
+    uint64_t state = (uint64_t)(uintptr_t)slot | 1;
+    while (host_clock() < until) {
+        for (int i = 0; i < CALADAN_WORDS; i++) atomic_store(&slot->page.words[i], draw(&state) >> (draw(&state) % 64));
+        if (draw(&state) % 4) atomic_store(&slot->page.words[RUNNING], draw(&state) % 4);
+        uint64_t version = atomic_load(&slot->page.version);
+        atomic_store(&slot->page.version, draw(&state) % 8 ? version + 2 - version % 2 : draw(&state) >> (draw(&state) % 64 | 1));
+        if (draw(&state) % 16 == 0) atomic_store(&slot->ring.taken, draw(&state));
+        if (draw(&state) % 16 == 0) atomic_store(&slot->tid, (int32_t)draw(&state));
+        usleep(draw(&state) % 64 ? 0 : 100);
+    }
+}
+
+/* Shows a request and waits for a core. */
+static bool get_core(host_slot *slot, caladan_publisher *publisher, uint64_t words[CALADAN_WORDS]) {
+    uint64_t command = 0;
+    caladan_adopt(publisher, &slot->page, words);
+    words[QUEUED] = 1;
+    words[OLDEST] = now_ns();
+    words[STAMP] = words[STAMP] > now_ns() ? words[STAMP] : now_ns();
+    caladan_publish(publisher, words);
+    while (command == 0 && host_clock() < until)
+        if (caladan_ring_take(&slot->ring, &command)) words[TAKEN]++;
+        else usleep(50);
+    words[RUNNING] = command;
+    words[STARTED] = command ? words[OLDEST] : 0;
+    words[QUEUED] = words[OLDEST] = 0;
+    caladan_publish(publisher, words);
+    return command != 0;
+}
+
+/* Works, and asks its ring: nobody interrupts a thread whose number is not the process's own. */
+static void work(host_slot *slot, caladan_publisher *publisher, uint64_t words[CALADAN_WORDS]) {
+    for (uint64_t command; host_clock() < until;) {
+        while (caladan_ring_take(&slot->ring, &command)) {
+            words[TAKEN]++;
+            words[RUNNING] = command;
+            words[STARTED] = words[PAUSED] = words[SINCE] = 0;
+            caladan_publish(publisher, words);
+        }
+        usleep(100);
+    }
+}
+
+static void *live(void *argument) {
+    host_slot *slot = argument;
+    caladan_publisher publisher;
+    uint64_t words[CALADAN_WORDS];
+    signal(HOST_SIGNAL, SIG_IGN);
+    atomic_store(&slot->tid, (int32_t)(strcmp(how, "foreign") ? syscall(SYS_gettid) : getppid()));
+    if (!strcmp(how, "noise")) return lie(slot), NULL;
+    if (!strcmp(how, "last")) return atomic_store(&slot->page.version, UINT64_MAX - 1), sleep(1), NULL;
+    if (!get_core(slot, &publisher, words)) return NULL;
+    if (!strcmp(how, "half")) caladan_publish_begin(&publisher);
+    if (!strcmp(how, "foreign")) work(slot, &publisher, words);
+    while (host_clock() < until)
+        if (strcmp(how, "deaf")) usleep(1000);
+    return NULL;
+}
+
+int main(int count, char **words) {
+    int connection;
+    if (count != 5) return 2;
+    until = host_clock() + strtoull(words[3], NULL, 10) * 1000000000u;
+    how = words[4];
+    segment = host_attach(words[1], (unsigned)atoi(words[2]), &connection);
+    if (segment == NULL) return fprintf(stderr, "misbehave: %s\n", host_why(errno)), 2;
+    pthread_t thread[HOST_LIMIT];
+    unsigned threads = segment->threads;
+    for (unsigned i = 0; i < threads; i++)
+        if (pthread_create(&thread[i], NULL, live, &segment->slot[i])) return 2;
+    for (unsigned i = 0; i < threads; i++) pthread_join(thread[i], NULL);
+    return 0;
+}

@@ -1,0 +1,41 @@
+# runs.sh: what host/check, host/soak and host/measure share. To be sourced; `top` is the repository, `build` a folder to build in.
+
+# The processors that we may use: the last two are managed, and one before them is the scheduler's, if there is one.
+allowed=()
+for range in $(sed -n 's/^Cpus_allowed_list:\t//p' /proc/self/status | tr , ' '); do
+    for ((cpu = ${range%-*}; cpu <= ${range#*-}; cpu++)); do allowed+=("$cpu"); done
+done
+count=${#allowed[@]}
+managed=none own=()
+[ "$count" -ge 2 ] && managed=${allowed[count - 2]},${allowed[count - 1]}
+[ "$count" -ge 3 ] && own=(-o "${allowed[count - 3]}")
+
+# What audits: CALADAN_SIM, else the proved program. Where neither is there, clients/c/audit.c over the proved library: an
+# unproved caladan_sim takes minutes for a long record.
+if [ -n "${CALADAN_SIM-}" ]; then
+    sim=("$CALADAN_SIM" audit)
+elif [ -x "$top/crates/caladan_sim/out/caladan_sim" ]; then
+    sim=("$top/crates/caladan_sim/out/caladan_sim" audit)
+else
+    sim=("$build/audit")
+fi
+needs_audit() { [ "${sim[0]}" = "$build/audit" ]; }
+
+# is_legal TABLE HISTORY
+is_legal() { [ "$({ cat "$1"; echo ---; cat "$2"; } | "${sim[@]}" 2> /dev/null | tail -n 1)" = legal ]; }
+
+# is_there NAME: a scheduler of that name listens. It leaves with its process, whatever ends that.
+is_there() { grep -q "@caladan-$1\.0$" /proc/net/unix; }
+
+# wait_for SECONDS COMMAND..: until it succeeds, or so long.
+wait_for() {
+    local tries=$(($1 * 50))
+    shift
+    until "$@"; do
+        [ $((tries -= 1)) -gt 0 ] || return 1
+        sleep 0.02
+    done
+}
+
+# has_threads PID: it has attached, and has its kernel threads.
+has_threads() { [ "$(ls "/proc/$1/task" 2> /dev/null | wc -l)" -ge 3 ]; }
