@@ -97,8 +97,8 @@ fn do_job<R: Read + Drop, W: Write>(
     }
 }
 
-/// Compares the runs of an input, and answers the exit status: its faults name the table or the
-/// value that has them.
+/// Compares the runs of an input, of its tables or, with a key and values, of those that its table
+/// gives with each of them, and answers the exit status.
 fn answer_compare<R: Read + Drop, W: Write, E: Write>(
     alloc: Global,
     reader: R,
@@ -107,22 +107,33 @@ fn answer_compare<R: Read + Drop, W: Write, E: Write>(
     output: &mut W,
     errors: &mut E,
 ) -> Result<u8, RunFault> {
-    let values = match vary {
-        Some(vary) => values_of(alloc, vary)?,
-        None => Vec::new(alloc),
+    let Some(vary) = vary else {
+        return Ok(answer_comparison(alloc, reader, None, csv, output, errors));
     };
-    let variation = match vary {
-        Some(vary) => Some(Variation {
-            key: key_of(vary),
-            values: values.as_slice(),
-        }),
-        None => None,
+    let values = values_of(alloc, vary)?;
+    let key = key_of(vary);
+    let variation = Variation {
+        key,
+        values: values.as_slice(),
     };
+    Ok(answer_comparison(alloc, reader, Some(variation), csv, output, errors))
+}
+
+/// Compares the runs of an input, and answers the exit status: its faults name the table or the
+/// value that has them.
+fn answer_comparison<R: Read + Drop, W: Write, E: Write>(
+    alloc: Global,
+    reader: R,
+    variation: Option<Variation<'_>>,
+    csv: bool,
+    output: &mut W,
+    errors: &mut E,
+) -> u8 {
     match write_comparison(alloc, reader, variation, csv, output) {
-        Ok(()) => Ok(0),
+        Ok(()) => 0,
         Err(fault) => {
             let _ = comparison_fault_line(&fault, variation, errors);
-            Ok(status(&fault.fault))
+            status(&fault.fault)
         }
     }
 }
