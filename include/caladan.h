@@ -4,9 +4,11 @@
  * answers what the scheduler is to do: free, ban, revoke and grant cores. docs/POLICY.md says what a
  * pass is. Link with libcaladan_c.a and the heap that Rattle programs use (liblibc_c.a of the kit).
  *
- * What each call answers is proved: it stands in crates/caladan_c/src/lib.rt, as the clauses of the
- * function of that name, and docs/PROMISES.md says what is by no clause. Nothing checks what a caller
- * in C owes:
+ * What each call answers is proved, by the function of its name (crates/caladan_c/src/lib.rt and
+ * src/exports). Behind each promise stands in brackets what carries it: [a name] is a clause of that
+ * function, [law a name] a law of the crates below, [tested] says that only tests do, by tools/c_library,
+ * and [not proved] that nothing does. docs/PROMISES.md has them all. Nothing checks what a caller in C
+ * owes:
  *  - A handle begins as CALADAN_CLOSED and is only changed by these calls. It is not copied to be used
  *    twice, and nobody reads or writes what it points to. One call at a time on a handle, on the thread
  *    that opened it.
@@ -22,8 +24,9 @@
  * knows himself (caladan_thread).
  *
  * Since version 1: nothing that was there has changed. New are caladan_pass_each, caladan_first_unfit,
- * caladan_table, caladan_table_task, caladan_thread, caladan_gone, caladan_revoked, the judgements from
- * CALADAN_NO_PAIR on, the answer CALADAN_LOST, and the texts.
+ * caladan_table, caladan_table_task, caladan_thread, caladan_gone and caladan_revoked, the same of a guard
+ * (caladan_guard_pass_each and so on), the judgements from CALADAN_NO_PAIR on, the answer CALADAN_LOST,
+ * and the texts.
  */
 #ifndef CALADAN_H
 #define CALADAN_H
@@ -153,42 +156,53 @@ typedef struct caladan_counts {
     uint8_t cap;    /* its last cap, else its limit */
 } caladan_counts;
 
+/* The version: 2 [proved]. */
 uint32_t caladan_version(void);
 
-/* Opens the task table that a text spells (docs/POLICY.md), in a closed handle. Takes all the memory
- * that passes need. DONE, the table's fault, NO_MEMORY or IS_OPEN; unless DONE the handle is as before. */
+/* Opens the task table that a text spells (docs/POLICY.md), in a closed handle: DONE, or the table's
+ * first fault [opened], or NO_MEMORY. IS_OPEN of an open one [already]. Unless DONE the handle is as
+ * before [refused]. Takes all the memory that passes need [not proved]. */
 uint8_t caladan_open(const uint8_t *table, size_t length, caladan *handle);
 
-/* How many kernel threads the table has; 0 of a closed handle. */
+/* How many kernel threads the table has [count]; 0 of a closed handle [closed]. Nothing changes [same]. */
 size_t caladan_threads(caladan *handle);
 
-/* The bandwidth figure above which a best-effort task loses a core; 0 of a closed handle. */
+/* The bandwidth figure above which a best-effort task loses a core [limit]; 0 of a closed handle
+ * [closed]. Nothing changes [same]. */
 uint64_t caladan_bandwidth_limit(caladan *handle);
 
 /* The next pass. looks: one for each thread, in thread order. judged: room for as many. actions: room
- * for CALADAN_MOST_ACTIONS. WRONG_COUNT exactly where there is not one look for each thread, else
- * NO_ROOM exactly where one of the rooms is too little, else DONE or UNFIT; of a closed handle
- * IS_CLOSED. Unless DONE nothing has changed, but that *made is 0. NO_MEMORY is not ruled out by proof,
- * though no pass asks for memory. */
+ * for CALADAN_MOST_ACTIONS. DONE: the actions are what the policy does on these looks after all passes
+ * before, and that history is legal [passed]; of each look it says what was judged [judged]. UNFIT: a look
+ * does not fit [unfit]. WRONG_COUNT exactly where there is not one look for each thread [wrong_count], else
+ * NO_ROOM exactly where one of the rooms is too little [no_room], else DONE, UNFIT or NO_MEMORY [answers];
+ * of a closed handle IS_CLOSED [closed]. Unless DONE nothing has changed, but that *made is 0 [refused].
+ * No pass asks for memory, so none answers NO_MEMORY [not proved]. */
 uint8_t caladan_pass(caladan *handle, uint64_t now, uint64_t bandwidth, const caladan_look *looks, size_t count,
                      uint8_t *judged, size_t judged_room, caladan_action *actions, size_t room, size_t *made);
 
-/* The next pass, each look by itself: caladan_pass, but that a look which is unfit, ahead or foreign is
- * refused, and the busy look of versions 1 and 1 is taken in its place (of a page on which the first
- * record is being written: it fits whatever the thread has shown). Never UNFIT. What is judged of each look
- * says whether it was taken as it is (KEPT, BUSY) or why it was refused. The other threads' looks and all
- * rooms count as they are given. A refused look leaves no trace: what the thread has shown last and its
- * kept record are as before, so its next record, or its successor's, counts as if the refused one had
- * never been. A history of such passes is legal; recorded are the looks that were taken: caladan_taken
- * makes them, and the judgement to be recorded of a refused one is CALADAN_BUSY. */
+/* The next pass, each look by itself: caladan_pass, but that a look which is unfit, ahead or foreign
+ * [law only_faults_are_refused] is refused, and the busy look of versions 1 and 1 is taken in its place (of
+ * a page on which the first record is being written: it fits whatever the thread has shown
+ * [law taken_input_fits]); it is the policy's pass on the looks so changed [passed]. Never UNFIT [answers].
+ * What is judged of each look says whether it was taken as it is (KEPT, BUSY) or why it was refused
+ * [judged]. The other threads' looks [law others_count_as_given] and all rooms [law rooms_count_as_given]
+ * count as they are given. A refused look leaves no trace: what the thread has shown last and its kept
+ * record are as before, so its next record, or its successor's, counts as if the refused one had never been
+ * [law refused_leaves_no_trace]. A history of such passes is legal [passed]; recorded are the looks that
+ * were taken: caladan_taken makes them, and the judgement to be recorded of a refused one is CALADAN_BUSY
+ * [tested]. Other answers are as those of caladan_pass [wrong_count, no_room, closed, refused]. */
 uint8_t caladan_pass_each(caladan *handle, uint64_t now, uint64_t bandwidth, const caladan_look *looks, size_t count,
                           uint8_t *judged, size_t judged_room, caladan_action *actions, size_t room, size_t *made);
 
 /* Which look caladan_pass would answer UNFIT to: UNFIT, and *thread is the first thread whose look does
- * not fit; DONE, each fits; WRONG_COUNT or IS_CLOSED. Only UNFIT writes *thread. Nothing changes. */
+ * not fit [first; law misfits_do_not_fit]; DONE, each fits [none]; no other answer [answers], but
+ * WRONG_COUNT [wrong_count] or IS_CLOSED [closed]. Only UNFIT writes *thread [other]. Nothing changes
+ * [same]. */
 uint8_t caladan_first_unfit(caladan *handle, const caladan_look *looks, size_t count, size_t *thread);
 
-/* What the table says of the machine: DONE or IS_CLOSED. */
+/* What the table says of the machine: DONE [told], or IS_CLOSED [closed], which writes nothing [refused].
+ * Nothing changes [same]. */
 typedef struct caladan_machine {
     uint8_t cores;            /* 2 to 128 */
     uint8_t tasks;            /* 1 to 16 */
@@ -197,7 +211,9 @@ typedef struct caladan_machine {
 } caladan_machine;
 uint8_t caladan_table(caladan *handle, caladan_machine *machine);
 
-/* What the table says of a task: DONE, IS_CLOSED or NO_SUCH. Its threads are `limit` ones from the first on. */
+/* What the table says of a task: DONE [told] exactly of one that it has [there], else NO_SUCH [no_task];
+ * IS_CLOSED [closed]. Unless DONE *row is as before [refused]. Nothing changes [same]. Its threads are
+ * `limit` ones from the first on. */
 enum { CALADAN_LATENCY_CRITICAL = 1, CALADAN_BEST_EFFORT = 2 };
 typedef struct caladan_table_row {
     uint8_t kind;
@@ -209,31 +225,39 @@ typedef struct caladan_table_row {
 } caladan_table_row;
 uint8_t caladan_table_task(caladan *handle, size_t task, caladan_table_row *row);
 
-/* A thread after the passes so far: DONE, IS_CLOSED or NO_SUCH. The room of its ring is CALADAN_PLACES
- * less sent - taken: no word of the ring itself is needed for it, or to be believed. */
+/* A thread after the passes so far: DONE [told] exactly of one that the table has [there], else NO_SUCH
+ * [no_thread]; IS_CLOSED [closed]. Unless DONE *state is as before [refused]. Nothing changes [same]. The
+ * room of its ring is CALADAN_PLACES less sent - taken: no word of the ring itself is needed for it, or to
+ * be believed. */
 typedef struct caladan_thread_state {
     uint8_t task;   /* whose thread it is */
     uint64_t sent;  /* commands that the passes sent to it (at most 2^64 - 1 is told) */
-    uint64_t taken; /* those that its kept record acknowledges; never above sent */
+    uint64_t taken; /* those that its kept record acknowledges; never above sent [law kept_records_are_true] */
 } caladan_thread_state;
 uint8_t caladan_thread(caladan *handle, size_t thread, caladan_thread_state *state);
 
 /* What the page of a thread must show once the thread is gone, as a look (with room): it has taken what
  * was sent, is on no core and has no request; misses and stamp are those that it showed last; its place is the
- * one after the last. The host publishes it on the page, or gives the look itself to the next pass. It
- * fits, it is kept, and that pass frees each core that the thread holds or leaves. DONE, IS_CLOSED,
- * NO_SUCH, or LOST: no page can show it, because the thread has shown more commands taken than were sent (only
- * caladan_pass lets it), or a number is at its end. Nothing changes; it is good for the next pass only. */
+ * one after the last [told]. The host publishes it on the page, or gives the look itself to the next pass.
+ * It fits, it is kept [told; law gone_is_kept], and that pass frees each core that the thread holds or
+ * leaves [told; law gone_frees_its_cores]. LOST: no page can show it, because the thread has shown more
+ * commands taken than were sent (only caladan_pass lets it), or a number is at its end [lost]. Of a thread
+ * of the table DONE or LOST [there], else NO_SUCH [no_thread]; IS_CLOSED [closed]. Unless DONE *look is as
+ * before [refused]. Nothing changes [same]; it is good for the next pass only. */
 uint8_t caladan_gone(caladan *handle, size_t thread, caladan_look *look);
 
-/* Who has a core: DONE, IS_CLOSED or NO_SUCH. */
+/* Who has a core after the passes so far: DONE [told] exactly of one that the table has [there], else
+ * NO_SUCH [no_core]; IS_CLOSED [closed]. Unless DONE *holder is as before [refused]. Nothing changes
+ * [same]. */
 uint8_t caladan_holder(caladan *handle, uint8_t core, caladan_holder_of_core *holder);
 
-/* What a task has: DONE, IS_CLOSED or NO_SUCH. */
+/* What a task has after the passes so far: DONE [told] exactly of one that the table has [there], else
+ * NO_SUCH [no_task]; IS_CLOSED [closed]. Unless DONE *counts is as before [refused]. Nothing changes
+ * [same]. */
 uint8_t caladan_task(caladan *handle, size_t task, caladan_counts *counts);
 
 /* The thread that is to be sent Park, of a core that the last pass revokes: it is the one that is told
- * to leave it. DONE, IS_CLOSED, or NO_SUCH where nobody is told to leave the core. */
+ * to leave it. DONE, IS_CLOSED, or NO_SUCH where nobody is told to leave the core [tested]. */
 static inline uint8_t caladan_revoked(caladan *handle, uint8_t core, uint8_t *thread) {
     caladan_holder_of_core holder;
     uint8_t answer = caladan_holder(handle, core, &holder);
@@ -243,7 +267,7 @@ static inline uint8_t caladan_revoked(caladan *handle, uint8_t core, uint8_t *th
     return CALADAN_DONE;
 }
 
-/* The look that caladan_pass_each took, of the one that it was given and what it judged of it. */
+/* The look that caladan_pass_each took, of the one that it was given and what it judged of it [tested]. */
 static inline caladan_look caladan_taken(const caladan_look *look, uint8_t judged) {
     caladan_look taken = *look;
     if (judged > CALADAN_BUSY) {
@@ -253,7 +277,8 @@ static inline caladan_look caladan_taken(const caladan_look *look, uint8_t judge
     return taken;
 }
 
-/* Lets go of what the handle keeps: DONE, or IS_CLOSED. The handle is closed then. */
+/* Lets go of what the handle keeps: DONE [closed], or IS_CLOSED [already]. The handle is closed then
+ * [after]. */
 uint8_t caladan_close(caladan *handle);
 
 /* An audit of passes that were recorded, by this scheduler or by another that says it keeps the policy.
@@ -270,22 +295,27 @@ typedef struct caladan_audit {
 #define CALADAN_AUDIT_CLOSED ((caladan_audit){false, NULL})
 #endif
 
-/* Opens an audit of the task table that a text spells, in a closed handle, as caladan_open does. */
+/* Opens an audit of the task table that a text spells, in a closed handle, as caladan_open does [opened,
+ * already, refused]. */
 uint8_t caladan_audit_open(const uint8_t *table, size_t length, caladan_audit *audit);
 
 /* The next recorded pass: its looks, what was judged of each (the same count), and its actions, as
- * caladan_pass takes and answers them. DONE where it was taken, legal or not; else IS_CLOSED,
- * WRONG_COUNT (not one judgement for each look), NO_ACTION, NO_JUDGEMENT (BUSY is the judgement of a
- * busy look, KEPT, AHEAD or FOREIGN of another) or NO_MEMORY, and then nothing has changed. It may be
- * given more or fewer looks than the table has threads: such a pass is taken, and is not legal. */
+ * caladan_pass takes and answers them. DONE where it was taken, legal or not [taken]; else IS_CLOSED
+ * [closed], WRONG_COUNT (not one judgement for each look) [wrong_count], NO_ACTION [no_action],
+ * NO_JUDGEMENT (BUSY is the judgement of a busy look, KEPT, AHEAD or FOREIGN of another) [no_judgement] or
+ * NO_MEMORY [answers], and then nothing has changed [refused]. It may be given more or fewer looks than the
+ * table has threads: such a pass is taken [answers], and is not legal [legal]. A
+ * pass of caladan_pass_each is recorded by the looks that it took (caladan_taken). */
 uint8_t caladan_audit_pass(caladan_audit *audit, uint64_t now, uint64_t bandwidth, const caladan_look *looks, size_t count,
                            const uint8_t *judged, size_t judged_count, const caladan_action *actions, size_t made);
 
-/* What the audit says of the passes so far: DONE, each is legal; ILLEGAL, and *pass is the first that is
- * not, counted from 0 (passes after it are not looked at); IS_CLOSED. Only ILLEGAL writes *pass. */
+/* What the audit says of the passes so far: DONE, each is legal [legal]; ILLEGAL, and *pass is the first
+ * that is not, counted from 0 (passes after it are not looked at) [illegal]; no other answer [answers], but
+ * IS_CLOSED [closed]. Only ILLEGAL writes *pass [other]. Nothing changes [same]. */
 uint8_t caladan_audit_verdict(caladan_audit *audit, uint64_t *pass);
 
-/* Lets go of what the audit keeps: DONE, or IS_CLOSED. The handle is closed then. */
+/* Lets go of what the audit keeps: DONE [closed], or IS_CLOSED [already]. The handle is closed then
+ * [after]. */
 uint8_t caladan_audit_close(caladan_audit *audit);
 
 /* A guard, for who chooses the actions by a policy of his own. It is handed one pass after the other,
@@ -293,7 +323,8 @@ uint8_t caladan_audit_close(caladan_audit *audit);
  * place: then every history of passes that went through keeps the laws that docs/PROMISES.md lists
  * under cal_guard, whoever chose. (No core has two threads, no task more cores than its limit, no
  * revocation goes below a guarantee, no banned core is granted or stays held, and more.) A pass without
- * actions is always let through, so a policy may always do nothing. A Ban of a core that is held is
+ * actions is always let through [law doing_nothing_is_permitted], so a policy may always do nothing. A Ban
+ * of a core that is held is
  * followed at once by the revocation of that core, and a Cap below what the task holds by those that
  * bring it down to it. */
 typedef struct caladan_guard {
@@ -332,29 +363,72 @@ typedef struct caladan_refused {
     uint8_t names; /* for BANNED_HELD the core, for OVER_CAP the task; else 0 */
 } caladan_refused;
 
-/* Opens a guard of the task table that a text spells, in a closed handle, as caladan_open does. Takes
- * all the memory that passes of at most CALADAN_MOST_ACTIONS actions need. */
+/* Opens a guard of the task table that a text spells, in a closed handle, as caladan_open does [opened,
+ * already, refused]. Takes all the memory that passes of at most CALADAN_MOST_ACTIONS actions need [not
+ * proved]. */
 uint8_t caladan_guard_open(const uint8_t *table, size_t length, caladan_guard *guard);
 
 /* The next pass: one look for each thread, in thread order, room for as many judgements, and the
- * actions that were chosen, as caladan_pass answers them (what a kind does not name is 0). DONE: the
- * pass went through and what was judged of each look is written. NOT_PERMITTED: *refused says which
- * action and why; no other answer writes it. WRONG_COUNT exactly where there is not one look for each
- * thread, else NO_ROOM exactly where there is too little room for judgements, else UNFIT (as
- * caladan_pass answers it), NO_ACTION, or NO_MEMORY, which is asked for only where more than
- * CALADAN_MOST_ACTIONS actions are handed in; of a closed handle IS_CLOSED. Unless DONE the guard is as
- * before and nothing is judged: the same pass may be handed in again with other actions. */
+ * actions that were chosen, as caladan_pass answers them (what a kind does not name is 0). DONE: each is
+ * permitted at its place and the pass went through [through], and what was judged of each look is written
+ * [judged]. NOT_PERMITTED: *refused says which action and why [stopped]; no other answer writes it [told].
+ * WRONG_COUNT exactly where there is not one look for each thread [wrong_count], else NO_ROOM exactly where
+ * there is too little room for judgements [no_room], else UNFIT (as caladan_pass answers it) [unfit],
+ * NO_ACTION [no_action], or NO_MEMORY [answers], which is asked for only where more than
+ * CALADAN_MOST_ACTIONS actions are handed in [not proved]; of a closed handle IS_CLOSED [closed]. Unless
+ * DONE the guard is as before and nothing is judged [unchanged]: the same pass may be handed in again with
+ * other actions. */
 uint8_t caladan_guard_pass(caladan_guard *guard, uint64_t now, uint64_t bandwidth, const caladan_look *looks, size_t count,
                            uint8_t *judged, size_t judged_room, const caladan_action *actions, size_t made,
                            caladan_refused *refused);
 
-/* Who has a core after the passes that went through: DONE, IS_CLOSED or NO_SUCH. */
+/* The next pass, each look by itself: caladan_guard_pass, but that looks are refused, judged and taken as
+ * caladan_pass_each does it (by the same laws), and the actions are permitted on the looks that were taken
+ * [through, stopped]. Never UNFIT [answers]. DONE and NOT_PERMITTED both write what was judged of each look
+ * [judged], so that whoever chooses again knows which looks count as busy; no other answer writes any
+ * [unjudged]. Unless DONE the guard is as before [unchanged]. Other answers are as those of
+ * caladan_guard_pass [wrong_count, no_room, no_action, told, closed]. */
+uint8_t caladan_guard_pass_each(caladan_guard *guard, uint64_t now, uint64_t bandwidth, const caladan_look *looks, size_t count,
+                                uint8_t *judged, size_t judged_room, const caladan_action *actions, size_t made,
+                                caladan_refused *refused);
+
+/* Which look caladan_guard_pass would answer UNFIT to, as caladan_first_unfit says it [first, none,
+ * answers, wrong_count, closed, other, same]. */
+uint8_t caladan_guard_first_unfit(caladan_guard *guard, const caladan_look *looks, size_t count, size_t *thread);
+
+/* What the table says, and a thread after the passes that went through, as caladan_table,
+ * caladan_table_task and caladan_thread say it [their clauses]. */
+uint8_t caladan_guard_table(caladan_guard *guard, caladan_machine *machine);
+uint8_t caladan_guard_table_task(caladan_guard *guard, size_t task, caladan_table_row *row);
+uint8_t caladan_guard_thread(caladan_guard *guard, size_t thread, caladan_thread_state *state);
+
+/* What the page of a thread must show once the thread is gone, as caladan_gone tells it [told, lost, there,
+ * no_thread, closed, refused, same]. It fits and is kept [told; law permitted_gone_is_kept]. A guard frees
+ * nothing itself: with this look the next pass is permitted that frees one core which the thread holds or
+ * leaves (it has at most one [law threads_have_one_core]) and does nothing else
+ * [told; law gone_may_be_freed]. */
+uint8_t caladan_guard_gone(caladan_guard *guard, size_t thread, caladan_look *look);
+
+/* Who has a core after the passes that went through, as caladan_holder says it [told, there, no_core,
+ * closed, refused, same]. */
 uint8_t caladan_guard_holder(caladan_guard *guard, uint8_t core, caladan_holder_of_core *holder);
 
-/* What a task has after them: DONE, IS_CLOSED or NO_SUCH. */
+/* What a task has after them, as caladan_task says it [told, there, no_task, closed, refused, same]. */
 uint8_t caladan_guard_task(caladan_guard *guard, size_t task, caladan_counts *counts);
 
-/* Lets go of what the guard keeps: DONE, or IS_CLOSED. The handle is closed then. */
+/* The thread that is to be sent Park, of a core that the last pass revokes: DONE, IS_CLOSED, or NO_SUCH
+ * where nobody is told to leave the core [tested]. */
+static inline uint8_t caladan_guard_revoked(caladan_guard *guard, uint8_t core, uint8_t *thread) {
+    caladan_holder_of_core holder;
+    uint8_t answer = caladan_guard_holder(guard, core, &holder);
+    if (answer != CALADAN_DONE) return answer;
+    if (holder.state != CALADAN_CORE_LEAVING) return CALADAN_NO_SUCH;
+    *thread = holder.thread;
+    return CALADAN_DONE;
+}
+
+/* Lets go of what the guard keeps: DONE [closed], or IS_CLOSED [already]. The handle is closed then
+ * [after]. */
 uint8_t caladan_guard_close(caladan_guard *guard);
 
 /* Texts. Each has one for every number; of a number that is none it says so. */

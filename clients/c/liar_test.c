@@ -1,7 +1,8 @@
 /* A runtime that writes random words on its page and its ring, in a thread or a process of its own, while
  * honest ones are served: every pass answers DONE; the honest ones get what the policy alone gives them (a
- * second scheduler makes each pass with the looks that were taken, by caladan_pass); the record is legal;
- * and once the liar is gone its page is buried and its honest successor gets a core.
+ * second scheduler makes each pass with the looks that were taken, by caladan_pass); a guard that is handed
+ * the same looks and actions lets each pass through and judges alike; the record is legal; and once the liar
+ * is gone its page is buried and its honest successor gets a core.
  *
  *   liar_test PASSES thread|process [FILE]      FILE: the first 1000 passes, as a history behind its table
  */
@@ -96,6 +97,7 @@ static void step(honest *it, caladan_ring *ring, uint64_t now, bool best_effort)
 typedef struct host {
     caladan each, plain;
     caladan_audit audit;
+    caladan_guard guard;
     caladan_sender senders[THREADS];
     honest honest[THREADS];
     uint64_t refused[CALADAN_WORD_FELL + 1];
@@ -115,7 +117,20 @@ static void send_each(host *it, const caladan_action *actions, size_t made) {
     }
 }
 
-/* One pass of both schedulers and of the audit; 0 where all agree. *granted: the liar's thread got a core. */
+/* The guard, handed what a pass by looks taken one by one was given, judged and did. */
+static int guarded(host *it, uint64_t number, const caladan_look *looks, const uint8_t *judged, const caladan_action *actions, size_t made) {
+    uint8_t said[THREADS];
+    caladan_refused refused;
+    caladan_thread_state state;
+    if (caladan_guard_pass_each(&it->guard, 100 + number, number % 2000, looks, THREADS, said, THREADS, actions, made, &refused)) return wrong("the guard does not let it through", number);
+    if (memcmp(said, judged, THREADS)) return wrong("the guard judges otherwise", number);
+    for (size_t k = 0; k < THREADS; k++)
+        if (caladan_guard_thread(&it->guard, k, &state) || state.taken > state.sent) return wrong("the guard's counts", number);
+    return 0;
+}
+
+/* One pass of both schedulers, of the guard and of the audit; 0 where all agree. *granted: the liar's
+ * thread got a core. */
 static int pass(host *it, shared *all, uint64_t number, bool *granted) {
     static caladan_action actions[CALADAN_MOST_ACTIONS], again[CALADAN_MOST_ACTIONS];
     caladan_look looks[THREADS], taken[THREADS];
@@ -137,6 +152,7 @@ static int pass(host *it, shared *all, uint64_t number, bool *granted) {
     if (caladan_pass(&it->plain, now, number % 2000, taken, THREADS, plain, THREADS, again, CALADAN_MOST_ACTIONS, &same)) return wrong("the plain pass is not DONE", number);
     if (same != made || memcmp(actions, again, made * sizeof *actions)) return wrong("other actions than the policy's", number);
     if (caladan_audit_pass(&it->audit, now, number % 2000, taken, THREADS, plain, THREADS, actions, made)) return wrong("the audit did not take it", number);
+    if (guarded(it, number, looks, judged, actions, made)) return 1;
     if (it->out && number < WRITTEN) caladan_history_pass(it->out, true, now, number % 2000, looks, judged, THREADS, actions, made);
     if (it->out && number + 1 == WRITTEN) caladan_history_end(it->out, WRITTEN);
     for (size_t i = 0; i < made; i++) *granted |= actions[i].kind == CALADAN_GRANT && actions[i].thread == LIAR;
@@ -148,9 +164,11 @@ static int pass(host *it, shared *all, uint64_t number, bool *granted) {
 
 /* After the liar: its page is buried, and its successor goes on with it. */
 static int succeed(host *it, shared *all, uint64_t number) {
-    caladan_look gone;
+    caladan_look gone, guards;
     bool granted = false;
-    if (caladan_gone(&it->each, LIAR, &gone) || !caladan_bury(&all->page[LIAR], &all->ring[LIAR], &gone)) return wrong("no record for the gone", number);
+    if (caladan_guard_gone(&it->guard, LIAR, &guards) || caladan_gone(&it->each, LIAR, &gone) || guards.number != gone.number || guards.taken != gone.taken)
+        return wrong("the guard's record for the gone", number);
+    if (!caladan_bury(&all->page[LIAR], &all->ring[LIAR], &gone)) return wrong("no record for the gone", number);
     if (pass(it, all, number, &granted)) return 1;
     for (uint8_t core = 0; core < 4; core++) {
         caladan_holder_of_core holder;
@@ -176,7 +194,7 @@ static int run(host *it, shared *all, uint64_t passes) {
 static int open_all(host *it, shared *all) {
     const uint8_t *text = (const uint8_t *)TABLE;
     size_t length = strlen(TABLE);
-    if (caladan_open(text, length, &it->each) || caladan_open(text, length, &it->plain) || caladan_audit_open(text, length, &it->audit)) return 1;
+    if (caladan_open(text, length, &it->each) || caladan_open(text, length, &it->plain) || caladan_audit_open(text, length, &it->audit) || caladan_guard_open(text, length, &it->guard)) return 1;
     for (size_t k = 0; k < THREADS; k++) {
         it->senders[k] = (caladan_sender){&all->ring[k], 0};
         if (k != LIAR) it->honest[k] = (honest){{&all->page[k], 0}, {0}, k * 7919 + 1, k};
@@ -206,7 +224,7 @@ int main(int argc, char **argv) {
     if (!status && caladan_audit_verdict(&it.audit, &first)) status = wrong("the record is not legal", first);
     for (int k = CALADAN_KEPT; k <= CALADAN_WORD_FELL; k++) fprintf(stderr, "liar_test: %llu %s\n", (unsigned long long)it.refused[k], caladan_judgement_text((uint8_t)k));
     if (it.out) fclose(it.out);
-    caladan_close(&it.each), caladan_close(&it.plain), caladan_audit_close(&it.audit);
+    caladan_close(&it.each), caladan_close(&it.plain), caladan_audit_close(&it.audit), caladan_guard_close(&it.guard);
     puts(status ? "liar_test: failed" : "liar_test: ok");
     return status;
 }

@@ -1,8 +1,9 @@
 /* Each kind of lie by itself, through caladan_pass_each: it is refused with its own judgement, the other
- * threads get what they get without it, it leaves no trace, and the pass is legal with the look that was
- * taken. Then a process that is killed at each step of a publication, whose page is buried and whose
- * successor gets a core; and the calls of version 2 with closed handles, wrong counts and numbers out of
- * range. Prints 'lies: ok'. */
+ * threads get what they get without it, it leaves no trace, and an audit says that the pass is legal with
+ * the look that was taken, and not with one that does not fit. The same before a guard, which judges alike
+ * whether it lets the pass through or not. Then threads that are gone, and a process that is killed at each
+ * step of a publication, whose page is buried and whose successor gets a core; and the calls of version 2
+ * with closed handles, wrong counts and numbers out of range. Prints 'lies: ok'. */
 #define _GNU_SOURCE
 #include "caladan_pages.h"
 #include <signal.h>
@@ -32,6 +33,12 @@ static caladan open_one(void) {
     return handle;
 }
 
+static caladan_guard guard_one(void) {
+    caladan_guard guard = CALADAN_GUARD_CLOSED;
+    CHECK(caladan_guard_open((const uint8_t *)TABLE, strlen(TABLE), &guard) == CALADAN_DONE);
+    return guard;
+}
+
 typedef struct passed {
     uint8_t answer;
     uint8_t judged[THREADS];
@@ -47,6 +54,19 @@ static void pass_each(caladan *handle, uint64_t now, const caladan_look *looks, 
 static void pass_plain(caladan *handle, uint64_t now, const caladan_look *looks, passed *out) {
     memset(out, 0, sizeof *out);
     out->answer = caladan_pass(handle, now, 0, looks, THREADS, out->judged, THREADS, out->actions, CALADAN_MOST_ACTIONS, &out->made);
+}
+
+/* Hands a guard these actions, each look by itself: the answer, with what was judged and where it stopped. */
+typedef struct handed {
+    uint8_t answer;
+    uint8_t judged[THREADS];
+    caladan_refused refused;
+} handed;
+
+static handed hand(caladan_guard *guard, uint64_t now, const caladan_look *looks, const caladan_action *actions, size_t made) {
+    handed out = {0, {77, 77, 77, 77}, {77, 77, 77}};
+    out.answer = caladan_guard_pass_each(guard, now, 0, looks, THREADS, out.judged, THREADS, actions, made, &out.refused);
+    return out;
 }
 
 static bool same_actions(const passed *a, const passed *b) {
@@ -119,6 +139,96 @@ static void try_lie(const lie *it) {
     CHECK(told.answer == CALADAN_DONE && told.judged[LIAR] == CALADAN_KEPT && grants_to(&told, LIAR) == 1);
     caladan_close(&handle);
     caladan_close(&busy);
+}
+
+/* Of each lie the audit takes the look that was taken as legal; one that does not fit, recorded as it was,
+ * is not. */
+static void try_audited_lie(const lie *it) {
+    caladan handle = open_one();
+    caladan_look looks[THREADS], taken[THREADS];
+    static passed told;
+    for (int as_it_was = 0; as_it_was < 2; as_it_was++) {
+        caladan_audit audit = CALADAN_AUDIT_CLOSED;
+        uint8_t judged[THREADS];
+        uint64_t first = 77;
+        bool legal = !as_it_was || it->judged < CALADAN_NO_PAIR;
+        CHECK(caladan_audit_open((const uint8_t *)TABLE, strlen(TABLE), &audit) == CALADAN_DONE);
+        caladan_close(&handle);
+        handle = open_one();
+        one_waits(looks);
+        for (uint64_t now = 100; now < 102; now++) {
+            pass_each(&handle, now, looks, &told);
+            for (int k = 0; k < THREADS; k++) {
+                taken[k] = as_it_was ? looks[k] : caladan_taken(&looks[k], told.judged[k]);
+                judged[k] = told.judged[k] > CALADAN_FOREIGN && as_it_was ? (looks[k].busy ? CALADAN_BUSY : CALADAN_KEPT) : told.judged[k];
+                if (!as_it_was && told.judged[k] > CALADAN_BUSY) judged[k] = CALADAN_BUSY;
+            }
+            CHECK(caladan_audit_pass(&audit, now, 0, taken, THREADS, judged, THREADS, told.actions, told.made) == CALADAN_DONE);
+            looks[LIAR] = it->look;
+        }
+        CHECK(caladan_audit_verdict(&audit, &first) == (legal ? CALADAN_DONE : CALADAN_ILLEGAL) && first == (legal ? 77 : 1));
+        caladan_audit_close(&audit);
+    }
+    caladan_close(&handle);
+}
+
+/* The same lie before a guard: it is judged alike, whether the pass goes through or not. */
+static void try_guarded_lie(const lie *it) {
+    caladan handle = open_one();
+    caladan_guard guard = guard_one();
+    caladan_look looks[THREADS];
+    const caladan_action nobody = {.kind = CALADAN_GRANT, .thread = 9, .core_class = 3};
+    static passed told;
+    size_t unfit = 99;
+    one_waits(looks);
+    pass_each(&handle, 100, looks, &told);
+    handed is = hand(&guard, 100, looks, told.actions, told.made);
+    CHECK(is.answer == CALADAN_DONE && !memcmp(is.judged, told.judged, THREADS) && is.refused.why == 77);
+    looks[LIAR] = it->look;
+    bool is_unfit = it->judged >= CALADAN_NO_PAIR;
+    CHECK(caladan_guard_first_unfit(&guard, looks, THREADS, &unfit) == (is_unfit ? CALADAN_UNFIT : CALADAN_DONE) && unfit == (is_unfit ? LIAR : 99));
+    if (is_unfit) CHECK(caladan_guard_pass(&guard, 101, 0, looks, THREADS, is.judged, THREADS, NULL, 0, &is.refused) == CALADAN_UNFIT);
+    for (int again = 0; again < 2; again++) {
+        is = hand(&guard, 101, looks, &nobody, 1);
+        CHECK(is.answer == CALADAN_NOT_PERMITTED && is.refused.place == 0 && is.refused.why == CALADAN_WHY_DOES_NOT_FIT);
+        CHECK(is.judged[LIAR] == it->judged && is.judged[0] == CALADAN_KEPT);
+        pass_each(&handle, 101, looks, &told);
+        is = hand(&guard, 101, looks, told.actions, told.made);
+        CHECK(is.answer == CALADAN_DONE && is.judged[LIAR] == it->judged && !memcmp(is.judged, told.judged, THREADS));
+    }
+    looks[LIAR] = (caladan_look){.room = 1, .number = 6, .taken = 1, .misses = 7, .stamp = 50, .queued = 1, .oldest = 1};
+    pass_each(&handle, 102, looks, &told);
+    is = hand(&guard, 102, looks, told.actions, told.made);
+    CHECK(is.answer == CALADAN_DONE && is.judged[LIAR] == CALADAN_KEPT && grants_to(&told, LIAR) == 1);
+    caladan_close(&handle);
+    caladan_guard_close(&guard);
+}
+
+/* A thread that is gone, before a guard: with the look for it, and not without, its core may be freed. */
+static void try_guarded_gone(void) {
+    caladan_guard guard = guard_one();
+    caladan_look looks[THREADS], gone;
+    caladan_thread_state state;
+    caladan_holder_of_core holder;
+    const caladan_action grant = {.kind = CALADAN_GRANT, .core = 2, .thread = LIAR, .core_class = 3}, freed = {.kind = CALADAN_FREE, .core = 2};
+    uint8_t thread = 99;
+    one_waits(looks);
+    CHECK(hand(&guard, 100, looks, &grant, 1).answer == CALADAN_DONE);
+    CHECK(caladan_guard_thread(&guard, LIAR, &state) == CALADAN_DONE && state.task == 0 && state.sent == 1 && state.taken == 0);
+    CHECK(caladan_guard_revoked(&guard, 2, &thread) == CALADAN_NO_SUCH && thread == 99);
+    handed is = hand(&guard, 101, looks, &freed, 1);
+    CHECK(is.answer == CALADAN_NOT_PERMITTED && is.refused.why == CALADAN_WHY_NOT_LEFT);
+    CHECK(caladan_guard_gone(&guard, LIAR, &gone) == CALADAN_DONE);
+    CHECK(!gone.busy && gone.room == 1 && gone.number == 6 && gone.taken == 1 && !gone.running && gone.misses == 7 && gone.stamp == 50 && !gone.queued);
+    looks[LIAR] = gone;
+    is = hand(&guard, 101, looks, &freed, 1);
+    CHECK(is.answer == CALADAN_DONE && is.judged[LIAR] == CALADAN_KEPT);
+    CHECK(caladan_guard_holder(&guard, 2, &holder) == CALADAN_DONE && holder.state == CALADAN_CORE_FREE);
+    CHECK(caladan_guard_thread(&guard, LIAR, &state) == CALADAN_DONE && state.taken == 1);
+    looks[LIAR] = (caladan_look){.room = 1, .number = 8, .taken = 9, .misses = 7, .stamp = 50};
+    CHECK(caladan_guard_pass(&guard, 102, 0, looks, THREADS, is.judged, THREADS, NULL, 0, &is.refused) == CALADAN_DONE);
+    CHECK(is.judged[LIAR] == CALADAN_AHEAD && caladan_guard_gone(&guard, LIAR, &gone) == CALADAN_LOST && gone.number == 6);
+    caladan_guard_close(&guard);
 }
 
 /* A thread that is gone: the look for it frees its core in the next pass. */
@@ -271,17 +381,57 @@ static void try_calls(void) {
     caladan_close(&handle);
 }
 
+static void try_guard_calls(void) {
+    caladan_guard closed = CALADAN_GUARD_CLOSED, guard = guard_one();
+    caladan_look looks[THREADS + 1] = {0}, look = {.number = 77};
+    caladan_machine machine = {.cores = 77};
+    caladan_table_row row = {.kind = 77};
+    caladan_thread_state state = {.task = 77};
+    caladan_refused refused = {.why = 77};
+    const caladan_action none = {.kind = 7};
+    uint8_t judged[THREADS] = {77}, thread = 77;
+    size_t unfit = 77;
+    CHECK(caladan_guard_pass_each(&closed, 1, 0, looks, THREADS, judged, THREADS, NULL, 0, &refused) == CALADAN_IS_CLOSED);
+    CHECK(caladan_guard_pass_each(&guard, 1, 0, looks, THREADS + 1, judged, THREADS, NULL, 0, &refused) == CALADAN_WRONG_COUNT);
+    CHECK(caladan_guard_pass_each(&guard, 1, 0, looks, 0, judged, THREADS, NULL, 0, &refused) == CALADAN_WRONG_COUNT);
+    CHECK(caladan_guard_pass_each(&guard, 1, 0, looks, THREADS, judged, THREADS - 1, NULL, 0, &refused) == CALADAN_NO_ROOM);
+    CHECK(caladan_guard_pass_each(&guard, 1, 0, looks, THREADS, judged, THREADS, &none, 1, &refused) == CALADAN_NO_ACTION);
+    CHECK(judged[0] == 77 && refused.why == 77);
+    CHECK(caladan_guard_first_unfit(&closed, looks, THREADS, &unfit) == CALADAN_IS_CLOSED && unfit == 77);
+    CHECK(caladan_guard_first_unfit(&guard, looks, THREADS + 1, &unfit) == CALADAN_WRONG_COUNT && unfit == 77);
+    CHECK(caladan_guard_table(&closed, &machine) == CALADAN_IS_CLOSED && machine.cores == 77);
+    CHECK(caladan_guard_table(&guard, &machine) == CALADAN_DONE && machine.cores == 4 && machine.tasks == 2 && machine.threads == 4 && machine.bandwidth_limit == 1000);
+    CHECK(caladan_guard_table_task(&closed, 0, &row) == CALADAN_IS_CLOSED && caladan_guard_table_task(&guard, 2, &row) == CALADAN_NO_SUCH);
+    CHECK(caladan_guard_table_task(&guard, SIZE_MAX, &row) == CALADAN_NO_SUCH && row.kind == 77);
+    CHECK(caladan_guard_table_task(&guard, 0, &row) == CALADAN_DONE && row.kind == CALADAN_LATENCY_CRITICAL && row.guaranteed == 1 && row.limit == 2);
+    CHECK(row.first_thread == 0 && row.delay == 10 && row.request == 50);
+    CHECK(caladan_guard_thread(&closed, 0, &state) == CALADAN_IS_CLOSED && caladan_guard_thread(&guard, THREADS, &state) == CALADAN_NO_SUCH);
+    CHECK(caladan_guard_thread(&guard, SIZE_MAX, &state) == CALADAN_NO_SUCH && state.task == 77);
+    CHECK(caladan_guard_thread(&guard, 3, &state) == CALADAN_DONE && state.task == 1 && state.sent == 0 && state.taken == 0);
+    CHECK(caladan_guard_gone(&closed, 0, &look) == CALADAN_IS_CLOSED && caladan_guard_gone(&guard, THREADS, &look) == CALADAN_NO_SUCH);
+    CHECK(caladan_guard_gone(&guard, SIZE_MAX, &look) == CALADAN_NO_SUCH && look.number == 77);
+    CHECK(caladan_guard_gone(&guard, 0, &look) == CALADAN_DONE && look.number == 1 && look.taken == 0 && look.room == 1);
+    CHECK(caladan_guard_revoked(&closed, 0, &thread) == CALADAN_IS_CLOSED && caladan_guard_revoked(&guard, 9, &thread) == CALADAN_NO_SUCH && thread == 77);
+    CHECK(caladan_guard_close(&guard) == CALADAN_DONE && caladan_guard_close(&guard) == CALADAN_IS_CLOSED);
+}
+
 int main(void) {
     shared *both = mmap(NULL, sizeof *both, PROT_READ | PROT_WRITE, MAP_SHARED | MAP_ANONYMOUS, -1, 0);
     if (both == MAP_FAILED) return 2;
-    for (size_t i = 0; i < sizeof LIES / sizeof *LIES; i++) try_lie(&LIES[i]);
+    for (size_t i = 0; i < sizeof LIES / sizeof *LIES; i++) {
+        try_lie(&LIES[i]);
+        try_audited_lie(&LIES[i]);
+        try_guarded_lie(&LIES[i]);
+    }
     try_gone();
+    try_guarded_gone();
     for (int steps = 0; steps <= STEPS; steps++) {
         try_death(both, steps);
         try_adoption(both, steps);
     }
     try_falling(both);
     try_calls();
+    try_guard_calls();
     puts(failed ? "lies: failed" : "lies: ok");
     return failed;
 }

@@ -41,11 +41,34 @@ JUDGEMENT_TEXTS = ("no judgement", "kept", "busy", "ahead: it acknowledges more 
                    "foreign: it shows a core that the thread was not given", "its versions are no busy pair",
                    "misshapen: running or misses is out of range", "its place fell", "another record at the same place",
                    "taken, misses or stamp fell")
+CAUSE_TEXTS = ("no cause", "for a ban", "for bandwidth", "for a task")
+ANSWER_TEXTS = ("done", "the table is not TOML", "the table has an unknown key", "the table lacks a key", "a value has the wrong type",
+                "a value is out of range", "a best-effort task has a guarantee", "the guarantees exceed the cores",
+                "there are too many threads", "out of memory", "the handle is closed", "the handle is open", "no answer",
+                "the count is wrong", "there is too little room", "a look does not fit", "the table has no such core, task or thread",
+                "an action is none", "an action is not permitted", "a number is no judgement of its look", "a pass is not legal",
+                "no page can show that the thread is gone")
 WHY = ("", "too many", "does not fit", "not left", "banned", "at limit", "at cap", "at guarantee", "ring full",
        "second command", "banned held", "over cap")
 
 
-class Unfit(ValueError):
+def text_of(texts, number):
+    """The text of a number, as caladan.h has it."""
+    return texts[number] if number < len(texts) else f"no text for {number}"
+
+
+class CallRefused(ValueError):
+    """A call was refused: `answer` is the number of caladan.h, and its text is what is printed."""
+
+    def __init__(self, answer):
+        super().__init__(answer)
+        self.answer = answer
+
+    def __str__(self):
+        return text_of(ANSWER_TEXTS, self.answer)
+
+
+class Unfit(CallRefused):
     """A look does not fit; `thread` is the first thread whose look does not."""
 
     def __init__(self, thread):
@@ -53,8 +76,19 @@ class Unfit(ValueError):
         self.thread = thread
 
 
-class Lost(ValueError):
+class NotPermitted(CallRefused):
+    """An action is not permitted: `refused` says which and why, `judged` what was judged of each look."""
+
+    def __init__(self, refused, judged):
+        super().__init__(NOT_PERMITTED)
+        self.refused, self.judged = refused, judged
+
+
+class Lost(CallRefused):
     """No page can show any more that the thread is gone."""
+
+    def __init__(self):
+        super().__init__(LOST)
 
 
 def taken(look, judged):
@@ -63,7 +97,7 @@ def taken(look, judged):
 
 
 class Kept:
-    """What a handle keeps; ValueError with the answer where a call is refused."""
+    """What a handle keeps; CallRefused, with the answer, where a call is refused."""
     prefix = "caladan_"
 
     def __init__(self, library, table):
@@ -75,19 +109,65 @@ class Kept:
 
     def answered(self, answer):
         if answer & 255:
-            raise ValueError(answer & 255)
+            raise CallRefused(answer & 255)
 
     def close(self):
         self.answered(self.call("close"))
 
 
 class Counted(Kept):
-    """One that says what a task has."""
+    """One that says what a task, a thread and the table have."""
+
+    def told(self, name, kind, *arguments):
+        out = kind()
+        self.answered(self.call(name, *arguments, ctypes.byref(out)))
+        return out
 
     def task(self, number):
-        counts = Counts()
-        self.answered(self.call("task", SIZE(number), ctypes.byref(counts)))
-        return counts
+        """What a task has, in cores."""
+        return self.told("task", Counts, SIZE(number))
+
+    def first_unfit(self, looks):
+        """The first thread whose look a plain pass would not take, or None."""
+        thread = SIZE()
+        answer = self.call("first_unfit", (Look * len(looks))(*looks), SIZE(len(looks)), ctypes.byref(thread)) & 255
+        if answer == UNFIT:
+            return thread.value
+        self.answered(answer)
+
+    def machine(self):
+        """What the table says of the machine."""
+        return self.told("table", Machine)
+
+    def table(self):
+        """What the table says of each task, in order."""
+        return (self.told("table_task", TableTask, SIZE(task)) for task in range(self.machine().tasks))
+
+    def thread(self, number):
+        """A thread's task, the commands sent to it, and those that its kept record acknowledges."""
+        return self.told("thread", Thread, SIZE(number))
+
+    def has_room(self, number):
+        """Whether the ring of a thread has room, by what was sent and the kept record alone."""
+        thread = self.thread(number)
+        return thread.sent - thread.taken < PLACES
+
+    def gone(self, number):
+        """What the page of a thread must show once the thread is gone, as a look; Lost where none can."""
+        look = Look()
+        answer = self.call("gone", SIZE(number), ctypes.byref(look)) & 255
+        if answer == LOST:
+            raise Lost
+        self.answered(answer)
+        return look
+
+    def commands(self, actions):
+        """What the last pass's actions send: (thread, None) Park, (thread, core) Run of the core."""
+        for action in actions:
+            if action.kind == GRANT:
+                yield action.thread, action.core
+            if action.kind == REVOKE:
+                yield self.told("holder", Holder, U8(action.core)).thread, None
 
 
 class Scheduler(Counted):
@@ -120,53 +200,6 @@ class Scheduler(Counted):
                            judged, SIZE(self.threads), actions, SIZE(MOST_ACTIONS), ctypes.byref(made)) & 255
         return answer, list(judged), actions[:made.value]
 
-    def first_unfit(self, looks):
-        """The first thread whose look a plain pass would not take, or None."""
-        thread = SIZE()
-        answer = self.call("first_unfit", (Look * len(looks))(*looks), SIZE(len(looks)), ctypes.byref(thread)) & 255
-        if answer == UNFIT:
-            return thread.value
-        self.answered(answer)
-
-    def told(self, name, kind, *arguments):
-        out = kind()
-        self.answered(self.call(name, *arguments, ctypes.byref(out)))
-        return out
-
-    def machine(self):
-        """What the table says of the machine."""
-        return self.told("table", Machine)
-
-    def table(self):
-        """What the table says of each task, in order."""
-        return (self.told("table_task", TableTask, SIZE(task)) for task in range(self.machine().tasks))
-
-    def thread(self, number):
-        """A thread's task, the commands sent to it, and those that its kept record acknowledges."""
-        return self.told("thread", Thread, SIZE(number))
-
-    def has_room(self, number):
-        """Whether the ring of a thread has room, by what was sent and the kept record alone."""
-        thread = self.thread(number)
-        return thread.sent - thread.taken < PLACES
-
-    def gone(self, number):
-        """What the page of a thread must show once the thread is gone, as a look; Lost where none can."""
-        look = Look()
-        answer = self.call("gone", SIZE(number), ctypes.byref(look)) & 255
-        if answer == LOST:
-            raise Lost(number)
-        self.answered(answer)
-        return look
-
-    def commands(self, actions):
-        """What the last pass's actions send: (thread, None) Park, (thread, core) Run of the core."""
-        for action in actions:
-            if action.kind == GRANT:
-                yield action.thread, action.core
-            if action.kind == REVOKE:
-                yield self.told("holder", Holder, U8(action.core)).thread, None
-
 
 class Audit(Kept):
     """Recorded passes, one after the other, and whether all of them are legal."""
@@ -193,13 +226,29 @@ class Guard(Counted):
     def run(self, now, bandwidth, looks, actions):
         """The next pass, where its actions are permitted: what was judged of each look, and None; else
         None, and the first action that is not, with why."""
-        judged, refused = (U8 * len(looks))(), Refused()
-        answer = self.call("pass", U64(now), U64(bandwidth), (Look * len(looks))(*looks), SIZE(len(looks)), judged, SIZE(len(looks)),
-                           (Action * len(actions))(*actions), SIZE(len(actions)), ctypes.byref(refused)) & 255
+        answer, judged, refused = self.handed("pass", now, bandwidth, looks, actions)
         if answer == NOT_PERMITTED:
             return None, refused
+        if answer == UNFIT:
+            raise Unfit(self.first_unfit(looks))
         self.answered(answer)
-        return list(judged), None
+        return judged, None
+
+    def run_each(self, now, bandwidth, looks, actions):
+        """The next pass, each look by itself: what was judged of each look; a look that is unfit, ahead or
+        foreign is taken as a busy one, and its judgement, above BUSY, says why. NotPermitted where an
+        action is not permitted: the guard is as before, and the pass may be handed in again."""
+        answer, judged, refused = self.handed("pass_each", now, bandwidth, looks, actions)
+        if answer == NOT_PERMITTED:
+            raise NotPermitted(refused, judged)
+        self.answered(answer)
+        return judged
+
+    def handed(self, name, now, bandwidth, looks, actions):
+        judged, refused = (U8 * len(looks))(), Refused()
+        answer = self.call(name, U64(now), U64(bandwidth), (Look * len(looks))(*looks), SIZE(len(looks)), judged, SIZE(len(looks)),
+                           (Action * len(actions))(*actions), SIZE(len(actions)), ctypes.byref(refused)) & 255
+        return answer, list(judged), refused
 
 
 def look_of(row):
@@ -245,6 +294,28 @@ def action_of(row):
         return Action(kind=kind, **{name: int(field) for name, field in zip(FIELDS[kind], row[1:])})
     cause, names = CAUSES[row[2]]
     return Action(kind=kind, core=int(row[1]), cause=cause, **({names: int(row[3])} if names else {}))
+
+
+def action_row(action):
+    fields = {name: getattr(action, name) for name, _ in Action._fields_}
+    word = next(word for word, kind in KINDS.items() if kind == action.kind)
+    if action.kind != REVOKE:
+        return ",".join([word, *(str(fields[name]) for name in FIELDS[action.kind])])
+    cause, names = next((cause, names) for cause, (number, names) in CAUSES.items() if number == action.cause)
+    return ",".join([word, str(action.core), cause, *([str(fields[names])] if names else [])])
+
+
+def written(each, now, bandwidth, looks, judged, actions):
+    """The rows of a pass in a history (docs/FORMATS.md, version 2); `each`: it took looks one by one, and
+    of a refused look the busy one is written that was taken."""
+    yield f"pass,{now},{bandwidth}"
+    for k, (look, it) in enumerate(zip(looks, judged)):
+        if each and it > BUSY:
+            look, it = taken(look, it), BUSY
+        numbers = (look.number, look.second) if it == BUSY else (look.number, *(getattr(look, word) for word in WORDS))
+        word = next(word for word, number in JUDGEMENTS.items() if number == it)
+        yield ",".join(map(str, (word, k, int(look.room != 0), *numbers)))
+    yield from map(action_row, actions)
 
 
 def recorded(rows):

@@ -3,6 +3,8 @@
 //! The wrapper keeps what the header asks of a caller: a handle is owned by one `Scheduler`, which is
 //! neither copied nor sent to another thread, and each slice is passed with its length.
 
+use std::error::Error;
+use std::fmt;
 use std::marker::PhantomData;
 
 /// The most actions that a pass has.
@@ -26,6 +28,13 @@ pub struct Look {
     pub words: [u64; 9],
 }
 
+impl Look {
+    /// The look that a pass by `pass_each` took of this one, of which it judged so.
+    pub fn taken(self, judged: Judged) -> Look {
+        if judged.is_refused() { Look { busy: 1, room: self.room, number: 1, second: 1, ..self } } else { self }
+    }
+}
+
 /// One action of a pass, in the numbers of `caladan.h`.
 #[repr(C)]
 #[derive(Clone, Copy, Debug, Default, PartialEq, Eq)]
@@ -39,6 +48,50 @@ pub struct Action {
     pub task: u8,
     pub cap: u8,
     pub started: u64,
+}
+
+impl Action {
+    /// Of a revocation: why.
+    pub fn cause_text(&self) -> &'static str {
+        text(&["no cause", "for a ban", "for bandwidth", "for a task"], self.cause, "no cause")
+    }
+
+    /// The row of a history (docs/FORMATS.md).
+    fn row(&self) -> String {
+        let Action { kind, core, thread, core_class, cause, by, task, cap, started } = *self;
+        match (kind, cause) {
+            (1, _) => format!("free,{core}\n"),
+            (2, _) => format!("unban,{core}\n"),
+            (3, _) => format!("ban,{core},{thread},{started}\n"),
+            (4, 1) => format!("revoke,{core},ban,{by}\n"),
+            (4, 2) => format!("revoke,{core},bandwidth\n"),
+            (4, _) => format!("revoke,{core},preempt,{task}\n"),
+            (5, _) => format!("cap,{task},{cap}\n"),
+            _ => format!("grant,{core},{thread},{core_class}\n"),
+        }
+    }
+}
+
+/// The rows of a pass that `pass_each` made, in a history (docs/FORMATS.md, version 2): of a refused look the
+/// busy one that was taken.
+pub fn history_of_each(now: u64, bandwidth: u64, looks: &[Look], judged: impl IntoIterator<Item = Judged>, actions: &[Action]) -> String {
+    let mut rows = format!("pass,{now},{bandwidth}\n");
+    for (thread, (look, judged)) in looks.iter().zip(judged).enumerate() {
+        let Look { busy, room, number, second, words } = look.taken(judged);
+        let room = u8::from(room != 0);
+        rows += &if busy != 0 {
+            format!("busy,{thread},{room},{number},{second}\n")
+        } else {
+            let words: String = words.iter().map(|word| format!(",{word}")).collect();
+            format!("whole,{thread},{room},{number}{words}\n")
+        };
+    }
+    rows.extend(actions.iter().map(Action::row));
+    rows
+}
+
+fn text(texts: &[&'static str], number: u8, none: &'static str) -> &'static str {
+    texts.get(usize::from(number)).copied().unwrap_or(none)
 }
 
 /// What a task has, in cores.
@@ -64,6 +117,60 @@ pub struct Stopped {
 /// Why a call did nothing, as a number of `caladan.h`.
 #[derive(Clone, Copy, Debug, PartialEq, Eq)]
 pub struct Refused(pub u8);
+
+impl fmt::Display for Refused {
+    fn fmt(&self, out: &mut fmt::Formatter<'_>) -> fmt::Result {
+        out.write_str(text(ANSWERS, self.0, "no answer"))
+    }
+}
+
+impl Error for Refused {}
+
+const ANSWERS: &[&str] = &[
+    "done",
+    "the table is not TOML",
+    "the table has an unknown key",
+    "the table lacks a key",
+    "a value has the wrong type",
+    "a value is out of range",
+    "a best-effort task has a guarantee",
+    "the guarantees exceed the cores",
+    "there are too many threads",
+    "out of memory",
+    "the handle is closed",
+    "the handle is open",
+    "no answer",
+    "the count is wrong",
+    "there is too little room",
+    "a look does not fit",
+    "the table has no such core, task or thread",
+    "an action is none",
+    "an action is not permitted",
+    "a number is no judgement of its look",
+    "a pass is not legal",
+    "no page can show that the thread is gone",
+];
+
+const WHY: &[&str] = &[
+    "no reason",
+    "the pass has the most actions",
+    "it does not fit the state",
+    "the core was not left",
+    "the core is banned",
+    "the task is at its limit",
+    "the task is at its cap",
+    "the task is at its guarantee",
+    "the ring is full",
+    "a second command to the thread in this pass",
+    "a banned core is held",
+    "a task is over its cap",
+];
+
+impl fmt::Display for Stopped {
+    fn fmt(&self, out: &mut fmt::Formatter<'_>) -> fmt::Result {
+        write!(out, "action {}: {}", self.place, text(WHY, self.why, "no reason"))
+    }
+}
 
 /// What the table says of the machine.
 #[repr(C)]
@@ -155,6 +262,22 @@ impl Judged {
     }
 }
 
+impl fmt::Display for Judged {
+    fn fmt(&self, out: &mut fmt::Formatter<'_>) -> fmt::Result {
+        out.write_str(match self {
+            Judged::Kept => "kept",
+            Judged::Busy => "busy",
+            Judged::Ahead => "ahead: it acknowledges more commands than were sent",
+            Judged::Foreign => "foreign: it shows a core that the thread was not given",
+            Judged::NoPair => "its versions are no busy pair",
+            Judged::Misshapen => "misshapen: running or misses is out of range",
+            Judged::PlaceFell => "its place fell",
+            Judged::Changed => "another record at the same place",
+            Judged::WordFell => "taken, misses or stamp fell",
+        })
+    }
+}
+
 /// A command that a pass sends.
 #[derive(Clone, Copy, Debug, PartialEq, Eq)]
 pub enum Command {
@@ -229,6 +352,25 @@ extern "C" {
         made: usize,
         refused: *mut Stopped,
     ) -> u8;
+    #[allow(clippy::too_many_arguments)]
+    fn caladan_guard_pass_each(
+        handle: *mut Handle,
+        now: u64,
+        bandwidth: u64,
+        looks: *const Look,
+        count: usize,
+        judged: *mut u8,
+        judged_room: usize,
+        actions: *const Action,
+        made: usize,
+        refused: *mut Stopped,
+    ) -> u8;
+    fn caladan_guard_first_unfit(handle: *mut Handle, looks: *const Look, count: usize, thread: *mut usize) -> u8;
+    fn caladan_guard_table(handle: *mut Handle, machine: *mut Machine) -> u8;
+    fn caladan_guard_table_task(handle: *mut Handle, task: usize, row: *mut TableTask) -> u8;
+    fn caladan_guard_thread(handle: *mut Handle, thread: usize, state: *mut Thread) -> u8;
+    fn caladan_guard_gone(handle: *mut Handle, thread: usize, look: *mut Look) -> u8;
+    fn caladan_guard_holder(handle: *mut Handle, core: u8, holder: *mut Holder) -> u8;
     fn caladan_guard_task(handle: *mut Handle, task: usize, counts: *mut Counts) -> u8;
     fn caladan_guard_close(handle: *mut Handle) -> u8;
 }
@@ -442,6 +584,17 @@ pub enum NotThrough {
     Refused(Refused),
 }
 
+impl fmt::Display for NotThrough {
+    fn fmt(&self, out: &mut fmt::Formatter<'_>) -> fmt::Result {
+        match self {
+            NotThrough::Stopped(stopped) => stopped.fmt(out),
+            NotThrough::Refused(refused) => refused.fmt(out),
+        }
+    }
+}
+
+impl Error for NotThrough {}
+
 /// A guard of passes whose actions somebody else chose.
 pub struct Guard {
     handle: Handle,
@@ -483,6 +636,92 @@ impl Guard {
         }
     }
 
+    /// The next pass, each look by itself: one that is unfit, ahead or foreign is taken as a busy one, so
+    /// it stops nobody and leaves no trace. What was judged of each look; `judged` says it too, and also
+    /// where an action stopped the pass.
+    pub fn pass_each(&mut self, now: u64, bandwidth: u64, looks: &[Look], actions: &[Action]) -> Result<impl Iterator<Item = Judged> + '_, NotThrough> {
+        self.judged.clear();
+        self.judged.resize(looks.len(), 0);
+        let mut stopped = Stopped::default();
+        let answer = unsafe {
+            caladan_guard_pass_each(
+                &mut self.handle,
+                now,
+                bandwidth,
+                looks.as_ptr(),
+                looks.len(),
+                self.judged.as_mut_ptr(),
+                self.judged.len(),
+                actions.as_ptr(),
+                actions.len(),
+                &mut stopped,
+            )
+        };
+        if answer != 0 && answer != 18 {
+            self.judged.clear();
+        }
+        match answer {
+            0 => Ok(self.judged()),
+            18 => Err(NotThrough::Stopped(stopped)),
+            _ => Err(NotThrough::Refused(Refused(answer))),
+        }
+    }
+
+    /// What `pass_each` judged of each look, where it went through or was stopped by an action.
+    pub fn judged(&self) -> impl Iterator<Item = Judged> + '_ {
+        self.judged.iter().map(|number| Judged::of(*number))
+    }
+
+    /// The first thread whose look `pass` would refuse, if there is one.
+    pub fn first_unfit(&mut self, looks: &[Look]) -> Result<Option<usize>, Refused> {
+        let mut thread = 0;
+        match unsafe { caladan_guard_first_unfit(&mut self.handle, looks.as_ptr(), looks.len(), &mut thread) } {
+            15 => Ok(Some(thread)),
+            answer => answered(answer).map(|()| None),
+        }
+    }
+
+    /// What the table says of the machine.
+    pub fn machine(&mut self) -> Machine {
+        let mut machine = Machine::default();
+        unsafe { caladan_guard_table(&mut self.handle, &mut machine) };
+        machine
+    }
+
+    /// What the table says of each task, in order.
+    pub fn table(&mut self) -> impl Iterator<Item = TableTask> + '_ {
+        (0..).map_while(|task| {
+            let mut row = TableTask::default();
+            answered(unsafe { caladan_guard_table_task(&mut self.handle, task, &mut row) }).ok().map(|()| row)
+        })
+    }
+
+    /// A thread's task, the commands sent to it, and those that its kept record acknowledges.
+    pub fn thread(&mut self, thread: usize) -> Option<Thread> {
+        let mut state = Thread::default();
+        answered(unsafe { caladan_guard_thread(&mut self.handle, thread, &mut state) }).ok().map(|()| state)
+    }
+
+    /// What the page of a thread must show once the thread is gone: 16 where there is no such thread, 21
+    /// where no page can show it. With this look the pass is permitted that frees its core.
+    pub fn gone(&mut self, thread: usize) -> Result<Look, Refused> {
+        let mut look = Look::default();
+        answered(unsafe { caladan_guard_gone(&mut self.handle, thread, &mut look) }).map(|()| look)
+    }
+
+    /// What each of these actions, which the last pass made, sends, if anything, and to which thread.
+    pub fn commands<'a>(&'a mut self, actions: &'a [Action]) -> impl Iterator<Item = (u8, Command)> + 'a {
+        let handle = &mut self.handle;
+        actions.iter().filter_map(move |action| match action.kind {
+            6 => Some((action.thread, Command::Run { core: action.core })),
+            4 => {
+                let mut holder = Holder::default();
+                answered(unsafe { caladan_guard_holder(handle, action.core, &mut holder) }).ok().map(|()| (holder.thread, Command::Park))
+            }
+            _ => None,
+        })
+    }
+
     /// What a task has, where the table has it.
     pub fn task(&mut self, task: usize) -> Option<Counts> {
         let mut counts = Counts::default();
@@ -498,75 +737,4 @@ impl Drop for Guard {
 }
 
 #[cfg(test)]
-mod tests {
-    use super::{Action, Audit, Command, Guard, Judged, Look, Machine, NotThrough, Refused, Scheduler, Stopped, Thread, Verdict};
-
-    const TABLE: &str = "cores = 2\nbandwidth_limit = 1000\n\n[[task]]\nkind = \"lc\"\nguaranteed = 1\nlimit = 1\ndelay = 10\nrequest = 50\n";
-
-    #[test]
-    fn one_grant() {
-        let mut scheduler = Scheduler::open(TABLE).unwrap();
-        let look = Look { room: 1, number: 1, words: [0, 0, 1, 100, 0, 0, 105, 0, 0], ..Look::default() };
-        assert_eq!(scheduler.pass(111, 0, &[]), Err(Refused(13)));
-        let (actions, judged) = scheduler.pass(111, 0, &[look]).unwrap();
-        assert_eq!((actions.len(), actions[0].kind, actions[0].core_class, judged), (1, 6, 3, &[1u8][..]));
-        assert_eq!(scheduler.task(0).unwrap().held, 1);
-        assert_eq!(scheduler.task(1), None);
-    }
-
-    fn waits() -> Look {
-        Look { room: 1, number: 1, words: [0, 0, 1, 100, 0, 0, 105, 0, 0], ..Look::default() }
-    }
-
-    fn grant(class: u8) -> Action {
-        Action { kind: 6, core_class: class, ..Action::default() }
-    }
-
-    #[test]
-    fn one_lie_stops_nobody() {
-        let mut scheduler = Scheduler::open(TABLE).unwrap();
-        let lie = Look { room: 1, number: 1, words: [0, 129, 0, 0, 0, 0, 0, 0, 0], ..Look::default() };
-        assert_eq!(scheduler.pass(111, 0, &[lie]), Err(Refused(15)));
-        assert_eq!(scheduler.first_unfit(&[lie]), Ok(Some(0)));
-        let (actions, judged) = scheduler.pass_each(111, 0, &[lie]).unwrap();
-        assert_eq!((actions.len(), judged.collect::<Vec<_>>()), (0, vec![Judged::Misshapen]));
-        assert_eq!(scheduler.first_unfit(&[waits()]), Ok(None));
-        scheduler.pass_each(112, 0, &[waits()]).unwrap();
-        assert_eq!(scheduler.commands().collect::<Vec<_>>(), [(0, Command::Run { core: 0 })]);
-        assert_eq!(scheduler.thread(0), Some(Thread { task: 0, sent: 1, taken: 0 }));
-        assert_eq!(scheduler.thread(1), None);
-        let gone = scheduler.gone(0).unwrap();
-        assert_eq!((gone.number, gone.words), (2, [1, 0, 0, 0, 0, 0, 105, 0, 0]));
-        assert_eq!(scheduler.gone(1), Err(Refused(16)));
-        let (actions, _) = scheduler.pass_each(113, 0, &[gone]).unwrap();
-        assert_eq!(actions[0].kind, 1);
-        assert_eq!(scheduler.machine(), Machine { cores: 2, tasks: 1, threads: 1, bandwidth_limit: 1000 });
-        assert_eq!(scheduler.table().map(|task| task.delay).collect::<Vec<_>>(), [10]);
-    }
-
-    #[test]
-    fn audit_names_the_pass() {
-        let mut audit = Audit::open(TABLE).unwrap();
-        assert_eq!(audit.pass(111, 0, &[waits()], &[], &[]), Err(Refused(13)));
-        audit.pass(111, 0, &[waits()], &[1], &[grant(3)]).unwrap();
-        assert_eq!(audit.verdict(), Verdict::Legal);
-        audit.pass(112, 0, &[waits()], &[1], &[grant(3)]).unwrap();
-        assert_eq!(audit.verdict(), Verdict::Illegal { pass: 1 });
-    }
-
-    #[test]
-    fn guard_names_the_action() {
-        let mut guard = Guard::open(TABLE).unwrap();
-        let twice = guard.pass(111, 0, &[waits()], &[grant(1), grant(1)]);
-        assert_eq!(twice, Err(NotThrough::Stopped(Stopped { place: 1, why: 2, names: 0 })));
-        assert_eq!(guard.task(0).unwrap().held, 0);
-        assert_eq!(guard.pass(111, 0, &[waits()], &[grant(1)]), Ok(&[1u8][..]));
-        assert_eq!(guard.task(0).unwrap().held, 1);
-        assert_eq!(guard.pass(112, 0, &[], &[]), Err(NotThrough::Refused(Refused(13))));
-    }
-
-    #[test]
-    fn no_table() {
-        assert_eq!(Scheduler::open("cores = 3\n").err(), Some(Refused(3)));
-    }
-}
+mod tests;

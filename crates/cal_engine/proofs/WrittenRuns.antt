@@ -1,28 +1,29 @@
 -- The text of a run that was written.
-use Rattle.std.proofs.Common.{ℕ, Bool, List, Option, Result, Ok, Err, IsOk, IfErr, OnOk, ◌≡◌, refl, sym, subst}
+use Rattle.std.proofs.Common.{ℕ, List, Option, Result, Ok, Err, IsOk, IfErr, OnOk, ◌≡◌, refl, sym, subst}
 use Rattle.std.specs.Io.KnownBytes.{Appends}
 use Rattle.cal_engine.specs.Outcome.{Failed}
 use Rattle.cal_engine.specs.Running.{FailedInThreads, RunInput, Runs, RunsInThreads, TellsRun, WritesRun}
 use Rattle.cal_engine.specs.declared.fault.RunFault.{RunFault}
 use Rattle.cal_engine.specs.declared.fault.RunFault.TheVariants as fault
+use Rattle.cal_engine.specs.declared.jobs.running.RunAnswer.{RunAnswer}
 
-written_run : (summary : Bool) (input : Result RunInput RunFault) (old new : Option (List ℕ)) (text : List ℕ) → TellsRun summary input text → Appends old new text → WritesRun summary input old new
-written_run summary (Err f) old new text tells written = absurd tells
-written_run summary (Ok input) old new text tells written =
+written_run : (answer : RunAnswer) (input : Result RunInput RunFault) (old new : Option (List ℕ)) (text : List ℕ) → TellsRun answer input text → Appends old new text → WritesRun answer input old new
+written_run answer (Err f) old new text tells written = absurd tells
+written_run answer (Ok input) old new text tells written =
     record { outcome = tells.outcome; run = tells.run; written = subst (λ (t : List ℕ). Appends old new t) tells.made written }
 
-has_input : (summary : Bool) (input : Result RunInput RunFault) (text : List ℕ) → TellsRun summary input text → IsOk input
-has_input summary (Err f) text tells = absurd tells
-has_input summary (Ok input) text tells = refl
+has_input : (answer : RunAnswer) (input : Result RunInput RunFault) (text : List ℕ) → TellsRun answer input text → IsOk input
+has_input answer (Err f) text tells = absurd tells
+has_input answer (Ok input) text tells = refl
 
 -- the text was written, or the writer failed
-pub runs : {T : Type 0} (summary : Bool) (result : Result T RunFault) (input : Result RunInput RunFault) (old new : Option (List ℕ)) (text : List ℕ) → TellsRun summary input text
-    → OnOk result (Appends old new text) → IfErr result (λ f. f ≡ fault.Write) → Runs summary result input old new
-runs summary (Ok done) input old new text tells written kind = written_run summary input old new text tells written
-runs summary (Err f) input old new text tells written kind = subst (λ (g : RunFault). Failed g input) (sym kind) (has_input summary input text tells)
+pub runs : {T : Type 0} (answer : RunAnswer) (result : Result T RunFault) (input : Result RunInput RunFault) (old new : Option (List ℕ)) (text : List ℕ) → TellsRun answer input text
+    → OnOk result (Appends old new text) → IfErr result (λ f. f ≡ fault.Write) → Runs answer result input old new
+runs answer (Ok done) input old new text tells written kind = written_run answer input old new text tells written
+runs answer (Err f) input old new text tells written kind = subst (λ (g : RunFault). Failed g input) (sym kind) (has_input answer input text tells)
 
 -- the same of a run in threads
-pub runs_in_threads : {T : Type 0} (summary : Bool) (result : Result T RunFault) (input : Result RunInput RunFault) (old new : Option (List ℕ)) (text : List ℕ) → TellsRun summary input text
-    → OnOk result (Appends old new text) → IfErr result (λ f. f ≡ fault.Write) → RunsInThreads summary result input old new
-runs_in_threads summary (Ok done) input old new text tells written kind = written_run summary input old new text tells written
-runs_in_threads summary (Err f) input old new text tells written kind = subst (λ (g : RunFault). FailedInThreads g input) (sym kind) (has_input summary input text tells)
+pub runs_in_threads : {T : Type 0} (answer : RunAnswer) (result : Result T RunFault) (input : Result RunInput RunFault) (old new : Option (List ℕ)) (text : List ℕ) → TellsRun answer input text
+    → OnOk result (Appends old new text) → IfErr result (λ f. f ≡ fault.Write) → RunsInThreads answer result input old new
+runs_in_threads answer (Ok done) input old new text tells written kind = written_run answer input old new text tells written
+runs_in_threads answer (Err f) input old new text tells written kind = subst (λ (g : RunFault). FailedInThreads g input) (sym kind) (has_input answer input text tells)

@@ -1,6 +1,5 @@
 -- Whole runs: what an input gives to one, and what is written of what it came to.
-use Rattle.std.specs.Prelude.{◌≡◌, ℕ, Bool, true, false, List, length, Option, Result, Ok, Err}
-use Rattle.std.specs.Prelude.{IsOk}
+use Rattle.std.specs.Prelude.{◌≡◌, ℕ, List, length, Option, Result, Ok, Err, IsOk}
 use Rattle.std.specs.Io.KnownBytes.{Appends}
 use Rattle.cal_machine.specs.Table.{Table}
 use Rattle.cal_machine.specs.Tasks.{threads_in}
@@ -12,10 +11,12 @@ use Rattle.cal_trace.specs.Rows.{rows_of}
 use Rattle.cal_trace.specs.Report.Summary.{summary_text}
 use Rattle.cal_trace.specs.declared.arrivals.Arrivals.{Arrivals}
 use Rattle.cal_trace.specs.declared.fault.TraceFault.{TraceFault}
-use Rattle.cal_engine.specs.Outcome.{Failed}
-use Rattle.cal_engine.specs.Runs.{Parts, parts_of}
+use Rattle.cal_engine.specs.Outcome.{Failed, run_report}
+use Rattle.cal_engine.specs.Runs.{Parts, Run, parts_of}
 use Rattle.cal_engine.specs.declared.fault.RunFault.{RunFault}
 use Rattle.cal_engine.specs.declared.fault.RunFault.TheVariants as fault
+use Rattle.cal_engine.specs.declared.jobs.running.RunAnswer.{RunAnswer}
+use Rattle.cal_engine.specs.declared.jobs.running.RunAnswer.TheVariants.{History, Summary, Report}
 
 -- what a run is given: a table, and arrivals for its threads
 pub record RunInput : Type 0 where
@@ -35,40 +36,48 @@ run_input (Ok parts) =
 abbrev pub run_input_of : List ℕ → Result RunInput RunFault
 run_input_of input = run_input (parts_of input)
 
--- what is written of what a run came to: its summary, or else its history as a file
-abbrev pub run_text : Bool → Arrivals → Outcome → List ℕ
-run_text true arrivals outcome =
-    summary_text (length arrivals.passes) (length arrivals.turns) outcome.journals outcome.left
-run_text false arrivals outcome = history_text outcome.history
+-- the history that a run on this came to, with its table
+abbrev pub run_made : RunInput → Outcome → Run
+run_made input outcome = record { table = input.table; history = outcome.history }
+
+-- what is written of what a run came to: its history as a file, its summary, or the report that the
+-- audit of its history has
+abbrev pub run_text : RunAnswer → RunInput → Outcome → List ℕ
+run_text History input outcome = history_text outcome.history
+run_text Summary input outcome =
+    summary_text (length input.arrivals.passes) (length input.arrivals.turns) outcome.journals
+    outcome.left
+run_text Report input outcome = run_report (run_made input outcome)
 
 -- a run on this came to some outcome, and this is the text of that
-pub record IsTextOfRun (summary : Bool) (input : RunInput) (text : List ℕ) : Type 0 where
+pub record IsTextOfRun (answer : RunAnswer) (input : RunInput) (text : List ℕ) : Type 0 where
   pub outcome : Outcome
   pub run : IsRun input.table input.arrivals outcome
-  pub made : text ≡ run_text summary input.arrivals outcome
+  pub made : text ≡ run_text answer input outcome
 
 -- the input gives a run, and this is the text of one
-abbrev pub TellsRun : Bool → Result RunInput RunFault → List ℕ → Type 0
-TellsRun summary (Err f) text = ⊥
-TellsRun summary (Ok input) text = IsTextOfRun summary input text
+abbrev pub TellsRun : RunAnswer → Result RunInput RunFault → List ℕ → Type 0
+TellsRun answer (Err f) text = ⊥
+TellsRun answer (Ok input) text = IsTextOfRun answer input text
 
 -- a run on this came to some outcome, and the text of that was written
-pub record IsWrittenRun (summary : Bool) (input : RunInput)
+pub record IsWrittenRun (answer : RunAnswer) (input : RunInput)
     (old new : Option (List ℕ)) : Type 0 where
   pub outcome : Outcome
   pub run : IsRun input.table input.arrivals outcome
-  pub written : Appends old new (run_text summary input.arrivals outcome)
+  pub written : Appends old new (run_text answer input outcome)
 
 -- the input gives a run, and it was made and written
-abbrev pub WritesRun : Bool → Result RunInput RunFault → Option (List ℕ) → Option (List ℕ) → Type 0
-WritesRun summary (Err f) old new = ⊥
-WritesRun summary (Ok input) old new = IsWrittenRun summary input old new
+abbrev pub WritesRun : RunAnswer → Result RunInput RunFault → Option (List ℕ) → Option (List ℕ) →
+    Type 0
+WritesRun answer (Err f) old new = ⊥
+WritesRun answer (Ok input) old new = IsWrittenRun answer input old new
 
 -- a run was made and written and nothing else, or the fault says what it must of the input
-abbrev pub Runs : {T : Type 0} → Bool → Result T RunFault → Result RunInput RunFault
+abbrev pub Runs : {T : Type 0} → RunAnswer → Result T RunFault → Result RunInput RunFault
     → Option (List ℕ) → Option (List ℕ) → Type 0
-Runs summary (Ok _) input old new = WritesRun summary input old new
-Runs summary (Err f) input old new = Failed f input
+Runs answer (Ok _) input old new = WritesRun answer input old new
+Runs answer (Err f) input old new = Failed f input
 
 -- What a fault of a run in threads says of the input: that there is one for a run where a thread
 -- could not be started, since threads start after reading; any other says what it must.
@@ -78,7 +87,7 @@ FailedInThreads f input = Failed f input
 
 -- a run was made in threads and written and nothing else, or the fault says what it must of the
 -- input
-abbrev pub RunsInThreads : {T : Type 0} → Bool → Result T RunFault → Result RunInput RunFault
+abbrev pub RunsInThreads : {T : Type 0} → RunAnswer → Result T RunFault → Result RunInput RunFault
     → Option (List ℕ) → Option (List ℕ) → Type 0
-RunsInThreads summary (Ok _) input old new = WritesRun summary input old new
-RunsInThreads summary (Err f) input old new = FailedInThreads f input
+RunsInThreads answer (Ok _) input old new = WritesRun answer input old new
+RunsInThreads answer (Err f) input old new = FailedInThreads f input

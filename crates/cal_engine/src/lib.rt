@@ -21,6 +21,6 @@ pub use input::separator::split_input;
 pub use input::{INPUT_LIMIT, read_input};
 pub use jobs::auditing::{recorded_passes, recorded_run, run_audit};
 pub use jobs::deciding::{decide, decided_run};
-pub use jobs::running::run_lockstep;
+pub use jobs::running::{RunAnswer, run_lockstep};
 pub use jobs::simulating::run_sim;
 pub use program::{end_with, refuse_words, run_program};

@@ -116,12 +116,12 @@ fn do_job<H: Threads + Wait + Sync, R: Read + Drop, W: Write>(
             decide(alloc, reader, output)?;
             Ok(0)
         }
-        Job::Lockstep(summary) => {
-            run_lockstep(alloc, reader, summary, output)?;
+        Job::Lockstep(answer) => {
+            run_lockstep(alloc, reader, answer, output)?;
             Ok(0)
         }
-        Job::Sim(summary) => {
-            run_sim(rt, alloc, reader, summary, output)?;
+        Job::Sim(answer) => {
+            run_sim(rt, alloc, reader, answer, output)?;
             Ok(0)
         }
         Job::Audit => {

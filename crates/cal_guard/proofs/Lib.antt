@@ -11,3 +11,4 @@ pub mod Taking
 pub mod Upto
 pub mod Groups
 pub mod Between
+mod GoneLemmas

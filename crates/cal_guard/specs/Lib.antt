@@ -5,3 +5,4 @@ pub mod Causes
 pub mod Refusals
 pub mod Passing
 pub mod Guarded
+pub mod Gone

@@ -28,7 +28,8 @@ use cal_policy::{Action, Input, Look, Seen};
 use std::alloc::{AllocError, Global};
 
 /// The state after the history so far, and the actions that the pass has so far. Only opening a
-/// guard takes memory; a pass costs a copy of the state and, for each action, the cores and tasks.
+/// guard takes memory; a pass costs a copy of the state, which is put back where an action is not
+/// permitted, and, for each action, the cores and tasks.
 ///
 /// Every call is to be given the table that the guard was opened for. What a guard says holds of
 /// every permitted history with which it agrees.
@@ -156,13 +157,13 @@ impl Guard {
         ensures of { IsGuardOf config.now self.new }
     {
         config.limits();
-        let mut trial = self.passing.duplicate();
-        match trial.take_each(config, input, actions) {
-            Ok(()) => {
-                *self.passing = trial;
-                Ok(())
+        let before = self.passing.duplicate();
+        match self.passing.take_each(config, input, actions) {
+            Ok(()) => Ok(()),
+            Err(refused) => {
+                *self.passing = before;
+                Err(refused)
             }
-            Err(refused) => Err(refused),
         }
     }
 
@@ -188,14 +189,14 @@ impl Guard {
     {
         config.limits();
         permitted_goes_on();
-        let mut trial = self.passing.duplicate();
-        trial.begin(input.seen.as_slice());
-        match trial.take_each(config, input, chosen) {
-            Ok(()) => {
-                *self.passing = trial;
-                Ok(())
+        let before = self.passing.duplicate();
+        self.passing.begin(input.seen.as_slice());
+        match self.passing.take_each(config, input, chosen) {
+            Ok(()) => Ok(()),
+            Err(refused) => {
+                *self.passing = before;
+                Err(refused)
             }
-            Err(refused) => Err(refused),
         }
     }
 }

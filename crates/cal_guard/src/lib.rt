@@ -7,6 +7,7 @@
 #![tactic(auto)]
 
 mod checking;
+mod gone;
 mod guard;
 mod histories;
 mod laws;
@@ -15,6 +16,7 @@ mod passing;
 mod refusal;
 
 pub use checking::{is_permitted, is_permitted_pass, permits};
+pub use gone::{gone_may_be_freed, permitted_gone_is_kept};
 pub use guard::{Guard, groups_make_a_pass, passes_are_kept};
 pub use histories::{
     doing_nothing_is_permitted, permitted_goes_on, permitted_is_orderly, permitted_is_safe,

@@ -300,13 +300,12 @@ impl Passing {
         }
     }
 
-    /// A state like this one, to try actions on.
+    /// A state like this one, to go back to.
     pub fn duplicate(&self) -> Passing
         ensures { result ≡ self.now }
     {
-        let board = self.board.duplicate();
         Passing {
-            board,
+            board: self.board.duplicate(),
             sent: self.sent,
             made: self.made,
         }

@@ -1,2 +1,4 @@
 pub mod Serving
 pub mod Steps
+pub mod Counting
+pub mod Passes

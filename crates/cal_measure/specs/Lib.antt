@@ -4,3 +4,6 @@ pub mod Spread
 pub mod Clocks
 pub mod Requests
 pub mod States
+pub mod Actions
+pub mod Cores
+pub mod Shares

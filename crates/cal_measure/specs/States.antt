@@ -1,10 +1,10 @@
 -- What is so after each pass of a history, until the next one.
-use Rattle.std.specs.Prelude.{ℕ, ◌+◌, ◌-◌, ◌&&◌, Bool, true, false, not, nat_lt, List}
-use Rattle.std.specs.Prelude.{Option, Some, None, slice_get, take, if◌then◌else◌}
+use Rattle.std.specs.Prelude.{ℕ, ◌+◌, ◌-◌, ◌&&◌, Bool, true, false, not, List}
+use Rattle.std.specs.Prelude.{Option, Some, None, slice_get, take}
 use Rattle.cal_machine.specs.Table.{Table}
-use Rattle.cal_policy.specs.Board.Counts.{held_by, is_free, is_held}
+use Rattle.cal_policy.specs.Board.Counts.{is_free, is_held}
 use Rattle.cal_policy.specs.History.Looks.{kept_by}
-use Rattle.cal_policy.specs.History.{actions_of, holder_of, is_banned}
+use Rattle.cal_policy.specs.History.{holder_of, is_banned}
 use Rattle.cal_policy.specs.Pass.Choice.{count_below, greatest_below}
 use Rattle.cal_policy.specs.Pass.Grants.{is_congested, record_delay}
 use Rattle.cal_policy.specs.Setting.{setting_of}

@@ -5,16 +5,22 @@
 //! proved to be that of its definition. What is measured, and how, is Doranjei's.
 #![tactic(auto)]
 
+mod actions;
 mod clocks;
+mod cores;
 mod requests;
 mod services;
+mod shares;
 mod spread;
 mod states;
 mod turns;
 
+pub use actions::LossKind;
 pub use clocks::{ArrivalClocks, last_clock};
+pub use cores::{MachineCores, TaskActions, TaskCores, cores_of, machine_of};
 pub use requests::{TaskRequests, requests_of};
 pub use services::{Service, services_of};
+pub use shares::thousandths;
 pub use spread::{Spread, spread_of};
 pub use states::CoreState;
 pub use turns::{Turn, turns_of};

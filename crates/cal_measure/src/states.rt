@@ -15,6 +15,7 @@ ghost use Rattle.cal_policy.specs.declared.history.action.Action.{Action};
 ghost use Rattle.cal_policy.specs.declared.history.entry.PassEntry.{PassEntry};
 ghost use Rattle.cal_policy.specs.declared.history.look.Seen.{Seen};
 ghost use Rattle.cal_measure.specs.States.{clock_at, count_in_state, delay_after, is_in_state};
+ghost use Rattle.cal_measure.specs.States.{lasts_at};
 
 use cal_machine::Config;
 use cal_policy::state::{Board, is_banned};
@@ -34,13 +35,23 @@ pub enum CoreState {
 }
 
 /// The clock of a pass; 0 where there is no such pass.
-pub fn clock_at(history: &[PassEntry], pass: usize) -> u64
+fn clock_at(history: &[PassEntry], pass: usize) -> u64
     ensures { result ≡ clock_at history.now pass }
 {
     match history.get(pass) {
         Some(entry) => entry.input.now,
         None => 0,
     }
+}
+
+/// How long what is so after a pass lasts, in clock ticks: until the clock of the next pass; 0 where
+/// that is not later, and after the last pass.
+pub fn lasts_at(history: &[PassEntry], pass: usize) -> u64
+    requires { pass < length history.now }
+    ensures { result ≡ lasts_at history.now pass }
+{
+    let clock = clock_at(history, pass);
+    clock_at(history, pass + 1).saturating_sub(clock)
 }
 
 /// Whether a core is in this state.
@@ -80,13 +91,12 @@ fn core_is(board: &Board, state: CoreState, core: u8) -> bool
 }
 
 /// How many cores are in this state.
-fn count_in_state(config: &Config, board: &Board, state: CoreState) -> usize
-    ensures many { (x : List Action) → Agrees board.now x →
+pub fn count_in_state(config: &Config, board: &Board, state: CoreState) -> u8
+    ensures { (x : List Action) → Agrees board.now x →
         result ≡ count_in_state config.now x state }
-    ensures few { result ≤ 255 }
 {
     config.limits();
-    let mut count: usize = 0;
+    let mut count: u8 = 0;
     for core in 0..config.machine().cores() {
         if core_is(board, state, core) {
             count += 1;
@@ -150,16 +160,27 @@ fn is_congested(config: &Config, board: &Board, clock: u64, task: usize) -> bool
     task_delay(config, board, clock, task) > config.task(task).delay
 }
 
+/// Brings a board up to one more action, which names the table's cores, threads and tasks.
+fn apply_one(config: &Config, board: &mut Board, action: Action)
+    requires ready { IsReady config.now board.old }
+    requires names { NamesTable config.now action }
+    ensures agrees { (x : List Action) → Agrees board.old x → Agrees board.new (x ++ action ∷ []) }
+    ensures ready { IsReady config.now board.new }
+    ensures keeping { board.new.keeping ≡ board.old.keeping }
+{
+    config.limits();
+    board.apply(config, action);
+}
+
 /// Brings a board up to more actions, each of which names the table's cores, threads and tasks.
-fn apply_each(config: &Config, board: &mut Board, actions: &[Action])
+pub fn apply_each(config: &Config, board: &mut Board, actions: &[Action])
     requires ready { IsReady config.now board.old }
     requires names { All (NamesTable config.now) actions.now }
     ensures agrees { (x : List Action) → Agrees board.old x → Agrees board.new (x ++ actions.now) }
     ensures ready { IsReady config.now board.new }
     ensures keeping { board.new.keeping ≡ board.old.keeping }
 {
-    config.limits();
     for action in actions {
-        board.apply(config, *action);
+        apply_one(config, board, *action);
     }
 }

@@ -3,6 +3,7 @@ pub mod CoreSets
 pub mod Counts
 pub mod KeepingSets
 pub mod Losing
+pub mod OpenCores
 pub mod Survey
 pub mod ThreadSet
 use Rattle.std.specs.Prelude.{◌≡◌, ℕ, ◌<◌, ◌≤◌, ◌^◌, List, min, Option, Some, None}
@@ -38,6 +39,7 @@ use Rattle.cal_policy.specs.Setting.{Setting, so_far, kept_now, kept_before}
 use Rattle.cal_policy.specs.Pass.Grants.{is_granted_in}
 use Rattle.cal_policy.specs.Board.Survey.{Surveys}
 use Rattle.cal_policy.specs.Board.CoreSets.{Sorts, IsSetOfBanned}
+use Rattle.cal_policy.specs.Board.OpenCores.{Opens}
 use Rattle.cal_policy.specs.Board.KeepingSets.{KeepsSets}
 
 -- a number of commands as it is kept: no record acknowledges 2^64, so what is above need not be
@@ -148,12 +150,13 @@ abbrev pub NamesTable : Table → Action → Type 0
 NamesTable table action = NamesCores table.cores (threads_of_table table) action
 
 -- the board's threads are the table's, its counts are those of its cores, its sets have each core
--- where its holder says, and each thread where its kept record says
+-- where its holder and its ban say, and each thread where its kept record says
 pub record IsReady (table : Table) (b : Board) : Type 0 where
   pub sound : BoardSound MOST_THREADS b
   pub own : BoardSound (threads_of_table table) b
   pub counts : Surveys table (holder_in b.holding) b.survey
   pub sets : Sorts (holder_in b.holding) b.sets
+  pub opens : Opens (holder_in b.holding) b.sets.banned b.open_cores
   pub keeping : KeepsSets b.keeping
 
 -- the set has the cores that were granted in this pass

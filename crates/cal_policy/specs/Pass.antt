@@ -9,6 +9,7 @@ pub mod Frees
 pub mod Grants
 pub mod Made
 pub mod Steady
+pub mod ToBan
 use Rattle.std.specs.Prelude.{◌≡◌, ℕ, List, [], ◌++◌, take, Some, slice_get}
 use Rattle.cal_machine.specs.Table.{Table}
 use Rattle.cal_policy.specs.declared.history.action.Action.{Action}

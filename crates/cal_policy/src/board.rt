@@ -5,6 +5,7 @@ pub mod caps;
 pub mod core_sets;
 pub mod counts;
 pub mod holders;
+pub mod open_cores;
 pub mod records;
 pub mod replay;
 pub mod survey;
@@ -24,6 +25,7 @@ use crate::board::bans::Bans;
 use crate::board::caps::Caps;
 use crate::board::core_sets::CoreSets;
 use crate::board::holders::{Holding, core_changed_by};
+use crate::board::open_cores::OpenCores;
 use crate::board::records::Keeping;
 use crate::board::survey::Survey;
 use crate::history::action::Action;
@@ -40,6 +42,8 @@ pub struct Board {
     pub survey: Survey,
     /// Which cores are free, taken, left or banned.
     pub sets: CoreSets,
+    /// Which cores grants and bans go over.
+    pub open_cores: OpenCores,
     /// For whom each core is banned.
     pub bans: Bans,
     /// How many cores a best-effort task may hold.
@@ -78,6 +82,7 @@ impl Board {
             holding: Holding::new(),
             survey: Survey::new(),
             sets: CoreSets::new(),
+            open_cores: OpenCores::new(),
             bans: Bans::new(),
             caps: Caps::new(),
             keeping: Keeping::new(),
@@ -105,6 +110,8 @@ impl Board {
         self.survey.add(config, after);
         self.sets.move_core(core, before, after);
         self.sets.note_ban(action);
+        let banned = self.sets.banned;
+        self.open_cores.note(config, &self.holding, &banned, action);
         self.bans.apply(action);
         self.caps.apply(action);
         note_grant(&mut self.fresh, action);
@@ -130,6 +137,10 @@ impl Board {
                 free: self.sets.free,
                 taken: self.sets.taken,
                 banned: self.sets.banned,
+            },
+            open_cores: OpenCores {
+                idle: self.open_cores.idle,
+                alone: self.open_cores.alone,
             },
             bans: Bans {
                 bans: self.bans.bans,

@@ -21,6 +21,7 @@ use Rattle.cal_trace.specs.declared.arrivals.Arrivals.{Arrivals}
 use Rattle.cal_trace.specs.declared.arrivals.GivenPass.{GivenPass}
 use Rattle.cal_run.specs.Workers.Given.{IsGiven, turns_given}
 use Rattle.cal_run.specs.declared.outcome.Outcome.{Outcome}
+use Rattle.cal_run.specs.declared.outcome.RunEnd.{RunEnd}
 
 -- the clock and the bandwidth figure of a pass that was made
 abbrev pub figures_of : PassEntry → GivenPass
@@ -69,3 +70,17 @@ pub record IsRun (table : Table) (arrivals : Arrivals) (outcome : Outcome) : Typ
   pub account : IsAccounted outcome.journals outcome.left
   -- and each id stands in one place
   pub once : EachStandsOnce arrivals outcome
+
+-- the outcome of a run that ended with these: its events are those that `linearise` makes of them
+abbrev pub outcome_of : RunEnd → Outcome
+outcome_of end = record {
+  history = end.history;
+  journals = end.journals;
+  left = end.left;
+  events = linear end.history end.journals end.watched;
+  watched = end.watched;
+}
+
+-- a run on these arrivals ended with these
+abbrev pub IsRunEnd : Table → Arrivals → RunEnd → Type 0
+IsRunEnd table arrivals end = IsRun table arrivals (outcome_of end)

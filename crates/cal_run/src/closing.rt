@@ -4,22 +4,24 @@ mod pages_and_rings;
 mod thread_ends;
 
 ghost use Rattle.std.specs.Prelude.{◌≡◌, IfErr, IfOk, length};
-ghost use Rattle.cal_run.specs.Outcome.{IsRun};
+ghost use Rattle.cal_linear.specs.Runs.{AreOfOneRun, AreWatched};
+ghost use Rattle.cal_run.specs.Outcome.{IsRun, IsRunEnd, outcome_of};
 ghost use Rattle.cal_run.specs.Parts.{AreParts, rounds_of};
 ghost use Rattle.cal_run.specs.declared.fault.SimFault.TheVariants.{Memory};
 ghost use Rattle.cal_trace.specs.Arrivals.FitsTable.{FitsTable};
 
 use crate::closing::pages_and_rings::close_threads;
 use crate::fault::SimFault;
-use crate::outcome::Outcome;
 use crate::outcome::given_once::given_stand_once;
+use crate::outcome::headline::headline_of_runs;
+use crate::outcome::{Outcome, RunEnd};
 use crate::parts::Parts;
-use cal_linear::{fitting_looks_are_publications, linearise};
+use cal_linear::{fitting_looks_are_publications, linear_is_legal, linearise};
 use cal_lists::Listed;
 use cal_machine::Config;
 use cal_sched::SchedulerEnd;
 use cal_trace::Arrivals;
-use std::alloc::Global;
+use std::alloc::{AllocError, Global};
 
 /// The outcome of a run, whose passes, turns and rounds were all made. Ends the threads, gathers
 /// what was left with them, closes their pages and rings, and puts the steps of all into one list.
@@ -36,8 +38,30 @@ pub fn close_parts(
     ensures run { IfOk result (IsRun config.now arrivals.now) }
     ensures memory { IfErr result (λ fault. fault ≡ Memory) }
 {
+    config.limits();
+    headline_of_runs();
+    fitting_looks_are_publications();
+    let end = end_parts(alloc, config, arrivals, parts)?;
+    Ok(with_events(alloc, config, end)?)
+}
+
+/// What a run ends with, whose passes, turns and rounds were all made: its outcome without the list
+/// of its steps, which is not made. Fails only when out of memory.
+pub fn end_parts(
+    alloc: Global,
+    config: &Config,
+    arrivals: &Arrivals,
+    parts: Parts,
+) -> Result<RunEnd, SimFault>
+    requires fits { FitsTable config.now arrivals.now }
+    requires parts { AreParts config.now arrivals.now (length arrivals.now.passes)
+        (length arrivals.now.turns) (rounds_of arrivals.now) parts }
+    ensures run { IfOk result (IsRunEnd config.now arrivals.now) }
+    ensures memory { IfErr result (λ fault. fault ≡ Memory) }
+{
     fitting_looks_are_publications();
     given_stand_once();
+    linear_is_legal();
     let Parts {
         scheduler,
         workers,
@@ -51,18 +75,32 @@ pub fn close_parts(
     } = scheduler.end();
     let (watchers, watched) = watch.end();
     let (journals, left) = close_threads(alloc, config, workers, observers, watchers, senders)?;
-    let events = linearise(
-        alloc,
-        config,
-        history.as_slice(),
-        journals.as_slice(),
-        watched.as_slice(),
-    )?;
-    Ok(Outcome {
+    Ok(RunEnd {
         history: Listed::new(history),
         journals: Listed::new(journals),
         left: Listed::new(left),
-        events: Listed::new(events),
         watched: Listed::new(watched),
+    })
+}
+
+/// The outcome of a run that ended with these. Fails only when out of memory.
+fn with_events(alloc: Global, config: &Config, end: RunEnd) -> Result<Outcome, AllocError>
+    requires run { AreOfOneRun config.now end.history end.journals }
+    requires watched { AreWatched config.now end.journals end.watched }
+    ensures { IfOk result (λ outcome. outcome ≡ outcome_of end) }
+{
+    let events = linearise(
+        alloc,
+        config,
+        end.history.as_slice(),
+        end.journals.as_slice(),
+        end.watched.as_slice(),
+    )?;
+    Ok(Outcome {
+        history: end.history,
+        journals: end.journals,
+        left: end.left,
+        events: Listed::new(events),
+        watched: end.watched,
     })
 }

@@ -13,15 +13,16 @@ ghost use Rattle.cal_policy.specs.History.Found.{looks_at};
 ghost use Rattle.cal_policy.specs.Tasks.{threads_of_table};
 ghost use Rattle.cal_run.specs.Workers.Given.{turns_given};
 ghost use Rattle.cal_run.specs.Outcome.Headline.{Headline};
-ghost use Rattle.cal_run.specs.Outcome.{EachStandsOnce, IsRun, figures_of, most_rounds};
+ghost use Rattle.cal_run.specs.Outcome.{EachStandsOnce, IsRun, IsRunEnd, figures_of, most_rounds};
+ghost use Rattle.cal_run.specs.Outcome.{outcome_of};
 ghost use Rattle.cal_run.specs.declared.fault.SimFault.TheVariants.{Memory};
 ghost use Rattle.cal_signal.specs.Pages.{FitsPage};
 ghost use Rattle.cal_trace.specs.Arrivals.FitsTable.{FitsTable};
 
-use crate::closing::close_parts;
+use crate::closing::{close_parts, end_parts};
 use crate::fault::SimFault;
-use crate::outcome::Outcome;
 use crate::outcome::headline::headline_of_runs;
+use crate::outcome::{Outcome, RunEnd};
 use crate::parts::opening::open_parts;
 use crate::rounds::make_rounds;
 use cal_machine::Config;
@@ -72,4 +73,19 @@ pub fn lockstep(alloc: Global, config: &Config, arrivals: &Arrivals) -> Result<O
     let mut parts = open_parts(alloc, config, arrivals)?;
     make_rounds(&mut parts, arrivals)?;
     close_parts(alloc, config, arrivals, parts)
+}
+
+/// What the same run ends with: its outcome without the list of its steps, for which the history is
+/// copied once more. Fails only when out of memory; nothing is left of the run then.
+pub fn lockstep_end(alloc: Global, config: &Config, arrivals: &Arrivals) -> Result<RunEnd, SimFault>
+    requires fits { FitsTable config.now arrivals.now }
+    ensures run { IfOk result (IsRunEnd config.now arrivals.now) }
+    ensures headline { IfOk result (λ end. Headline config.now (outcome_of end)) }
+    ensures memory { IfErr result (λ fault. fault ≡ Memory) }
+{
+    headline_of_runs();
+    config.limits();
+    let mut parts = open_parts(alloc, config, arrivals)?;
+    make_rounds(&mut parts, arrivals)?;
+    end_parts(alloc, config, arrivals, parts)
 }

@@ -9,6 +9,20 @@ use cal_policy::PassEntry;
 use cal_signal::Round;
 use cal_world::Event;
 
+/// What a run ends with, once its threads have ended and their ends were brought together: its
+/// outcome but for the list of its steps, which `linearise` makes of it.
+#[derive(Drop)]
+pub struct RunEnd {
+    /// The passes of the scheduler, the first one first.
+    pub history: Listed<PassEntry>,
+    /// What each kernel thread did, in thread order.
+    pub journals: Listed<Journal>,
+    /// The requests that were left with each kernel thread, in thread order.
+    pub left: Listed<RequestList>,
+    /// What the watch found on each thread's page, round by round.
+    pub watched: Listed<Round>,
+}
+
 /// The outcome of a run, once its threads have ended and their ends were brought together.
 #[derive(Drop)]
 pub struct Outcome {

@@ -1,1 +1,4 @@
 pub mod Measured
+pub mod Compared
+pub mod Varied
+pub mod Changed

@@ -1,10 +1,14 @@
 -- The numbers of a run.
 use Rattle.std.specs.Prelude.{◌≡◌, ℕ, List, length, Some, slice_get}
 use Rattle.cal_machine.specs.Table.{Table}
+use Rattle.cal_measure.specs.Cores.{AreCoresOf, AreMachineCores}
 use Rattle.cal_measure.specs.Requests.{AreRequestsOf}
+use Rattle.cal_measure.specs.declared.cores.TaskCores.{TaskCores}
 use Rattle.cal_measure.specs.declared.requests.TaskRequests.{TaskRequests}
+use Rattle.cal_policy.specs.declared.history.entry.PassEntry.{PassEntry}
 use Rattle.cal_run.specs.Outcome.{IsRun}
 use Rattle.cal_run.specs.declared.outcome.Outcome.{Outcome}
+use Rattle.cal_tables.specs.declared.measuring.RunNumbers.{RunNumbers}
 use Rattle.cal_trace.specs.declared.arrivals.Arrivals.{Arrivals}
 
 -- for each task, in task order, the numbers of its requests in this run
@@ -20,3 +24,20 @@ pub record IsMeasured (table : Table) (arrivals : Arrivals)
   pub outcome : Outcome
   pub run : IsRun table arrivals outcome
   pub are : AreNumbersOf table arrivals outcome numbers
+
+-- for each task, in task order, the numbers of its cores in this history
+pub record AreCoresOfTasks (table : Table) (history : List PassEntry)
+    (numbers : List TaskCores) : Type 0 where
+  pub many : length numbers ≡ length table.tasks
+  pub each : (t : ℕ) (of_task : TaskCores) → slice_get numbers t ≡ Some of_task →
+      AreCoresOf table history t of_task
+
+-- a run on these arrivals came to some outcome, and these are its numbers: of requests, of the
+-- tasks' cores, and of the machine's
+pub record IsMeasuredRun (table : Table) (arrivals : Arrivals)
+    (numbers : RunNumbers) : Type 0 where
+  pub outcome : Outcome
+  pub run : IsRun table arrivals outcome
+  pub requests : AreNumbersOf table arrivals outcome numbers.requests.items
+  pub cores : AreCoresOfTasks table outcome.history numbers.cores.items
+  pub machine : AreMachineCores table outcome.history numbers.machine

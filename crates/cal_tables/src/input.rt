@@ -13,7 +13,7 @@ use std::alloc::Global;
 
 /// The task table of an input, and the text after it. The faults are `Separator` and those of the
 /// table.
-fn read_parts(alloc: Global, input: &[u8]) -> Result<(Config, &[u8]), RunFault>
+pub fn read_parts(alloc: Global, input: &[u8]) -> Result<(Config, &[u8]), RunFault>
     ensures { Gives (λ parts. record { table = parts.0; trace = parts.1.now }) result
         (parts_of input.now) }
 {

@@ -1,19 +1,37 @@
 //! A run on one thread, measured.
 
-ghost use Rattle.std.specs.Prelude.{◌≡◌, ◌≢◌, IfErr, IfOk};
+ghost use Rattle.std.specs.Prelude.{◌≡◌, ◌≢◌, ◌≤◌, IfErr, IfOk, length};
 ghost use Rattle.cal_measure.specs.Clocks.{AreClocksOf};
+ghost use Rattle.cal_policy.specs.Pass.{IsLegal};
+ghost use Rattle.cal_policy.specs.declared.history.entry.TheConstants.{MOST_PASSES};
 ghost use Rattle.cal_trace.specs.Arrivals.FitsTable.{FitsTable};
-ghost use Rattle.cal_tables.specs.Measured.{AreNumbersOf, IsMeasured};
+ghost use Rattle.cal_tables.specs.Measured.{AreCoresOfTasks, AreNumbersOf, IsMeasured};
+ghost use Rattle.cal_tables.specs.Measured.{IsMeasuredRun};
 
+use crate::core_rows::put_core_rows;
 use crate::input::run_input;
 use crate::writing::sheet_of;
 use cal_engine::{RunFault, read_input};
 use cal_machine::Config;
-use cal_measure::{ArrivalClocks, TaskRequests, requests_of};
+use cal_measure::{
+    ArrivalClocks, MachineCores, TaskCores, TaskRequests, cores_of, machine_of, requests_of,
+};
+use cal_policy::PassEntry;
 use cal_run::{Outcome, lockstep};
 use cal_trace::Arrivals;
 use std::alloc::{AllocError, Global};
 use std::io::{Read, Write};
+
+/// The numbers of a run.
+#[derive(Drop)]
+pub struct RunNumbers {
+    /// What came of each task's requests, in task order.
+    pub requests: Vec<TaskRequests>,
+    /// What came of each task's cores, in task order.
+    pub cores: Vec<TaskCores>,
+    /// What came of the machine's cores.
+    pub machine: MachineCores,
+}
 
 /// The numbers of each task's requests, in task order. Fails only when out of memory.
 fn numbers_of(
@@ -38,8 +56,49 @@ fn numbers_of(
     Ok(numbers)
 }
 
-/// Makes a whole run on one thread on these arrivals, and measures it: the numbers of each task's
-/// requests, in task order. Its fault is `Memory`.
+/// The numbers of each task's cores, in task order. Fails only when out of memory.
+fn cores_of_tasks(
+    alloc: Global,
+    config: &Config,
+    history: &[PassEntry],
+) -> Result<Vec<TaskCores>, AllocError>
+    requires legal { IsLegal config.now history.now }
+    requires few { length history.now ≤ MOST_PASSES }
+    ensures { IfOk result (λ numbers. AreCoresOfTasks config.now history.now numbers.items) }
+{
+    let mut numbers = Vec::new(alloc);
+    for task in 0..config.tasks() {
+        numbers.push(cores_of(config, history, task))?;
+    }
+    Ok(numbers)
+}
+
+/// Makes a whole run on one thread on these arrivals, and measures it. Its fault is `Memory`.
+pub fn measured_run(
+    alloc: Global,
+    config: &Config,
+    arrivals: &Arrivals,
+) -> Result<RunNumbers, RunFault>
+    requires fits { FitsTable config.now arrivals.now }
+    ensures numbers { IfOk result (IsMeasuredRun config.now arrivals.now) }
+    ensures kind { IfErr result (λ fault. fault ≡ RunFault.Memory) }
+{
+    let outcome = lockstep(alloc, config, arrivals)?;
+    let turns = arrivals.turns.as_slice();
+    let clocks = ArrivalClocks::of(alloc, turns, arrivals.requests.as_slice())?;
+    let requests = numbers_of(alloc, config, arrivals, &clocks, &outcome)?;
+    let history = outcome.history.as_slice();
+    let cores = cores_of_tasks(alloc, config, history)?;
+    let machine = machine_of(config, history);
+    Ok(RunNumbers {
+        requests,
+        cores,
+        machine,
+    })
+}
+
+/// Makes a whole run on one thread on these arrivals, and measures its requests: the numbers of
+/// each task's, in task order. Its fault is `Memory`.
 pub fn measured(
     alloc: Global,
     config: &Config,
@@ -60,8 +119,9 @@ pub fn measured(
 /// What is written of the run on an input, in memory.
 fn measured_text(alloc: Global, input: &[u8], csv: bool) -> Result<String, RunFault> {
     let (config, arrivals) = run_input(alloc, input)?;
-    let numbers = measured(alloc, &config, &arrivals)?;
-    let sheet = sheet_of(alloc, &config, numbers.as_slice())?;
+    let numbers = measured_run(alloc, &config, &arrivals)?;
+    let mut sheet = sheet_of(alloc, &config, numbers.requests.as_slice())?;
+    put_core_rows(alloc, &mut sheet, &numbers, config.machine().cores())?;
     let text = if csv {
         sheet.csv(alloc)?
     } else {

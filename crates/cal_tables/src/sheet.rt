@@ -2,7 +2,8 @@
 
 use std::alloc::{AllocError, Global};
 
-/// Rows of cells. The first cell of a row says what the others are.
+/// Rows of cells. The first cell of a row says what the others are. A row may have fewer cells than
+/// another.
 #[derive(Drop)]
 pub struct Sheet {
     rows: Vec<Vec<String>>,
@@ -54,13 +55,25 @@ fn put_row(text: &mut String, rows: &[Vec<String>], row: &[String]) -> Result<()
     Ok(())
 }
 
-/// Puts a row as one of a CSV file.
-fn put_csv_row(text: &mut String, row: &[String]) -> Result<(), AllocError> {
-    for column in 0..row.len() {
+/// How many cells the longest row has.
+fn columns(rows: &[Vec<String>]) -> usize {
+    let mut columns = 0usize;
+    for row in rows {
+        columns = columns.max(row.len());
+    }
+    columns
+}
+
+/// Puts a row as one of a CSV file of so many columns. Where the row has no cell there is nothing
+/// between the commas.
+fn put_csv_row(text: &mut String, columns: usize, row: &[String]) -> Result<(), AllocError> {
+    for column in 0..columns {
         if column > 0 {
             text.push_str(",")?;
         }
-        text.push_str(row[column].as_str())?;
+        if let Some(cell) = row.get(column) {
+            text.push_str(cell.as_str())?;
+        }
     }
     text.push_str("\n")?;
     Ok(())
@@ -92,8 +105,9 @@ impl Sheet {
     /// The rows as a CSV file. Fails only when out of memory.
     pub fn csv(&self, alloc: Global) -> Result<String, AllocError> {
         let mut text = String::new(alloc);
+        let columns = columns(self.rows.as_slice());
         for row in self.rows.as_slice() {
-            put_csv_row(&mut text, row.as_slice())?;
+            put_csv_row(&mut text, columns, row.as_slice())?;
         }
         Ok(text)
     }

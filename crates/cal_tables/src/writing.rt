@@ -7,7 +7,7 @@ use std::alloc::{AllocError, Global};
 
 /// Which of some times.
 #[derive(Clone, Copy)]
-enum Rank {
+pub enum Rank {
     Least,
     Median,
     Ninety,
@@ -18,7 +18,7 @@ enum Rank {
 
 /// What a row says of each task.
 #[derive(Clone, Copy)]
-enum Line {
+pub enum Line {
     Given,
     Served,
     Left,
@@ -28,7 +28,7 @@ enum Line {
 }
 
 /// The rows, in order.
-const LINES: [Line; 16] = [
+pub const LINES: [Line; 16] = [
     Line::Given,
     Line::Served,
     Line::Left,
@@ -60,7 +60,7 @@ fn rank_name(rank: Rank) -> &'static str {
 }
 
 /// What stands in front of a row.
-fn label(alloc: Global, line: Line) -> Result<String, AllocError> {
+pub fn label(alloc: Global, line: Line) -> Result<String, AllocError> {
     match line {
         Line::Given => String::from_str(alloc, "requests given"),
         Line::Served => String::from_str(alloc, "requests served"),
@@ -84,7 +84,7 @@ fn ranked(times: &Spread, rank: Rank) -> Option<u64> {
 }
 
 /// What a row says of a task, where there is something.
-fn figure(numbers: &TaskRequests, line: Line) -> Option<u64> {
+pub fn figure(numbers: &TaskRequests, line: Line) -> Option<u64> {
     match line {
         Line::Given => Some(numbers.given as u64),
         Line::Served => Some(numbers.served as u64),
@@ -96,7 +96,7 @@ fn figure(numbers: &TaskRequests, line: Line) -> Option<u64> {
 }
 
 /// A figure as it is written; a dash where there is none.
-fn cell(alloc: Global, figure: Option<u64>) -> Result<String, AllocError> {
+pub fn cell(alloc: Global, figure: Option<u64>) -> Result<String, AllocError> {
     match figure {
         Some(figure) => format!(in alloc; "{figure}"),
         None => String::from_str(alloc, "-"),

@@ -16,4 +16,4 @@ mod working;
 
 pub use gate::{FreeGate, Gate};
 pub use running::run_threads;
-pub use simulation::simulate;
+pub use simulation::{simulate, simulation_end};

@@ -13,7 +13,8 @@ ghost use Rattle.cal_policy.specs.History.Found.{looks_at};
 ghost use Rattle.cal_policy.specs.Tasks.{threads_of_table};
 ghost use Rattle.cal_run.specs.Workers.Given.{turns_given};
 ghost use Rattle.cal_run.specs.Outcome.Headline.{Headline};
-ghost use Rattle.cal_run.specs.Outcome.{EachStandsOnce, IsRun, figures_of, most_rounds};
+ghost use Rattle.cal_run.specs.Outcome.{EachStandsOnce, IsRun, IsRunEnd, figures_of, most_rounds};
+ghost use Rattle.cal_run.specs.Outcome.{outcome_of};
 ghost use Rattle.cal_run.specs.declared.fault.SimFault.TheVariants.{Gate as GateFault};
 ghost use Rattle.cal_signal.specs.Pages.{FitsPage};
 ghost use Rattle.cal_threads.specs.Gates.{LetsEachThrough, LetsThrough};
@@ -23,7 +24,7 @@ ghost use Rattle.cal_trace.specs.Arrivals.FitsTable.{FitsTable};
 use crate::gate::Gate;
 use crate::running::run_threads;
 use cal_machine::Config;
-use cal_run::{Outcome, SimFault, close_parts, headline_of_runs, open_parts};
+use cal_run::{Outcome, RunEnd, SimFault, close_parts, end_parts, headline_of_runs, open_parts};
 use cal_trace::Arrivals;
 use std::alloc::Global;
 use std::sync::Wait;
@@ -88,6 +89,36 @@ pub fn simulate<R: Threads + Wait + Sync, G: Gate + Sync>(
     let parts = open_parts(alloc, config, arrivals)?;
     match run_threads(rt, alloc, arrivals, gate, parts) {
         Ok(parts) => close_parts(alloc, config, arrivals, parts),
+        Err(fault) => Err(fault),
+    }
+}
+
+/// What the same run ends with: its outcome without the list of its steps, which is not made. The
+/// faults are those of `simulate`.
+pub fn simulation_end<R: Threads + Wait + Sync, G: Gate + Sync>(
+    rt: &R,
+    alloc: Global,
+    config: &Config,
+    arrivals: &Arrivals,
+    gate: &G,
+) -> Result<RunEnd, SimFault>
+    requires fits { FitsTable config.now arrivals.now }
+    ensures run { IfOk result (IsRunEnd config.now arrivals.now) }
+    ensures headline { IfOk result (λ end. Headline config.now (outcome_of end)) }
+    ensures passes_asked { IfOk result (λ _.
+        LetsThrough (G.answers_pass gate.now) (length arrivals.now.passes)) }
+    ensures turns_asked { IfOk result (λ _. LetsEachThrough
+        (G.answers_turn gate.now) (threads_of_table config.now) (length arrivals.now.turns)) }
+    ensures gate { IfErr result (λ fault. fault ≡ GateFault →
+        MayRefuse (G.answers_pass gate.now) (length arrivals.now.passes)
+        ⊎ MayRefuseOne (G.answers_turn gate.now) (threads_of_table config.now)
+        (length arrivals.now.turns)) }
+{
+    config.limits();
+    headline_of_runs();
+    let parts = open_parts(alloc, config, arrivals)?;
+    match run_threads(rt, alloc, arrivals, gate, parts) {
+        Ok(parts) => end_parts(alloc, config, arrivals, parts),
         Err(fault) => Err(fault),
     }
 }

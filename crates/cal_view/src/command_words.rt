@@ -4,3 +4,4 @@ pub mod command_line;
 pub mod fault;
 pub mod help_texts;
 pub mod program;
+pub mod variation;

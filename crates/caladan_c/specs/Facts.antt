@@ -1,12 +1,11 @@
 -- What C is told of the table, of a thread, and of one that is gone.
-use Rattle.std.specs.Prelude.{◌≡◌, ℕ, ◌<◌, true, None, Some, List, length, slice_get}
+use Rattle.std.specs.Prelude.{◌≡◌, ℕ, ◌<◌, Some, List, [], ◌∷◌, length, slice_get}
 use Rattle.std.specs.List.{Contains}
 use Rattle.cal_machine.specs.Table.{Table}
 use Rattle.cal_machine.specs.Tasks.{task_at, first_thread}
 use Rattle.cal_machine.specs.declared.task.Kind.{Kind}
 use Rattle.cal_machine.specs.declared.task.Kind.TheVariants.{LatencyCritical, BestEffort}
 use Rattle.cal_signal.specs.declared.shown.Shown.{Shown}
-use Rattle.cal_signal.specs.declared.look.Look.TheVariants.{Whole}
 use Rattle.cal_policy.specs.declared.board.holders.Placement as placements
 use Rattle.cal_policy.specs.declared.history.action.Action.TheVariants.{Free}
 use Rattle.cal_policy.specs.declared.history.entry.PassEntry.{PassEntry}
@@ -20,6 +19,7 @@ use Rattle.cal_policy.specs.Judgement.OneByOne.{sent_as_u64}
 use Rattle.cal_policy.specs.Pass.{pass_of}
 use Rattle.cal_policy.specs.Setting.{setting}
 use Rattle.cal_policy.specs.Tasks.{threads_of_table, owner_of}
+use Rattle.cal_guard.specs.Permitted.{ArePermitted}
 use Rattle.caladan_c.specs.declared.found.Found.{Found}
 use Rattle.caladan_c.specs.declared.told.facts.MachineFacts.{MachineFacts}
 use Rattle.caladan_c.specs.declared.told.facts.TaskRow.{TaskRow}
@@ -88,3 +88,16 @@ pub record IsLookOfGone (table : Table) (history : List PassEntry) (k : ℕ)
       (c : ℕ) (p : placements.Placement) → c < table.cores →
       placement_of (holder_of (actions_of history) c) ≡ Some p → p.thread ≡ k →
       Contains (pass_of (setting table history input)) (Free c)
+
+-- the same where somebody else chooses the actions: a pass takes it as it is and keeps it, and on
+-- every input with it the pass is permitted that frees one core which the thread holds or leaves,
+-- and does nothing else
+pub record IsGuardedLookOfGone (table : Table) (history : List PassEntry) (k : ℕ)
+    (look : Found) : Type 0 where
+  pub is : look ≡ found_shown (shown_when_gone history k)
+  pub kept : IsKeptOfGone table history k
+  pub may : (input : Input) → slice_get input.seen k ≡ Some (seen.Whole
+      (shown_when_gone history k).number (shown_when_gone history k).rec) →
+      (c : ℕ) (p : placements.Placement) → c < table.cores →
+      placement_of (holder_of (actions_of history) c) ≡ Some p → p.thread ≡ k →
+      ArePermitted (setting table history input) (Free c ∷ [])

@@ -2,3 +2,5 @@
 
 mod each;
 mod facts;
+mod guard_each;
+mod guard_facts;

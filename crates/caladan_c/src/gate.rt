@@ -1,6 +1,9 @@
 //! A gate: its table, and the guard of the passes so far. It lets a pass through whose actions
 //! somebody else chose, or says which of them is not permitted.
 
+mod each;
+mod facts;
+
 ghost use Rattle.std.specs.Prelude.{◌≡◌, ◌⊎◌, ◌≤◌, Err, IfOk, IfErr, IfNone, OnErr, List, []};
 ghost use Rattle.std.specs.Prelude.{length, nat_lt, map};
 ghost use Rattle.cal_machine.specs.Outcome.{Gives};

@@ -1,14 +1,22 @@
 //! What the words of a command line ask for.
 
-ghost use Rattle.std.specs.Prelude.{◌≡◌, false, map, IfOk};
+ghost use Rattle.std.specs.Prelude.{◌≡◌, false, map, IfOk, None, Option, Some, true};
 ghost use Rattle.clap.specs.Words.{app_of, subcommand_rows_of};
 ghost use Rattle.clap.specs.declared.builder.command.Command.TheViews.{out-Command};
 ghost use Rattle.clap.specs.Simple.{new_app, with_subcommand};
-ghost use Rattle.clap.specs.Walk.{rule_of};
-ghost use Rattle.cal_engine.specs.CommandWords.{Asks, IsJob, Names, bare_program, program};
-ghost use Rattle.cal_engine.specs.CommandWords.{program_of_runs, run_word, summary_flag};
+ghost use Rattle.clap.specs.Matches.{found_of};
+ghost use Rattle.clap.specs.Values.{kind_of};
+ghost use Rattle.clap.specs.Walk.{rows_of, rule_of};
+ghost use Rattle.clap.specs.declared.error.kind.ErrorKind.TheVariants as kind;
+ghost use Rattle.cal_engine.specs.CommandWords.{Asks, AsksTwo, FlagsAsk, IsConflict, IsJob, Names};
+ghost use Rattle.cal_engine.specs.CommandWords.{NamesTwo, answer_of, bare_program, program};
+ghost use Rattle.cal_engine.specs.CommandWords.{program_of_runs, report_flag, run_word};
+ghost use Rattle.cal_engine.specs.CommandWords.{summary_flag};
+ghost use Rattle.cal_engine.specs.declared.jobs.running.RunAnswer.{RunAnswer as RunAnswerOf};
 
 use crate::command_words::help_texts;
+use crate::jobs::running::RunAnswer;
+use clap::error::ErrorKind;
 use clap::{Arg, ArgAction, ArgMatches, Command, Error};
 use std::alloc::{AllocError, Global};
 
@@ -21,26 +29,42 @@ pub const VERSION: &str = "2 (writes history 2; reads signals and history 1 and 
 pub enum Job {
     /// Decide the passes of a signal trace, and write the report. No words, or `decide`.
     Decide,
-    /// Make a whole run on one thread, and write its history, or its summary where that is asked
-    /// for. The word `lockstep`, and `--summary` after it.
-    Lockstep(bool),
-    /// Make a whole run in threads, and write its history, or its summary where that is asked for.
-    /// The word `sim`, and `--summary` after it.
-    Sim(bool),
+    /// Make a whole run on one thread, and write its history, or its summary or its report where
+    /// that is asked for. The word `lockstep`, and `--summary` or `--report` after it.
+    Lockstep(RunAnswer),
+    /// Make a whole run in threads, and write its history, or its summary or its report where that
+    /// is asked for. The word `sim`, and `--summary` or `--report` after it.
+    Sim(RunAnswer),
     /// Audit a history, and write what the audit says. The word `audit`.
     Audit,
 }
 
 /// What the words after the program's name ask for; no words are `Job::Decide`.
 ///
-/// The error is clap's own. A word that is not in the table is refused; a request for help is an
-/// error of the kind `DisplayHelp`, one for the version of the kind `DisplayVersion`, whose texts
-/// go to the standard output; out of memory has the kind `OutOfMemory`.
+/// The error is clap's own. A word that is not in the table is refused; the summary and the report
+/// of a run at once are an error of the kind `ArgumentConflict`; a request for help is an error of
+/// the kind `DisplayHelp`, one for the version of the kind `DisplayVersion`, whose texts go to the
+/// standard output; out of memory has the kind `OutOfMemory`.
 pub fn words<'a>(alloc: Global, words: &'a [&'a str]) -> Result<Job, Error>
-    ensures { (job : Job) → Asks (map (λ word. word.now) words.now) job → IsJob job result }
+    ensures job { (job : Job) → Asks (map (λ word. word.now) words.now) job → IsJob job result }
+    ensures two { AsksTwo (map (λ word. word.now) words.now) → IsConflict result }
 {
     let matches = program(alloc)?.try_get_matches_from(words)?;
-    Ok(job_named(&matches))
+    match job_named(&matches) {
+        Some(job) => Ok(job),
+        None => Err(conflict(alloc, &matches)?),
+    }
+}
+
+/// That the summary of a run and its report are asked for at once, after the word for the run.
+/// Fails only when out of memory.
+fn conflict(alloc: Global, matches: &ArgMatches) -> Result<Error, AllocError>
+    ensures { IfOk result (λ error. kind_of error ≡ kind.ArgumentConflict) }
+{
+    let word = matches.subcommand_name().unwrap_or("caladan_sim");
+    let mut command = run_word(alloc, word, "", "")?;
+    let said = "the argument '--summary' cannot be used with '--report'";
+    command.error(ErrorKind::ArgumentConflict, said)
 }
 
 /// The program, with a subcommand for each word. A word is added as its turn comes, so that little
@@ -105,7 +129,7 @@ fn plain_word<'a>(alloc: Global, word: &'a str, about: &'a str, after: &'a str) 
     Command::new(alloc, word).about(about).after_help(after)
 }
 
-/// A word for a run, after which the flag for its summary may stand.
+/// A word for a run, after which the flag for its summary or for its report may stand.
 fn run_word<'a>(
     alloc: Global,
     word: &'a str,
@@ -115,7 +139,8 @@ fn run_word<'a>(
     ensures shape { IfOk result (λ command. app_of command ≡ run_word word.entry.now) }
     ensures local { IfOk result (λ command. (out-Command command).has_globals ≡ false) }
 {
-    plain_word(alloc, word, about, after).arg(summary_flag(alloc))
+    let command = plain_word(alloc, word, about, after).arg(summary_flag(alloc))?;
+    command.arg(report_flag(alloc))
 }
 
 /// The flag that asks for the summary of a run.
@@ -129,20 +154,51 @@ fn summary_flag<'a>(alloc: Global) -> Arg<'a>
         .help("Write the summary in place of the history")
 }
 
-/// The job that the subcommand names.
-fn job_named(matches: &ArgMatches) -> Job
-    ensures { (job : Job) → Names (subcommand_rows_of matches.now) job → result ≡ job }
+/// The flag that asks for the report of a run.
+fn report_flag<'a>(alloc: Global) -> Arg<'a>
+    ensures shape { rule_of result ≡ report_flag }
+    ensures local { result.global ≡ false }
+{
+    Arg::new(alloc, "report")
+        .long("report")
+        .action(ArgAction::SetTrue)
+        .help("Write the report in place of the history")
+}
+
+/// The job that the subcommand names; none where it is a run of which two answers are asked for.
+fn job_named(matches: &ArgMatches) -> Option<Job>
+    ensures job { (job : Job) → Names (subcommand_rows_of matches.now) job → result ≡ Some job }
+    ensures two { NamesTwo (subcommand_rows_of matches.now) → result ≡ None }
 {
     let Some((word, run)) = matches.subcommand() else {
-        return Job::Decide;
+        return Some(Job::Decide);
     };
     if word == "lockstep" {
-        Job::Lockstep(run.get_flag("summary"))
+        Some(Job::Lockstep(flags_ask(run)?))
     } else if word == "sim" {
-        Job::Sim(run.get_flag("summary"))
+        Some(Job::Sim(flags_ask(run)?))
     } else if word == "audit" {
-        Job::Audit
+        Some(Job::Audit)
     } else {
-        Job::Decide
+        Some(Job::Decide)
+    }
+}
+
+/// What the flags after the word for a run ask for; nothing where both are there.
+fn flags_ask(flags: &ArgMatches) -> Option<RunAnswer>
+    ensures { (asked : Option RunAnswerOf) → FlagsAsk (rows_of (found_of flags.now)) asked →
+        result ≡ asked }
+{
+    answer_of(flags.get_flag("summary"), flags.get_flag("report"))
+}
+
+fn answer_of(summary: bool, report: bool) -> Option<RunAnswer>
+    ensures { result ≡ answer_of summary report }
+{
+    match (summary, report) {
+        (false, false) => Some(RunAnswer::History),
+        (true, false) => Some(RunAnswer::Summary),
+        (false, true) => Some(RunAnswer::Report),
+        (true, true) => None,
     }
 }

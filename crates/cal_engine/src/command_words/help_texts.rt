@@ -47,7 +47,7 @@ pub const LOCKSTEP: &str = "\
 Standard input: a task table (TOML), the line ---, and arrivals (CSV): the clocks of the passes and
 of the kernel threads' turns, and the requests that come to the threads.
 Standard output: the history of the run, which `audit` reads after the table; with --summary, what
-each kernel thread did.
+each kernel thread did; with --report, what `audit` writes of that history above its last line.
 Exit status: 0 done, 2 a refused input, 3 memory or output was refused.
 
 To try it:
@@ -86,7 +86,8 @@ pub const SIM: &str = "\
 Standard input: a task table (TOML), the line ---, and arrivals (CSV): the clocks of the passes and
 of the kernel threads' turns, and the requests that come to the threads.
 Standard output: the history of the run, which `audit` reads after the table; with --summary, what
-each kernel thread did. Threads interleave differently on every run, so the output varies.
+each kernel thread did; with --report, what `audit` writes of that history above its last line.
+Threads interleave differently on every run, so the output varies.
 Exit status: 0 done, 2 a refused input, 3 memory, output or a thread was refused.
 
 To try it:

@@ -1,6 +1,8 @@
 //! Whole runs on the arrivals of an input.
 
 ghost use Rattle.std.specs.Prelude.{◌≡◌, ◌≢◌, Err, IfOk, IfErr, IfSome};
+ghost use Rattle.cal_policy.specs.Pass.{IsLegal};
+ghost use Rattle.cal_run.specs.Outcome.{outcome_of};
 ghost use Rattle.cal_trace.specs.Arrivals.FitsTable.{FitsTable};
 ghost use Rattle.cal_engine.specs.Outcome.{Decided, Gives};
 ghost use Rattle.cal_engine.specs.Runs.{within_limit};
@@ -11,27 +13,39 @@ use crate::input::parts::read_parts;
 use crate::input::read_input;
 use crate::jobs::answer::write_answer;
 use cal_machine::Config;
-use cal_run::{Outcome, lockstep};
-use cal_trace::{Arrivals, read_arrivals, write_history, write_summary};
+use cal_policy::legal_is_orderly;
+use cal_run::{RunEnd, lockstep_end};
+use cal_trace::{Arrivals, read_arrivals, write_history, write_report, write_summary};
 use std::alloc::Global;
 use std::io::{Read, Write};
 
+/// What is written of a run.
+#[derive(Clone, Copy, Debug, PartialEq, Eq)]
+pub enum RunAnswer {
+    /// Its history, as a file.
+    History,
+    /// What each kernel thread did.
+    Summary,
+    /// What the audit of its history writes above the last line.
+    Report,
+}
+
 /// Reads an input of a task table and arrivals to its end, makes a whole run of them on one thread,
-/// and writes its history as a file, or its summary, and nothing else. Nothing is written before
-/// the run was made and its text is in memory.
+/// and writes what is asked for and nothing else: its history as a file, its summary or its report.
+/// Nothing is written before the run was made and its text is in memory.
 ///
 /// The faults come in this order: `Read` or `Length`, whichever comes first, `Separator`, `Config`,
 /// `Trace`, `Write`. `Memory` may come at any place, and only where memory was refused.
 pub fn run_lockstep<R: Read + Drop, W: Write>(
     alloc: Global,
     mut reader: R,
-    summary: bool,
+    answer: RunAnswer,
     writer: &mut W,
 ) -> Result<(), RunFault>
     // The text of a run on the input was written and nothing else, or the fault is the input's
     // first.
     ensures exact { IfSome (R.remaining reader) (λ input.
-        Runs summary result (within_limit input (run_input_of input)) (W.contents writer.old)
+        Runs answer result (within_limit input (run_input_of input)) (W.contents writer.old)
         (W.contents writer.new)) }
     // Nothing is written before the run was made.
     ensures untouched { IfErr result (λ fault. fault ≢ RunFault.Write → writer.new ≡ writer.old) }
@@ -39,33 +53,33 @@ pub fn run_lockstep<R: Read + Drop, W: Write>(
     ensures alone { IfErr result (λ fault. (fault ≢ RunFault.Spawn) × (fault ≢ RunFault.Gate)) }
 {
     let input = read_input(alloc, &mut reader)?;
-    let text = lockstep_text(alloc, summary, input.as_slice())?;
+    let text = lockstep_text(alloc, answer, input.as_slice())?;
     write_answer(text.as_slice(), writer)
 }
 
 /// What is written of a run on one thread on the arrivals of an input, in memory.
-fn lockstep_text(alloc: Global, summary: bool, input: &[u8]) -> Result<Vec<u8>, RunFault>
-    ensures text { IfOk result (λ text. TellsRun summary (run_input_of input.now) text.items) }
+fn lockstep_text(alloc: Global, answer: RunAnswer, input: &[u8]) -> Result<Vec<u8>, RunFault>
+    ensures text { IfOk result (λ text. TellsRun answer (run_input_of input.now) text.items) }
     ensures fault { IfErr result (λ fault. Decided fault (run_input_of input.now ≡ Err fault)) }
 {
     let (config, arrivals) = run_input(alloc, input)?;
-    lockstep_on(alloc, summary, &config, &arrivals)
+    lockstep_on(alloc, answer, &config, &arrivals)
 }
 
 /// What is written of a run on one thread on these arrivals, in memory. Its fault is `Memory`.
 fn lockstep_on(
     alloc: Global,
-    summary: bool,
+    answer: RunAnswer,
     config: &Config,
     arrivals: &Arrivals,
 ) -> Result<Vec<u8>, RunFault>
     requires fits { FitsTable config.now arrivals.now }
-    ensures text { IfOk result (λ text. IsTextOfRun summary
+    ensures text { IfOk result (λ text. IsTextOfRun answer
         (record { table = config.now; arrivals = arrivals.now }) text.items) }
     ensures kind { IfErr result (λ fault. fault ≡ RunFault.Memory) }
 {
-    let outcome = lockstep(alloc, config, arrivals)?;
-    run_text(alloc, summary, arrivals, &outcome)
+    let end = lockstep_end(alloc, config, arrivals)?;
+    run_text(alloc, answer, config, arrivals, &end)
 }
 
 /// The task table of an input, and the arrivals for its threads.
@@ -79,27 +93,32 @@ pub fn run_input(alloc: Global, input: &[u8]) -> Result<(Config, Arrivals), RunF
     Ok((config, arrivals))
 }
 
-/// What is written of what a run came to, in memory. Its fault is `Memory`.
+/// What is written of what a run ends with, in memory. Its fault is `Memory`.
 pub(crate) fn run_text(
     alloc: Global,
-    summary: bool,
+    answer: RunAnswer,
+    config: &Config,
     arrivals: &Arrivals,
-    outcome: &Outcome,
+    end: &RunEnd,
 ) -> Result<Vec<u8>, RunFault>
-    ensures text { IfOk result (λ text. text.items ≡ run_text summary arrivals.now outcome.now) }
+    requires legal { IsLegal config.now end.now.history }
+    ensures text { IfOk result (λ text. text.items ≡ run_text answer
+        (record { table = config.now; arrivals = arrivals.now }) (outcome_of end.now)) }
     ensures kind { IfErr result (λ fault. fault ≡ RunFault.Memory) }
 {
+    config.limits();
+    legal_is_orderly();
     let mut text = Vec::new(alloc);
-    let written = if summary {
-        write_summary(
+    let written = match answer {
+        RunAnswer::History => write_history(end.history.as_slice(), &mut text),
+        RunAnswer::Summary => write_summary(
             arrivals.passes.as_slice().len(),
             arrivals.turns.as_slice().len(),
-            outcome.journals.as_slice(),
-            outcome.left.as_slice(),
+            end.journals.as_slice(),
+            end.left.as_slice(),
             &mut text,
-        )
-    } else {
-        write_history(outcome.history.as_slice(), &mut text)
+        ),
+        RunAnswer::Report => write_report(config, end.history.as_slice(), &mut text),
     };
     match written {
         Ok(()) => Ok(text),

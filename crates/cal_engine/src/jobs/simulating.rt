@@ -1,7 +1,8 @@
 //! Whole runs in threads, on the arrivals of an input.
 
 ghost use Rattle.std.specs.Prelude.{◌≡◌, ◌≢◌, ◌⊎◌, IfOk, IfErr, IfSome};
-ghost use Rattle.cal_run.specs.Outcome.{IsRun};
+ghost use Rattle.cal_policy.specs.Pass.{IsLegal};
+ghost use Rattle.cal_run.specs.Outcome.{IsRunEnd};
 ghost use Rattle.cal_run.specs.declared.fault.SimFault.TheVariants.{Gate as GateFault};
 ghost use Rattle.cal_trace.specs.Arrivals.FitsTable.{FitsTable};
 ghost use Rattle.cal_engine.specs.Runs.{within_limit};
@@ -11,10 +12,10 @@ ghost use Rattle.cal_engine.specs.Running.{RunsInThreads, TellsRun};
 use crate::fault::RunFault;
 use crate::input::read_input;
 use crate::jobs::answer::write_answer;
-use crate::jobs::running::{run_input, run_text};
+use crate::jobs::running::{RunAnswer, run_input, run_text};
 use cal_machine::Config;
-use cal_run::{Outcome, SimFault};
-use cal_threads::{FreeGate, simulate};
+use cal_run::{RunEnd, SimFault};
+use cal_threads::{FreeGate, simulation_end};
 use cal_trace::Arrivals;
 use std::alloc::Global;
 use std::io::{Read, Write};
@@ -22,8 +23,9 @@ use std::sync::Wait;
 use std::thread::Threads;
 
 /// Reads an input of a task table and arrivals to its end, makes a whole run of them in threads of
-/// their own, and writes its history as a file, or its summary, and nothing else. Nothing is
-/// written before the run was made and its text is in memory. The joins of the threads wait.
+/// their own, and writes what is asked for and nothing else: its history as a file, its summary or
+/// its report. Nothing is written before the run was made and its text is in memory. The joins of
+/// the threads wait.
 ///
 /// The faults come in this order: `Read` or `Length`, whichever comes first, `Separator`, `Config`,
 /// `Trace`, `Spawn` where a thread could not be started, `Write`. `Memory` may come at any place,
@@ -32,13 +34,13 @@ pub fn run_sim<H: Threads + Wait + Sync, R: Read + Drop, W: Write>(
     rt: &H,
     alloc: Global,
     mut reader: R,
-    summary: bool,
+    answer: RunAnswer,
     writer: &mut W,
 ) -> Result<(), RunFault>
     // The text of a run on the input was written and nothing else, or the fault is the input's
     // first.
     ensures exact { IfSome (R.remaining reader) (λ input.
-        RunsInThreads summary result (within_limit input (run_input_of input))
+        RunsInThreads answer result (within_limit input (run_input_of input))
         (W.contents writer.old) (W.contents writer.new)) }
     // Nothing is written before the run was made.
     ensures untouched { IfErr result (λ fault. fault ≢ RunFault.Write → writer.new ≡ writer.old) }
@@ -46,7 +48,7 @@ pub fn run_sim<H: Threads + Wait + Sync, R: Read + Drop, W: Write>(
     ensures ungated { IfErr result (λ fault. fault ≢ RunFault.Gate) }
 {
     let input = read_input(alloc, &mut reader)?;
-    let text = simulation_text(rt, alloc, summary, input.as_slice())?;
+    let text = simulation_text(rt, alloc, answer, input.as_slice())?;
     write_answer(text.as_slice(), writer)
 }
 
@@ -54,31 +56,31 @@ pub fn run_sim<H: Threads + Wait + Sync, R: Read + Drop, W: Write>(
 fn simulation_text<H: Threads + Wait + Sync>(
     rt: &H,
     alloc: Global,
-    summary: bool,
+    answer: RunAnswer,
     input: &[u8],
 ) -> Result<Vec<u8>, RunFault>
-    ensures text { IfOk result (λ text. TellsRun summary (run_input_of input.now) text.items) }
+    ensures text { IfOk result (λ text. TellsRun answer (run_input_of input.now) text.items) }
     ensures fault { IfErr result (λ fault. FailedInThreads fault (run_input_of input.now)) }
 {
     let (config, arrivals) = run_input(alloc, input)?;
-    simulation_on(rt, alloc, summary, &config, &arrivals)
+    simulation_on(rt, alloc, answer, &config, &arrivals)
 }
 
 /// What is written of a run in threads on these arrivals, in memory.
 fn simulation_on<H: Threads + Wait + Sync>(
     rt: &H,
     alloc: Global,
-    summary: bool,
+    answer: RunAnswer,
     config: &Config,
     arrivals: &Arrivals,
 ) -> Result<Vec<u8>, RunFault>
     requires fits { FitsTable config.now arrivals.now }
-    ensures text { IfOk result (λ text. IsTextOfRun summary
+    ensures text { IfOk result (λ text. IsTextOfRun answer
         (record { table = config.now; arrivals = arrivals.now }) text.items) }
     ensures kind { IfErr result (λ fault. (fault ≡ RunFault.Memory) ⊎ (fault ≡ RunFault.Spawn)) }
 {
-    let outcome = simulate_freely(rt, alloc, config, arrivals)?;
-    run_text(alloc, summary, arrivals, &outcome)
+    let end = simulate_freely(rt, alloc, config, arrivals)?;
+    run_text(alloc, answer, config, arrivals, &end)
 }
 
 /// A run in threads that no gate ends.
@@ -87,10 +89,11 @@ fn simulate_freely<H: Threads + Wait + Sync>(
     alloc: Global,
     config: &Config,
     arrivals: &Arrivals,
-) -> Result<Outcome, SimFault>
+) -> Result<RunEnd, SimFault>
     requires fits { FitsTable config.now arrivals.now }
-    ensures run { IfOk result (IsRun config.now arrivals.now) }
+    ensures run { IfOk result (IsRunEnd config.now arrivals.now) }
+    ensures legal { IfOk result (λ end. IsLegal config.now end.history) }
     ensures ungated { IfErr result (λ fault. fault ≢ GateFault) }
 {
-    simulate(rt, alloc, config, arrivals, &FreeGate)
+    simulation_end(rt, alloc, config, arrivals, &FreeGate)
 }

@@ -1,6 +1,6 @@
 -- What a holder as it is kept says is what the holder says; and actions that fit name what the
 -- table has.
-use Rattle.std.proofs.Common.{◌≡◌, ℕ, ◌+◌, ◌<◌, ◌≤◌, suc, zero, Bool, true, false, cond, eqb, List, ◌++◌, length, get_or, take, refl, subst, ◌∙◌, arith}
+use Rattle.std.proofs.Common.{◌≡◌, ℕ, ◌+◌, ◌<◌, ◌≤◌, suc, zero, Bool, true, false, cond, eqb, List, ◌++◌, length, get_or, take, Option, Some, None, refl, subst, ◌∙◌, arith}
 use Rattle.std.proofs.lemmas.Bool.Decides.{nat_tests}
 use Rattle.cal_machine.specs.Table.{Table, IsTable}
 use Rattle.cal_policy.specs.Tasks.{threads_of_table}
@@ -8,7 +8,9 @@ use Rattle.cal_policy.specs.declared.history.action.Action.{Action}
 use Rattle.cal_policy.specs.declared.history.action.Action.TheVariants as actions
 use Rattle.cal_policy.specs.declared.board.holders.Holder.{Holder}
 use Rattle.cal_policy.specs.declared.board.holders.Holder.TheVariants.{Free, Held, Leaving}
-use Rattle.cal_policy.specs.Board.{kept_holder, NamesCores, NamesTable}
+use Rattle.cal_policy.specs.declared.board.holders.Holding.{Holding}
+use Rattle.std.specs.Option.{IfSome}
+use Rattle.cal_policy.specs.Board.{kept_holder, placement_of, holder_at, HoldingSound, NamesCores, NamesTable}
 use Rattle.cal_policy.specs.Board.Counts.{is_free, is_held}
 use Rattle.cal_policy.specs.Pass.Choice.{count_below}
 use Rattle.cal_policy.specs.Judgement.Orderly.{fits_state, FitInTurn}
@@ -24,6 +26,11 @@ pub held_kept : (h : Holder) → is_held (kept_holder h) ≡ is_held h
 held_kept Free = refl
 held_kept (Held placement) = refl
 held_kept (Leaving placement cause) = refl
+
+-- who has a core is a thread below the board's
+pub placed_at : (n : ℕ) (h : Holding) (o : Option ℕ) → HoldingSound n h → IfSome (placement_of (holder_at h o)) (λ p. p.thread < n)
+placed_at n h None sound = tt
+placed_at n h (Some core) sound = sound.holders core
 
 -- the next one does not pass either
 pub none_more : (p : ℕ → Bool) (n : ℕ) → count_below p n ≡ 0 → p n ≡ false → count_below p (n + 1) ≡ 0

@@ -21,6 +21,7 @@ use Rattle.cal_policy.specs.Pass.Grants.{class_of, class_by, burst_class, may_pr
 use Rattle.cal_policy.specs.Pass.Among.{class_among}
 use Rattle.cal_policy.specs.Board.{Stands, holder_in}
 use Rattle.cal_policy.specs.Board.CoreSets.{Sorts}
+use Rattle.cal_policy.specs.Board.OpenCores.{Opens}
 use Rattle.cal_policy.proofs.BoardLemmas.StateKept.{free_kept}
 
 -- numbers without a rank leave the best as it is
@@ -171,6 +172,36 @@ choice_joins b s acts t n few st sorts =
     let j = joins (class_of s acts t) (class_among b.sets.free s acts t) (class_among b.sets.taken s acts t) n
     (λ c lt. split_class b.sets.free b.sets.taken s acts t c (in_free b s acts st sorts c (omega (arith, lt, few))) (in_taken b s acts st sorts c (omega (arith, lt, few)))) in
     j.first
+
+-- the same ranks give the same best
+best_same : (beats : ℕ → ℕ → Bool) (f g : ℕ → Option ℕ) (n : ℕ) → ((c : ℕ) → c < n → f c ≡ g c) → best_below beats f n ≡ best_below beats g n
+best_same beats f g zero e = refl
+best_same beats f g (suc n) e = rw (best_same beats f g n (λ c lt. e c (omega (arith, lt))), e n (omega arith)) refl
+
+-- a free core that is banned has no class
+idle_by : (s : Setting) (acts : List Action) (t c : ℕ) (h : Holder) (banned : Bool) → banned ≡ is_banned (so_far s acts) c →
+    cond (is_free h && not banned) (class_by s acts t c h) None ≡ cond (is_free h) (class_by s acts t c h) None
+idle_by s acts t c Free true e = rw (← e) refl
+idle_by s acts t c Free false e = refl
+idle_by s acts t c (Held p) banned e = refl
+idle_by s acts t c (Leaving p cause) banned e = refl
+
+idle_class_of : (b : Board) (s : Setting) (acts : List Action) (t c : ℕ) → c < 128 → Stands b s acts → Sorts (holder_in b.holding) b.sets →
+    Opens (holder_in b.holding) b.sets.banned b.open_cores → class_among b.open_cores.idle s acts t c ≡ class_among b.sets.free s acts t c
+idle_class_of b s acts t c lt st sorts opens =
+    let h = holder_of (so_far s acts) c in
+    let class = class_of s acts t c in
+    let free : is_free (holder_in b.holding c) ≡ is_free h = ap is_free (st.agrees.holding.holders c lt) ∙ free_kept h in
+    ap (λ w. cond w class None) (opens.idle c lt ∙ ap (λ w. w && not (has b.sets.banned c)) free)
+    ∙ idle_by s acts t c h (has b.sets.banned c) (st.agrees.banned.banned c lt)
+    ∙ ap (λ w. cond w class None) (sym (in_free b s acts st sorts c lt))
+
+-- so the choice among those that are free and not banned is that among the free ones
+pub idle_choice : (b : Board) (s : Setting) (acts : List Action) (t n : ℕ) → n ≤ 128 → Stands b s acts → Sorts (holder_in b.holding) b.sets →
+    Opens (holder_in b.holding) b.sets.banned b.open_cores →
+    best_below nat_lt (class_among b.open_cores.idle s acts t) n ≡ best_below nat_lt (class_among b.sets.free s acts t) n
+idle_choice b s acts t n few st sorts opens = best_same nat_lt (class_among b.open_cores.idle s acts t) (class_among b.sets.free s acts t) n
+    (λ c lt. idle_class_of b s acts t c (omega (arith, lt, few)) st sorts opens)
 
 -- a test fails where two of its parts do
 parts_fail : (a b c d : Bool) → (a && d) ≡ false → (a && b && c && d) ≡ false

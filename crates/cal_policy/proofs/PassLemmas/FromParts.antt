@@ -14,6 +14,7 @@ use Rattle.cal_policy.specs.Pass.Grants.{critical_grants, best_effort_grants}
 use Rattle.cal_policy.specs.Pass.{pass_of, followed}
 use Rattle.cal_policy.specs.Board.{Agrees, HasGranted, KeepingAgrees, KeepsBefore, Stands, AgreesAfter}
 use Rattle.cal_policy.proofs.PassLemmas.Apart.{frees_apart}
+use Rattle.cal_policy.proofs.PassLemmas.Pairs.{so_far_more}
 use Rattle.cal_policy.proofs.BoardLemmas.Replayed.{actions_push, looks_push}
 
 follows : (part : List Action → List Action) (acts now next : List Action) → now ≡ acts → next ≡ now ++ part now → next ≡ followed acts part
@@ -55,3 +56,14 @@ Stands_end s b acts st =
       looks = subst Q (sym (looks_push s.history entry)) (record { kept = st.kept; shown = st.shown });
       before = record { before = st.before };
     }
+
+-- one action more, to which the board was brought up
+pub Stands_push : (b b2 : Board) (s : Setting) (acts : List Action) (a : Action) → Agrees b2 (so_far s acts ++ a ∷ []) → HasGranted b2.fresh (acts ++ a ∷ []) →
+    b2.keeping ≡ b.keeping → Stands b s acts → Stands b2 s (acts ++ a ∷ [])
+Stands_push b b2 s acts a agrees fresh keeping st = record {
+  agrees = rw (so_far_more s acts (a ∷ [])) agrees;
+  fresh = fresh;
+  kept = λ k lt. rw keeping (st.kept k lt);
+  before = λ k lt. rw keeping (st.before k lt);
+  shown = λ k lt. rw keeping (st.shown k lt);
+}

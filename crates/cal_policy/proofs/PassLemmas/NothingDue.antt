@@ -1,7 +1,12 @@
 -- Cores that a part of a pass goes past, since nothing is due for them.
-use Rattle.std.proofs.Common.{◌≡◌, ℕ, ◌+◌, ◌-◌, ◌*◌, ◌<◌, ◌≤◌, Bool, true, false, not, ◌||◌, nat_lt, max, cond, List, [], ◌∷◌, ◌++◌, Option, Some, None, refl, ap, sym, ◌∙◌, arith}
+use Rattle.std.proofs.Common.{◌≡◌, ℕ, ◌+◌, ◌-◌, ◌*◌, ◌<◌, ◌≤◌, Bool, true, false, not, ◌&&◌, ◌||◌, nat_lt, max, cond, List, length, [], ◌∷◌, ◌++◌, Option, Some, None, refl, ap, sym, ◌∙◌, arith}
 use Rattle.std.proofs.lemmas.List.{append-nil}
-use Rattle.std.specs.Option.{is_some}
+use Rattle.std.specs.Option.{IfSome, is_some}
+use Rattle.cal_machine.proofs.ThreadNumbers.{task_in}
+use Rattle.cal_policy.specs.Tasks.{owner_of, threads_of_table}
+use Rattle.cal_policy.specs.Setting.{has_room}
+use Rattle.cal_policy.proofs.BoardLemmas.StateKept.{held_kept}
+use Rattle.cal_policy.proofs.PassLemmas.Pairs.{beside_lower, beside_upper}
 use Rattle.cal_signal.specs.declared.record.Record.{Record}
 use Rattle.cal_machine.specs.CoreSet.{has}
 use Rattle.cal_policy.specs.declared.history.action.Action.{Action}
@@ -12,11 +17,14 @@ use Rattle.cal_policy.specs.declared.board.holders.Holder.TheVariants.{Free, Hel
 use Rattle.cal_policy.specs.declared.board.Board.{Board}
 use Rattle.cal_policy.specs.History.Lists.{in_pair}
 use Rattle.cal_policy.specs.History.{holder_of, ban_of}
-use Rattle.cal_policy.specs.Board.Counts.{is_free}
+use Rattle.cal_policy.specs.Board.Counts.{is_free, is_held, is_over}
+use Rattle.cal_machine.specs.Machine.{sibling_of}
 use Rattle.cal_policy.specs.Setting.{Setting, so_far, kept_now}
 use Rattle.cal_policy.specs.Pass.Frees.{free_at, shows_left}
-use Rattle.cal_policy.specs.Pass.Bans.{unban_at, unban_for, bans_at, ban_for, may_ban_beside, too_long_on}
-use Rattle.cal_policy.specs.Board.{Stands, holder_in}
+use Rattle.cal_policy.specs.Pass.Bans.{unban_at, unban_for, bans_at, ban_for, may_ban_beside, may_be_emptied, too_long_on}
+use Rattle.cal_policy.specs.Board.{Stands, IsReady, holder_in, kept_holder, placement_of}
+use Rattle.cal_policy.specs.Board.OpenCores.{is_alone_by}
+use Rattle.cal_policy.specs.Pass.ToBan.{NoneOver, cores_to_ban}
 use Rattle.cal_policy.specs.Board.CoreSets.{Sorts}
 use Rattle.cal_policy.specs.Board.KeepingSets.{KeepsSets, kept_in, shows_waiting}
 use Rattle.cal_policy.specs.Board.ThreadSet.{has_thread}
@@ -73,10 +81,77 @@ ban_not_taken b s acts st sorts c lt e = ap (ban_for s (so_far s acts) c)
     (either_none (may_ban_beside s (so_far s acts) c) _ (none_too_long s c (holder_of (so_far s acts) c) (sym (in_taken b s acts st sorts c lt) ∙ e)))
 
 -- nor does a pair of them
-pub ban_pair_not_taken : (b : Board) (s : Setting) (acts : List Action) → Stands b s acts → Sorts (holder_in b.holding) b.sets →
+ban_pair_not_taken : (b : Board) (s : Setting) (acts : List Action) → Stands b s acts → Sorts (holder_in b.holding) b.sets →
     (pair : ℕ) → 2 * pair + 1 < 128 → has b.sets.taken (2 * pair) ≡ false → has b.sets.taken (2 * pair + 1) ≡ false → in_pair (bans_at s) acts pair ≡ []
 ban_pair_not_taken b s acts st sorts pair lt e g =
     two_empty (bans_at s) acts (2 * pair) (2 * pair + 1) (ban_not_taken b s acts st sorts (2 * pair) (omega (arith, lt)) e) (ban_not_taken b s acts st sorts (2 * pair + 1) lt g)
+
+-- a test fails where two of its parts do, or the last
+both_fail : (a b m : Bool) → (a && b) ≡ false → (a && b && m) ≡ false
+both_fail false b m e = refl
+both_fail true false m e = refl
+both_fail true true m e = cc
+
+last_fails : (a b r o : Bool) → o ≡ false → (a && b && (r && o)) ≡ false
+last_fails false b r o e = refl
+last_fails true false r o e = refl
+last_fails true true false o e = refl
+last_fails true true true o e = e
+
+-- a core that is not held alone bans nothing where no task is over
+none_alone : (s : Setting) (x : List Action) (c : ℕ) (h beside : Holder) (a b : Bool) →
+    (is_held h && not (is_held beside) && not a && not b) ≡ false →
+    IfSome (placement_of (kept_holder beside)) (λ p. is_over s.table x (owner_of s.table p.thread) ≡ false) →
+    cond (not a && not b && may_be_emptied s x beside) (too_long_on s c h) None ≡ None
+none_alone s x c Free beside a b e over = either_none (not a && not b && may_be_emptied s x beside) None refl
+none_alone s x c (Leaving p cause) beside a b e over = either_none (not a && not b && may_be_emptied s x beside) None refl
+none_alone s x c (Held p) Free a b e over = ap (λ w. cond w (too_long_on s c (Held p)) None) (both_fail (not a) (not b) true e)
+none_alone s x c (Held p) (Leaving q cause) a b e over = ap (λ w. cond w (too_long_on s c (Held p)) None) (both_fail (not a) (not b) true e)
+none_alone s x c (Held p) (Held q) a b e over =
+    ap (λ w. cond w (too_long_on s c (Held p)) None) (last_fails (not a) (not b) (has_room s q.thread) (is_over s.table x (owner_of s.table q.thread)) over)
+
+owner_not_over : (s : Setting) (x : List Action) (h : Holder) → IfSome (placement_of (kept_holder h)) (λ p. p.thread < threads_of_table s.table) →
+    ((t : ℕ) → t < length s.table.tasks → is_over s.table x t ≡ false) →
+    IfSome (placement_of (kept_holder h)) (λ p. is_over s.table x (owner_of s.table p.thread) ≡ false)
+owner_not_over s x Free there none = tt
+owner_not_over s x (Held p) there none = let task = task_in s.table.tasks p.thread there in none (owner_of s.table p.thread) task.0
+owner_not_over s x (Leaving p cause) there none = let task = task_in s.table.tasks p.thread there in none (owner_of s.table p.thread) task.0
+
+held_there : (b : Board) (s : Setting) (acts : List Action) → Stands b s acts → (c : ℕ) → c < 128 → is_held (holder_in b.holding c) ≡ is_held (holder_of (so_far s acts) c)
+held_there b s acts st c lt = ap is_held (st.agrees.holding.holders c lt) ∙ held_kept (holder_of (so_far s acts) c)
+
+alone_there : (b : Board) (s : Setting) (acts : List Action) → Stands b s acts → (c : ℕ) → c < 128 → sibling_of c < 128 →
+    is_alone_by (holder_in b.holding) b.sets.banned c
+    ≡ (is_held (holder_of (so_far s acts) c) && not (is_held (holder_of (so_far s acts) (sibling_of c))) && not (is_some (ban_of (so_far s acts) c))
+    && not (is_some (ban_of (so_far s acts) (sibling_of c))))
+alone_there b s acts st c lt beside =
+    rw (held_there b s acts st c lt, held_there b s acts st (sibling_of c) beside, st.agrees.banned.banned c lt, st.agrees.banned.banned (sibling_of c) beside) refl
+
+ban_not_alone : (b : Board) (s : Setting) (acts : List Action) → Stands b s acts → IsReady s.table b → NoneOver s.table b →
+    (c : ℕ) → c < 128 → sibling_of c < 128 → has b.open_cores.alone c ≡ false → bans_at s acts c ≡ []
+ban_not_alone b s acts st ready none c lt beside e =
+    let x = so_far s acts in
+    let h = holder_of x (sibling_of c) in
+    let there : IfSome (placement_of (kept_holder h)) (λ p. p.thread < threads_of_table s.table) =
+    rw (← st.agrees.holding.holders (sibling_of c) beside) (ready.own.holding.holders (sibling_of c)) in
+    ap (ban_for s x c)
+    (none_alone s x c (holder_of x c) h (is_some (ban_of x c)) (is_some (ban_of x (sibling_of c)))
+    (sym (alone_there b s acts st c lt beside) ∙ sym (ready.opens.alone c lt) ∙ e) (owner_not_over s x h there (none x st.agrees)))
+
+-- nor does a pair of them
+ban_pair_not_alone : (b : Board) (s : Setting) (acts : List Action) → Stands b s acts → IsReady s.table b → NoneOver s.table b →
+    (pair : ℕ) → 2 * pair + 1 < 128 → has b.open_cores.alone (2 * pair) ≡ false → has b.open_cores.alone (2 * pair + 1) ≡ false → in_pair (bans_at s) acts pair ≡ []
+ban_pair_not_alone b s acts st ready none pair lt e g =
+    let lower : sibling_of (2 * pair) < 128 = rw (beside_lower pair) lt in
+    let upper : sibling_of (2 * pair + 1) < 128 = rw (beside_upper pair) (omega (arith, lt)) in
+    two_empty (bans_at s) acts (2 * pair) (2 * pair + 1) (ban_not_alone b s acts st ready none (2 * pair) (omega (arith, lt)) lower e)
+    (ban_not_alone b s acts st ready none (2 * pair + 1) lt upper g)
+
+-- a pair of cores that may not give rise to a ban gives none
+pub ban_pair_past : (over : Bool) (b : Board) (s : Setting) (acts : List Action) → Stands b s acts → IsReady s.table b → (over ≡ false → NoneOver s.table b) →
+    (pair : ℕ) → 2 * pair + 1 < 128 → has (cores_to_ban b over) (2 * pair) ≡ false → has (cores_to_ban b over) (2 * pair + 1) ≡ false → in_pair (bans_at s) acts pair ≡ []
+ban_pair_past true b s acts st ready none pair lt e g = ban_pair_not_taken b s acts st ready.sets pair lt e g
+ban_pair_past false b s acts st ready none pair lt e g = ban_pair_not_alone b s acts st ready (none refl) pair lt e g
 
 -- a record that shows no request that waits shows no delay
 neither_waits : (now : ℕ) (a b : Bool) (x y : ℕ) → (a || b) ≡ false → max (waited now a x) (waited now b y) ≡ 0

@@ -11,6 +11,7 @@ ghost use Rattle.cal_policy.specs.declared.history.action.Action.{Action};
 ghost use Rattle.cal_policy.specs.declared.board.holders.Holder.{Holder};
 ghost use Rattle.cal_policy.specs.Board.{NamesCores};
 ghost use Rattle.cal_policy.specs.Board.CoreSets.{IsSorted, IsNowhere, IsSameBut, IsSetOfBanned};
+ghost use Rattle.cal_policy.specs.Board.OpenCores.{core_named};
 
 use crate::board::holders::{Holder, Placement};
 use crate::history::action::Action;
@@ -44,7 +45,7 @@ pub fn next_core(config: &Config, cores: &CoreSet, first: u8) -> Option<u8>
 }
 
 /// The set of all cores.
-fn all_cores() -> CoreSet
+pub fn all_cores() -> CoreSet
     ensures { (core : ℕ) → core < MOST_CORES → has result core ≡ true }
 {
     let mut cores = CoreSet::empty();
@@ -57,8 +58,9 @@ fn all_cores() -> CoreSet
 /// Brings the set of banned cores up to one more action.
 fn note_banned(banned: &mut CoreSet, action: Action)
     requires { NamesCores MOST_CORES MOST_THREADS action }
-    ensures { (x : List Action) → IsSetOfBanned banned.old x →
+    ensures banned { (x : List Action) → IsSetOfBanned banned.old x →
         IsSetOfBanned banned.new (x ++ action ∷ []) }
+    ensures elsewhere { (c : ℕ) → core_named action ≢ Some c → has banned.new c ≡ has banned.old c }
 {
     match action {
         Action::Ban { core, .. } => banned.insert(core),
@@ -119,6 +121,8 @@ impl CoreSets {
         ensures banned { (x : List Action) → IsSetOfBanned self.old.banned x →
             IsSetOfBanned self.new.banned (x ++ action ∷ []) }
         ensures others { (c : ℕ) (h : Holder) → IsSorted c h self.old → IsSorted c h self.new }
+        ensures elsewhere { (c : ℕ) → core_named action ≢ Some c →
+            has self.new.banned c ≡ has self.old.banned c }
     {
         note_banned(&mut self.banned, action);
     }

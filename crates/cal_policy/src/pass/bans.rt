@@ -1,8 +1,10 @@
 //! The third part of a pass: a core is emptied while a request on its sibling runs too long.
 
-ghost use Rattle.std.specs.Prelude.{◌≡◌, ◌*◌, ◌+◌, ◌<◌, ◌≤◌, ◌++◌, ◌∷◌, []};
+ghost use Rattle.std.specs.Prelude.{◌≡◌, ◌*◌, ◌+◌, ◌<◌, ◌≤◌, ◌++◌, ◌∷◌, [], ℕ, false};
 ghost use Rattle.std.specs.Prelude.{List, length, option_to_list, if◌then◌else◌};
-ghost use Rattle.std.specs.Option.{IfSome};
+ghost use Rattle.std.specs.Option.{IfSome, IfNone};
+ghost use Rattle.cal_machine.specs.Table.{IsTable};
+ghost use Rattle.cal_machine.specs.CoreSet.{has};
 ghost use Rattle.cal_policy.specs.declared.history.action_list.TheConstants.{MOST_ACTIONS};
 ghost use Rattle.cal_machine.specs.declared.machine.TheConstants.{MOST_CORES};
 ghost use Rattle.cal_policy.specs.Tasks.{threads_of_table};
@@ -18,6 +20,7 @@ ghost use Rattle.cal_policy.specs.Pass.Bans as rules;
 ghost use Rattle.cal_policy.specs.Board.{Stands, IsReady, IsOfTable, NamesTable};
 ghost use Rattle.cal_policy.specs.Pass.AtHand.{IsAtHand, StandsIn, setting_in};
 ghost use Rattle.cal_policy.specs.Pass.Coupled.{both_of, BothName};
+ghost use Rattle.cal_policy.specs.Pass.ToBan.{NoneOver, cores_to_ban};
 
 use crate::board::Board;
 use crate::board::core_sets::next_core;
@@ -180,8 +183,49 @@ impl Pass<'_> {
     }
 }
 
+/// Whether some task holds more cores than it is guaranteed.
+fn some_is_over(config: &Config, board: &Board) -> bool
+    requires table { IsTable config.now }
+    requires ready { IsReady config.now board.now }
+    ensures { result ≡ false → NoneOver config.now board.now }
+{
+    for task in 0..config.tasks() {
+        if is_over(config, board, task) {
+            return true;
+        }
+    }
+    false
+}
+
+/// Whether some task may be over: one was before, or one is.
+fn some_may_be_over(config: &Config, board: &Board, before: bool) -> bool
+    requires table { IsTable config.now }
+    requires ready { IsReady config.now board.now }
+    ensures { result ≡ false → NoneOver config.now board.now }
+{
+    before || some_is_over(config, board)
+}
+
+/// The next core from this one on that may give rise to a ban.
+fn next_to_ban(config: &Config, board: &Board, over: bool, first: u8) -> Option<u8>
+    requires table { IsTable config.now }
+    ensures next { IfSome result (λ core. (first ≤ core) × (core < config.now.cores)) }
+    ensures between { IfSome result (λ next. (core : ℕ) → first ≤ core → core < next →
+        has (cores_to_ban board.now over) core ≡ false) }
+    ensures none { IfNone result ((core : ℕ) → first ≤ core → core < config.now.cores →
+        has (cores_to_ban board.now over) core ≡ false) }
+{
+    if over {
+        next_core(config, &board.sets.taken, first)
+    } else {
+        next_core(config, &board.open_cores.alone, first)
+    }
+}
+
 /// Bans the sibling of each core on which a request runs too long, and revokes it where it is held.
-/// The cores that are taken are gone over upwards, pair by pair, and a pair gives at most one ban.
+/// The cores that may give rise to a ban are gone over upwards, pair by pair, and a pair gives at
+/// most one ban: those that are taken, but while no task is over only those that are held beside
+/// one that is not, since a core that a thread holds is emptied only where its task is over.
 pub fn ban_siblings(config: &Config, input: &Input, board: &mut Board, out: &mut Actions)
     requires of_table { IsOfTable config.now input.now board.old }
     requires room { length out.old + MOST_CORES ≤ MOST_ACTIONS }
@@ -191,8 +235,9 @@ pub fn ban_siblings(config: &Config, input: &Input, board: &mut Board, out: &mut
     ensures ready { IsReady config.now board.new }
     ensures length { length out.new ≤ length out.old + MOST_CORES }
 {
+    let mut over = some_is_over(config, board);
     let mut next = 0;
-    while let Some(core) = next_core(config, &board.sets.taken, 2 * next) {
+    while let Some(core) = next_to_ban(config, board, over, 2 * next) {
         let pair = core / 2;
         let pass = Pass {
             config,
@@ -201,6 +246,7 @@ pub fn ban_siblings(config: &Config, input: &Input, board: &mut Board, out: &mut
         };
         let both = pass.ban_in_pair(pair);
         make_both(config, board, out, both);
+        over = some_may_be_over(config, board, over);
         next = pair + 1;
     }
 }

@@ -205,8 +205,8 @@ impl Pass<'_> {
     }
 
     /// The core of the least class for the task, of those with that class the lowest. A free core
-    /// is of a lesser class than any that is held, so those that are taken are gone over only where
-    /// no free one will do, and some task may lose one.
+    /// that is not banned is of a lesser class than any that is held, so those that are taken are
+    /// gone over only where there is none, and some task may lose one.
     pub fn choose_core(&self, task: usize) -> Option<Candidate>
         requires at_hand { IsAtHand self.now }
         requires task { task < length self.now.config.now.tasks }
@@ -215,7 +215,7 @@ impl Pass<'_> {
         ensures below { IfSome result (λ best.
             (best.number < self.now.config.now.cores) × (best.rank < 256)) }
     {
-        if let Some(idle) = self.choose_among(task, &self.board.sets.free) {
+        if let Some(idle) = self.choose_among(task, &self.board.open_cores.idle) {
             return Some(idle);
         }
         if !self.may_have_revoked(task) {

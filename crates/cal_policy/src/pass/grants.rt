@@ -80,10 +80,10 @@ impl Pass<'_> {
             option_to_list result ≡ grant_at (setting_in self.now h) acts task }
         ensures names { IfSome result (NamesTable self.now.config.now) }
     {
-        if !self.is_congested(task) {
+        if !self.may_book(task) {
             return None;
         }
-        if !self.may_book(task) {
+        if !self.is_congested(task) {
             return None;
         }
         let Some(thread) = self.choose_thread(task) else {

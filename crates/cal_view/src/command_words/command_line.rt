@@ -7,7 +7,7 @@ use std::alloc::{AllocError, Global};
 
 /// What the program is to do with its input.
 #[derive(Clone, Copy, Debug, PartialEq, Eq)]
-pub enum Job {
+pub enum Job<'a> {
     /// Write the history that signals lead to, with the task table in front or without it.
     History {
         /// Whether the table goes in front.
@@ -27,6 +27,13 @@ pub enum Job {
         /// Whether they are written as CSV.
         csv: bool,
     },
+    /// Make runs of several tables on the same arrivals, and write their numbers side by side.
+    Compare {
+        /// The key of a table and the values that make several tables of it, as `KEY=V1,V2`.
+        vary: Option<&'a str>,
+        /// Whether the numbers are written as CSV.
+        csv: bool,
+    },
     /// Say how the program is used.
     Help,
 }
@@ -36,7 +43,7 @@ pub enum Job {
 /// The error is clap's own. A word that is not in the table is refused; a request for help is an
 /// error of the kind `DisplayHelp`, one for the version of the kind `DisplayVersion`, whose texts
 /// go to the standard output; out of memory has the kind `OutOfMemory`.
-pub fn words<'a>(alloc: Global, words: &'a [&'a str]) -> Result<Job, Error> {
+pub fn words<'a>(alloc: Global, words: &'a [&'a str]) -> Result<Job<'a>, Error> {
     let matches = program(alloc)?.try_get_matches_from(words)?;
     Ok(job_of(&matches))
 }
@@ -64,6 +71,11 @@ fn program<'a>(alloc: Global) -> Result<Command<'a>, AllocError> {
         .about("Make a run on arrivals, and write its numbers")
         .after_help(help_texts::MEASURE)
         .arg(csv_word(alloc))?;
+    let compare = Command::new(alloc, "compare")
+        .about("Make runs of several tables on the same arrivals, and write their numbers")
+        .after_help(help_texts::COMPARE)
+        .arg(vary_word(alloc))?
+        .arg(csv_word(alloc))?;
     Command::new(alloc, "caladan_view")
         .version(VERSION)
         .about("Looks at runs of the core scheduler of Caladan: an input on standard input")
@@ -72,7 +84,8 @@ fn program<'a>(alloc: Global) -> Result<Command<'a>, AllocError> {
         .subcommand(history)?
         .subcommand(picture)?
         .subcommand(timeline)?
-        .subcommand(measure)
+        .subcommand(measure)?
+        .subcommand(compare)
 }
 
 fn table_word<'a>(alloc: Global) -> Arg<'a> {
@@ -87,6 +100,14 @@ fn csv_word<'a>(alloc: Global) -> Arg<'a> {
         .long("csv")
         .action(ArgAction::SetTrue)
         .help("Write the numbers as CSV")
+}
+
+fn vary_word<'a>(alloc: Global) -> Arg<'a> {
+    Arg::new(alloc, "vary")
+        .long("vary")
+        .action(ArgAction::Set)
+        .value_name("KEY=V1,V2,..")
+        .help("Make the tables from one table, by these values of a key, as task.1.delay")
 }
 
 fn from_word<'a>(alloc: Global) -> Arg<'a> {
@@ -108,7 +129,7 @@ fn passes_word<'a>(alloc: Global) -> Arg<'a> {
 }
 
 /// The job of a parsed command line.
-fn job_of(matches: &ArgMatches<'_>) -> Job {
+fn job_of<'a>(matches: &ArgMatches<'a>) -> Job<'a> {
     match matches.subcommand() {
         Some((name, own)) if name == "history" => Job::History {
             table: own.get_flag("table"),
@@ -119,6 +140,10 @@ fn job_of(matches: &ArgMatches<'_>) -> Job {
         },
         Some((name, _)) if name == "timeline" => Job::Timeline,
         Some((name, own)) if name == "measure" => Job::Measure {
+            csv: own.get_flag("csv"),
+        },
+        Some((name, own)) if name == "compare" => Job::Compare {
+            vary: own.get_str("vary"),
             csv: own.get_flag("csv"),
         },
         _ => Job::Help,

@@ -101,13 +101,18 @@ END";
 pub const MEASURE: &str = "\
 Standard input: a task table (TOML), the line ---, and arrivals (CSV), as `caladan_sim lockstep`
 reads.
-Standard output: the numbers of each task's requests, in the run that `caladan_sim lockstep` makes,
-in clock ticks; with --csv as CSV. A request arrives at the clock of its turn, is begun at the stamp
+Standard output: the numbers of each task's requests and cores, in the run that `caladan_sim
+lockstep` makes, in clock ticks; with --csv as CSV. A request arrives at the clock of its turn, is begun at the stamp
 of the first publication with it at work, and answered at the stamp of the publication of the turn
 that served it. `response` is from arrival to answer and `wait` from arrival until begun, of those
 that were served: the least, by nearest rank the median, 90, 99 and 99.9 of 100, and the greatest.
 `longest left` is from arrival to the last turn's clock, of those that were left. Of nothing there
 is a dash.
+Of cores: the grants to the task's threads by class; the cores that it lost, to bans, to the
+bandwidth limit, to congested tasks; those that others lost for it; how often it was given a cap;
+the bans for its threads; the most cores that it held after a pass, and how many over the run's
+clock. `machine` is of the machine's core time: the parts held, being left, banned and empty, and
+free to be granted. A state lasts from its pass's clock to the next pass's.
 Exit status: 0 done, 2 a refused input, 3 memory or output was refused.
 
 To try it:
@@ -152,4 +157,87 @@ wait 90 of 100               20
 wait 99 of 100               20
 wait 99.9 of 100             20
 wait greatest                20
-longest left                  -";
+longest left                  -
+grants class 1                0
+grants class 2                0
+grants class 3                1
+lost to bans                  0
+lost to bandwidth             0
+lost to tasks                 0
+lost by others                0
+caps                          0
+bans                          0
+most cores held               1
+mean cores held           0.500
+machine held              0.250
+machine leaving           0.000
+machine banned            0.000
+machine free              0.750";
+
+/// Of the word `compare`.
+pub const COMPARE: &str = "\
+Standard input: task tables (TOML), each ended by the line ---, and after the last of these lines
+arrivals (CSV).
+Standard output: the numbers that `caladan_view measure` gives of the requests of each table's run
+on the arrivals, a column for each table; beside each column but the first how much it is above or
+below the first; with --csv as CSV. A task that a table has not, and a change of nothing, has a
+dash.
+With --vary the input is that of `measure`, with one table, and there is a column for each value:
+the table with that value at the key. Keys are cores, bandwidth_limit, and of task 1 task.1.kind,
+task.1.guaranteed, task.1.limit, task.1.delay and task.1.request. A value is written as in a table.
+To have the table as it is among the columns, name its own value, best as the first.
+Exit status: 0 done, 2 a refused input, 3 memory or output was refused. A table that is refused, or
+has too few threads for the arrivals, is named by its number, from 0, or by its value.
+
+To try it:
+
+./caladan_view compare <<'END'
+cores = 2
+bandwidth_limit = 1000
+[[task]]
+kind = \"lc\"
+guaranteed = 1
+limit = 1
+delay = 10
+request = 50
+---
+cores = 2
+bandwidth_limit = 1000
+[[task]]
+kind = \"lc\"
+guaranteed = 1
+limit = 1
+delay = 30
+request = 50
+---
+caladan-arrivals,1
+pass,100,0
+pass,120,0
+pass,140,0
+turn,105
+turn,125
+turn,145
+request,0,0,1,1,0
+request,0,2,2,1,0
+end,8
+END
+
+It writes:
+
+measure                      table 0  table 1  change table 1
+task 0 requests given              2        2               0
+task 0 requests served             2        1              -1
+task 0 requests left               0        1              +1
+task 0 response least              0       40             +40
+task 0 response median             0       40             +40
+task 0 response 90 of 100         20       40             +20
+task 0 response 99 of 100         20       40             +20
+task 0 response 99.9 of 100       20       40             +20
+task 0 response greatest          20       40             +20
+task 0 wait least                  0       40             +40
+task 0 wait median                 0       40             +40
+task 0 wait 90 of 100             20       40             +20
+task 0 wait 99 of 100             20       40             +20
+task 0 wait 99.9 of 100           20       40             +20
+task 0 wait greatest              20       40             +20
+task 0 longest left                -        0               -";

@@ -2,12 +2,13 @@
 //! out.
 
 use crate::command_words::command_line::{Job, help, words};
-use crate::command_words::fault::fault_line;
+use crate::command_words::fault::{comparison_fault_line, fault_line};
+use crate::command_words::variation::{key_of, values_of};
 use crate::picture::draw_picture;
 use crate::recording::record;
 use crate::timeline::write_timeline;
 use cal_engine::{RunFault, read_input, refuse_words, status};
-use cal_tables::measure;
+use cal_tables::{ComparisonFault, Variation, compare, measure};
 use std::alloc::Global;
 use std::io::{BufWriter, Read, Write};
 
@@ -52,6 +53,9 @@ fn answer_words<R: Read + Drop, W: Write, E: Write>(
     }
     match words(alloc, given.as_slice()) {
         Ok(Job::Help) => say_help(alloc, errors),
+        Ok(Job::Compare { vary, csv }) => {
+            answer_compare(alloc, reader, vary, csv, output, errors)
+        }
         Ok(job) => {
             do_job(alloc, job, reader, output)?;
             Ok(0)
@@ -85,11 +89,71 @@ fn do_job<R: Read + Drop, W: Write>(
         Job::Picture { from, passes } => picture(alloc, reader, from, passes, &mut buffer)?,
         Job::Timeline => timeline(alloc, reader, &mut buffer)?,
         Job::Measure { csv } => measure(alloc, reader, csv, &mut buffer)?,
-        Job::Help => {}
+        Job::Compare { .. } | Job::Help => {}
     }
     match buffer.flush() {
         Ok(()) => Ok(()),
         Err(_) => Err(RunFault::Write),
+    }
+}
+
+/// Compares the runs of an input, of its tables or, with a key and values, of those that its table
+/// gives with each of them, and answers the exit status.
+fn answer_compare<R: Read + Drop, W: Write, E: Write>(
+    alloc: Global,
+    reader: R,
+    vary: Option<&str>,
+    csv: bool,
+    output: &mut W,
+    errors: &mut E,
+) -> Result<u8, RunFault> {
+    let Some(vary) = vary else {
+        return Ok(answer_comparison(alloc, reader, None, csv, output, errors));
+    };
+    let values = values_of(alloc, vary)?;
+    let key = key_of(vary);
+    let variation = Variation {
+        key,
+        values: values.as_slice(),
+    };
+    Ok(answer_comparison(alloc, reader, Some(variation), csv, output, errors))
+}
+
+/// Compares the runs of an input, and answers the exit status: its faults name the table or the
+/// value that has them.
+fn answer_comparison<R: Read + Drop, W: Write, E: Write>(
+    alloc: Global,
+    reader: R,
+    variation: Option<Variation<'_>>,
+    csv: bool,
+    output: &mut W,
+    errors: &mut E,
+) -> u8 {
+    match write_comparison(alloc, reader, variation, csv, output) {
+        Ok(()) => 0,
+        Err(fault) => {
+            let _ = comparison_fault_line(&fault, variation, errors);
+            status(&fault.fault)
+        }
+    }
+}
+
+/// Compares the runs of an input. What is written goes through a buffer.
+fn write_comparison<R: Read + Drop, W: Write>(
+    alloc: Global,
+    reader: R,
+    variation: Option<Variation<'_>>,
+    csv: bool,
+    output: &mut W,
+) -> Result<(), ComparisonFault> {
+    let mut buffer = match BufWriter::new(alloc, output) {
+        Ok(buffer) => buffer,
+        Err(_) => return Err(ComparisonFault::from(RunFault::Memory)),
+    };
+    compare(alloc, reader, variation, csv, &mut buffer)?;
+    match buffer.flush() {
+        Ok(()) => Ok(()),
+        Err(_) => Err(ComparisonFault::from(RunFault::Write)),
     }
 }
 

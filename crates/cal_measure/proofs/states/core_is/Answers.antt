@@ -1,6 +1,6 @@
 use Rattle.std.proofs.Common.{◌≡◌, ◌∙◌, Bool, refl, ap}
 use Rattle.cal_policy.specs.Board.{kept_holder}
-use Rattle.cal_policy.specs.History.{holder_of, is_banned}
+use Rattle.cal_policy.specs.History.{holder_of}
 use Rattle.cal_policy.specs.declared.board.holders.Holder.{Holder}
 use Rattle.cal_policy.specs.declared.board.holders.Holder.TheVariants.{Free, Held, Leaving}
 use Rattle.cal_measure.specs.States.{is_in_state}

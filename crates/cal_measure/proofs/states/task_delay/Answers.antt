@@ -1,4 +1,4 @@
-use Rattle.std.proofs.Common.{◌≡◌, ◌+◌, ◌∙◌, ℕ, ap, arith}
+use Rattle.std.proofs.Common.{◌+◌, ◌∙◌, ℕ, ap, arith}
 use Rattle.cal_policy.specs.Tasks.{thread_of}
 use Rattle.cal_policy.specs.History.Looks.{kept_by}
 use Rattle.cal_policy.specs.Pass.Choice.{greatest_below}

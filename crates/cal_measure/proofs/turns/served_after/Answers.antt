@@ -1,5 +1,4 @@
-use Rattle.std.proofs.Common.{◌∙◌, ap, refl, sym}
-use Rattle.std.specs.Option.{unwrap_or}
+use Rattle.std.proofs.Common.{refl}
 use Rattle.cal_policy.proofs.ListLemmas.OneMore.{last_of_push}
 use Rattle.cal_measure.specs.Turns.{served_told}
 use Rattle.cal_measure.proofs.turns.served_after.Goals as goal

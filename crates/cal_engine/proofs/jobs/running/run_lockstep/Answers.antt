@@ -14,8 +14,8 @@ returns-in_err-text-clause-exact g c =
 pub returns-clause-exact : goal.returns-clause-exact
 returns-clause-exact g c =
     let input = c.in_ok-input.input.items in
-    answered (λ (outcome : Result RunInput RunFault). Runs c.args.summary c.write_answer.result outcome (g.W.Write.contents c.args.writer.now) (g.W.Write.contents c.write_answer.new.writer))
+    answered (λ (outcome : Result RunInput RunFault). Runs c.args.answer c.write_answer.result outcome (g.W.Write.contents c.args.writer.now) (g.W.Write.contents c.write_answer.new.writer))
     (g.R.Read.remaining c.args.reader) (g.R.Read.remaining c.read_input.new.reader) input run_input_of
     c.in_ok-input.ensures.all c.in_ok-input.ensures.end c.in_ok-input.ensures.short
-    (runs c.args.summary c.write_answer.result (run_input_of input) _ _ c.in_ok-text.text.items (rw c.as_slice.ensures.value at c.in_ok-text.ensures.text)
+    (runs c.args.answer c.write_answer.result (run_input_of input) _ _ c.in_ok-text.text.items (rw c.as_slice.ensures.value at c.in_ok-text.ensures.text)
     (rw c.as_slice-2.ensures.value at c.write_answer.ensures.bytes) c.write_answer.ensures.kind)

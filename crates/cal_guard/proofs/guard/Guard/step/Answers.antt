@@ -1,39 +1,31 @@
-use Rattle.std.proofs.Common.{◌≡◌, [], true, false, refl, sym, subst, ◌∙◌}
+use Rattle.std.proofs.Common.{◌≡◌, [], true, false, refl, ◌∙◌}
 use Rattle.cal_policy.specs.declared.history.entry.PassEntry.{PassEntry}
-use Rattle.cal_policy.specs.History.{actions_of, looks_of}
 use Rattle.cal_policy.specs.Setting.{Setting, setting}
-use Rattle.cal_policy.specs.Board.{Agrees, KeepingAgrees}
 use Rattle.cal_policy.proofs.PassLemmas.FromParts.{Stands_end}
-use Rattle.cal_guard.specs.declared.passing.Passing.{Passing}
+use Rattle.cal_guard.specs.Passing.{IsInside}
 use Rattle.cal_guard.proofs.Taking.{whole, whole_back}
 use Rattle.cal_guard.proofs.guard.Guard.step.Goals as goal
 
 pub returns-in-Ok-clause-exact : goal.returns-in-Ok-clause-exact
 returns-in-Ok-clause-exact c = λ h permitted keeps.
     let s : Setting = setting c.args.config.now h c.args.input.now in
-    let copy : c.duplicate-trial.result ≡ c.args.self.now.passing.value = c.duplicate-trial.ensures ∙ c.deref.ensures in
-    let A : Passing → Type 0 = λ p. Agrees p.board (actions_of h) in
-    let L : Passing → Type 0 = λ p. KeepingAgrees p.board.keeping (looks_of h) in
-    let inside = c.begin.ensures.inside c.args.config.now h c.args.input.now c.as_slice.ensures permitted (subst A (sym copy) keeps.actions) (subst L (sym copy) keeps.looks) in
+    let begun = c.begin.ensures.inside c.args.config.now h c.args.input.now c.as_slice.ensures permitted (rw c.deref_mut.ensures.value keeps.actions) (rw c.deref_mut.ensures.value keeps.looks) in
+    let inside : IsInside c.deref_mut-2.result.now s [] = rw c.deref_mut-2.ensures.value begun in
     (λ yes. whole s c.args.chosen.now ((c.in-Ok.ensures.exact h [] inside).0 refl), λ all. refl)
 
 pub returns-in-Ok-clause-keeps : goal.returns-in-Ok-clause-keeps
 returns-in-Ok-clause-keeps c = λ ok h permitted keeps.
     let s : Setting = setting c.args.config.now h c.args.input.now in
-    let copy : c.duplicate-trial.result ≡ c.args.self.now.passing.value = c.duplicate-trial.ensures ∙ c.deref.ensures in
-    let A : Passing → Type 0 = λ p. Agrees p.board (actions_of h) in
-    let L : Passing → Type 0 = λ p. KeepingAgrees p.board.keeping (looks_of h) in
-    let inside = c.begin.ensures.inside c.args.config.now h c.args.input.now c.as_slice.ensures permitted (subst A (sym copy) keeps.actions) (subst L (sym copy) keeps.looks) in
+    let begun = c.begin.ensures.inside c.args.config.now h c.args.input.now c.as_slice.ensures permitted (rw c.deref_mut.ensures.value keeps.actions) (rw c.deref_mut.ensures.value keeps.looks) in
+    let inside : IsInside c.deref_mut-2.result.now s [] = rw c.deref_mut-2.ensures.value begun in
     let after = Stands_end s c.take_each.new.self.board c.args.chosen.now (c.in-Ok.ensures.inside refl h [] inside).stands in
     record { actions = after.actions; looks = after.looks }
 
 pub returns-in-Ok-clause-permitted : goal.returns-in-Ok-clause-permitted
 returns-in-Ok-clause-permitted c = λ ok h permitted keeps input.
     let s : Setting = setting c.args.config.now h c.args.input.now in
-    let copy : c.duplicate-trial.result ≡ c.args.self.now.passing.value = c.duplicate-trial.ensures ∙ c.deref.ensures in
-    let A : Passing → Type 0 = λ p. Agrees p.board (actions_of h) in
-    let L : Passing → Type 0 = λ p. KeepingAgrees p.board.keeping (looks_of h) in
-    let inside = c.begin.ensures.inside c.args.config.now h c.args.input.now c.as_slice.ensures permitted (subst A (sym copy) keeps.actions) (subst L (sym copy) keeps.looks) in
+    let begun = c.begin.ensures.inside c.args.config.now h c.args.input.now c.as_slice.ensures permitted (rw c.deref_mut.ensures.value keeps.actions) (rw c.deref_mut.ensures.value keeps.looks) in
+    let inside : IsInside c.deref_mut-2.result.now s [] = rw c.deref_mut-2.ensures.value begun in
     let entry : PassEntry = record { input = c.args.input.now; actions = c.args.chosen.now } in
     c.permitted_goes_on.ensures c.args.config.now h entry permitted
     (record { input = input; actions = whole s c.args.chosen.now ((c.in-Ok.ensures.exact h [] inside).0 refl) })
@@ -41,16 +33,16 @@ returns-in-Ok-clause-permitted c = λ ok h permitted keeps input.
 pub returns-in-Err-clause-exact : goal.returns-in-Err-clause-exact
 returns-in-Err-clause-exact c = λ h permitted keeps.
     let s : Setting = setting c.args.config.now h c.args.input.now in
-    let copy : c.duplicate-trial.result ≡ c.args.self.now.passing.value = c.duplicate-trial.ensures ∙ c.deref.ensures in
-    let A : Passing → Type 0 = λ p. Agrees p.board (actions_of h) in
-    let L : Passing → Type 0 = λ p. KeepingAgrees p.board.keeping (looks_of h) in
-    let inside = c.begin.ensures.inside c.args.config.now h c.args.input.now c.as_slice.ensures permitted (subst A (sym copy) keeps.actions) (subst L (sym copy) keeps.looks) in
+    let begun = c.begin.ensures.inside c.args.config.now h c.args.input.now c.as_slice.ensures permitted (rw c.deref_mut.ensures.value keeps.actions) (rw c.deref_mut.ensures.value keeps.looks) in
+    let inside : IsInside c.deref_mut-2.result.now s [] = rw c.deref_mut-2.ensures.value begun in
     (λ yes. let no : false ≡ true = yes in cc, λ all. (c.in-Err.ensures.exact h [] inside).1 (whole_back s c.args.chosen.now all))
 
 pub returns-in-Err-clause-first : goal.returns-in-Err-clause-first
 returns-in-Err-clause-first c = λ h permitted keeps.
-    let copy : c.duplicate-trial.result ≡ c.args.self.now.passing.value = c.duplicate-trial.ensures ∙ c.deref.ensures in
-    let A : Passing → Type 0 = λ p. Agrees p.board (actions_of h) in
-    let L : Passing → Type 0 = λ p. KeepingAgrees p.board.keeping (looks_of h) in
-    let inside = c.begin.ensures.inside c.args.config.now h c.args.input.now c.as_slice.ensures permitted (subst A (sym copy) keeps.actions) (subst L (sym copy) keeps.looks) in
+    let s : Setting = setting c.args.config.now h c.args.input.now in
+    let begun = c.begin.ensures.inside c.args.config.now h c.args.input.now c.as_slice.ensures permitted (rw c.deref_mut.ensures.value keeps.actions) (rw c.deref_mut.ensures.value keeps.looks) in
+    let inside : IsInside c.deref_mut-2.result.now s [] = rw c.deref_mut-2.ensures.value begun in
     c.in-Err.ensures.first h [] inside
+
+pub returns-in-Err-clause-unchanged : goal.returns-in-Err-clause-unchanged
+returns-in-Err-clause-unchanged c = rw (c.duplicate-before.ensures ∙ c.deref.ensures) refl

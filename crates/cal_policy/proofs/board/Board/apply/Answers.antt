@@ -1,14 +1,16 @@
 -- The counts and sets are kept up with the one holder that an action changes.
-use Rattle.std.proofs.Common.{◌∙◌, subst, arith}
+use Rattle.std.proofs.Common.{◌∙◌, ap, subst, arith}
+use Rattle.cal_machine.specs.CoreSet.{has}
 use Rattle.std.specs.Option.{IfSome}
 use Rattle.cal_policy.specs.Tasks.{threads_of_table}
 use Rattle.cal_policy.specs.declared.board.holders.Holder.{Holder}
 use Rattle.cal_policy.specs.Board.{holder_in}
 use Rattle.cal_policy.specs.Board.Survey.{CountsOneMore}
 use Rattle.cal_policy.specs.Board.CoreSets.{IsSorted}
-use Rattle.cal_policy.proofs.BoardLemmas.StateKept.{names_fixed, names_threads}
+use Rattle.cal_policy.proofs.BoardLemmas.StateKept.{names_fixed, names_threads, placed_at}
 use Rattle.cal_policy.proofs.BoardLemmas.Surveyed.{Surveys_moved, counted_at, few_left}
 use Rattle.cal_policy.proofs.BoardLemmas.Sorted.{Sorts_moved, sorted_at}
+use Rattle.cal_policy.proofs.BoardLemmas.OpenCores.{changes_named}
 use Rattle.cal_policy.proofs.board.Board.apply.Goals as goal
 
 pub remove-requires-clause-counted : goal.remove-requires-clause-counted
@@ -24,6 +26,12 @@ add-requires-clause-few c =
     let old = c.args.self.now in
     few_left table (holder_in old.holding) c.holder_at-before.result old.survey c.remove.new.self (omega (arith, c.requires.table.machine.most))
     c.requires.ready.counts c.remove.ensures.counted
+
+pub add-requires-clause-thread : goal.add-requires-clause-thread
+add-requires-clause-thread c =
+    let table = c.args.config.now in
+    rw c.holder_at-after.ensures (placed_at (threads_of_table table) c.apply.new.self c.core_changed_by-core.result
+    (c.apply.ensures.sound (threads_of_table table) c.requires.ready.own.holding (names_threads table c.args.action c.requires.table c.requires.names)))
 
 pub move_core-requires-clause-sorted : goal.move_core-requires-clause-sorted
 move_core-requires-clause-sorted c =
@@ -63,5 +71,9 @@ returns-clause-ready c =
           (Sorts_moved old.holding c.apply.new.self core old.sets c.move_core.new.self
           (λ j off. c.apply.ensures.others j (λ same. off (c.core_changed_by-core.ensures.changed ∙ same)))
           c.requires.ready.sets (subst At c.holder_at-after.ensures c.move_core.ensures.sorted) c.move_core.ensures.others k lt);
+      opens = c.note.ensures.kept (holder_in old.holding) old.sets.banned c.requires.ready.opens (record {
+        holders = λ k off. c.apply.ensures.others k (changes_named c.args.action k off);
+        bans = λ k off. c.note_ban.ensures.elsewhere k off ∙ ap (λ set. has set k) c.move_core.ensures.banned;
+      });
       keeping = c.requires.ready.keeping;
     }

@@ -16,6 +16,13 @@ replay-requires-clause-names c =
     let o = c.requires.entries n c.entry-item.result here in
     names_of_fitting c.args.config.now (actions_of (take n history)) c.entry-item.result.actions c.limits.ensures o.actions
 
+pub replay-requires-clause-looks : goal.replay-requires-clause-looks
+replay-requires-clause-looks c =
+    let n = c.loop-entry.entry-index in
+    let history = c.args.history.now in
+    let here = slice_get_read history (length history) n c.entry-item.result refl c.loop-entry-test.true c.entry-item.is in
+    let fits = c.requires.entries n c.entry-item.result here in omega (arith, fits.looks.looks, c.limits.ensures.threads)
+
 pub loop-entry-preserved : goal.loop-entry-preserved
 loop-entry-preserved c =
     let i = c.loop-entry.invariant in

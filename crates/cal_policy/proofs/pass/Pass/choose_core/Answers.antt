@@ -1,4 +1,4 @@
--- The choice among the free cores comes first, and where no core may be revoked, or no task may
+-- The choice among the free cores that are not banned comes first, and where no core may be revoked, or no task may
 -- lose one, none of the others counts.
 use Rattle.std.proofs.Common.{◌≡◌, ℕ, List, Option, nat_lt, refl, ap, sym, ◌∙◌}
 use Rattle.std.specs.Option.{option_or}
@@ -11,19 +11,20 @@ use Rattle.cal_policy.specs.Pass.Choice.{best_below}
 use Rattle.cal_policy.specs.Pass.Among.{class_among}
 use Rattle.cal_policy.specs.Pass.AtHand.{IsAtHand, StandsIn, setting_in}
 use Rattle.cal_policy.specs.Pass.Grants.{choice_of}
-use Rattle.cal_policy.proofs.BoardLemmas.TwoSets.{choice_joins, none_taken}
+use Rattle.cal_policy.proofs.BoardLemmas.TwoSets.{choice_joins, idle_choice, none_taken}
 use Rattle.cal_policy.proofs.PassLemmas.Losing.{none_lost}
 use Rattle.cal_policy.proofs.pass.Pass.choose_core.Goals as goal
 
 joined : (pass : Pass) (h : List PassEntry) (acts : List Action) (task : ℕ) (free : Option Candidate) →
     IsAtHand pass → StandsIn pass h acts →
-    free ≡ best_below nat_lt (class_among pass.board.now.sets.free (setting_in pass h) acts task) pass.config.now.cores →
+    free ≡ best_below nat_lt (class_among pass.board.now.open_cores.idle (setting_in pass h) acts task) pass.config.now.cores →
     choice_of (setting_in pass h) acts task
     ≡ option_or free (best_below nat_lt (class_among pass.board.now.sets.taken (setting_in pass h) acts task) pass.config.now.cores)
 joined pass h acts task free p st e =
     let taken = best_below nat_lt (class_among pass.board.now.sets.taken (setting_in pass h) acts task) pass.config.now.cores in
     choice_joins pass.board.now (setting_in pass h) acts task pass.config.now.cores p.accepted.machine.most st p.ready.sets
-    ∙ ap (λ o. option_or o taken) (sym e)
+    ∙ ap (λ o. option_or o taken)
+    (sym (e ∙ idle_choice pass.board.now (setting_in pass h) acts task pass.config.now.cores p.accepted.machine.most st p.ready.sets p.ready.opens))
 
 pub returns-in-Some-clause-choice : goal.returns-in-Some-clause-choice
 returns-in-Some-clause-choice c = λ h acts s.

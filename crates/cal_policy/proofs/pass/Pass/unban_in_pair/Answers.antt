@@ -1,7 +1,14 @@
-use Rattle.cal_policy.proofs.PassLemmas.Pairs.{unban_lower}
+use Rattle.std.proofs.Common.{◌∙◌}
+use Rattle.cal_policy.proofs.PassLemmas.Pairs.{unban_lower, pair_upper}
 use Rattle.cal_policy.specs.Pass.AtHand.{setting_in}
+use Rattle.cal_policy.specs.Pass.Bans.{unban_at}
 use Rattle.cal_policy.proofs.pass.Pass.unban_in_pair.Goals as goal
 
 pub returns-in-Some-clause-due : goal.returns-in-Some-clause-due
 returns-in-Some-clause-due c = λ h acts n st.
     unban_lower (setting_in c.args.self.now h) acts c.args.pair c.in-Some.action n (c.in-Some.ensures.due h acts st)
+
+pub returns-in-None-clause-due : goal.returns-in-None-clause-due
+returns-in-None-clause-due c = λ h acts n st.
+    c.unban_due-in-None.ensures.due h acts st
+    ∙ pair_upper (unban_at (setting_in c.args.self.now h)) acts c.args.pair (rw c.in-None.is at (c.unban_due.ensures.due h acts st))

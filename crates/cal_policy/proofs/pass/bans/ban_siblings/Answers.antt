@@ -5,7 +5,7 @@ use Rattle.cal_policy.specs.Setting.{setting}
 use Rattle.cal_policy.specs.Pass.Bans.{bans_at}
 use Rattle.cal_policy.proofs.PassLemmas.PartSoFar.{Reached_step, Reached_skip}
 use Rattle.cal_policy.proofs.PassLemmas.Pairs.{in_turn_pairs}
-use Rattle.cal_policy.proofs.PassLemmas.NothingDue.{ban_pair_not_taken}
+use Rattle.cal_policy.proofs.PassLemmas.NothingDue.{ban_pair_past}
 use Rattle.cal_policy.proofs.pass.bans.ban_siblings.Goals as goal
 
 pub loop-core-preserved : goal.loop-core-preserved
@@ -20,11 +20,12 @@ loop-core-preserved c =
       acts = λ h st. let s = setting c.args.config.now h c.args.input.now in let r = i.acts h st in
           Reached_step (in_pair (bans_at s)) s c.args.out.now _ _ c.loop-core.board _ (core / 2) _
           (Reached_skip (in_pair (bans_at s)) s c.args.out.now _ c.loop-core.board c.loop-core.next (core / 2) later
-          (λ k a b. ban_pair_not_taken c.loop-core.board s c.loop-core.out r.1 i.ready.sets k (omega (arith, a, b, below, most))
+          (λ k a b. ban_pair_past c.loop-core.over c.loop-core.board s c.loop-core.out r.1 i.ready i.over k (omega (arith, a, b, below, most))
           (c.in-Some.ensures.between (2 * k) (omega (arith, a)) (omega (arith, b)))
           (c.in-Some.ensures.between (2 * k + 1) (omega (arith, a)) (omega (arith, b)))) r)
           (c.ban_in_pair-both.ensures.due h _ r.1) c.make_both.ensures.out (c.make_both.ensures.stands s);
       ready = c.make_both.ensures.ready;
+      over = c.some_may_be_over-over.ensures;
       length = omega (arith, c.make_both.ensures.length, i.length, later);
       next = omega (arith, below, even);
     }
@@ -39,7 +40,7 @@ returns-clause-acts c = λ h st.
     let half = c.args.config.now.cores / 2 in
     let e : 2 * half ≡ s.table.cores = omega (arith, even) in
     let all = Reached_skip (in_pair (bans_at s)) s c.args.out.now _ c.loop-core.board c.loop-core.next half (omega (arith, i.next))
-    (λ k a b. ban_pair_not_taken c.loop-core.board s c.loop-core.out r.1 i.ready.sets k (omega (arith, b, most))
+    (λ k a b. ban_pair_past c.loop-core.over c.loop-core.board s c.loop-core.out r.1 i.ready i.over k (omega (arith, b, most))
     (c.in_default.ensures.none (2 * k) (omega (arith, a)) (omega (arith, b)))
     (c.in_default.ensures.none (2 * k + 1) (omega (arith, a)) (omega (arith, b)))) r in
     (all.0 ∙ ap (λ l. c.args.out.now ++ l) (in_turn_pairs (bans_at s) c.args.out.now half ∙ ap (in_turn (bans_at s) c.args.out.now) e), all.1)

@@ -1,9 +1,10 @@
-use Rattle.std.proofs.Common.{◌+◌, ◌-◌, ◌*◌, ◌≤◌, List, length}
+use Rattle.std.proofs.Common.{◌≡◌, false, ◌+◌, ◌-◌, ◌*◌, ◌≤◌, List, length}
 use Rattle.cal_policy.specs.declared.history.entry.PassEntry.{PassEntry}
 use Rattle.cal_policy.specs.History.Lists.{in_pair}
 use Rattle.cal_policy.specs.Setting.{setting}
 use Rattle.cal_policy.specs.Pass.Bans.{bans_at}
 use Rattle.cal_policy.specs.Board.{Stands, IsReady}
+use Rattle.cal_policy.specs.Pass.ToBan.{NoneOver}
 use Rattle.cal_policy.proofs.PassLemmas.PartSoFar.{Reached}
 use Rattle.cal_policy.proofs.pass.bans.ban_siblings.Given as goal
 
@@ -12,6 +13,7 @@ invariant-loop-core l = record {
   acts : (h : List PassEntry) → let s = setting l.fn.config h l.fn.input in Stands l.fn.board s l.fn.out →
       Reached (in_pair (bans_at s)) s l.fn.out l.out l.board l.next;
   ready : IsReady l.config l.board;
+  over : l.over ≡ false → NoneOver l.config l.board;
   length : length l.out ≤ length l.fn.out + 2 * l.next;
   next : 2 * l.next ≤ l.config.cores;
 }

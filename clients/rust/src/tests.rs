@@ -1,0 +1,107 @@
+//! The calls of the wrapper, once each.
+
+use super::{history_of_each, Action, Audit, Command, Guard, Judged, Look, Machine, NotThrough, Refused, Scheduler, Stopped, Thread, Verdict};
+
+const TABLE: &str = "cores = 2\nbandwidth_limit = 1000\n\n[[task]]\nkind = \"lc\"\nguaranteed = 1\nlimit = 1\ndelay = 10\nrequest = 50\n";
+
+#[test]
+fn one_grant() {
+    let mut scheduler = Scheduler::open(TABLE).unwrap();
+    let look = Look { room: 1, number: 1, words: [0, 0, 1, 100, 0, 0, 105, 0, 0], ..Look::default() };
+    assert_eq!(scheduler.pass(111, 0, &[]), Err(Refused(13)));
+    let (actions, judged) = scheduler.pass(111, 0, &[look]).unwrap();
+    assert_eq!((actions.len(), actions[0].kind, actions[0].core_class, judged), (1, 6, 3, &[1u8][..]));
+    assert_eq!(scheduler.task(0).unwrap().held, 1);
+    assert_eq!(scheduler.task(1), None);
+}
+
+fn waits() -> Look {
+    Look { room: 1, number: 1, words: [0, 0, 1, 100, 0, 0, 105, 0, 0], ..Look::default() }
+}
+
+fn grant(class: u8) -> Action {
+    Action { kind: 6, core_class: class, ..Action::default() }
+}
+
+#[test]
+fn one_lie_stops_nobody() {
+    let mut scheduler = Scheduler::open(TABLE).unwrap();
+    let lie = Look { room: 1, number: 1, words: [0, 129, 0, 0, 0, 0, 0, 0, 0], ..Look::default() };
+    assert_eq!(scheduler.pass(111, 0, &[lie]), Err(Refused(15)));
+    assert_eq!(scheduler.first_unfit(&[lie]), Ok(Some(0)));
+    let (actions, judged) = scheduler.pass_each(111, 0, &[lie]).unwrap();
+    assert_eq!((actions.len(), judged.collect::<Vec<_>>()), (0, vec![Judged::Misshapen]));
+    assert_eq!(scheduler.first_unfit(&[waits()]), Ok(None));
+    let _ = scheduler.pass_each(112, 0, &[waits()]).unwrap();
+    assert_eq!(scheduler.commands().collect::<Vec<_>>(), [(0, Command::Run { core: 0 })]);
+    assert_eq!(scheduler.thread(0), Some(Thread { task: 0, sent: 1, taken: 0 }));
+    assert_eq!(scheduler.thread(1), None);
+    let gone = scheduler.gone(0).unwrap();
+    assert_eq!((gone.number, gone.words), (2, [1, 0, 0, 0, 0, 0, 105, 0, 0]));
+    assert_eq!(scheduler.gone(1), Err(Refused(16)));
+    let (actions, _) = scheduler.pass_each(113, 0, &[gone]).unwrap();
+    assert_eq!(actions[0].kind, 1);
+    assert_eq!(scheduler.machine(), Machine { cores: 2, tasks: 1, threads: 1, bandwidth_limit: 1000 });
+    assert_eq!(scheduler.table().map(|task| task.delay).collect::<Vec<_>>(), [10]);
+}
+
+#[test]
+fn audit_names_the_pass() {
+    let mut audit = Audit::open(TABLE).unwrap();
+    assert_eq!(audit.pass(111, 0, &[waits()], &[], &[]), Err(Refused(13)));
+    audit.pass(111, 0, &[waits()], &[1], &[grant(3)]).unwrap();
+    assert_eq!(audit.verdict(), Verdict::Legal);
+    audit.pass(112, 0, &[waits()], &[1], &[grant(3)]).unwrap();
+    assert_eq!(audit.verdict(), Verdict::Illegal { pass: 1 });
+}
+
+#[test]
+fn guard_names_the_action() {
+    let mut guard = Guard::open(TABLE).unwrap();
+    let twice = guard.pass(111, 0, &[waits()], &[grant(1), grant(1)]);
+    assert_eq!(twice, Err(NotThrough::Stopped(Stopped { place: 1, why: 2, names: 0 })));
+    assert_eq!(guard.task(0).unwrap().held, 0);
+    assert_eq!(guard.pass(111, 0, &[waits()], &[grant(1)]), Ok(&[1u8][..]));
+    assert_eq!(guard.task(0).unwrap().held, 1);
+    assert_eq!(guard.pass(112, 0, &[], &[]), Err(NotThrough::Refused(Refused(13))));
+}
+
+#[test]
+fn one_lie_stops_no_guard() {
+    let mut guard = Guard::open(TABLE).unwrap();
+    let lie = Look { room: 1, number: 1, words: [0, 129, 0, 0, 0, 0, 0, 0, 0], ..Look::default() };
+    assert_eq!(guard.pass(111, 0, &[lie], &[]), Err(NotThrough::Refused(Refused(15))));
+    assert_eq!(guard.first_unfit(&[lie]), Ok(Some(0)));
+    let stopped = guard.pass_each(111, 0, &[lie], &[Action { kind: 1, ..Action::default() }]).err();
+    assert_eq!(stopped, Some(NotThrough::Stopped(Stopped { place: 0, why: 2, names: 0 })));
+    assert_eq!(guard.judged().collect::<Vec<_>>(), [Judged::Misshapen]);
+    assert_eq!(guard.pass_each(111, 0, &[lie], &[grant(1)]).unwrap().collect::<Vec<_>>(), [Judged::Misshapen]);
+    assert_eq!(guard.commands(&[grant(1)]).collect::<Vec<_>>(), [(0, Command::Run { core: 0 })]);
+    assert_eq!(guard.thread(0), Some(Thread { task: 0, sent: 1, taken: 0 }));
+    assert_eq!(guard.thread(1), None);
+    let free = Action { kind: 1, ..Action::default() };
+    let early = guard.pass_each(112, 0, &[waits()], &[free]).err();
+    assert_eq!(early, Some(NotThrough::Stopped(Stopped { place: 0, why: 3, names: 0 })));
+    let gone = guard.gone(0).unwrap();
+    assert_eq!((gone.number, gone.words), (1, [1, 0, 0, 0, 0, 0, 0, 0, 0]));
+    assert_eq!(guard.gone(1), Err(Refused(16)));
+    assert_eq!(guard.pass_each(112, 0, &[gone], &[free]).unwrap().collect::<Vec<_>>(), [Judged::Kept]);
+    assert_eq!(guard.task(0).unwrap().booked, 0);
+    assert_eq!(guard.pass_each(113, 0, &[], &[]).err(), Some(NotThrough::Refused(Refused(13))));
+    assert_eq!(guard.machine(), Machine { cores: 2, tasks: 1, threads: 1, bandwidth_limit: 1000 });
+    assert_eq!(guard.table().map(|task| task.delay).collect::<Vec<_>>(), [10]);
+}
+
+#[test]
+fn texts_and_history() {
+    assert_eq!(Refused(21).to_string(), "no page can show that the thread is gone");
+    assert_eq!(NotThrough::Stopped(Stopped { place: 3, why: 11, names: 1 }).to_string(), "action 3: a task is over its cap");
+    assert_eq!((Judged::PlaceFell.to_string(), Action { cause: 3, ..Action::default() }.cause_text()), ("its place fell".to_string(), "for a task"));
+    let rows = history_of_each(112, 7, &[waits(), waits()], [Judged::Kept, Judged::Ahead], &[grant(3)]);
+    assert_eq!(rows, "pass,112,7\nwhole,0,1,1,0,0,1,100,0,0,105,0,0\nbusy,1,1,1,1\ngrant,0,0,3\n");
+}
+
+#[test]
+fn no_table() {
+    assert_eq!(Scheduler::open("cores = 3\n").err(), Some(Refused(3)));
+}

@@ -1,0 +1,21 @@
+use Rattle.cal_measure.specs.Actions as acts
+use Rattle.cal_measure.specs.declared.actions.LossKind.TheVariants as kinds
+use Rattle.cal_measure.proofs.Counting.{counted}
+use Rattle.cal_measure.proofs.actions.with_one.Goals as goal
+
+pub returns : goal.returns
+returns c = λ x low a n.
+    let table = c.args.config.now in
+    let t = c.args.task in
+    let action = c.args.action in
+    record {
+      grants_beside = counted (acts.is_grant table t 1) x action c.args.numbers.now.grants_beside _ c.is_grant.result low n.grants_beside (c.is_grant.ensures x) c.plus.ensures;
+      grants_again = counted (acts.is_grant table t 2) x action c.args.numbers.now.grants_again _ c.is_grant-2.result low n.grants_again (c.is_grant-2.ensures x) c.plus-2.ensures;
+      grants_other = counted (acts.is_grant table t 3) x action c.args.numbers.now.grants_other _ c.is_grant-3.result low n.grants_other (c.is_grant-3.ensures x) c.plus-3.ensures;
+      lost_to_bans = counted (acts.is_loss table t kinds.Ban) x action c.args.numbers.now.lost_to_bans _ c.is_loss-by_ban.result low n.lost_to_bans (c.is_loss-by_ban.ensures x a) c.plus-4.ensures;
+      lost_to_bandwidth = counted (acts.is_loss table t kinds.Bandwidth) x action c.args.numbers.now.lost_to_bandwidth _ c.is_loss-by_bandwidth.result low n.lost_to_bandwidth (c.is_loss-by_bandwidth.ensures x a) c.plus-5.ensures;
+      lost_to_tasks = counted (acts.is_loss table t kinds.Task) x action c.args.numbers.now.lost_to_tasks _ c.is_loss-by_task.result low n.lost_to_tasks (c.is_loss-by_task.ensures x a) c.plus-6.ensures;
+      lost_by_others = counted (acts.is_loss_by_others table t) x action c.args.numbers.now.lost_by_others _ c.is_loss_by_others-by_others.result low n.lost_by_others (c.is_loss_by_others-by_others.ensures x a) c.plus-7.ensures;
+      caps = counted (acts.is_cap t) x action c.args.numbers.now.caps _ c.is_cap.result low n.caps (c.is_cap.ensures x) c.plus-8.ensures;
+      bans = counted (acts.is_ban table t) x action c.args.numbers.now.bans _ c.is_ban.result low n.bans (c.is_ban.ensures x) c.plus-9.ensures;
+    }

@@ -1,0 +1,111 @@
+-- What the passes of a history did to the cores of a task, counted. Each action is told those
+-- before it.
+use Rattle.std.specs.Prelude.{◌≡◌, ℕ, ◌==◌, ◌&&◌, Bool, true, false, not, List, [], ◌∷◌, length}
+use Rattle.std.specs.Prelude.{Option, Some, None, if◌then◌else◌}
+use Rattle.cal_machine.specs.Table.{Table}
+use Rattle.cal_policy.specs.Board.Counts.{is_held_for}
+use Rattle.cal_policy.specs.History.{ban_of, holder_of}
+use Rattle.cal_policy.specs.History.Lists.{each_of}
+use Rattle.cal_policy.specs.Tasks.{owner_of}
+use Rattle.cal_policy.specs.declared.board.bans.BannedFor.{BannedFor}
+use Rattle.cal_policy.specs.declared.history.action.Action.{Action}
+use Rattle.cal_policy.specs.declared.history.action.Action.TheVariants.{Free, Unban, Ban}
+use Rattle.cal_policy.specs.declared.history.action.Action.TheVariants.{Revoke, Cap, Grant}
+use Rattle.cal_policy.specs.declared.history.action.Cause.{Cause}
+use Rattle.cal_policy.specs.declared.history.action.Cause.TheVariants as causes
+use Rattle.cal_measure.specs.declared.actions.LossKind.{LossKind}
+use Rattle.cal_measure.specs.declared.actions.LossKind.TheVariants as kinds
+use Rattle.cal_measure.specs.declared.cores.TaskActions.{TaskActions}
+
+-- the action, if it is such
+abbrev pub if_such : (List Action → Action → Bool) → List Action → Action → List Action
+if_such such before action = if such before action then action ∷ [] else []
+
+-- how many of these actions are such
+abbrev pub many_of : (List Action → Action → Bool) → List Action → ℕ
+many_of such x = length (each_of (if_such such) x)
+
+-- it grants a thread of task t a core, for this class
+abbrev pub is_grant : Table → ℕ → ℕ → List Action → Action → Bool
+is_grant table t n before (Grant core thread class) = (owner_of table thread == t) && (class == n)
+is_grant table t n before (Free core) = false
+is_grant table t n before (Unban core) = false
+is_grant table t n before (Ban core thread started) = false
+is_grant table t n before (Revoke core cause) = false
+is_grant table t n before (Cap task cap) = false
+
+-- a cause is of this kind
+abbrev pub is_of_kind : LossKind → Cause → Bool
+is_of_kind kinds.Ban (causes.Ban by) = true
+is_of_kind kinds.Ban causes.Bandwidth = false
+is_of_kind kinds.Ban (causes.Preempt task) = false
+is_of_kind kinds.Bandwidth (causes.Ban by) = false
+is_of_kind kinds.Bandwidth causes.Bandwidth = true
+is_of_kind kinds.Bandwidth (causes.Preempt task) = false
+is_of_kind kinds.Task (causes.Ban by) = false
+is_of_kind kinds.Task causes.Bandwidth = false
+is_of_kind kinds.Task (causes.Preempt task) = true
+
+-- it revokes, for a cause of this kind, a core that a thread of task t holds
+abbrev pub is_loss : Table → ℕ → LossKind → List Action → Action → Bool
+is_loss table t kind before (Revoke core cause) =
+    is_held_for table t (holder_of before core) && is_of_kind kind cause
+is_loss table t kind before (Free core) = false
+is_loss table t kind before (Unban core) = false
+is_loss table t kind before (Ban core thread started) = false
+is_loss table t kind before (Cap task cap) = false
+is_loss table t kind before (Grant core thread class) = false
+
+-- a core with this ban is banned for a thread of task t
+abbrev pub is_banned_for : Table → ℕ → Option BannedFor → Bool
+is_banned_for table t None = false
+is_banned_for table t (Some ban) = owner_of table ban.thread == t
+
+-- a core with this ban is revoked for task t: since it is congested, or for the ban, where that is
+-- for one of its threads
+abbrev pub is_revoked_for : Table → ℕ → Option BannedFor → Cause → Bool
+is_revoked_for table t ban (causes.Ban by) = is_banned_for table t ban
+is_revoked_for table t ban causes.Bandwidth = false
+is_revoked_for table t ban (causes.Preempt task) = task == t
+
+-- it revokes for task t a core that none of its threads holds
+abbrev pub is_loss_by_others : Table → ℕ → List Action → Action → Bool
+is_loss_by_others table t before (Revoke core cause) =
+    not (is_held_for table t (holder_of before core))
+    && is_revoked_for table t (ban_of before core) cause
+is_loss_by_others table t before (Free core) = false
+is_loss_by_others table t before (Unban core) = false
+is_loss_by_others table t before (Ban core thread started) = false
+is_loss_by_others table t before (Cap task cap) = false
+is_loss_by_others table t before (Grant core thread class) = false
+
+-- it gives task t a cap
+abbrev pub is_cap : ℕ → List Action → Action → Bool
+is_cap t before (Cap task cap) = task == t
+is_cap t before (Free core) = false
+is_cap t before (Unban core) = false
+is_cap t before (Ban core thread started) = false
+is_cap t before (Revoke core cause) = false
+is_cap t before (Grant core thread class) = false
+
+-- it bans a core for a thread of task t
+abbrev pub is_ban : Table → ℕ → List Action → Action → Bool
+is_ban table t before (Ban core thread started) = owner_of table thread == t
+is_ban table t before (Free core) = false
+is_ban table t before (Unban core) = false
+is_ban table t before (Revoke core cause) = false
+is_ban table t before (Cap task cap) = false
+is_ban table t before (Grant core thread class) = false
+
+-- the numbers are those of what these actions did to the cores of task t
+pub record AreActionsOf (table : Table) (t : ℕ) (x : List Action)
+    (numbers : TaskActions) : Type 0 where
+  pub grants_beside : numbers.grants_beside ≡ many_of (is_grant table t 1) x
+  pub grants_again : numbers.grants_again ≡ many_of (is_grant table t 2) x
+  pub grants_other : numbers.grants_other ≡ many_of (is_grant table t 3) x
+  pub lost_to_bans : numbers.lost_to_bans ≡ many_of (is_loss table t kinds.Ban) x
+  pub lost_to_bandwidth : numbers.lost_to_bandwidth ≡ many_of (is_loss table t kinds.Bandwidth) x
+  pub lost_to_tasks : numbers.lost_to_tasks ≡ many_of (is_loss table t kinds.Task) x
+  pub lost_by_others : numbers.lost_by_others ≡ many_of (is_loss_by_others table t) x
+  pub caps : numbers.caps ≡ many_of (is_cap t) x
+  pub bans : numbers.bans ≡ many_of (is_ban table t) x

@@ -1,0 +1,46 @@
+-- What came of the cores of a task, and of the machine's, over a whole history.
+use Rattle.std.specs.Prelude.{◌≡◌, ℕ, ◌+◌, ◌*◌, List, length, take}
+use Rattle.cal_machine.specs.Table.{Table}
+use Rattle.cal_policy.specs.Board.Counts.{held_by}
+use Rattle.cal_policy.specs.History.{actions_of}
+use Rattle.cal_policy.specs.Pass.Choice.{greatest_below, sum_below}
+use Rattle.cal_policy.specs.declared.history.entry.PassEntry.{PassEntry}
+use Rattle.cal_measure.specs.Actions.{AreActionsOf}
+use Rattle.cal_measure.specs.States.{count_in_state, lasts_at}
+use Rattle.cal_measure.specs.declared.cores.MachineCores.{MachineCores}
+use Rattle.cal_measure.specs.declared.cores.TaskCores.{TaskCores}
+use Rattle.cal_measure.specs.declared.states.CoreState.{CoreState}
+use Rattle.cal_measure.specs.declared.states.CoreState.TheVariants as states
+
+-- how many cores the threads of task t hold after pass p
+abbrev pub held_after : Table → List PassEntry → ℕ → ℕ → ℕ
+held_after table history t p = held_by table (actions_of (take (p + 1) history)) t
+
+-- how many cores are in this state after pass p
+abbrev pub in_state_after : Table → List PassEntry → CoreState → ℕ → ℕ
+in_state_after table history state p =
+    count_in_state table (actions_of (take (p + 1) history)) state
+
+-- over the passes of a history, so many cores after each times how long that lasts
+abbrev pub core_time : List PassEntry → (ℕ → ℕ) → ℕ
+core_time history cores = sum_below (λ p. cores p * lasts_at history p) (length history)
+
+-- how long a history lasts
+abbrev pub lasted : List PassEntry → ℕ
+lasted history = sum_below (λ p. lasts_at history p) (length history)
+
+-- the numbers of task t's cores in this history
+pub record AreCoresOf (table : Table) (history : List PassEntry) (t : ℕ)
+    (numbers : TaskCores) : Type 0 where
+  pub actions : AreActionsOf table t (actions_of history) numbers.actions
+  pub most : numbers.most ≡ greatest_below (held_after table history t) (length history)
+  pub held : numbers.held ≡ core_time history (held_after table history t)
+
+-- the numbers of the machine's cores in this history
+pub record AreMachineCores (table : Table) (history : List PassEntry)
+    (numbers : MachineCores) : Type 0 where
+  pub lasted : numbers.lasted ≡ lasted history
+  pub held : numbers.held ≡ core_time history (in_state_after table history states.Held)
+  pub leaving : numbers.leaving ≡ core_time history (in_state_after table history states.Leaving)
+  pub banned : numbers.banned ≡ core_time history (in_state_after table history states.Banned)
+  pub free : numbers.free ≡ core_time history (in_state_after table history states.Free)

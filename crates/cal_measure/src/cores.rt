@@ -1,0 +1,158 @@
+//! What came of the cores of a task, and of the machine's.
+
+ghost use Rattle.std.specs.Prelude.{◌≡◌, ◌<◌, ◌≤◌, ◌+◌, ◌*◌, ◌^◌, ℕ, [], length};
+ghost use Rattle.cal_machine.specs.Table.{Table};
+ghost use Rattle.cal_measure.specs.Actions.{AreActionsOf};
+ghost use Rattle.cal_measure.specs.Cores.{AreCoresOf, AreMachineCores};
+ghost use Rattle.cal_policy.specs.Pass.{IsLegal};
+ghost use Rattle.cal_policy.specs.declared.history.entry.TheConstants.{MOST_PASSES};
+
+use crate::actions::count_actions;
+use crate::states::{CoreState, apply_each, count_in_state, lasts_at};
+use cal_machine::Config;
+use cal_policy::state::{Board, held_by};
+use cal_policy::{PassEntry, legal_is_orderly, legal_is_short};
+
+/// What the passes of a history did to the cores of a task, counted.
+#[derive(Clone, Copy, Debug, PartialEq, Eq)]
+pub struct TaskActions {
+    /// Grants to its threads of a core beside one that a thread of the task held (class 1).
+    pub grants_beside: usize,
+    /// Grants to its threads of a core that went to a thread of the task before (class 2).
+    pub grants_again: usize,
+    /// Grants to its threads of any other core (class 3).
+    pub grants_other: usize,
+    /// Cores that were revoked while its threads held them, for a ban.
+    pub lost_to_bans: usize,
+    /// Cores that were revoked while its threads held them, for the bandwidth limit.
+    pub lost_to_bandwidth: usize,
+    /// Cores that were revoked while its threads held them, for a congested task.
+    pub lost_to_tasks: usize,
+    /// Cores that were revoked while threads of others held them, for this task: since it was
+    /// congested, or for a ban for one of its threads.
+    pub lost_by_others: usize,
+    /// How often it was given a cap.
+    pub caps: usize,
+    /// Bans of a core for one of its threads.
+    pub bans: usize,
+}
+
+/// What came of the cores of a task.
+#[derive(Clone, Copy, Debug, PartialEq, Eq)]
+pub struct TaskCores {
+    /// What the passes did to its cores, counted.
+    pub actions: TaskActions,
+    /// The most cores that its threads held after a pass.
+    pub most: u8,
+    /// The core time that its threads held: over the passes, the cores held after one times how
+    /// long that lasted. In clock ticks.
+    pub held: u128,
+}
+
+/// What came of the machine's cores: core time, in clock ticks, in each state. Together they are
+/// the run's clock times the cores.
+#[derive(Clone, Copy, Debug, PartialEq, Eq)]
+pub struct MachineCores {
+    /// How long the run lasted, in clock ticks.
+    pub lasted: u128,
+    /// The core time that was held.
+    pub held: u128,
+    /// The core time that was being left.
+    pub leaving: u128,
+    /// The core time that was banned, with nobody on the core.
+    pub banned: u128,
+    /// The core time that was free to be granted.
+    pub free: u128,
+}
+
+impl TaskActions {
+    /// Of nothing that was done.
+    fn none() -> TaskActions
+        ensures { (table : Table) (t : ℕ) → AreActionsOf table t [] result }
+    {
+        TaskActions {
+            grants_beside: 0,
+            grants_again: 0,
+            grants_other: 0,
+            lost_to_bans: 0,
+            lost_to_bandwidth: 0,
+            lost_to_tasks: 0,
+            lost_by_others: 0,
+            caps: 0,
+            bans: 0,
+        }
+    }
+}
+
+/// The core time of so many cores over some ticks.
+fn core_time(cores: u8, ticks: u64) -> u128
+    ensures time { result ≡ cores * ticks }
+    ensures few { result < 2 ^ 72 }
+{
+    cores as u128 * ticks as u128
+}
+
+/// What came of the cores of a task in a legal history.
+pub fn cores_of(config: &Config, history: &[PassEntry], task: usize) -> TaskCores
+    requires legal { IsLegal config.now history.now }
+    requires few { length history.now ≤ MOST_PASSES }
+    requires task { task < length config.now.tasks }
+    ensures { AreCoresOf config.now history.now task result }
+{
+    legal_is_orderly();
+    legal_is_short();
+    config.limits();
+    let mut board = Board::new();
+    let mut actions = TaskActions::none();
+    let mut most: u8 = 0;
+    let mut held: u128 = 0;
+    for pass in 0..history.len() {
+        count_actions(
+            config,
+            task,
+            history[pass].actions.as_slice(),
+            &mut board,
+            &mut actions,
+        );
+        let holds = held_by(config, &board, task);
+        most = most.max(holds);
+        held += core_time(holds, lasts_at(history, pass));
+    }
+    TaskCores {
+        actions,
+        most,
+        held,
+    }
+}
+
+/// What came of the machine's cores in a legal history.
+pub fn machine_of(config: &Config, history: &[PassEntry]) -> MachineCores
+    requires legal { IsLegal config.now history.now }
+    requires few { length history.now ≤ MOST_PASSES }
+    ensures { AreMachineCores config.now history.now result }
+{
+    legal_is_orderly();
+    config.limits();
+    let mut board = Board::new();
+    let mut lasted: u128 = 0;
+    let mut held: u128 = 0;
+    let mut leaving: u128 = 0;
+    let mut banned: u128 = 0;
+    let mut free: u128 = 0;
+    for pass in 0..history.len() {
+        apply_each(config, &mut board, history[pass].actions.as_slice());
+        let lasts = lasts_at(history, pass);
+        lasted += lasts as u128;
+        held += core_time(count_in_state(config, &board, CoreState::Held), lasts);
+        leaving += core_time(count_in_state(config, &board, CoreState::Leaving), lasts);
+        banned += core_time(count_in_state(config, &board, CoreState::Banned), lasts);
+        free += core_time(count_in_state(config, &board, CoreState::Free), lasts);
+    }
+    MachineCores {
+        lasted,
+        held,
+        leaving,
+        banned,
+        free,
+    }
+}

@@ -1,0 +1,95 @@
+-- The cores that grants and bans go over, when an action changes a holder or a ban.
+use Rattle.std.proofs.Common.{◌≡◌, ◌≢◌, ℕ, ◌<◌, ◌⊎◌, inl, inr, true, false, cond, eqb, Some, None, refl, ap, sym, ◌∙◌, arith}
+use Rattle.std.proofs.lemmas.Bool.{cases_eq}
+use Rattle.std.proofs.lemmas.Bool.Decides.{nat_tests}
+use Rattle.cal_machine.specs.Machine.{sibling_of}
+use Rattle.cal_machine.proofs.Siblings.{sibling_back}
+use Rattle.cal_machine.specs.declared.core_set.CoreSet.{CoreSet}
+use Rattle.cal_machine.specs.CoreSet.{has}
+use Rattle.cal_policy.specs.declared.history.action.Action.{Action}
+use Rattle.cal_policy.specs.declared.history.action.Action.TheVariants as actions
+use Rattle.cal_policy.specs.declared.board.holders.Holder.{Holder}
+use Rattle.cal_policy.specs.declared.board.holders.Holder.TheVariants.{Free}
+use Rattle.cal_policy.specs.declared.board.open_cores.OpenCores.{OpenCores}
+use Rattle.cal_policy.specs.Board.{core_changed}
+use Rattle.cal_policy.specs.Board.OpenCores.{Opens, IsSameElsewhere, core_named, is_idle_by, is_alone_by}
+
+-- an action changes the holder of no core but the one that it names
+pub changes_named : (a : Action) (c : ℕ) → core_named a ≢ Some c → core_changed a ≢ Some c
+changes_named (actions.Free core) c off = off
+changes_named (actions.Revoke core cause) c off = off
+changes_named (actions.Grant core thread class) c off = off
+changes_named (actions.Unban core) c off = λ same. cc
+changes_named (actions.Ban core thread started) c off = λ same. cc
+changes_named (actions.Cap task cap) c off = λ same. cc
+
+is_same : (c core : ℕ) → c ≡ core → eqb c core ≡ true
+is_same c core e = grind (arith, nat_tests)
+
+is_other : (c core : ℕ) → c ≢ core → eqb c core ≡ false
+is_other c core e = grind (arith, nat_tests)
+
+some_other : (c core : ℕ) → c ≢ core → Some core ≢ Some c
+some_other c core e = λ same. let eq : c ≡ core = cc in e eq
+
+idle_same : (f g : ℕ → Holder) (a b : CoreSet) (c : ℕ) → g c ≡ f c → has b c ≡ has a c → is_idle_by f a c ≡ is_idle_by g b c
+idle_same f g a b c e h = rw (e, h) refl
+
+alone_same : (f g : ℕ → Holder) (a b : CoreSet) (c : ℕ) → g c ≡ f c → g (sibling_of c) ≡ f (sibling_of c) → has b c ≡ has a c →
+    has b (sibling_of c) ≡ has a (sibling_of c) → is_alone_by f a c ≡ is_alone_by g b c
+alone_same f g a b c e es h hs = rw (e, es, h, hs) refl
+
+pub opens_none : (a : Action) (f g : ℕ → Holder) (x y : CoreSet) (cores : OpenCores) → core_named a ≡ None → Opens f x cores → IsSameElsewhere a f x g y → Opens g y cores
+opens_none a f g x y cores e o same =
+    let off : (c : ℕ) → core_named a ≢ Some c = λ c e2. cc in record {
+      idle = λ c lt. o.idle c lt ∙ idle_same f g x y c (same.holders c (off c)) (same.bans c (off c));
+      alone = λ c lt. o.alone c lt ∙ alone_same f g x y c (same.holders c (off c)) (same.holders (sibling_of c) (off (sibling_of c)))
+          (same.bans c (off c)) (same.bans (sibling_of c) (off (sibling_of c)));
+    }
+
+idle_one : (f g : ℕ → Holder) (x y : CoreSet) (core c : ℕ) (old new : OpenCores) → (c ≢ core → g c ≡ f c) → (c ≢ core → has y c ≡ has x c) →
+    has old.idle c ≡ is_idle_by f x c → has new.idle c ≡ cond (eqb c core) (is_idle_by g y core) (has old.idle c) → (c ≡ core) ⊎ (c ≢ core) →
+    has new.idle c ≡ is_idle_by g y c
+idle_one f g x y core c old new e h was made (inl same) = made ∙ ap (λ b. cond b (is_idle_by g y core) (has old.idle c)) (is_same c core same) ∙ ap (is_idle_by g y) (sym same)
+idle_one f g x y core c old new e h was made (inr off) = made ∙ ap (λ b. cond b (is_idle_by g y core) (has old.idle c)) (is_other c core off)
+    ∙ was ∙ idle_same f g x y c (e off) (h off)
+
+alone_off : (f g : ℕ → Holder) (x y : CoreSet) (core c : ℕ) (old : OpenCores) → ((k : ℕ) → k ≢ core → g k ≡ f k) → ((k : ℕ) → k ≢ core → has y k ≡ has x k) →
+    has old.alone c ≡ is_alone_by f x c → c ≢ sibling_of core → (c ≡ core) ⊎ (c ≢ core) →
+    cond (eqb c core) (is_alone_by g y core) (has old.alone c) ≡ is_alone_by g y c
+alone_off f g x y core c old e h was beside (inl same) = ap (λ b. cond b (is_alone_by g y core) (has old.alone c)) (is_same c core same) ∙ ap (is_alone_by g y) (sym same)
+alone_off f g x y core c old e h was beside (inr off) =
+    let away : sibling_of c ≢ core = λ eq. beside (sym (sibling_back c) ∙ ap sibling_of eq) in
+    ap (λ b. cond b (is_alone_by g y core) (has old.alone c)) (is_other c core off)
+    ∙ was ∙ alone_same f g x y c (e c off) (e (sibling_of c) away) (h c off) (h (sibling_of c) away)
+
+alone_one : (f g : ℕ → Holder) (x y : CoreSet) (core c : ℕ) (old new : OpenCores) → ((k : ℕ) → k ≢ core → g k ≡ f k) → ((k : ℕ) → k ≢ core → has y k ≡ has x k) →
+    has old.alone c ≡ is_alone_by f x c →
+    has new.alone c ≡ cond (eqb c (sibling_of core)) (is_alone_by g y (sibling_of core)) (cond (eqb c core) (is_alone_by g y core) (has old.alone c)) →
+    (c ≡ sibling_of core) ⊎ (c ≢ sibling_of core) → has new.alone c ≡ is_alone_by g y c
+alone_one f g x y core c old new e h was made (inl same) =
+    made ∙ ap (λ b. cond b (is_alone_by g y (sibling_of core)) (cond (eqb c core) (is_alone_by g y core) (has old.alone c))) (is_same c (sibling_of core) same)
+    ∙ ap (is_alone_by g y) (sym same)
+alone_one f g x y core c old new e h was made (inr off) =
+    made ∙ ap (λ b. cond b (is_alone_by g y (sibling_of core)) (cond (eqb c core) (is_alone_by g y core) (has old.alone c))) (is_other c (sibling_of core) off)
+    ∙ alone_off f g x y core c old e h was off (cases_eq c core)
+
+pub opens_one : (a : Action) (f g : ℕ → Holder) (x y : CoreSet) (core : ℕ) (old new : OpenCores) → core_named a ≡ Some core → Opens f x old → IsSameElsewhere a f x g y →
+    ((c : ℕ) → has new.idle c ≡ cond (eqb c core) (is_idle_by g y core) (has old.idle c)) →
+    ((c : ℕ) → has new.alone c ≡ cond (eqb c (sibling_of core)) (is_alone_by g y (sibling_of core)) (cond (eqb c core) (is_alone_by g y core) (has old.alone c))) →
+    Opens g y new
+opens_one a f g x y core old new named o same idle alone =
+    let off : (c : ℕ) → c ≢ core → core_named a ≢ Some c = λ c e s. some_other c core e (sym named ∙ s) in
+    let e : (c : ℕ) → c ≢ core → g c ≡ f c = λ c n. same.holders c (off c n) in
+    let h : (c : ℕ) → c ≢ core → has y c ≡ has x c = λ c n. same.bans c (off c n) in record {
+      idle = λ c lt. idle_one f g x y core c old new (e c) (h c) (o.idle c lt) (idle c) (cases_eq c core);
+      alone = λ c lt. alone_one f g x y core c old new e h (o.alone c lt) (alone c) (cases_eq c (sibling_of core));
+    }
+
+-- where every core is free and none is banned
+pub opens_free : (f : ℕ → Holder) (x : CoreSet) (cores : OpenCores) → ((c : ℕ) → f c ≡ Free) → ((c : ℕ) → c < 128 → has x c ≡ false) →
+    ((c : ℕ) → c < 128 → has cores.idle c ≡ true) → ((c : ℕ) → has cores.alone c ≡ false) → Opens f x cores
+opens_free f x cores free none idle alone = record {
+  idle = λ c lt. idle c lt ∙ sym (rw (free c, none c lt) refl);
+  alone = λ c lt. alone c ∙ sym (rw (free c) refl);
+}

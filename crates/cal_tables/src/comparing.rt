@@ -1,0 +1,130 @@
+//! Runs on one thread of several tables on the same arrivals, measured side by side.
+
+pub mod changes;
+pub mod columns;
+pub mod fault;
+pub mod sheet;
+pub mod tables;
+pub mod varying;
+
+ghost use Rattle.std.specs.Prelude.{◌≡◌, ◌≢◌, IfErr, IfOk, map};
+ghost use Rattle.cal_tables.specs.Compared.{IsComparison};
+ghost use Rattle.cal_tables.specs.Varied.{IsVariation};
+
+use crate::comparing::columns::columns_of;
+use crate::comparing::fault::ComparisonFault;
+use crate::comparing::sheet::comparison_sheet;
+use crate::comparing::tables::read_tables;
+use crate::comparing::varying::varied_tables;
+use crate::input::read_parts;
+use cal_engine::{RunFault, read_input};
+use cal_lists::Listed;
+use cal_machine::Config;
+use cal_measure::TaskRequests;
+use std::alloc::Global;
+use std::io::{Read, Write};
+
+/// Some tables, and of each the numbers of its tasks' requests in its run.
+#[derive(Drop)]
+pub struct Comparison {
+    /// The tables.
+    pub tables: Vec<Config>,
+    /// A column for each table, with the numbers of each of its tasks.
+    pub columns: Vec<Listed<TaskRequests>>,
+}
+
+/// The tables of an input, each ended by a separator line, and the numbers of each one's run on the
+/// arrivals that stand after the last of these lines, in the order of the tables.
+///
+/// The fault is the input's `Separator`, else the first table's that has one, else that of the
+/// first table which the arrivals do not fit. `Memory` may come at any place.
+pub fn compared(alloc: Global, input: &[u8]) -> Result<Comparison, ComparisonFault>
+    ensures { IfOk result (λ comparison.
+        IsComparison input.now comparison.tables.items comparison.columns.items) }
+{
+    let (tables, trace) = read_tables(alloc, input)?;
+    let columns = columns_of(alloc, tables.as_slice(), trace)?;
+    Ok(Comparison { tables, columns })
+}
+
+/// A key of a table, and values for it.
+#[derive(Clone, Copy)]
+pub struct Variation<'a> {
+    /// The key: `cores`, `bandwidth_limit`, or of task 1 as `task.1.delay`.
+    pub key: &'a str,
+    /// The values, each as a table has it.
+    pub values: &'a [&'a str],
+}
+
+/// The tables that the one of an input gives with each of these values at this key, and the numbers
+/// of each one's run on the input's arrivals, in the order of the values.
+///
+/// The faults are those of the word `lockstep`, in its order; then that of the first value that
+/// makes the table faulty (a key that it has not is unknown), then that of the first value which
+/// makes a table that the arrivals do not fit. `Memory` may come at any place.
+pub fn compared_values(
+    alloc: Global,
+    input: &[u8],
+    variation: Variation<'_>,
+) -> Result<Comparison, ComparisonFault>
+    ensures { IfOk result (λ comparison. IsVariation input.now variation.entry.key.now
+        (map (λ value. value.now) variation.entry.values.now)
+        comparison.tables.items comparison.columns.items) }
+{
+    let (table, trace) = read_parts(alloc, input)?;
+    let tables = varied_tables(alloc, &table, variation.key, variation.values)?;
+    let columns = columns_of(alloc, tables.as_slice(), trace)?;
+    Ok(Comparison { tables, columns })
+}
+
+/// The runs of an input: of its tables, or of those that its table gives with some values.
+fn comparison_of(
+    alloc: Global,
+    input: &[u8],
+    variation: Option<Variation<'_>>,
+) -> Result<Comparison, ComparisonFault> {
+    match variation {
+        Some(variation) => compared_values(alloc, input, variation),
+        None => compared(alloc, input),
+    }
+}
+
+/// What is written of the runs of an input, in memory.
+fn compared_text(
+    alloc: Global,
+    input: &[u8],
+    variation: Option<Variation<'_>>,
+    csv: bool,
+) -> Result<String, ComparisonFault> {
+    let comparison = comparison_of(alloc, input, variation)?;
+    let sheet = comparison_sheet(alloc, variation, comparison.columns.as_slice())?;
+    let text = if csv {
+        sheet.csv(alloc)?
+    } else {
+        sheet.text(alloc)?
+    };
+    Ok(text)
+}
+
+/// Reads an input of tables and arrivals to its end, makes a whole run of each table on one thread,
+/// and writes the numbers side by side: in columns that line up, or as CSV. With a variation the
+/// input has one table, and the runs are those of the tables that it gives. Nothing is written
+/// before the runs were made and the text is in memory.
+pub fn compare<R: Read + Drop, W: Write>(
+    alloc: Global,
+    mut reader: R,
+    variation: Option<Variation<'_>>,
+    csv: bool,
+    writer: &mut W,
+) -> Result<(), ComparisonFault>
+    // Nothing is written before the runs were made.
+    ensures untouched { IfErr result (λ fault.
+        fault.fault ≢ RunFault.Write → writer.new ≡ writer.old) }
+{
+    let input = read_input(alloc, &mut reader)?;
+    let text = compared_text(alloc, input.as_slice(), variation, csv)?;
+    match writer.write_all(text.as_bytes()) {
+        Ok(()) => Ok(()),
+        Err(_) => Err(ComparisonFault::from(RunFault::Write)),
+    }
+}

@@ -1,0 +1,265 @@
+//! The tables that one gives with each of some values at one of its keys.
+
+ghost use Rattle.std.specs.Prelude.{◌≡◌, ◌++◌, bytes_eq, codes, decimal, IfErr, IfOk, OnOk, map};
+ghost use Rattle.std.specs.Prelude.{◌<◌, length, slice_get, string_bytes};
+ghost use Rattle.std.specs.List.{concat};
+ghost use Rattle.cal_engine.specs.Outcome.{ConfigDecided};
+ghost use Rattle.cal_trace.specs.Rows.Text.{numbered};
+ghost use Rattle.cal_tables.specs.Varied.{AreVaried, any_below, field_key, field_line, has_key};
+ghost use Rattle.cal_tables.specs.Varied.{is_field, key_line, kind_text, task_text, varied, varied_text};
+
+use crate::comparing::fault::{ComparisonFault, fault_of};
+use cal_engine::RunFault;
+use cal_machine::{Config, ConfigFault, Kind, Task};
+use std::alloc::{AllocError, Global};
+use std::fmt::Write;
+
+/// A key of a table, and the value that stands there.
+#[derive(Clone, Copy)]
+struct Setting<'a> {
+    key: &'a str,
+    value: &'a str,
+}
+
+/// The key of a field of a task.
+fn field_key(alloc: Global, task: usize, name: &str) -> Result<String, AllocError>
+    ensures { IfOk result (λ key. string_bytes key ≡ field_key task name.now) }
+{
+    format!(in alloc; "task.{task}.{name}")
+}
+
+/// Puts the line of a table at a place: the value, where the place is the key.
+fn put_line(
+    text: &mut String,
+    setting: Setting<'_>,
+    place: &str,
+    name: &str,
+    own: &str,
+) -> Result<(), AllocError>
+    ensures { OnOk result (string_bytes text.new ≡ string_bytes text.old
+        ++ key_line setting.entry.key.now setting.entry.value.now place.now name.now own.now) }
+{
+    let stands = if place == setting.key {
+        setting.value
+    } else {
+        own
+    };
+    writeln!(text, "{name} = {stands}")
+}
+
+/// Puts the line of a number of a task.
+fn put_number(
+    alloc: Global,
+    text: &mut String,
+    setting: Setting<'_>,
+    task: usize,
+    name: &str,
+    own: u64,
+) -> Result<(), AllocError>
+    ensures { OnOk result (string_bytes text.new ≡ string_bytes text.old
+        ++ field_line setting.entry.key.now setting.entry.value.now task name.now (decimal own)) }
+{
+    let place = field_key(alloc, task, name)?;
+    let own = format!(in alloc; "{own}")?;
+    put_line(text, setting, place.as_str(), name, own.as_str())
+}
+
+/// How a kind is written in a table.
+fn kind_text(kind: Kind) -> &'static str
+    ensures { result.now ≡ kind_text kind }
+{
+    match kind {
+        Kind::LatencyCritical => "\"lc\"",
+        Kind::BestEffort => "\"be\"",
+    }
+}
+
+/// Puts the line of the kind of a task.
+fn put_kind(
+    alloc: Global,
+    text: &mut String,
+    setting: Setting<'_>,
+    task: usize,
+    kind: Kind,
+) -> Result<(), AllocError>
+    ensures { OnOk result (string_bytes text.new ≡ string_bytes text.old
+        ++ field_line setting.entry.key.now setting.entry.value.now task (codes "kind")
+        (kind_text kind)) }
+{
+    let place = field_key(alloc, task, "kind")?;
+    put_line(text, setting, place.as_str(), "kind", kind_text(kind))
+}
+
+/// Puts the line of a number of the top table.
+fn put_top(
+    alloc: Global,
+    text: &mut String,
+    setting: Setting<'_>,
+    name: &str,
+    own: u64,
+) -> Result<(), AllocError>
+    ensures { OnOk result (string_bytes text.new ≡ string_bytes text.old
+        ++ key_line setting.entry.key.now setting.entry.value.now name.now name.now
+        (decimal own)) }
+{
+    let own = format!(in alloc; "{own}")?;
+    put_line(text, setting, name, name, own.as_str())
+}
+
+/// Puts the lines of a task.
+fn put_task(
+    alloc: Global,
+    text: &mut String,
+    setting: Setting<'_>,
+    number: usize,
+    task: Task,
+) -> Result<(), AllocError>
+    ensures { OnOk result (string_bytes text.new ≡ string_bytes text.old
+        ++ task_text setting.entry.key.now setting.entry.value.now number task) }
+{
+    text.push_str("[[task]]\n")?;
+    put_kind(alloc, text, setting, number, task.kind)?;
+    put_number(
+        alloc,
+        text,
+        setting,
+        number,
+        "guaranteed",
+        task.guaranteed as u64,
+    )?;
+    put_number(alloc, text, setting, number, "limit", task.limit as u64)?;
+    put_number(alloc, text, setting, number, "delay", task.delay)?;
+    put_number(alloc, text, setting, number, "request", task.request)?;
+    Ok(())
+}
+
+/// Puts the lines of the tasks of a table.
+fn put_tasks(
+    alloc: Global,
+    text: &mut String,
+    setting: Setting<'_>,
+    table: &Config,
+) -> Result<(), AllocError>
+    ensures { OnOk result (string_bytes text.new ≡ string_bytes text.old
+        ++ concat (numbered (task_text setting.entry.key.now setting.entry.value.now) 0
+        table.now.tasks)) }
+{
+    for number in 0..table.tasks() {
+        put_task(alloc, text, setting, number, table.task(number))?;
+    }
+    Ok(())
+}
+
+/// The table as a text, in which the value stands at the key.
+fn varied_text(alloc: Global, table: &Config, setting: Setting<'_>) -> Result<String, AllocError>
+    ensures { IfOk result (λ text. string_bytes text
+        ≡ varied_text setting.entry.key.now setting.entry.value.now table.now) }
+{
+    let mut text = String::new(alloc);
+    let cores = table.machine().cores() as u64;
+    put_top(alloc, &mut text, setting, "cores", cores)?;
+    let limit = table.bandwidth_limit();
+    put_top(alloc, &mut text, setting, "bandwidth_limit", limit)?;
+    put_tasks(alloc, &mut text, setting, table)?;
+    Ok(text)
+}
+
+/// Whether a key is that of a field of this name of a task.
+fn is_key_of(alloc: Global, key: &str, task: usize, name: &str) -> Result<bool, AllocError>
+    ensures { IfOk result (λ is_so. is_so ≡ bytes_eq (field_key task name.now) key.now) }
+{
+    let place = field_key(alloc, task, name)?;
+    Ok(place.as_str() == key)
+}
+
+/// Whether a key is one of a task.
+fn is_field(alloc: Global, key: &str, task: usize) -> Result<bool, AllocError>
+    ensures { IfOk result (λ is_so. is_so ≡ is_field key.now task) }
+{
+    let kind = is_key_of(alloc, key, task, "kind")?;
+    let guaranteed = is_key_of(alloc, key, task, "guaranteed")?;
+    let limit = is_key_of(alloc, key, task, "limit")?;
+    let delay = is_key_of(alloc, key, task, "delay")?;
+    let request = is_key_of(alloc, key, task, "request")?;
+    Ok(kind || guaranteed || limit || delay || request)
+}
+
+/// Whether one of so many tasks has a key.
+#[tactic(auto, using(crate::proofs::Variations::one_below_more))]
+fn any_has(alloc: Global, key: &str, tasks: usize) -> Result<bool, AllocError>
+    ensures { IfOk result (λ has. has ≡ any_below (is_field key.now) tasks) }
+{
+    let mut has = false;
+    for task in 0..tasks {
+        let here = is_field(alloc, key, task)?;
+        has = has || here;
+    }
+    Ok(has)
+}
+
+/// Whether a table has a key.
+fn has_key(alloc: Global, key: &str, table: &Config) -> Result<bool, AllocError>
+    ensures { IfOk result (λ has. has ≡ has_key key.now table.now) }
+{
+    let of_task = any_has(alloc, key, table.tasks())?;
+    Ok("cores" == key || "bandwidth_limit" == key || of_task)
+}
+
+/// The table with this value at this key. The fault is that of the table; a key that it has not is
+/// unknown.
+fn varied(alloc: Global, table: &Config, setting: Setting<'_>) -> Result<Config, ConfigFault>
+    ensures made { IfOk result (λ made.
+        varied table.now setting.entry.key.now setting.entry.value.now ≡ Ok made) }
+    ensures fault { IfErr result (λ fault. ConfigDecided fault
+        (varied table.now setting.entry.key.now setting.entry.value.now ≡ Err fault)) }
+{
+    if !has_key(alloc, setting.key, table)? {
+        return Err(ConfigFault::UnknownKey);
+    }
+    let text = varied_text(alloc, table, setting)?;
+    Config::read(alloc, text.as_bytes())
+}
+
+/// The value at a place.
+fn value_at<'a>(values: &[&'a str], place: usize) -> &'a str
+    requires { place < length values.now }
+    ensures { slice_get (map (λ value. value.now) values.now) place ≡ Some result.now }
+{
+    values[place]
+}
+
+/// The table with this value at this key; a fault is that of the value at this place.
+fn placed_table(
+    alloc: Global,
+    table: &Config,
+    setting: Setting<'_>,
+    place: usize,
+) -> Result<Config, ComparisonFault>
+    ensures { IfOk result (λ made.
+        varied table.now setting.entry.key.now setting.entry.value.now ≡ Ok made) }
+{
+    match varied(alloc, table, setting) {
+        Ok(made) => Ok(made),
+        Err(fault) => Err(fault_of(place, RunFault::Config(fault))),
+    }
+}
+
+/// The tables that one gives with each of these values at this key, in the order of the values. The
+/// fault is that of the first value that makes the table faulty. `Memory` may come at any place.
+pub fn varied_tables(
+    alloc: Global,
+    table: &Config,
+    key: &str,
+    values: &[&str],
+) -> Result<Vec<Config>, ComparisonFault>
+    ensures { IfOk result (λ tables.
+        AreVaried table.now key.now (map (λ value. value.now) values.now) tables.items) }
+{
+    let mut tables = Vec::new(alloc);
+    for place in 0..values.len() {
+        let value = value_at(values, place);
+        let made = placed_table(alloc, table, Setting { key, value }, place)?;
+        tables.push(made)?;
+    }
+    Ok(tables)
+}

@@ -1,0 +1,23 @@
+use Rattle.std.proofs.Common.{◌≡◌, ℕ, ◌<◌, ◌≤◌, List, Some, length, take, slice_get}
+use Rattle.std.specs.Vec.{vec_capacity}
+use Rattle.cal_guard.specs.Guarded.{Keeps}
+use Rattle.cal_policy.specs.Judgement.OneByOne.{fault_of}
+use Rattle.cal_policy.specs.Tasks.{threads_of_table}
+use Rattle.cal_policy.specs.declared.history.entry.PassEntry.{PassEntry}
+use Rattle.caladan_c.specs.Found.{look_in}
+use Rattle.caladan_c.specs.OneByOne.{IsTakenOf, said_of}
+use Rattle.caladan_c.specs.declared.found.Found.{Found}
+use Rattle.caladan_c.proofs.gate.each.take_looks.Given as goal
+
+abbrev pub invariant-loop-k : goal.invariant-loop-k
+invariant-loop-k l = record {
+  size : length l.seen.items ≡ l.k;
+  rooms_size : length l.rooms.items ≡ l.k;
+  seats : length l.looks ≤ vec_capacity l.seen;
+  rooms_seats : length l.looks ≤ vec_capacity l.rooms;
+  room : length l.judged ≡ length l.fn.judged;
+  taken : (h : List PassEntry) → Keeps l.guard h → IsTakenOf l.config h (take l.k l.looks)
+      (record { threads = threads_of_table l.config; seen = l.seen.items; rooms = l.rooms.items });
+  said : (h : List PassEntry) → Keeps l.guard h → (j : ℕ) (o : Found) → j < l.k → slice_get l.looks j ≡ Some o →
+      slice_get l.judged j ≡ Some (said_of (fault_of l.config.cores h j (look_in o)) (look_in o));
+}

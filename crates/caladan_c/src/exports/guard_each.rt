@@ -1,0 +1,200 @@
+//! Passes of a guard that take looks one by one, and which look does not fit.
+
+ghost use Rattle.std.specs.Prelude.{◌≡◌, ◌≢◌, ◌⊎◌, ◌<◌, ◌≤◌, IfOk, IfErr, IfNone, OnErr, Err, List};
+ghost use Rattle.std.specs.Prelude.{length, map, false};
+ghost use Rattle.std.specs.Option.{is_some, ForSome, IfSome, IsSomeAnd};
+ghost use Rattle.cal_policy.specs.declared.history.action.Action.{Action};
+ghost use Rattle.cal_policy.specs.declared.history.entry.PassEntry.{PassEntry};
+ghost use Rattle.cal_policy.specs.Tasks.{threads_of_table};
+ghost use Rattle.caladan_c.specs.Gated.{GuardsAfter, WentThrough, WasStopped, WasStoppedAt};
+ghost use Rattle.caladan_c.specs.OneByOne.{input_of_each, AreSaid, IsFirstUnfit, AllFit};
+ghost use Rattle.caladan_c.specs.Told.{told_of};
+ghost use Rattle.caladan_c.specs.declared.answer.Refusal.TheVariants.{Memory, NoAction, NoRoom};
+ghost use Rattle.caladan_c.specs.declared.answer.Refusal.TheVariants.{WrongCount};
+
+use crate::answer::Refusal;
+use crate::found::Found;
+use crate::gate::Gate;
+use crate::handle::gate::GateHandle;
+use crate::told::Told;
+use crate::told::refused::{ToldRefused, tell_refused};
+use cal_guard::Refused;
+use std::alloc::Global;
+
+/// Hands the guard the next pass as `caladan_guard_pass` does, each look by itself: one that is
+/// unfit, ahead or foreign is taken as a busy one, so it stops nobody and leaves no trace. 0: each
+/// action is permitted at its place, and the pass went through; 18: one is not, and `refused` says
+/// which and why; either way what was judged of each look is written. 10 the handle is closed; 13
+/// there is not one look for each thread; 14 there is not room for a judgement of each; 17 an
+/// action is none; 9 no memory. After another number than 0 the guard has not changed, and after
+/// another than 0 and 18 nothing has.
+#[unsafe(no_mangle)]
+pub extern "C" fn caladan_guard_pass_each(
+    alloc: Global,
+    handle: &mut GateHandle,
+    now: u64,
+    bandwidth: u64,
+    looks: &[Found],
+    judged: &mut [u8],
+    actions: &[Told],
+    refused: &mut ToldRefused,
+) -> u8
+    ensures closed { is_some handle.old.pointer.kept ≡ false → result ≡ 10 }
+    ensures through { result ≡ 0 → ForSome handle.old.pointer.kept (λ g. (h : List PassEntry) →
+        GuardsAfter g h → IsSomeAnd handle.new.pointer.kept
+        (WentThrough g h (input_of_each g.table h now bandwidth looks.now) actions.now)) }
+    ensures judged { (result ≡ 0) ⊎ (result ≡ 18) → ForSome handle.old.pointer.kept (λ g.
+        (h : List PassEntry) → GuardsAfter g h → AreSaid g.table.cores h looks.now judged.new) }
+    ensures stopped { result ≡ 18 → ForSome handle.old.pointer.kept (λ g. (h : List PassEntry) →
+        GuardsAfter g h → WasStoppedAt g h (input_of_each g.table h now bandwidth looks.now)
+        actions.now refused.new) }
+    ensures no_action { result ≡ 17 → (chosen : List Action) →
+        map told_of chosen ≡ actions.now → ⊥ }
+    ensures wrong_count { ForSome handle.old.pointer.kept (λ g.
+        length looks.now ≢ threads_of_table g.table → result ≡ 13) }
+    ensures no_room { ForSome handle.old.pointer.kept (λ g.
+        length looks.now ≡ threads_of_table g.table → length judged.old < threads_of_table g.table →
+        result ≡ 14) }
+    ensures answers { ForSome handle.old.pointer.kept (λ g.
+        length looks.now ≡ threads_of_table g.table → threads_of_table g.table ≤ length judged.old →
+        (result ≡ 0) ⊎ (result ≡ 18) ⊎ (result ≡ 17) ⊎ (result ≡ 9)) }
+    ensures unchanged { result ≢ 0 → handle.new.pointer.kept ≡ handle.old.pointer.kept }
+    ensures unjudged { result ≢ 0 → result ≢ 18 → judged.new ≡ judged.old }
+    ensures told { result ≢ 18 → refused.new ≡ refused.old }
+{
+    match handle.take(alloc) {
+        None => Refusal::Closed as u8,
+        Some(mut kept) => {
+            let answer = answer_guarded_each(
+                &mut kept, alloc, now, bandwidth, looks, judged, actions, refused,
+            );
+            *handle = GateHandle::of(kept);
+            answer
+        }
+    }
+}
+
+/// The same of an open handle's gate.
+fn answer_guarded_each(
+    kept: &mut Gate,
+    alloc: Global,
+    now: u64,
+    bandwidth: u64,
+    looks: &[Found],
+    judged: &mut [u8],
+    actions: &[Told],
+    refused: &mut ToldRefused,
+) -> u8
+    ensures through { result ≡ 0 → (h : List PassEntry) → GuardsAfter kept.old h →
+        WentThrough kept.old h (input_of_each kept.old.table h now bandwidth looks.now) actions.now
+        kept.new }
+    ensures judged { (result ≡ 0) ⊎ (result ≡ 18) → (h : List PassEntry) → GuardsAfter kept.old h →
+        AreSaid kept.old.table.cores h looks.now judged.new }
+    ensures stopped { result ≡ 18 → (h : List PassEntry) → GuardsAfter kept.old h →
+        WasStoppedAt kept.old h (input_of_each kept.old.table h now bandwidth looks.now) actions.now
+        refused.new }
+    ensures no_action { result ≡ 17 → (chosen : List Action) →
+        map told_of chosen ≡ actions.now → ⊥ }
+    ensures wrong_count { length looks.now ≢ threads_of_table kept.old.table → result ≡ 13 }
+    ensures no_room { length looks.now ≡ threads_of_table kept.old.table →
+        length judged.old < threads_of_table kept.old.table → result ≡ 14 }
+    ensures answers { length looks.now ≡ threads_of_table kept.old.table →
+        threads_of_table kept.old.table ≤ length judged.old →
+        (result ≡ 0) ⊎ (result ≡ 18) ⊎ (result ≡ 17) ⊎ (result ≡ 9) }
+    ensures unchanged { result ≢ 0 → kept.new ≡ kept.old }
+    ensures unjudged { result ≢ 0 → result ≢ 18 → judged.new ≡ judged.old }
+    ensures told { result ≢ 18 → refused.new ≡ refused.old }
+{
+    match guarded_each(kept, alloc, now, bandwidth, looks, judged, actions) {
+        Ok(None) => 0,
+        Ok(Some(first)) => {
+            *refused = tell_refused(first);
+            18
+        }
+        Err(refusal) => refusal.number(),
+    }
+}
+
+/// The same, with the first action that is not permitted, or why it did nothing.
+fn guarded_each(
+    kept: &mut Gate,
+    alloc: Global,
+    now: u64,
+    bandwidth: u64,
+    looks: &[Found],
+    judged: &mut [u8],
+    actions: &[Told],
+) -> Result<Option<Refused>, Refusal>
+    ensures through { IfOk result (λ said.
+        IfNone said ((h : List PassEntry) → GuardsAfter kept.old h →
+        WentThrough kept.old h (input_of_each kept.old.table h now bandwidth looks.now) actions.now
+        kept.new)) }
+    ensures judged { IfOk result (λ _. (h : List PassEntry) → GuardsAfter kept.old h →
+        AreSaid kept.old.table.cores h looks.now judged.new) }
+    ensures stopped { IfOk result (λ said. IfSome said (λ first. (h : List PassEntry) →
+        GuardsAfter kept.old h → WasStopped kept.old h (input_of_each kept.old.table h now bandwidth
+        looks.now) actions.now first)) }
+    ensures no_action { result ≡ Err NoAction → (chosen : List Action) →
+        map told_of chosen ≡ actions.now → ⊥ }
+    ensures wrong_count { length looks.now ≢ threads_of_table kept.old.table →
+        result ≡ Err WrongCount }
+    ensures no_room { length looks.now ≡ threads_of_table kept.old.table →
+        length judged.old < threads_of_table kept.old.table → result ≡ Err NoRoom }
+    ensures answers { length looks.now ≡ threads_of_table kept.old.table →
+        threads_of_table kept.old.table ≤ length judged.old →
+        IfErr result (λ why. (why ≡ NoAction) ⊎ (why ≡ Memory)) }
+    ensures stands { IfOk result (λ said. IfSome said (λ _. kept.new ≡ kept.old)) }
+    ensures refused { OnErr result ((kept.new ≡ kept.old) × (judged.new ≡ judged.old)) }
+{
+    let threads = kept.threads();
+    if looks.len() != threads {
+        return Err(Refusal::WrongCount);
+    }
+    if judged.len() < threads {
+        return Err(Refusal::NoRoom);
+    }
+    kept.pass_each(alloc, now, bandwidth, looks, judged, actions)
+}
+
+/// Which look a plain pass of the guard may not be given: 0 each fits; 15 one does not fit what its
+/// thread showed before, or has not the right shape, and `thread` is the first such thread; 10 the
+/// handle is closed; 13 there is not one look for each thread. Only 15 writes `thread`, and nothing
+/// else changes.
+#[unsafe(no_mangle)]
+pub extern "C" fn caladan_guard_first_unfit(
+    alloc: Global,
+    handle: &mut GateHandle,
+    looks: &[Found],
+    thread: &mut usize,
+) -> u8
+    ensures closed { is_some handle.old.pointer.kept ≡ false → result ≡ 10 }
+    ensures first { result ≡ 15 → ForSome handle.old.pointer.kept (λ g. (h : List PassEntry) →
+        GuardsAfter g h → IsFirstUnfit h looks.now thread.new) }
+    ensures none { result ≡ 0 → ForSome handle.old.pointer.kept (λ g. (h : List PassEntry) →
+        GuardsAfter g h → AllFit h looks.now) }
+    ensures wrong_count { ForSome handle.old.pointer.kept (λ g.
+        length looks.now ≢ threads_of_table g.table → result ≡ 13) }
+    ensures answers { ForSome handle.old.pointer.kept (λ g.
+        length looks.now ≡ threads_of_table g.table → (result ≡ 0) ⊎ (result ≡ 15)) }
+    ensures other { result ≢ 15 → thread.new ≡ thread.old }
+    ensures same { handle.new.pointer.kept ≡ handle.old.pointer.kept }
+{
+    match handle.take(alloc) {
+        None => Refusal::Closed as u8,
+        Some(kept) => {
+            if looks.len() != kept.threads() {
+                *handle = GateHandle::of(kept);
+                return Refusal::WrongCount as u8;
+            }
+            let first = kept.first_unfit(looks);
+            *handle = GateHandle::of(kept);
+            match first {
+                Some(first) => {
+                    *thread = first;
+                    Refusal::Unfit as u8
+                }
+                None => 0,
+            }
+        }
+    }
+}

@@ -1,0 +1,149 @@
+//! What a guard says of its table, what was sent to a thread, and what one that is gone must show.
+
+ghost use Rattle.std.specs.Prelude.{◌≡◌, ◌≢◌, ◌⊎◌, ◌<◌, ◌≤◌, List, length, true, false};
+ghost use Rattle.std.specs.Option.{is_some, ForSome};
+ghost use Rattle.cal_policy.specs.declared.history.entry.PassEntry.{PassEntry};
+ghost use Rattle.cal_policy.specs.Judgement.Gone.{can_be_gone};
+ghost use Rattle.cal_policy.specs.Tasks.{threads_of_table};
+ghost use Rattle.caladan_c.specs.Facts.{machine_of, row_of, state_of, IsGuardedLookOfGone};
+ghost use Rattle.caladan_c.specs.Gated.{GuardsAfter};
+
+use crate::answer::Refusal;
+use crate::found::Found;
+use crate::handle::gate::GateHandle;
+use crate::told::facts::{MachineFacts, TaskRow, ThreadState, tell_shown};
+use std::alloc::Global;
+
+/// What the table says of the machine: 0; 10 the handle is closed.
+#[unsafe(no_mangle)]
+pub extern "C" fn caladan_guard_table(
+    alloc: Global,
+    handle: &mut GateHandle,
+    machine: &mut MachineFacts,
+) -> u8
+    ensures closed { is_some handle.old.pointer.kept ≡ false → result ≡ 10 }
+    ensures told { ForSome handle.old.pointer.kept (λ g.
+        (result ≡ 0) × (machine.new ≡ machine_of g.table)) }
+    ensures refused { result ≢ 0 → machine.new ≡ machine.old }
+    ensures same { handle.new.pointer.kept ≡ handle.old.pointer.kept }
+{
+    match handle.take(alloc) {
+        None => Refusal::Closed as u8,
+        Some(kept) => {
+            *machine = kept.machine();
+            *handle = GateHandle::of(kept);
+            0
+        }
+    }
+}
+
+/// What the table says of a task: 0; 10 the handle is closed; 16 the table has no such task.
+#[unsafe(no_mangle)]
+pub extern "C" fn caladan_guard_table_task(
+    alloc: Global,
+    handle: &mut GateHandle,
+    task: usize,
+    row: &mut TaskRow,
+) -> u8
+    ensures closed { is_some handle.old.pointer.kept ≡ false → result ≡ 10 }
+    ensures told { result ≡ 0 → ForSome handle.old.pointer.kept (λ g.
+        row.new ≡ row_of g.table task) }
+    ensures there { ForSome handle.old.pointer.kept (λ g. task < length g.table.tasks →
+        result ≡ 0) }
+    ensures no_task { ForSome handle.old.pointer.kept (λ g. length g.table.tasks ≤ task →
+        result ≡ 16) }
+    ensures refused { result ≢ 0 → row.new ≡ row.old }
+    ensures same { handle.new.pointer.kept ≡ handle.old.pointer.kept }
+{
+    match handle.take(alloc) {
+        None => Refusal::Closed as u8,
+        Some(kept) => {
+            let found = kept.task(task);
+            *handle = GateHandle::of(kept);
+            match found {
+                Some(found) => {
+                    *row = found;
+                    0
+                }
+                None => Refusal::NoSuch as u8,
+            }
+        }
+    }
+}
+
+/// A thread's task, how many commands were sent to it in the passes so far, and how many of them
+/// its kept record acknowledges: 0; 10 the handle is closed; 16 the table has no such thread.
+#[unsafe(no_mangle)]
+pub extern "C" fn caladan_guard_thread(
+    alloc: Global,
+    handle: &mut GateHandle,
+    thread: usize,
+    state: &mut ThreadState,
+) -> u8
+    ensures closed { is_some handle.old.pointer.kept ≡ false → result ≡ 10 }
+    ensures told { result ≡ 0 → ForSome handle.old.pointer.kept (λ g. (h : List PassEntry) →
+        GuardsAfter g h → state.new ≡ state_of g.table h thread) }
+    ensures there { ForSome handle.old.pointer.kept (λ g. thread < threads_of_table g.table →
+        result ≡ 0) }
+    ensures no_thread { ForSome handle.old.pointer.kept (λ g. threads_of_table g.table ≤ thread →
+        result ≡ 16) }
+    ensures refused { result ≢ 0 → state.new ≡ state.old }
+    ensures same { handle.new.pointer.kept ≡ handle.old.pointer.kept }
+{
+    match handle.take(alloc) {
+        None => Refusal::Closed as u8,
+        Some(kept) => {
+            let found = kept.thread(thread);
+            *handle = GateHandle::of(kept);
+            match found {
+                Some(found) => {
+                    *state = found;
+                    0
+                }
+                None => Refusal::NoSuch as u8,
+            }
+        }
+    }
+}
+
+/// What the page of a thread must show once the thread is gone, as a look: 0; 10 the handle is
+/// closed; 16 the table has no such thread; 21 no page can show it, because the thread has shown
+/// more commands taken than were sent (which only a plain pass lets it), or a number is at its end.
+#[unsafe(no_mangle)]
+pub extern "C" fn caladan_guard_gone(
+    alloc: Global,
+    handle: &mut GateHandle,
+    thread: usize,
+    look: &mut Found,
+) -> u8
+    ensures closed { is_some handle.old.pointer.kept ≡ false → result ≡ 10 }
+    ensures told { result ≡ 0 → ForSome handle.old.pointer.kept (λ g. (h : List PassEntry) →
+        GuardsAfter g h → IsGuardedLookOfGone g.table h thread look.new) }
+    ensures lost { result ≡ 21 → ForSome handle.old.pointer.kept (λ g. (h : List PassEntry) →
+        GuardsAfter g h → can_be_gone h thread ≡ false) }
+    ensures there { ForSome handle.old.pointer.kept (λ g. thread < threads_of_table g.table →
+        (result ≡ 0) ⊎ (result ≡ 21)) }
+    ensures no_thread { ForSome handle.old.pointer.kept (λ g. threads_of_table g.table ≤ thread →
+        result ≡ 16) }
+    ensures refused { result ≢ 0 → look.new ≡ look.old }
+    ensures same { handle.new.pointer.kept ≡ handle.old.pointer.kept }
+{
+    match handle.take(alloc) {
+        None => Refusal::Closed as u8,
+        Some(kept) => {
+            if thread >= kept.threads() {
+                *handle = GateHandle::of(kept);
+                return Refusal::NoSuch as u8;
+            }
+            let found = kept.gone_look(thread);
+            *handle = GateHandle::of(kept);
+            match found {
+                Some(found) => {
+                    *look = found;
+                    0
+                }
+                None => Refusal::Lost as u8,
+            }
+        }
+    }
+}

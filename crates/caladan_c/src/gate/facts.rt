@@ -1,0 +1,71 @@
+//! What a gate says of its table and its threads, and of one that is gone.
+
+ghost use Rattle.std.specs.Prelude.{◌≡◌, ◌<◌, List, length, nat_lt};
+ghost use Rattle.std.specs.Option.{is_some, IfSome};
+ghost use Rattle.cal_policy.specs.declared.history.entry.PassEntry.{PassEntry};
+ghost use Rattle.cal_policy.specs.Tasks.{threads_of_table};
+ghost use Rattle.cal_policy.specs.Judgement.Gone.{can_be_gone};
+ghost use Rattle.caladan_c.specs.Facts.{machine_of, row_of, state_of, IsGuardedLookOfGone};
+ghost use Rattle.caladan_c.specs.Gated.{GuardsAfter};
+
+use super::Gate;
+use crate::found::Found;
+use crate::told::facts::{MachineFacts, TaskRow, ThreadState, tell_machine, tell_shown, tell_task};
+use cal_guard::{gone_may_be_freed, permitted_gone_is_kept};
+
+impl Gate {
+    /// What the table says of the machine.
+    pub fn machine(&self) -> MachineFacts
+        ensures { result ≡ machine_of self.now.table }
+    {
+        tell_machine(&self.config)
+    }
+
+    /// What the table says of a task, where it has it.
+    pub fn task(&self, task: usize) -> Option<TaskRow>
+        ensures there { is_some result ≡ nat_lt task (length self.now.table.tasks) }
+        ensures row { IfSome result (λ row. row ≡ row_of self.now.table task) }
+    {
+        if task < self.config.tasks() {
+            Some(tell_task(&self.config, task))
+        } else {
+            None
+        }
+    }
+
+    /// A thread's task, how many commands were sent to it, and how many of them its kept record
+    /// acknowledges, where the table has the thread.
+    pub fn thread(&self, thread: usize) -> Option<ThreadState>
+        ensures there { is_some result ≡ nat_lt thread (threads_of_table self.now.table) }
+        ensures state { IfSome result (λ state. (h : List PassEntry) → GuardsAfter self.now h →
+            state ≡ state_of self.now.table h thread) }
+    {
+        if thread < self.config.threads() {
+            self.config.limits();
+            Some(ThreadState {
+                task: self.config.task_of(thread) as u8,
+                sent: self.guard.sent(&self.config, thread),
+                taken: self.guard.kept(&self.config, thread).taken,
+            })
+        } else {
+            None
+        }
+    }
+
+    /// The look at the page of a thread that is gone; None where no page can show it.
+    pub fn gone_look(&self, thread: usize) -> Option<Found>
+        requires { thread < threads_of_table self.now.table }
+        ensures some { IfSome result (λ look. (h : List PassEntry) → GuardsAfter self.now h →
+            IsGuardedLookOfGone self.now.table h thread look) }
+        ensures none { (h : List PassEntry) → GuardsAfter self.now h →
+            is_some result ≡ can_be_gone h thread }
+    {
+        self.config.limits();
+        permitted_gone_is_kept();
+        gone_may_be_freed();
+        match self.guard.gone(&self.config, thread) {
+            Some(shown) => Some(tell_shown(shown)),
+            None => None,
+        }
+    }
+}

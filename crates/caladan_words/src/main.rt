@@ -1,0 +1,112 @@
+//! What caladan_sim and caladan_view say of words that ask for no job: help, the version, and words
+//! that are refused.
+//!
+//! It reads no input, so it is soon built: while a program is not proved, `./caladan_sim` and
+//! `./caladan_view` ask this one first what it says of the words. The first word names the program,
+//! the others are the words after that program's name. It makes the same calls with them.
+#![tactic(auto)]
+
+ghost use Rattle.std.specs.Prelude.{◌≡◌, ◌≢◌, IfErr};
+
+use cal_engine::{RunFault, end_with, given_words, refuse_words, words};
+use std::alloc::{AllocError, Global};
+use std::io::Write;
+use std::process::ExitCode;
+
+/// The exit status where the words ask for a job, or name no program: nothing is written, and the
+/// program itself has to run.
+const IS_A_JOB: u8 = 4;
+
+fn main(rt: HostRuntime) -> ExitCode {
+    let answer = match given_words(&rt, "caladan_words") {
+        Ok(named) => answer_words(
+            rt.alloc(),
+            named.as_slice(),
+            &mut rt.stdout(),
+            &mut rt.stderr(),
+        ),
+        Err(fault) => Err(fault),
+    };
+    let status = match answer {
+        Ok(status) => status,
+        Err(fault) => end_with(&fault, &mut rt.stderr()),
+    };
+    ExitCode::from(status)
+}
+
+/// Says what the program that the first word names says of the words after it, and answers its exit
+/// status. The faults are `Memory` and `Write`.
+fn answer_words<W: Write, E: Write>(
+    alloc: Global,
+    named: &[String],
+    output: &mut W,
+    errors: &mut E,
+) -> Result<u8, RunFault>
+    ensures untouched { IfErr result (λ fault. fault ≢ RunFault.Write → output.new ≡ output.old) }
+{
+    let given = words_after(alloc, named)?;
+    match named.get(1) {
+        Some(program) if program.as_str() == "caladan_sim" => {
+            sim_words(alloc, given.as_slice(), output, errors)
+        }
+        Some(program) if program.as_str() == "caladan_view" => {
+            view_words(alloc, given.as_slice(), output, errors)
+        }
+        _ => Ok(IS_A_JOB),
+    }
+}
+
+/// The words after the first two, which name this program and the one that is asked for.
+fn words_after<'a>(alloc: Global, named: &'a [String]) -> Result<Vec<&'a str>, AllocError> {
+    let mut given = Vec::new(alloc);
+    for word in named.iter().skip(2) {
+        given.push(word.as_str())?;
+    }
+    Ok(given)
+}
+
+/// What caladan_sim says of words.
+fn sim_words<W: Write, E: Write>(
+    alloc: Global,
+    given: &[&str],
+    output: &mut W,
+    errors: &mut E,
+) -> Result<u8, RunFault>
+    ensures untouched { IfErr result (λ fault. fault ≢ RunFault.Write → output.new ≡ output.old) }
+{
+    match words(alloc, given) {
+        Ok(_) => Ok(IS_A_JOB),
+        Err(error) => refuse_words(&error, output, errors),
+    }
+}
+
+/// What caladan_view says of words; of none it says its help, as of a mistake.
+fn view_words<W: Write, E: Write>(
+    alloc: Global,
+    given: &[&str],
+    output: &mut W,
+    errors: &mut E,
+) -> Result<u8, RunFault>
+    ensures untouched { IfErr result (λ fault. fault ≢ RunFault.Write → output.new ≡ output.old) }
+{
+    if given.is_empty() {
+        return say_help(alloc, errors);
+    }
+    match cal_view::words(alloc, given) {
+        Ok(_) => Ok(IS_A_JOB),
+        Err(error) => refuse_words(&error, output, errors),
+    }
+}
+
+/// Writes the help of caladan_view on the standard error, and answers 2.
+fn say_help<E: Write>(alloc: Global, errors: &mut E) -> Result<u8, RunFault>
+    ensures { IfErr result (λ fault. fault ≢ RunFault.Write → errors.new ≡ errors.old) }
+{
+    match cal_view::words(alloc, &["--help"]) {
+        Ok(_) => Ok(IS_A_JOB),
+        Err(help) => match refuse_words(&help, errors, &mut std::io::sink()) {
+            Ok(_) => Ok(2),
+            Err(fault) => Err(fault),
+        },
+    }
+}

@@ -1,0 +1,67 @@
+"""What the scripts of tools/ and bench/ share: which programs they run, how, and what they ask of a run.
+
+A script runs the programs that `make` and `rt ci` leave at crates/NAME/out/NAME. A word NAME=FILE on its command line names
+another file: tools/examples caladan_sim=/tmp/caladan_sim."""
+import collections
+import os
+import re
+import subprocess
+import sys
+import time
+
+TOP = os.path.dirname(os.path.dirname(os.path.abspath(__file__)))
+SECONDS = 120
+# Its exit status, what it wrote on both outputs, seconds of processor and by the clock, and bytes of memory at its peak.
+Measured = collections.namedtuple("Measured", "status wrote said processor clock peak")
+
+
+def named(*names):
+    """The files of these programs, in this order. Words NAME=FILE are taken out of the command line."""
+    files = {it: f"{TOP}/crates/{it}/out/{it}" for it in names}
+    for word in sys.argv[1:]:
+        name, _, file = word.partition("=")
+        if name in files and file:
+            files[name] = os.path.abspath(file)
+            sys.argv.remove(word)
+    for name, file in files.items():
+        if not os.access(file, os.X_OK):
+            sys.exit(f"{os.path.basename(sys.argv[0])}: there is no program {file}: tools/prove {name} builds it")
+    return list(files.values())
+
+
+def proved(name):
+    """The file of this program, proved and built anew where something changed; or another by a word NAME=FILE."""
+    if not any(it.startswith(f"{name}=") for it in sys.argv[1:]):
+        subprocess.run([f"{TOP}/tools/prove", name], stdout=sys.stderr, check=True)
+    return named(name)[0]
+
+
+def run(program, words, given=b"", **how):
+    return subprocess.run([program, *words], input=given, capture_output=True, timeout=SECONDS, **how)
+
+
+def measure(command, given, answer=subprocess.PIPE):
+    """Runs a command on an open file. Its answer is read, or goes to another open file: then nothing of it is kept here, and
+    what this process takes does not count as the memory of the next one that it starts."""
+    begun = time.perf_counter()
+    child = subprocess.Popen(command, stdin=given, stdout=answer, stderr=subprocess.PIPE)
+    wrote, said = child.stdout.read() if child.stdout else b"", child.stderr.read()
+    _, status, used = os.wait4(child.pid, 0)
+    clock = time.perf_counter() - begun
+    child.returncode = os.waitstatus_to_exitcode(status)
+    return Measured(child.returncode, wrote, said, used.ru_utime + used.ru_stime, clock, used.ru_maxrss * 1024)
+
+
+def table_of(given):
+    """The task table of an input, with the line --- below it."""
+    return re.match(rb".*?^---\r?\n", given, re.S | re.M)[0]
+
+
+def audit(sim, given, history):
+    """The audit of a history under the table of an input."""
+    return run(sim, ["audit"], table_of(given) + history)
+
+
+def is_legal(sim, given, history):
+    audited = audit(sim, given, history)
+    return audited.returncode == 0 and audited.stdout.endswith(b"\nlegal\n")
