@@ -41,7 +41,8 @@ extern "C" {
 /* The version of this interface, which caladan_version answers. */
 #define CALADAN_VERSION 2
 
-/* What a call answers. Up to CALADAN_TOO_MANY_THREADS it is the first fault of a table. */
+/* What a call answers. Up to CALADAN_TOO_MANY_THREADS it is the first fault of a table; 12 is no answer.
+ * A pass answers none but those that are named at it [own]. */
 enum {
     CALADAN_DONE = 0,
     CALADAN_NOT_TOML = 1,

@@ -8,6 +8,7 @@ use Rattle.cal_policy.specs.declared.history.entry.PassEntry.{PassEntry}
 use Rattle.cal_policy.specs.declared.history.input.Input.{Input}
 use Rattle.cal_policy.specs.Judgement.OpenInput.{judged_input}
 use Rattle.caladan_c.specs.declared.found.Found.{Found}
+use Rattle.caladan_c.specs.declared.given.Given.{Given}
 
 -- the look: busy where `busy` is not 0, else of the nine words
 abbrev pub look_in : Found → Look
@@ -32,3 +33,8 @@ found_of found = record { look = look_in found; room = not (found.room == 0) }
 abbrev pub input_of : Table → List PassEntry → ℕ → ℕ → List Found → Input
 input_of table history now bandwidth looks =
     judged_input table history now bandwidth (map found_of looks)
+
+-- the same of what C handed in as one value
+abbrev pub input_given : Table → List PassEntry → Given → Input
+input_given table history given =
+    input_of table history given.now given.bandwidth given.looks.now

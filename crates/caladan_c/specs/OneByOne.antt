@@ -17,11 +17,17 @@ use Rattle.cal_policy.specs.Judgement.OneByOne.{misfit_of, fault_of, taken_input
 use Rattle.cal_policy.specs.Judgement.OpenInput.{OpenView, IsOfFound}
 use Rattle.caladan_c.specs.Found.{look_in, found_of}
 use Rattle.caladan_c.specs.declared.found.Found.{Found}
+use Rattle.caladan_c.specs.declared.given.Given.{Given}
 
 -- the input of the pass, of what was found of each thread: each refused look is taken as busy
 abbrev pub input_of_each : Table → List PassEntry → ℕ → ℕ → List Found → Input
 input_of_each table history now bandwidth looks =
     taken_input table history now bandwidth (map found_of looks)
+
+-- the same of what C handed in as one value
+abbrev pub input_given_each : Table → List PassEntry → Given → Input
+input_given_each table history given =
+    input_of_each table history given.now given.bandwidth given.looks.now
 
 -- an input while its looks come in is what is taken of these
 abbrev pub IsTakenOf : Table → List PassEntry → List Found → OpenView → Type 0

@@ -1,4 +1,4 @@
-//! What a call answers.
+//! What a call answers: 0, a fault of the table (1 to 9), a refusal or a finding. 12 is no answer.
 
 ghost use Rattle.std.specs.Prelude.{◌≡◌, ◌≢◌};
 ghost use Rattle.caladan_c.specs.declared.answer.Refusal.TheVariants.{Memory, NoAction};
@@ -22,7 +22,7 @@ pub enum Refusal {
     NoRoom = 14,
     /// A look does not fit what its thread showed before, or has not the right shape.
     Unfit = 15,
-    /// The table has no such core or task.
+    /// The table has no such core, task or thread.
     NoSuch = 16,
     /// An action is none: its kind, or its cause, is no number of one.
     NoAction = 17,
@@ -30,6 +30,15 @@ pub enum Refusal {
     NoJudgement = 19,
     /// No page can show that the thread is gone.
     Lost = 21,
+}
+
+/// What a call found wrong in what it was given. `finding as u8` is its number.
+#[derive(Clone, Copy)]
+pub enum Finding {
+    /// An action is not permitted at its place.
+    Stopped = 18,
+    /// A recorded pass is not legal.
+    Illegal = 20,
 }
 
 impl Refusal {

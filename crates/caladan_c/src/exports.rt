@@ -1,6 +1,15 @@
-//! The calls of version 2 of the interface.
+//! What C calls: of a scheduler, of an audit and of a guard.
 
-mod each;
-mod facts;
-mod guard_each;
-mod guard_facts;
+mod audit;
+mod guard;
+mod scheduler;
+
+ghost use Rattle.std.specs.Prelude.{◌≡◌};
+
+/// The version of this interface.
+#[unsafe(no_mangle)]
+pub extern "C" fn caladan_version() -> u32
+    ensures { result ≡ 2 }
+{
+    2
+}

@@ -5,22 +5,22 @@ mod each;
 mod facts;
 
 ghost use Rattle.std.specs.Prelude.{◌≡◌, ◌⊎◌, ◌≤◌, Err, IfOk, IfErr, IfNone, OnErr, List, []};
-ghost use Rattle.std.specs.Prelude.{length, nat_lt, map};
+ghost use Rattle.std.specs.Prelude.{length, nat_lt};
 ghost use Rattle.cal_machine.specs.Outcome.{Gives};
 ghost use Rattle.cal_machine.specs.Reading.{table_in};
 ghost use Rattle.cal_policy.specs.declared.history.entry.PassEntry.{PassEntry};
-ghost use Rattle.cal_policy.specs.declared.history.action.Action.{Action};
 ghost use Rattle.cal_policy.specs.Board.{kept_holder};
 ghost use Rattle.cal_policy.specs.History.{actions_of, holder_of};
 ghost use Rattle.cal_policy.specs.Judgement.Judging.{IsInput};
 ghost use Rattle.cal_policy.specs.Tasks.{threads_of_table};
 ghost use Rattle.cal_guard.specs.Guarded.{Keeps};
-ghost use Rattle.caladan_c.specs.Found.{input_of};
-ghost use Rattle.caladan_c.specs.Told.{AreJudgements, counts_of, told_of};
+ghost use Rattle.caladan_c.specs.Found.{input_given};
+ghost use Rattle.caladan_c.specs.Told.{AreJudgements, counts_of};
 ghost use Rattle.std.specs.Option.{is_some, IfSome};
 
 use crate::answer::Refusal;
-use crate::found::{Found, found_look};
+use crate::found::found_look;
+use crate::given::Given;
 use crate::recorded::read_actions;
 use crate::scheduler::{nothing, with_room};
 use crate::told::Told;
@@ -60,52 +60,32 @@ fn judge_looks(
     used: Input,
     config: &Config,
     guard: &Guard,
-    now: u64,
-    bandwidth: u64,
-    looks: &[Found],
+    given: Given<'_>,
 ) -> Result<Input, AllocError>
-    requires { length looks.now ≡ threads_of_table config.now }
+    requires { length given.looks.now ≡ threads_of_table config.now }
     ensures { IfOk result (λ input. (h : List PassEntry) → Keeps guard.now h →
-        input ≡ input_of config.now h now bandwidth looks.now) }
+        input ≡ input_given config.now h given.entry) }
 {
     let Input { seen, rooms, .. } = used;
     let mut seen = seen.into_items();
     let mut rooms = rooms.into_items();
     seen.clear();
     rooms.clear();
-    for (k, one) in looks.iter().enumerate() {
+    for (k, one) in given.looks.iter().enumerate() {
         let found = found_look(one);
         seen.push(guard.judge(config, k, found.look))?;
         rooms.push(found.room)?;
     }
     Ok(Input {
-        now,
-        bandwidth,
+        now: given.now,
+        bandwidth: given.bandwidth,
         seen: SeenList::new(seen),
         rooms: Rooms::new(rooms),
     })
 }
 
-/// Makes of the last pass's input that of the next one.
-fn judge_again(
-    input: &mut Input,
-    alloc: Global,
-    config: &Config,
-    guard: &Guard,
-    now: u64,
-    bandwidth: u64,
-    looks: &[Found],
-) -> Result<(), AllocError>
-    requires { length looks.now ≡ threads_of_table config.now }
-    ensures { IfOk result (λ _. (h : List PassEntry) → Keeps guard.now h →
-        input.new ≡ input_of config.now h now bandwidth looks.now) }
-{
-    let used = mem::replace(input, nothing(alloc));
-    *input = judge_looks(used, config, guard, now, bandwidth, looks)?;
-    Ok(())
-}
-
 ghost use Rattle.caladan_c.specs.Gated.{GuardsAfter, WentThrough, WasStopped};
+ghost use Rattle.caladan_c.specs.Recorded.{AreNoActions};
 ghost use Rattle.caladan_c.specs.declared.answer.Refusal.TheVariants.{Memory, Unfit, NoAction};
 
 impl Gate {
@@ -171,36 +151,34 @@ impl Gate {
     pub fn pass(
         &mut self,
         alloc: Global,
-        now: u64,
-        bandwidth: u64,
-        looks: &[Found],
+        given: Given<'_>,
         judged: &mut [u8],
         told: &[Told],
     ) -> Result<Option<Refused>, Refusal>
-        requires count { length looks.now ≡ threads_of_table self.old.table }
+        requires count { length given.looks.now ≡ threads_of_table self.old.table }
         requires room { threads_of_table self.old.table ≤ length judged.old }
         ensures through { IfOk result (λ said.
             IfNone said ((h : List PassEntry) → GuardsAfter self.old h →
-            WentThrough self.old h (input_of self.old.table h now bandwidth looks.now) told.now
+            WentThrough self.old h (input_given self.old.table h given.entry) told.now
             self.new)) }
         ensures judged { IfOk result (λ said.
             IfNone said ((h : List PassEntry) → GuardsAfter self.old h →
-            AreJudgements (input_of self.old.table h now bandwidth looks.now).seen judged.new)) }
+            AreJudgements (input_given self.old.table h given.entry).seen judged.new)) }
         ensures stopped { IfOk result (λ said. IfSome said (λ refused. (h : List PassEntry) →
-            GuardsAfter self.old h → WasStopped self.old h (input_of self.old.table h now bandwidth
-            looks.now) told.now refused)) }
+            GuardsAfter self.old h → WasStopped self.old h (input_given self.old.table h
+            given.entry) told.now refused)) }
         ensures unfit { result ≡ Err Unfit → (h : List PassEntry) → GuardsAfter self.old h →
-            IsInput self.old.table h (input_of self.old.table h now bandwidth looks.now) → ⊥ }
-        ensures no_action { result ≡ Err NoAction → (actions : List Action) →
-            map told_of actions ≡ told.now → ⊥ }
+            IsInput self.old.table h (input_given self.old.table h given.entry) → ⊥ }
+        ensures no_action { result ≡ Err NoAction → AreNoActions told.now }
         ensures why { IfErr result (λ why. (why ≡ Unfit) ⊎ (why ≡ NoAction) ⊎ (why ≡ Memory)) }
         ensures stands { IfOk result (λ said. IfSome said (λ _. (self.new ≡ self.old) ×
             (judged.new ≡ judged.old))) }
         ensures refused { OnErr result ((self.new ≡ self.old) × (judged.new ≡ judged.old)) }
     {
         read_actions(&mut self.chosen, told)?;
-        let (config, guard) = (&self.config, &self.guard);
-        judge_again(&mut self.used, alloc, config, guard, now, bandwidth, looks)?;
+        let used = mem::replace(&mut self.used, nothing(alloc));
+        let input = judge_looks(used, &self.config, &self.guard, given)?;
+        self.used = input;
         if !self.guard.fits(&self.config, &self.used) {
             return Err(Refusal::Unfit);
         }

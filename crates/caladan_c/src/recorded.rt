@@ -16,6 +16,7 @@ ghost use Rattle.caladan_c.specs.Told.{judgement_of, told_of};
 
 use crate::answer::Refusal;
 use crate::found::{Found, found_look};
+use crate::given::Given;
 use crate::told::{Told, tell};
 use cal_policy::{Action, ActionList, Cause, Input, PassEntry, Rooms, Seen, SeenList};
 use cal_signal::Look;
@@ -148,8 +149,7 @@ fn action_in(told: &Told) -> Option<Action>
 /// room.
 pub fn read_actions(actions: &mut Vec<Action>, told: &[Told]) -> Result<(), Refusal>
     ensures actions { IfOk result (λ _. map told_of actions.new.items ≡ told.now) }
-    ensures none { result ≡ Err NoAction → (actions : List Action) →
-        map told_of actions ≡ told.now → ⊥ }
+    ensures none { result ≡ Err NoAction → AreNoActions told.now }
     ensures why { IfErr result (λ why. (why ≡ NoAction) ⊎ (why ≡ Memory)) }
 {
     actions.clear();
@@ -169,8 +169,7 @@ pub fn read_actions(actions: &mut Vec<Action>, told: &[Told]) -> Result<(), Refu
 /// The actions of one recorded pass, in a list of their own.
 fn actions_in(alloc: Global, told: &[Told]) -> Result<ActionList, Refusal>
     ensures actions { IfOk result (λ actions. map told_of actions ≡ told.now) }
-    ensures none { result ≡ Err NoAction → (actions : List Action) →
-        map told_of actions ≡ told.now → ⊥ }
+    ensures none { result ≡ Err NoAction → AreNoActions told.now }
     ensures why { IfErr result (λ why. (why ≡ NoAction) ⊎ (why ≡ Memory)) }
 {
     let mut actions = Vec::with_capacity(alloc, told.len())?;
@@ -181,29 +180,32 @@ fn actions_in(alloc: Global, told: &[Told]) -> Result<ActionList, Refusal>
 /// The pass that was recorded.
 pub fn entry_of(
     alloc: Global,
-    now: u64,
-    bandwidth: u64,
-    looks: &[Found],
+    given: Given<'_>,
     judged: &[u8],
     told: &[Told],
 ) -> Result<PassEntry, Refusal>
-    ensures recorded { IfOk result (IsRecorded now bandwidth looks.now judged.now told.now) }
-    ensures no_judgement { result ≡ Err NoJudgement → AreNoJudgements looks.now judged.now }
+    ensures recorded { IfOk result (IsRecorded given.entry.now given.entry.bandwidth
+        given.entry.looks.now judged.now told.now) }
+    ensures no_judgement { result ≡ Err NoJudgement →
+        AreNoJudgements given.entry.looks.now judged.now }
     ensures no_action { result ≡ Err NoAction → AreNoActions told.now }
-    ensures wrong_count { length looks.now ≢ length judged.now → result ≡ Err WrongCount }
-    ensures why { length looks.now ≡ length judged.now →
+    ensures wrong_count { length given.entry.looks.now ≢ length judged.now →
+        result ≡ Err WrongCount }
+    ensures answers { length given.entry.looks.now ≡ length judged.now →
         IfErr result (λ why. (why ≡ NoJudgement) ⊎ (why ≡ NoAction) ⊎ (why ≡ Memory)) }
+    ensures why { IfErr result (λ why. (why ≡ WrongCount) ⊎ (why ≡ NoJudgement) ⊎
+        (why ≡ NoAction) ⊎ (why ≡ Memory)) }
 {
-    if looks.len() != judged.len() {
+    if given.looks.len() != judged.len() {
         return Err(Refusal::WrongCount);
     }
-    let seen = seen_in(alloc, looks, judged)?;
-    let rooms = rooms_in(alloc, looks)?;
+    let seen = seen_in(alloc, given.looks, judged)?;
+    let rooms = rooms_in(alloc, given.looks)?;
     let actions = actions_in(alloc, told)?;
     Ok(PassEntry {
         input: Input {
-            now,
-            bandwidth,
+            now: given.now,
+            bandwidth: given.bandwidth,
             seen,
             rooms,
         },

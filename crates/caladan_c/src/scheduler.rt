@@ -14,12 +14,13 @@ ghost use Rattle.cal_policy.specs.Judgement.Judging.{IsInput};
 ghost use Rattle.cal_policy.specs.Tasks.{threads_of_table};
 ghost use Rattle.cal_policy.specs.History.{actions_of, holder_of};
 ghost use Rattle.cal_policy.specs.Board.{kept_holder};
-ghost use Rattle.caladan_c.specs.Found.{input_of};
+ghost use Rattle.caladan_c.specs.Found.{input_given};
 ghost use Rattle.caladan_c.specs.Told.{counts_of};
 ghost use Rattle.std.specs.Option.{is_some, IfSome};
 
 use crate::answer::Refusal;
-use crate::found::{Found, found_look};
+use crate::found::found_look;
+use crate::given::Given;
 use crate::told::counts::Counts;
 use crate::told::judgement::tell_judgements;
 use cal_machine::{Config, ConfigFault};
@@ -79,40 +80,18 @@ fn judge_looks(
     used: Input,
     config: &Config,
     book: &Book,
-    now: u64,
-    bandwidth: u64,
-    looks: &[Found],
+    given: Given<'_>,
 ) -> Result<Input, AllocError>
-    requires { length looks.now ≡ threads_of_table config.now }
+    requires { length given.looks.now ≡ threads_of_table config.now }
     ensures judged { IfOk result (λ input. (h : List PassEntry) → AgreesWith book.now h →
-        input ≡ input_of config.now h now bandwidth looks.now) }
+        input ≡ input_given config.now h given.entry) }
     ensures sizes { IfOk result (HasSizes config.now) }
 {
     let mut open = OpenInput::again(used, config)?;
-    for one in looks {
+    for one in given.looks {
         open.look(config, book, found_look(one));
     }
-    Ok(open.finish(now, bandwidth))
-}
-
-/// Makes of the last pass's input that of the next one.
-fn judge_again(
-    input: &mut Input,
-    alloc: Global,
-    config: &Config,
-    book: &Book,
-    now: u64,
-    bandwidth: u64,
-    looks: &[Found],
-) -> Result<(), AllocError>
-    requires { length looks.now ≡ threads_of_table config.now }
-    ensures judged { IfOk result (λ _. (h : List PassEntry) → AgreesWith book.now h →
-        input.new ≡ input_of config.now h now bandwidth looks.now) }
-    ensures sizes { IfOk result (λ _. HasSizes config.now input.new) }
-{
-    let used = mem::replace(input, nothing(alloc));
-    *input = judge_looks(used, config, book, now, bandwidth, looks)?;
-    Ok(())
+    Ok(open.finish(given.now, given.bandwidth))
 }
 
 ghost use Rattle.caladan_c.specs.Passing.{StandsAfter, IsPassed};
@@ -195,24 +174,23 @@ impl Scheduler {
     pub fn pass(
         &mut self,
         alloc: Global,
-        now: u64,
-        bandwidth: u64,
-        looks: &[Found],
+        given: Given<'_>,
         judged: &mut [u8],
     ) -> Result<(), Refusal>
-        requires count { length looks.now ≡ threads_of_table self.old.table }
+        requires count { length given.looks.now ≡ threads_of_table self.old.table }
         requires room { threads_of_table self.old.table ≤ length judged.old }
         ensures passed { IfOk result (λ _. (h : List PassEntry) → StandsAfter self.old h →
-            IsPassed self.old h (input_of self.old.table h now bandwidth looks.now) self.new) }
+            IsPassed self.old h (input_given self.old.table h given.entry) self.new) }
         ensures judged { IfOk result (λ _. (h : List PassEntry) → StandsAfter self.old h →
-            AreJudgements (input_of self.old.table h now bandwidth looks.now).seen judged.new) }
+            AreJudgements (input_given self.old.table h given.entry).seen judged.new) }
         ensures unfit { result ≡ Err Unfit → (h : List PassEntry) → StandsAfter self.old h →
-            IsInput self.old.table h (input_of self.old.table h now bandwidth looks.now) → ⊥ }
+            IsInput self.old.table h (input_given self.old.table h given.entry) → ⊥ }
         ensures why { IfErr result (λ why. (why ≡ Unfit) ⊎ (why ≡ Memory)) }
         ensures refused { OnErr result ((self.new ≡ self.old) × (judged.new ≡ judged.old)) }
     {
-        let (config, book) = (&self.config, &self.book);
-        judge_again(&mut self.used, alloc, config, book, now, bandwidth, looks)?;
+        let used = mem::replace(&mut self.used, nothing(alloc));
+        let input = judge_looks(used, &self.config, &self.book, given)?;
+        self.used = input;
         if !self.book.made_fits(&self.config, &self.used) {
             return Err(Refusal::Unfit);
         }

@@ -1,24 +1,24 @@
 //! Passes of a gate that take looks one by one, and the first look that does not fit.
 
 ghost use Rattle.std.specs.Prelude.{◌≡◌, ◌⊎◌, ◌<◌, ◌≤◌, IfOk, IfErr, IfNone, OnErr, Err, List};
-ghost use Rattle.std.specs.Prelude.{length, map};
+ghost use Rattle.std.specs.Prelude.{length};
 ghost use Rattle.std.specs.Option.{is_some, IfSome};
 ghost use Rattle.cal_guard.specs.Guarded.{Keeps};
-ghost use Rattle.cal_policy.specs.declared.history.action.Action.{Action};
 ghost use Rattle.cal_policy.specs.declared.history.entry.PassEntry.{PassEntry};
 ghost use Rattle.cal_policy.specs.Board.{HasSizes};
 ghost use Rattle.cal_policy.specs.Judgement.OneByOne.{fault_of, taken_found};
 ghost use Rattle.cal_policy.specs.Tasks.{threads_of_table};
 ghost use Rattle.caladan_c.specs.Found.{look_in, found_of};
 ghost use Rattle.caladan_c.specs.Gated.{GuardsAfter, WentThrough, WasStopped};
-ghost use Rattle.caladan_c.specs.OneByOne.{input_of_each, AreSaid, IsFirstUnfit, AllFit};
+ghost use Rattle.caladan_c.specs.OneByOne.{input_given_each, AreSaid, IsFirstUnfit, AllFit};
 ghost use Rattle.caladan_c.specs.OneByOne.{said_of, is_unfit};
-ghost use Rattle.caladan_c.specs.Told.{told_of};
+ghost use Rattle.caladan_c.specs.Recorded.{AreNoActions};
 ghost use Rattle.caladan_c.specs.declared.answer.Refusal.TheVariants.{Memory, NoAction};
 
 use super::Gate;
 use crate::answer::Refusal;
 use crate::found::{Found, found_look};
+use crate::given::Given;
 use crate::recorded::read_actions;
 use crate::scheduler::nothing;
 use crate::told::Told;
@@ -48,17 +48,15 @@ fn take_looks(
     used: Input,
     config: &Config,
     guard: &Guard,
-    now: u64,
-    bandwidth: u64,
-    looks: &[Found],
+    given: Given<'_>,
     judged: &mut [u8],
 ) -> Result<Input, AllocError>
-    requires count { length looks.now ≡ threads_of_table config.now }
+    requires count { length given.looks.now ≡ threads_of_table config.now }
     requires room { threads_of_table config.now ≤ length judged.old }
     ensures input { IfOk result (λ input. (h : List PassEntry) → Keeps guard.now h →
-        input ≡ input_of_each config.now h now bandwidth looks.now) }
+        input ≡ input_given_each config.now h given.entry) }
     ensures said { IfOk result (λ _. (h : List PassEntry) → Keeps guard.now h →
-        AreSaid config.now.cores h looks.now judged.new) }
+        AreSaid config.now.cores h given.entry.looks.now judged.new) }
     ensures sizes { IfOk result (HasSizes config.now) }
     ensures refused { OnErr result (judged.new ≡ judged.old) }
 {
@@ -67,45 +65,20 @@ fn take_looks(
     let mut rooms = rooms.into_items();
     seen.clear();
     rooms.clear();
-    seen.reserve(looks.len())?;
-    rooms.reserve(looks.len())?;
-    for (k, one) in looks.iter().enumerate() {
+    seen.reserve(given.looks.len())?;
+    rooms.reserve(given.looks.len())?;
+    for (k, one) in given.looks.iter().enumerate() {
         let (taken, said) = take_look(config, guard, k, one);
         seen.push_reserved(guard.judge(config, k, taken.look));
         rooms.push_reserved(taken.room);
         judged[k] = said;
     }
     Ok(Input {
-        now,
-        bandwidth,
+        now: given.now,
+        bandwidth: given.bandwidth,
         seen: SeenList::new(seen),
         rooms: Rooms::new(rooms),
     })
-}
-
-/// Makes of the last pass's input that of the next one, each look by itself.
-fn take_again(
-    input: &mut Input,
-    alloc: Global,
-    config: &Config,
-    guard: &Guard,
-    now: u64,
-    bandwidth: u64,
-    looks: &[Found],
-    judged: &mut [u8],
-) -> Result<(), AllocError>
-    requires count { length looks.now ≡ threads_of_table config.now }
-    requires room { threads_of_table config.now ≤ length judged.old }
-    ensures input { IfOk result (λ _. (h : List PassEntry) → Keeps guard.now h →
-        input.new ≡ input_of_each config.now h now bandwidth looks.now) }
-    ensures said { IfOk result (λ _. (h : List PassEntry) → Keeps guard.now h →
-        AreSaid config.now.cores h looks.now judged.new) }
-    ensures sizes { IfOk result (λ _. HasSizes config.now input.new) }
-    ensures refused { OnErr result (judged.new ≡ judged.old) }
-{
-    let used = mem::replace(input, nothing(alloc));
-    *input = take_looks(used, config, guard, now, bandwidth, looks, judged)?;
-    Ok(())
 }
 
 /// Whether the look at thread `k` does not fit what the thread showed before.
@@ -125,41 +98,30 @@ impl Gate {
     pub fn pass_each(
         &mut self,
         alloc: Global,
-        now: u64,
-        bandwidth: u64,
-        looks: &[Found],
+        given: Given<'_>,
         judged: &mut [u8],
         told: &[Told],
     ) -> Result<Option<Refused>, Refusal>
-        requires count { length looks.now ≡ threads_of_table self.old.table }
+        requires count { length given.looks.now ≡ threads_of_table self.old.table }
         requires room { threads_of_table self.old.table ≤ length judged.old }
         ensures through { IfOk result (λ said.
             IfNone said ((h : List PassEntry) → GuardsAfter self.old h →
-            WentThrough self.old h (input_of_each self.old.table h now bandwidth looks.now) told.now
+            WentThrough self.old h (input_given_each self.old.table h given.entry) told.now
             self.new)) }
         ensures judged { IfOk result (λ _. (h : List PassEntry) → GuardsAfter self.old h →
-            AreSaid self.old.table.cores h looks.now judged.new) }
+            AreSaid self.old.table.cores h given.entry.looks.now judged.new) }
         ensures stopped { IfOk result (λ said. IfSome said (λ refused. (h : List PassEntry) →
-            GuardsAfter self.old h → WasStopped self.old h (input_of_each self.old.table h now
-            bandwidth looks.now) told.now refused)) }
-        ensures no_action { result ≡ Err NoAction → (actions : List Action) →
-            map told_of actions ≡ told.now → ⊥ }
+            GuardsAfter self.old h → WasStopped self.old h (input_given_each self.old.table h
+            given.entry) told.now refused)) }
+        ensures no_action { result ≡ Err NoAction → AreNoActions told.now }
         ensures why { IfErr result (λ why. (why ≡ NoAction) ⊎ (why ≡ Memory)) }
         ensures stands { IfOk result (λ said. IfSome said (λ _. self.new ≡ self.old)) }
         ensures refused { OnErr result ((self.new ≡ self.old) × (judged.new ≡ judged.old)) }
     {
         read_actions(&mut self.chosen, told)?;
-        let (config, guard) = (&self.config, &self.guard);
-        take_again(
-            &mut self.used,
-            alloc,
-            config,
-            guard,
-            now,
-            bandwidth,
-            looks,
-            judged,
-        )?;
+        let used = mem::replace(&mut self.used, nothing(alloc));
+        let input = take_looks(used, &self.config, &self.guard, given, judged)?;
+        self.used = input;
         taken_input_fits();
         let chosen = self.chosen.as_slice();
         if let Err(refused) = self.guard.step(&self.config, &self.used, chosen) {

@@ -9,7 +9,7 @@ ghost use Rattle.cal_policy.specs.Book.{AgreesWith};
 ghost use Rattle.cal_policy.specs.Tasks.{threads_of_table};
 ghost use Rattle.cal_policy.specs.Judgement.OneByOne.{fault_of};
 ghost use Rattle.caladan_c.specs.Found.{look_in};
-ghost use Rattle.caladan_c.specs.OneByOne.{input_of_each, AreSaid, IsFirstUnfit, AllFit};
+ghost use Rattle.caladan_c.specs.OneByOne.{input_given_each, AreSaid, IsFirstUnfit, AllFit};
 ghost use Rattle.caladan_c.specs.OneByOne.{said_of, is_unfit, IsTakenOf};
 ghost use Rattle.caladan_c.specs.Passing.{StandsAfter, IsPassed};
 ghost use Rattle.caladan_c.specs.declared.answer.Refusal.TheVariants.{Memory};
@@ -17,6 +17,7 @@ ghost use Rattle.caladan_c.specs.declared.answer.Refusal.TheVariants.{Memory};
 use super::{Scheduler, nothing};
 use crate::answer::Refusal;
 use crate::found::{Found, found_look};
+use crate::given::Given;
 use crate::told::fault::tell_look;
 use cal_machine::Config;
 use cal_policy::{
@@ -50,50 +51,23 @@ fn take_looks(
     used: Input,
     config: &Config,
     book: &Book,
-    now: u64,
-    bandwidth: u64,
-    looks: &[Found],
+    given: Given<'_>,
     judged: &mut [u8],
 ) -> Result<Input, AllocError>
-    requires count { length looks.now ≡ threads_of_table config.now }
+    requires count { length given.looks.now ≡ threads_of_table config.now }
     requires room { threads_of_table config.now ≤ length judged.old }
     ensures input { IfOk result (λ input. (h : List PassEntry) → AgreesWith book.now h →
-        input ≡ input_of_each config.now h now bandwidth looks.now) }
+        input ≡ input_given_each config.now h given.entry) }
     ensures said { IfOk result (λ _. (h : List PassEntry) → AgreesWith book.now h →
-        AreSaid config.now.cores h looks.now judged.new) }
+        AreSaid config.now.cores h given.entry.looks.now judged.new) }
     ensures sizes { IfOk result (HasSizes config.now) }
     ensures refused { OnErr result (judged.new ≡ judged.old) }
 {
     let mut open = OpenInput::again(used, config)?;
-    for (k, one) in looks.iter().enumerate() {
+    for (k, one) in given.looks.iter().enumerate() {
         judged[k] = take_look(&mut open, config, book, k, one);
     }
-    Ok(open.finish(now, bandwidth))
-}
-
-/// Makes of the last pass's input that of the next one, each look by itself.
-fn take_again(
-    input: &mut Input,
-    alloc: Global,
-    config: &Config,
-    book: &Book,
-    now: u64,
-    bandwidth: u64,
-    looks: &[Found],
-    judged: &mut [u8],
-) -> Result<(), AllocError>
-    requires count { length looks.now ≡ threads_of_table config.now }
-    requires room { threads_of_table config.now ≤ length judged.old }
-    ensures input { IfOk result (λ _. (h : List PassEntry) → AgreesWith book.now h →
-        input.new ≡ input_of_each config.now h now bandwidth looks.now) }
-    ensures said { IfOk result (λ _. (h : List PassEntry) → AgreesWith book.now h →
-        AreSaid config.now.cores h looks.now judged.new) }
-    ensures sizes { IfOk result (λ _. HasSizes config.now input.new) }
-    ensures refused { OnErr result (judged.new ≡ judged.old) }
-{
-    let used = mem::replace(input, nothing(alloc));
-    *input = take_looks(used, config, book, now, bandwidth, looks, judged)?;
-    Ok(())
+    Ok(open.finish(given.now, given.bandwidth))
 }
 
 /// Whether the look at thread `k` does not fit what the thread showed before.
@@ -112,32 +86,21 @@ impl Scheduler {
     pub fn pass_each(
         &mut self,
         alloc: Global,
-        now: u64,
-        bandwidth: u64,
-        looks: &[Found],
+        given: Given<'_>,
         judged: &mut [u8],
     ) -> Result<(), Refusal>
-        requires count { length looks.now ≡ threads_of_table self.old.table }
+        requires count { length given.looks.now ≡ threads_of_table self.old.table }
         requires room { threads_of_table self.old.table ≤ length judged.old }
         ensures passed { IfOk result (λ _. (h : List PassEntry) → StandsAfter self.old h →
-            IsPassed self.old h (input_of_each self.old.table h now bandwidth looks.now)
-            self.new) }
+            IsPassed self.old h (input_given_each self.old.table h given.entry) self.new) }
         ensures said { IfOk result (λ _. (h : List PassEntry) → StandsAfter self.old h →
-            AreSaid self.old.table.cores h looks.now judged.new) }
+            AreSaid self.old.table.cores h given.entry.looks.now judged.new) }
         ensures why { IfErr result (λ why. why ≡ Memory) }
         ensures refused { OnErr result ((self.new ≡ self.old) × (judged.new ≡ judged.old)) }
     {
-        let (config, book) = (&self.config, &self.book);
-        take_again(
-            &mut self.used,
-            alloc,
-            config,
-            book,
-            now,
-            bandwidth,
-            looks,
-            judged,
-        )?;
+        let used = mem::replace(&mut self.used, nothing(alloc));
+        let input = take_looks(used, &self.config, &self.book, given, judged)?;
+        self.used = input;
         self.config.limits();
         legal_is_short();
         one_pass_more_is_legal();

@@ -7,6 +7,6 @@ use Rattle.caladan_c.proofs.gate.judge_looks.Given as goal
 
 abbrev pub invariant-loop-k : goal.invariant-loop-k
 invariant-loop-k l = record {
-  seen : (h : List PassEntry) → Keeps l.guard h → l.seen.items ≡ judged_looks l.config h (map found_of (take l.k l.looks));
-  rooms : l.rooms.items ≡ rooms_found (map found_of (take l.k l.looks));
+  seen : (h : List PassEntry) → Keeps l.guard h → l.seen.items ≡ judged_looks l.config h (map found_of (take l.k l.given.looks.now));
+  rooms : l.rooms.items ≡ rooms_found (map found_of (take l.k l.given.looks.now));
 }

@@ -10,5 +10,5 @@ abbrev pub invariant-loop-one : goal.invariant-loop-one
 invariant-loop-one l = record {
   threads : l.open.threads ≡ threads_of_table l.config;
   size : length l.open.seen ≡ l.one-index;
-  found : (h : List PassEntry) → AgreesWith l.book h → IsOfFound l.config h (map found_of (take l.one-index l.looks)) l.open;
+  found : (h : List PassEntry) → AgreesWith l.book h → IsOfFound l.config h (map found_of (take l.one-index l.given.looks.now)) l.open;
 }

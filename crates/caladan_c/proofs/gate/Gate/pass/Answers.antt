@@ -12,29 +12,29 @@ use Rattle.caladan_c.proofs.gate.Gate.pass.Goals as goal
 pub returns-clause-through : goal.returns-clause-through
 returns-clause-through c =
     let g : Gated = record { table = c.self.inside.config; guard = c.self.inside.guard } in
-    let input : Input = c.judge_again.new.input in
+    let input : Input = c.in_ok-input.input in
     let chosen : List Action = c.as_slice-chosen.result.now in
     let items : chosen ≡ c.read_actions.new.actions.items = search rules in
     let told : map told_of chosen ≡ c.args.told.now = ap (λ (xs : List Action). map told_of xs) items ∙ c.in_ok-read_actions.ensures.actions in
     let new : Gated = record { table = g.table; guard = c.step.new.self } in
-    let whole : (h : List PassEntry) → GuardsAfter g h → WentThrough g h (input_of g.table h c.args.now c.args.bandwidth c.args.looks.now) c.args.told.now new = λ h after.
+    let whole : (h : List PassEntry) → GuardsAfter g h → WentThrough g h (input_of g.table h c.args.given.now c.args.given.bandwidth c.args.given.looks.now) c.args.told.now new = λ h after.
     let is : IsInput g.table h input = (c.fits.ensures.fits h after.keeps).0 c.if-not-fits.false in
-    went_through g h input (input_of g.table h c.args.now c.args.bandwidth c.args.looks.now) chosen c.args.told.now c.step.new.self told
-    (c.in_ok-judge_again.ensures h after.keeps) is ((c.in_default.ensures.exact h after.permitted after.keeps).0 refl)
+    went_through g h input (input_of g.table h c.args.given.now c.args.given.bandwidth c.args.given.looks.now) chosen c.args.told.now c.step.new.self told
+    (c.in_ok-input.ensures h after.keeps) is ((c.in_default.ensures.exact h after.permitted after.keeps).0 refl)
     (c.in_default.ensures.keeps refl h after.permitted after.keeps) (c.in_default.ensures.permitted refl h after.permitted after.keeps is) in
     let view : g ≡ c.args.self.now = c.self.view_is in
-    subst (λ (old : Gated). (h : List PassEntry) → GuardsAfter old h → WentThrough old h (input_of old.table h c.args.now c.args.bandwidth c.args.looks.now) c.args.told.now new) view whole
+    subst (λ (old : Gated). (h : List PassEntry) → GuardsAfter old h → WentThrough old h (input_of old.table h c.args.given.now c.args.given.bandwidth c.args.given.looks.now) c.args.told.now new) view whole
 
 pub returns-in-Err-clause-stopped : goal.returns-in-Err-clause-stopped
 returns-in-Err-clause-stopped c =
     let g : Gated = record { table = c.self.inside.config; guard = c.self.inside.guard } in
-    let input : Input = c.judge_again.new.input in
+    let input : Input = c.in_ok-input.input in
     let chosen : List Action = c.as_slice-chosen.result.now in
     let items : chosen ≡ c.read_actions.new.actions.items = search rules in
     let told : map told_of chosen ≡ c.args.told.now = ap (λ (xs : List Action). map told_of xs) items ∙ c.in_ok-read_actions.ensures.actions in
-    let whole : (h : List PassEntry) → GuardsAfter g h → WasStopped g h (input_of g.table h c.args.now c.args.bandwidth c.args.looks.now) c.args.told.now c.in-Err.refused = λ h after.
+    let whole : (h : List PassEntry) → GuardsAfter g h → WasStopped g h (input_of g.table h c.args.given.now c.args.given.bandwidth c.args.given.looks.now) c.args.told.now c.in-Err.refused = λ h after.
     let is : IsInput g.table h input = (c.fits.ensures.fits h after.keeps).0 c.if-not-fits.false in
-    was_stopped g h input (input_of g.table h c.args.now c.args.bandwidth c.args.looks.now) chosen c.args.told.now c.in-Err.refused told
-    (c.in_ok-judge_again.ensures h after.keeps) is (c.in-Err.ensures.first h after.permitted after.keeps) in
+    was_stopped g h input (input_of g.table h c.args.given.now c.args.given.bandwidth c.args.given.looks.now) chosen c.args.told.now c.in-Err.refused told
+    (c.in_ok-input.ensures h after.keeps) is (c.in-Err.ensures.first h after.permitted after.keeps) in
     let view : g ≡ c.args.self.now = c.self.view_is in
-    subst (λ (old : Gated). (h : List PassEntry) → GuardsAfter old h → WasStopped old h (input_of old.table h c.args.now c.args.bandwidth c.args.looks.now) c.args.told.now c.in-Err.refused) view whole
+    subst (λ (old : Gated). (h : List PassEntry) → GuardsAfter old h → WasStopped old h (input_of old.table h c.args.given.now c.args.given.bandwidth c.args.given.looks.now) c.args.told.now c.in-Err.refused) view whole

@@ -14,14 +14,14 @@ loop-k-preserved c =
       seats = search rules;
       rooms_seats = search rules;
       room = search rules;
-      taken = λ h keeps. taken_to c.args.config.now h c.args.looks.now c.loop-k.k _ _ c.loop-k-test.true
+      taken = λ h keeps. taken_to c.args.config.now h c.args.given.looks.now c.loop-k.k _ _ c.loop-k-test.true
           (λ count. taken_pushed c.args.config.now h _ _ c.loop-k.k _ c.take_look-said.result.0 c.loop-k.seen.items _ c.loop-k.rooms.items _ c.judge.result
           count c.loop-k.invariant.size (c.take_look-said.ensures.taken h keeps) (c.judge.ensures h keeps) seen rooms (c.loop-k.invariant.taken h keeps));
-      said = λ h keeps. said_to c.args.config.now.cores h c.args.looks.now c.loop-k.judged _ c.loop-k.k c.take_look-said.result.1 _ room refl
+      said = λ h keeps. said_to c.args.config.now.cores h c.args.given.looks.now c.loop-k.judged _ c.loop-k.k c.take_look-said.result.1 _ room refl
           (c.take_look-said.ensures.said h keeps) c.loop-k-test.true (c.loop-k.invariant.said h keeps);
     }
 
 pub returns-clause-said : goal.returns-clause-said
 returns-clause-said c = λ h keeps k one at.
-    let within = slice_get_within c.args.looks.now k one at in
+    let within = slice_get_within c.args.given.looks.now k one at in
     c.loop-k.invariant.said h keeps k one (omega (arith, within, c.loop-k-test.false)) at

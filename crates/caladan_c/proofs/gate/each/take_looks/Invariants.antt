@@ -13,11 +13,11 @@ abbrev pub invariant-loop-k : goal.invariant-loop-k
 invariant-loop-k l = record {
   size : length l.seen.items ≡ l.k;
   rooms_size : length l.rooms.items ≡ l.k;
-  seats : length l.looks ≤ vec_capacity l.seen;
-  rooms_seats : length l.looks ≤ vec_capacity l.rooms;
+  seats : length l.given.looks.now ≤ vec_capacity l.seen;
+  rooms_seats : length l.given.looks.now ≤ vec_capacity l.rooms;
   room : length l.judged ≡ length l.fn.judged;
-  taken : (h : List PassEntry) → Keeps l.guard h → IsTakenOf l.config h (take l.k l.looks)
+  taken : (h : List PassEntry) → Keeps l.guard h → IsTakenOf l.config h (take l.k l.given.looks.now)
       (record { threads = threads_of_table l.config; seen = l.seen.items; rooms = l.rooms.items });
-  said : (h : List PassEntry) → Keeps l.guard h → (j : ℕ) (o : Found) → j < l.k → slice_get l.looks j ≡ Some o →
+  said : (h : List PassEntry) → Keeps l.guard h → (j : ℕ) (o : Found) → j < l.k → slice_get l.given.looks.now j ≡ Some o →
       slice_get l.judged j ≡ Some (said_of (fault_of l.config.cores h j (look_in o)) (look_in o));
 }

@@ -17,14 +17,14 @@ returns-clause-passed c =
     let s : Standing = record { table = c.self.inside.config; book = c.self.inside.book; made = c.self.inside.made } in
     let new : Standing = record { table = s.table; book = c.step.new.self; made = c.step.new.out } in
     let view : s ≡ c.args.self.now = c.self.view_is in
-    let input : Input = c.take_again.new.input in
-    let whole : (h : List PassEntry) → StandsAfter s h → IsPassed s h (input_of_each s.table h c.args.now c.args.bandwidth c.args.looks.now) new = λ h stands.
-    let same = c.in_ok-take_again.ensures.input h stands.agrees in
-    let fits : IsInput s.table h (input_of_each s.table h c.args.now c.args.bandwidth c.args.looks.now) =
-    c.taken_input_fits.ensures s.table h c.args.now c.args.bandwidth (map found_of c.args.looks.now) (length-map c.args.looks.now found_of ∙ c.requires.count ∙ sym (ap (λ (o : Standing). threads_of_table o.table) view)) in
+    let input : Input = c.in_ok-input.input in
+    let whole : (h : List PassEntry) → StandsAfter s h → IsPassed s h (input_of_each s.table h c.args.given.now c.args.given.bandwidth c.args.given.looks.now) new = λ h stands.
+    let same = c.in_ok-input.ensures.input h stands.agrees in
+    let fits : IsInput s.table h (input_of_each s.table h c.args.given.now c.args.given.bandwidth c.args.given.looks.now) =
+    c.taken_input_fits.ensures s.table h c.args.given.now c.args.given.bandwidth (map found_of c.args.given.looks.now) (length-map c.args.given.looks.now found_of ∙ c.requires.count ∙ sym (ap (λ (o : Standing). threads_of_table o.table) view)) in
     let is : IsInput s.table h input = subst (IsInput s.table h) (sym same) fits in
-    passed_after s h input (input_of_each s.table h c.args.now c.args.bandwidth c.args.looks.now) c.step.new.out c.step.new.self
+    passed_after s h input (input_of_each s.table h c.args.given.now c.args.given.bandwidth c.args.given.looks.now) c.step.new.out c.step.new.self
     c.one_pass_more_is_legal.ensures c.legal_is_short.ensures c.limits.ensures stands same is
     (c.step.ensures.acts h stands.legal stands.agrees is) (c.step.ensures.agrees h stands.legal stands.agrees is) in
     let is : s ≡ c.args.self.now = c.self.view_is in
-    subst (λ (old : Standing). (h : List PassEntry) → StandsAfter old h → IsPassed old h (input_of_each old.table h c.args.now c.args.bandwidth c.args.looks.now) new) is whole
+    subst (λ (old : Standing). (h : List PassEntry) → StandsAfter old h → IsPassed old h (input_of_each old.table h c.args.given.now c.args.given.bandwidth c.args.given.looks.now) new) is whole

@@ -10,17 +10,17 @@ loop-k-preserved c =
       threads = c.take_look.ensures.threads ∙ c.loop-k.invariant.threads;
       size = c.take_look.ensures.one;
       room = search rules;
-      taken = λ h agrees. taken_to c.args.config.now h c.args.looks.now c.loop-k.k _ _ c.loop-k-test.true
+      taken = λ h agrees. taken_to c.args.config.now h c.args.given.looks.now c.loop-k.k _ _ c.loop-k-test.true
           (λ count. c.take_look.ensures.taken h _ agrees count (c.loop-k.invariant.taken h agrees));
-      said = λ h agrees. said_to c.args.config.now.cores h c.args.looks.now c.loop-k.judged _ c.loop-k.k c.take_look.result _ room refl
+      said = λ h agrees. said_to c.args.config.now.cores h c.args.given.looks.now c.loop-k.judged _ c.loop-k.k c.take_look.result _ room refl
           (c.take_look.ensures.said h agrees) c.loop-k-test.true (c.loop-k.invariant.said h agrees);
     }
 
 pub returns-clause-input : goal.returns-clause-input
 returns-clause-input c = λ h agrees. c.finish.ensures.judged c.args.config.now h _
-    (taken_all c.args.config.now h c.args.looks.now c.loop-k.k _ c.loop-k-test.false (c.loop-k.invariant.taken h agrees))
+    (taken_all c.args.config.now h c.args.given.looks.now c.loop-k.k _ c.loop-k-test.false (c.loop-k.invariant.taken h agrees))
 
 pub returns-clause-said : goal.returns-clause-said
 returns-clause-said c = λ h agrees k one at.
-    let within = slice_get_within c.args.looks.now k one at in
+    let within = slice_get_within c.args.given.looks.now k one at in
     c.loop-k.invariant.said h agrees k one (omega (arith, within, c.loop-k-test.false)) at

@@ -13,7 +13,7 @@ invariant-loop-k l = record {
   threads : l.open.threads ≡ threads_of_table l.config;
   size : length l.open.seen ≡ l.k;
   room : length l.judged ≡ length l.fn.judged;
-  taken : (h : List PassEntry) → AgreesWith l.book h → IsTakenOf l.config h (take l.k l.looks) l.open;
-  said : (h : List PassEntry) → AgreesWith l.book h → (j : ℕ) (o : Found) → j < l.k → slice_get l.looks j ≡ Some o →
+  taken : (h : List PassEntry) → AgreesWith l.book h → IsTakenOf l.config h (take l.k l.given.looks.now) l.open;
+  said : (h : List PassEntry) → AgreesWith l.book h → (j : ℕ) (o : Found) → j < l.k → slice_get l.given.looks.now j ≡ Some o →
       slice_get l.judged j ≡ Some (said_of (fault_of l.config.cores h j (look_in o)) (look_in o));
 }

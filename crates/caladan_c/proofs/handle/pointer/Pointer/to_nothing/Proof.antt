@@ -1,38 +1,5 @@
 -- `to_nothing` makes a null pointer, which owns nothing.
-use mathlib.Core.Path.{refl, sym, subst}
-use Rattle.std.specs.Prelude.{None}
-use mathlib.Core.List.{List, [], ◌∷◌, ◌++◌}
-use lib.Dec.{T, lit<}
-use mir.Syntax.{Ty, ty_ptr, ty_struct, tcons, tnil}
-use seplogic.Ra.Ura.{Ura}
-use mir.Val.{Val, vnull, vstruct, vcons, vnil, has_ty, WT}
-use base.Logic.{SProp, ent, emp, id⊢}
-use base.Fml.{ftrue, fsep}
-use prog.Memory.{Memory}
-use prog.Routine.{Routine}
-use prog.Wp.{WpFn, Tables}
-use types.Logic.{Logic}
-use contract.Monad.{Fun}
-use contract.Running.{tables, tables_of}
-use sound.WpLaws.{WpFn-mono}
-use types.Kit.{Item, ‵, raw, ◌⊛◌, ◌$◌, ◌∵◌, !, qed, by, move, drop, use1, join, split, fsplit, fjoin, fpack, feq_i, suffices, done}
-use types.Part.{agg}
-use types.Run.{no_more, and_then, lit, returns, enter}
-use types.ByLocal.{alloc_all, pass_all, free_all, look_at, get, sets}
-use denote.Exit.{yes}
-use denote.RattleType.{Valss}
-use denote.Builtin.{RawPtr}
-use denote.RawPtr.{null_ptr}
-use denote.Signature.{type_at}
-use denote.Steps.{nothing}
-use denote.Struct.Struct.{within}
-use denote.Struct.Owning.{shape, to}
-use denote.Triple.Spec.{triple_of}
-use denote.Triple.Table.{entered}
-use denote.Triple.Walked.{says, Stays, stay_dropped, walk_of, ends_at, Goes-dropped, walk_Meets}
-use Rattle.std.proofs.alloc.Calls.{α, handle_tells}
-use Rattle.std.proofs.ResultValues.{and_tt}
-use Rattle.std.proofs.BoxSteps.Form.{P}
+use Rattle.caladan_c.proofs.HandleLemmas.Walking.{refl, sym, subst, None, List, [], ◌∷◌, ◌++◌, T, lit<, Ty, ty_ptr, ty_struct, tcons, tnil, Ura, Val, vnull, vstruct, vcons, vnil, has_ty, WT, SProp, ent, emp, id⊢, ftrue, fsep, Memory, Routine, WpFn, Tables, Logic, Fun, tables, tables_of, WpFn-mono, Item, ‵, raw, ◌⊛◌, ◌$◌, ◌∵◌, !, qed, by, move, drop, use1, join, split, fsplit, fjoin, fpack, feq_i, suffices, done, agg, no_more, and_then, lit, returns, enter, alloc_all, pass_all, free_all, look_at, get, sets, yes, Valss, RawPtr, null_ptr, type_at, nothing, within, shape, to, triple_of, entered, says, Stays, stay_dropped, walk_of, ends_at, Goes-dropped, walk_Meets, α, handle_tells, and_tt, P}
 use Rattle.std.specs.contracts.alloc.Global as Heap
 use Rattle.caladan_c.specs.contracts.handle.pointer.Pointer as Pointer
 use Rattle.caladan_c.proofs.HandleLemmas.AsBox.{E, FromAlloc as From}

@@ -4,7 +4,8 @@ ghost use Rattle.std.specs.Prelude.{◌≡◌, ◌≢◌, ◌⊎◌, IfOk, IfErr
 ghost use Rattle.std.specs.Option.{is_some, ForSome, IsSomeAnd};
 ghost use Rattle.cal_policy.specs.declared.history.entry.PassEntry.{PassEntry};
 ghost use Rattle.cal_policy.specs.Tasks.{threads_of_table};
-ghost use Rattle.caladan_c.specs.OneByOne.{input_of_each, AreSaid, IsFirstUnfit, AllFit};
+ghost use Rattle.caladan_c.specs.OneByOne.{input_of_each, input_given_each, AreSaid};
+ghost use Rattle.caladan_c.specs.OneByOne.{IsFirstUnfit, AllFit};
 ghost use Rattle.caladan_c.specs.Passing.{StandsAfter, IsPassed, HasRoom, IsShort};
 ghost use Rattle.caladan_c.specs.Told.{AreTold};
 ghost use Rattle.caladan_c.specs.declared.answer.Refusal.TheVariants.{Memory, NoRoom};
@@ -12,11 +13,52 @@ ghost use Rattle.caladan_c.specs.declared.answer.Refusal.TheVariants.{WrongCount
 
 use crate::answer::Refusal;
 use crate::found::Found;
+use crate::given::Given;
 use crate::handle::Handle;
 use crate::scheduler::Scheduler;
 use crate::told::{Told, tell_all};
 use cal_policy::MOST_ACTIONS;
 use std::alloc::Global;
+
+impl Scheduler {
+    /// Makes the next pass, each look by itself, and writes its actions: how many they are, or why
+    /// it did nothing.
+    fn pass_each_told(
+        &mut self,
+        alloc: Global,
+        given: Given<'_>,
+        judged: &mut [u8],
+        actions: &mut [Told],
+    ) -> Result<usize, Refusal>
+        ensures passed { IfOk result (λ made. (h : List PassEntry) → StandsAfter self.old h →
+            IsPassed self.old h (input_given_each self.old.table h given.entry) self.new
+            × AreTold self.new.made made actions.new) }
+        ensures judged { IfOk result (λ _. (h : List PassEntry) → StandsAfter self.old h →
+            AreSaid self.old.table.cores h given.entry.looks.now judged.new) }
+        ensures wrong_count { length given.entry.looks.now ≢ threads_of_table self.old.table →
+            result ≡ Err WrongCount }
+        ensures no_room { length given.entry.looks.now ≡ threads_of_table self.old.table →
+            IsShort (threads_of_table self.old.table) judged.old actions.old →
+            result ≡ Err NoRoom }
+        ensures answers { length given.entry.looks.now ≡ threads_of_table self.old.table →
+            HasRoom (threads_of_table self.old.table) judged.old actions.old →
+            IfErr result (λ why. why ≡ Memory) }
+        ensures why { IfErr result (λ why. (why ≡ WrongCount) ⊎ (why ≡ NoRoom) ⊎
+            (why ≡ Memory)) }
+        ensures refused { OnErr result ((self.new ≡ self.old) × (actions.new ≡ actions.old) ×
+            (judged.new ≡ judged.old)) }
+    {
+        let threads = self.threads();
+        if given.looks.len() != threads {
+            return Err(Refusal::WrongCount);
+        }
+        if judged.len() < threads || actions.len() < MOST_ACTIONS {
+            return Err(Refusal::NoRoom);
+        }
+        self.pass_each(alloc, given, judged)?;
+        Ok(tell_all(self.made(), actions))
+    }
+}
 
 /// Makes the next pass as `caladan_pass` does, each look by itself: one that is unfit, ahead or
 /// foreign is taken as a busy one, so it stops nobody and leaves no trace. 0; 10 the handle is
@@ -50,6 +92,8 @@ pub extern "C" fn caladan_pass_each(
         length looks.now ≡ threads_of_table s.table →
         HasRoom (threads_of_table s.table) judged.old actions.old →
         (result ≡ 0) ⊎ (result ≡ 9)) }
+    ensures own { (result ≡ 0) ⊎ (result ≡ 9) ⊎ (result ≡ 10) ⊎ (result ≡ 13) ⊎
+        (result ≡ 14) }
     ensures refused { result ≢ 0 → (handle.new.pointer.kept ≡ handle.old.pointer.kept)
         × (actions.new ≡ actions.old) × (judged.new ≡ judged.old) × (made.new ≡ 0) }
 {
@@ -57,84 +101,22 @@ pub extern "C" fn caladan_pass_each(
     match handle.take(alloc) {
         None => Refusal::Closed as u8,
         Some(mut kept) => {
-            let answer = answer_pass_each(
-                &mut kept, alloc, now, bandwidth, looks, judged, actions, made,
-            );
+            let given = Given {
+                now,
+                bandwidth,
+                looks,
+            };
+            let answer = kept.pass_each_told(alloc, given, judged, actions);
             *handle = Handle::of(kept);
-            answer
+            match answer {
+                Ok(count) => {
+                    *made = count;
+                    0
+                }
+                Err(refusal) => refusal.number(),
+            }
         }
     }
-}
-
-/// The same of an open handle's scheduler.
-fn answer_pass_each(
-    kept: &mut Scheduler,
-    alloc: Global,
-    now: u64,
-    bandwidth: u64,
-    looks: &[Found],
-    judged: &mut [u8],
-    actions: &mut [Told],
-    made: &mut usize,
-) -> u8
-    requires { made.old ≡ 0 }
-    ensures passed { result ≡ 0 → (h : List PassEntry) → StandsAfter kept.old h →
-        IsPassed kept.old h (input_of_each kept.old.table h now bandwidth looks.now) kept.new
-        × AreTold kept.new.made made.new actions.new }
-    ensures judged { result ≡ 0 → (h : List PassEntry) → StandsAfter kept.old h →
-        AreSaid kept.old.table.cores h looks.now judged.new }
-    ensures wrong_count { length looks.now ≢ threads_of_table kept.old.table → result ≡ 13 }
-    ensures no_room { length looks.now ≡ threads_of_table kept.old.table →
-        IsShort (threads_of_table kept.old.table) judged.old actions.old → result ≡ 14 }
-    ensures answers { length looks.now ≡ threads_of_table kept.old.table →
-        HasRoom (threads_of_table kept.old.table) judged.old actions.old →
-        (result ≡ 0) ⊎ (result ≡ 9) }
-    ensures refused { result ≢ 0 → (kept.new ≡ kept.old)
-        × (actions.new ≡ actions.old) × (judged.new ≡ judged.old) × (made.new ≡ 0) }
-{
-    match pass_each(kept, alloc, now, bandwidth, looks, judged, actions, made) {
-        Ok(()) => 0,
-        Err(refusal) => refusal.number(),
-    }
-}
-
-/// The same, with why it did nothing.
-fn pass_each(
-    kept: &mut Scheduler,
-    alloc: Global,
-    now: u64,
-    bandwidth: u64,
-    looks: &[Found],
-    judged: &mut [u8],
-    actions: &mut [Told],
-    made: &mut usize,
-) -> Result<(), Refusal>
-    requires { made.old ≡ 0 }
-    ensures passed { IfOk result (λ _. (h : List PassEntry) → StandsAfter kept.old h →
-        IsPassed kept.old h (input_of_each kept.old.table h now bandwidth looks.now) kept.new
-        × AreTold kept.new.made made.new actions.new) }
-    ensures judged { IfOk result (λ _. (h : List PassEntry) → StandsAfter kept.old h →
-        AreSaid kept.old.table.cores h looks.now judged.new) }
-    ensures wrong_count { length looks.now ≢ threads_of_table kept.old.table →
-        result ≡ Err WrongCount }
-    ensures no_room { length looks.now ≡ threads_of_table kept.old.table →
-        IsShort (threads_of_table kept.old.table) judged.old actions.old → result ≡ Err NoRoom }
-    ensures answers { length looks.now ≡ threads_of_table kept.old.table →
-        HasRoom (threads_of_table kept.old.table) judged.old actions.old →
-        IfErr result (λ why. why ≡ Memory) }
-    ensures refused { OnErr result ((kept.new ≡ kept.old)
-        × (actions.new ≡ actions.old) × (judged.new ≡ judged.old) × (made.new ≡ 0)) }
-{
-    let threads = kept.threads();
-    if looks.len() != threads {
-        return Err(Refusal::WrongCount);
-    }
-    if judged.len() < threads || actions.len() < MOST_ACTIONS {
-        return Err(Refusal::NoRoom);
-    }
-    kept.pass_each(alloc, now, bandwidth, looks, judged)?;
-    *made = tell_all(kept.made(), actions);
-    Ok(())
 }
 
 /// Which look a plain pass may not be given: 0 each fits; 15 one does not fit what its thread

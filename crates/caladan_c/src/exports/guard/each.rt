@@ -1,25 +1,69 @@
 //! Passes of a guard that take looks one by one, and which look does not fit.
 
 ghost use Rattle.std.specs.Prelude.{◌≡◌, ◌≢◌, ◌⊎◌, ◌<◌, ◌≤◌, IfOk, IfErr, IfNone, OnErr, Err, List};
-ghost use Rattle.std.specs.Prelude.{length, map, false};
+ghost use Rattle.std.specs.Prelude.{length, false};
 ghost use Rattle.std.specs.Option.{is_some, ForSome, IfSome, IsSomeAnd};
-ghost use Rattle.cal_policy.specs.declared.history.action.Action.{Action};
 ghost use Rattle.cal_policy.specs.declared.history.entry.PassEntry.{PassEntry};
 ghost use Rattle.cal_policy.specs.Tasks.{threads_of_table};
 ghost use Rattle.caladan_c.specs.Gated.{GuardsAfter, WentThrough, WasStopped, WasStoppedAt};
-ghost use Rattle.caladan_c.specs.OneByOne.{input_of_each, AreSaid, IsFirstUnfit, AllFit};
-ghost use Rattle.caladan_c.specs.Told.{told_of};
+ghost use Rattle.caladan_c.specs.OneByOne.{input_of_each, input_given_each, AreSaid};
+ghost use Rattle.caladan_c.specs.OneByOne.{IsFirstUnfit, AllFit};
+ghost use Rattle.caladan_c.specs.Recorded.{AreNoActions};
 ghost use Rattle.caladan_c.specs.declared.answer.Refusal.TheVariants.{Memory, NoAction, NoRoom};
 ghost use Rattle.caladan_c.specs.declared.answer.Refusal.TheVariants.{WrongCount};
 
-use crate::answer::Refusal;
+use crate::answer::{Finding, Refusal};
 use crate::found::Found;
 use crate::gate::Gate;
+use crate::given::Given;
 use crate::handle::gate::GateHandle;
 use crate::told::Told;
 use crate::told::refused::{ToldRefused, tell_refused};
 use cal_guard::Refused;
 use std::alloc::Global;
+
+impl Gate {
+    /// Lets the next pass through, each look by itself, or names the first action that is not
+    /// permitted; or says why it did nothing.
+    fn pass_each_told(
+        &mut self,
+        alloc: Global,
+        given: Given<'_>,
+        judged: &mut [u8],
+        actions: &[Told],
+    ) -> Result<Option<Refused>, Refusal>
+        ensures through { IfOk result (λ said.
+            IfNone said ((h : List PassEntry) → GuardsAfter self.old h →
+            WentThrough self.old h (input_given_each self.old.table h given.entry) actions.now
+            self.new)) }
+        ensures judged { IfOk result (λ _. (h : List PassEntry) → GuardsAfter self.old h →
+            AreSaid self.old.table.cores h given.entry.looks.now judged.new) }
+        ensures stopped { IfOk result (λ said. IfSome said (λ first. (h : List PassEntry) →
+            GuardsAfter self.old h → WasStopped self.old h
+            (input_given_each self.old.table h given.entry) actions.now first)) }
+        ensures no_action { result ≡ Err NoAction → AreNoActions actions.now }
+        ensures wrong_count { length given.entry.looks.now ≢ threads_of_table self.old.table →
+            result ≡ Err WrongCount }
+        ensures no_room { length given.entry.looks.now ≡ threads_of_table self.old.table →
+            length judged.old < threads_of_table self.old.table → result ≡ Err NoRoom }
+        ensures answers { length given.entry.looks.now ≡ threads_of_table self.old.table →
+            threads_of_table self.old.table ≤ length judged.old →
+            IfErr result (λ why. (why ≡ NoAction) ⊎ (why ≡ Memory)) }
+        ensures why { IfErr result (λ why. (why ≡ WrongCount) ⊎ (why ≡ NoRoom) ⊎
+            (why ≡ NoAction) ⊎ (why ≡ Memory)) }
+        ensures stands { IfOk result (λ said. IfSome said (λ _. self.new ≡ self.old)) }
+        ensures refused { OnErr result ((self.new ≡ self.old) × (judged.new ≡ judged.old)) }
+    {
+        let threads = self.threads();
+        if given.looks.len() != threads {
+            return Err(Refusal::WrongCount);
+        }
+        if judged.len() < threads {
+            return Err(Refusal::NoRoom);
+        }
+        self.pass_each(alloc, given, judged, actions)
+    }
+}
 
 /// Hands the guard the next pass as `caladan_guard_pass` does, each look by itself: one that is
 /// unfit, ahead or foreign is taken as a busy one, so it stops nobody and leaves no trace. 0: each
@@ -48,8 +92,7 @@ pub extern "C" fn caladan_guard_pass_each(
     ensures stopped { result ≡ 18 → ForSome handle.old.pointer.kept (λ g. (h : List PassEntry) →
         GuardsAfter g h → WasStoppedAt g h (input_of_each g.table h now bandwidth looks.now)
         actions.now refused.new) }
-    ensures no_action { result ≡ 17 → (chosen : List Action) →
-        map told_of chosen ≡ actions.now → ⊥ }
+    ensures no_action { result ≡ 17 → AreNoActions actions.now }
     ensures wrong_count { ForSome handle.old.pointer.kept (λ g.
         length looks.now ≢ threads_of_table g.table → result ≡ 13) }
     ensures no_room { ForSome handle.old.pointer.kept (λ g.
@@ -58,6 +101,8 @@ pub extern "C" fn caladan_guard_pass_each(
     ensures answers { ForSome handle.old.pointer.kept (λ g.
         length looks.now ≡ threads_of_table g.table → threads_of_table g.table ≤ length judged.old →
         (result ≡ 0) ⊎ (result ≡ 18) ⊎ (result ≡ 17) ⊎ (result ≡ 9)) }
+    ensures own { (result ≡ 0) ⊎ (result ≡ 9) ⊎ (result ≡ 10) ⊎ (result ≡ 13) ⊎ (result ≡ 14) ⊎
+        (result ≡ 17) ⊎ (result ≡ 18) }
     ensures unchanged { result ≢ 0 → handle.new.pointer.kept ≡ handle.old.pointer.kept }
     ensures unjudged { result ≢ 0 → result ≢ 18 → judged.new ≡ judged.old }
     ensures told { result ≢ 18 → refused.new ≡ refused.old }
@@ -65,95 +110,23 @@ pub extern "C" fn caladan_guard_pass_each(
     match handle.take(alloc) {
         None => Refusal::Closed as u8,
         Some(mut kept) => {
-            let answer = answer_guarded_each(
-                &mut kept, alloc, now, bandwidth, looks, judged, actions, refused,
-            );
+            let given = Given {
+                now,
+                bandwidth,
+                looks,
+            };
+            let answer = kept.pass_each_told(alloc, given, judged, actions);
             *handle = GateHandle::of(kept);
-            answer
+            match answer {
+                Ok(None) => 0,
+                Ok(Some(first)) => {
+                    *refused = tell_refused(first);
+                    Finding::Stopped as u8
+                }
+                Err(refusal) => refusal.number(),
+            }
         }
     }
-}
-
-/// The same of an open handle's gate.
-fn answer_guarded_each(
-    kept: &mut Gate,
-    alloc: Global,
-    now: u64,
-    bandwidth: u64,
-    looks: &[Found],
-    judged: &mut [u8],
-    actions: &[Told],
-    refused: &mut ToldRefused,
-) -> u8
-    ensures through { result ≡ 0 → (h : List PassEntry) → GuardsAfter kept.old h →
-        WentThrough kept.old h (input_of_each kept.old.table h now bandwidth looks.now) actions.now
-        kept.new }
-    ensures judged { (result ≡ 0) ⊎ (result ≡ 18) → (h : List PassEntry) → GuardsAfter kept.old h →
-        AreSaid kept.old.table.cores h looks.now judged.new }
-    ensures stopped { result ≡ 18 → (h : List PassEntry) → GuardsAfter kept.old h →
-        WasStoppedAt kept.old h (input_of_each kept.old.table h now bandwidth looks.now) actions.now
-        refused.new }
-    ensures no_action { result ≡ 17 → (chosen : List Action) →
-        map told_of chosen ≡ actions.now → ⊥ }
-    ensures wrong_count { length looks.now ≢ threads_of_table kept.old.table → result ≡ 13 }
-    ensures no_room { length looks.now ≡ threads_of_table kept.old.table →
-        length judged.old < threads_of_table kept.old.table → result ≡ 14 }
-    ensures answers { length looks.now ≡ threads_of_table kept.old.table →
-        threads_of_table kept.old.table ≤ length judged.old →
-        (result ≡ 0) ⊎ (result ≡ 18) ⊎ (result ≡ 17) ⊎ (result ≡ 9) }
-    ensures unchanged { result ≢ 0 → kept.new ≡ kept.old }
-    ensures unjudged { result ≢ 0 → result ≢ 18 → judged.new ≡ judged.old }
-    ensures told { result ≢ 18 → refused.new ≡ refused.old }
-{
-    match guarded_each(kept, alloc, now, bandwidth, looks, judged, actions) {
-        Ok(None) => 0,
-        Ok(Some(first)) => {
-            *refused = tell_refused(first);
-            18
-        }
-        Err(refusal) => refusal.number(),
-    }
-}
-
-/// The same, with the first action that is not permitted, or why it did nothing.
-fn guarded_each(
-    kept: &mut Gate,
-    alloc: Global,
-    now: u64,
-    bandwidth: u64,
-    looks: &[Found],
-    judged: &mut [u8],
-    actions: &[Told],
-) -> Result<Option<Refused>, Refusal>
-    ensures through { IfOk result (λ said.
-        IfNone said ((h : List PassEntry) → GuardsAfter kept.old h →
-        WentThrough kept.old h (input_of_each kept.old.table h now bandwidth looks.now) actions.now
-        kept.new)) }
-    ensures judged { IfOk result (λ _. (h : List PassEntry) → GuardsAfter kept.old h →
-        AreSaid kept.old.table.cores h looks.now judged.new) }
-    ensures stopped { IfOk result (λ said. IfSome said (λ first. (h : List PassEntry) →
-        GuardsAfter kept.old h → WasStopped kept.old h (input_of_each kept.old.table h now bandwidth
-        looks.now) actions.now first)) }
-    ensures no_action { result ≡ Err NoAction → (chosen : List Action) →
-        map told_of chosen ≡ actions.now → ⊥ }
-    ensures wrong_count { length looks.now ≢ threads_of_table kept.old.table →
-        result ≡ Err WrongCount }
-    ensures no_room { length looks.now ≡ threads_of_table kept.old.table →
-        length judged.old < threads_of_table kept.old.table → result ≡ Err NoRoom }
-    ensures answers { length looks.now ≡ threads_of_table kept.old.table →
-        threads_of_table kept.old.table ≤ length judged.old →
-        IfErr result (λ why. (why ≡ NoAction) ⊎ (why ≡ Memory)) }
-    ensures stands { IfOk result (λ said. IfSome said (λ _. kept.new ≡ kept.old)) }
-    ensures refused { OnErr result ((kept.new ≡ kept.old) × (judged.new ≡ judged.old)) }
-{
-    let threads = kept.threads();
-    if looks.len() != threads {
-        return Err(Refusal::WrongCount);
-    }
-    if judged.len() < threads {
-        return Err(Refusal::NoRoom);
-    }
-    kept.pass_each(alloc, now, bandwidth, looks, judged, actions)
 }
 
 /// Which look a plain pass of the guard may not be given: 0 each fits; 15 one does not fit what its

@@ -1,0 +1,179 @@
+//! The calls of an audit: it is opened, takes recorded passes, says whether all are legal, and is
+//! closed.
+
+ghost use Rattle.std.specs.Prelude.{◌≡◌, ◌≢◌, ◌⊎◌, IfOk, IfErr, OnErr, Err, None, List, [], length};
+ghost use Rattle.std.specs.Prelude.{true, false};
+ghost use Rattle.std.specs.Option.{is_some, ForSome, IsSomeAnd};
+ghost use Rattle.cal_machine.specs.Outcome.{Gives};
+ghost use Rattle.cal_machine.specs.Reading.{table_in};
+ghost use Rattle.cal_policy.specs.Verdict.{IsVerdict};
+ghost use Rattle.cal_policy.specs.declared.history.entry.PassEntry.{PassEntry};
+ghost use Rattle.cal_policy.specs.declared.verdict.Verdict.TheVariants.{Legal, Illegal};
+ghost use Rattle.caladan_c.specs.Audited.{Audits, SaysAudit, TookRecorded};
+ghost use Rattle.caladan_c.specs.Recorded.{AreNoJudgements, AreNoActions};
+ghost use Rattle.caladan_c.specs.declared.answer.Refusal.TheVariants.{Memory, NoAction};
+ghost use Rattle.caladan_c.specs.declared.answer.Refusal.TheVariants.{NoJudgement, WrongCount};
+
+use crate::answer::{Finding, Refusal};
+use crate::audit::Audit;
+use crate::found::Found;
+use crate::given::Given;
+use crate::handle::audit::AuditHandle;
+use crate::recorded::entry_of;
+use crate::told::Told;
+use cal_machine::ConfigFault;
+use cal_policy::Verdict;
+use std::alloc::Global;
+
+/// A new audit on the heap.
+fn open(alloc: Global, table: &[u8]) -> Result<Box<Audit>, ConfigFault>
+    ensures table { Gives (λ opened. opened.value.table) result (table_in table.now) }
+    ensures new { IfOk result (λ opened. Audits opened.value []) }
+{
+    let audit = Audit::open(alloc, table)?;
+    Ok(Box::new(alloc, audit)?)
+}
+
+/// Opens an audit of the table that a text spells, in a closed handle: 0, or the table's fault, 1
+/// to 9.
+#[unsafe(no_mangle)]
+pub extern "C" fn caladan_audit_open(alloc: Global, table: &[u8], handle: &mut AuditHandle) -> u8
+    ensures already { is_some handle.old.pointer.kept ≡ true → result ≡ 11 }
+    ensures opened { is_some handle.old.pointer.kept ≡ false → result ≢ 9 →
+        SaysAudit (table_in table.now) result handle.new.pointer.kept }
+    ensures refused { result ≢ 0 → handle.new ≡ handle.old }
+{
+    if handle.is_open() {
+        return Refusal::Open as u8;
+    }
+    match open(alloc, table) {
+        Ok(opened) => {
+            *handle = AuditHandle::of(opened);
+            0
+        }
+        Err(first) => first as u8,
+    }
+}
+
+impl Audit {
+    /// Takes the pass that was recorded as the next one, or says why not.
+    fn next_recorded(
+        &mut self,
+        alloc: Global,
+        given: Given<'_>,
+        judged: &[u8],
+        actions: &[Told],
+    ) -> Result<(), Refusal>
+        ensures taken { IfOk result (λ _. TookRecorded self.old given.entry.now
+            given.entry.bandwidth given.entry.looks.now judged.now actions.now self.new) }
+        ensures no_judgement { result ≡ Err NoJudgement →
+            AreNoJudgements given.entry.looks.now judged.now }
+        ensures no_action { result ≡ Err NoAction → AreNoActions actions.now }
+        ensures wrong_count { length given.entry.looks.now ≢ length judged.now →
+            result ≡ Err WrongCount }
+        ensures answers { length given.entry.looks.now ≡ length judged.now →
+            IfErr result (λ why. (why ≡ NoJudgement) ⊎ (why ≡ NoAction) ⊎ (why ≡ Memory)) }
+        ensures why { IfErr result (λ why. (why ≡ WrongCount) ⊎ (why ≡ NoJudgement) ⊎
+            (why ≡ NoAction) ⊎ (why ≡ Memory)) }
+        ensures refused { OnErr result (self.new ≡ self.old) }
+    {
+        let entry = entry_of(alloc, given, judged, actions)?;
+        self.next(&entry);
+        Ok(())
+    }
+}
+
+/// Hands the audit the next recorded pass: what was found of the threads, what was judged of each
+/// look, and the actions. 0, whether or not the pass is legal; 10 the handle is closed; 13 there is
+/// not one judgement for each look; 17 an action is none; 19 a number is no judgement of its look;
+/// 9 no memory. After another number than 0 nothing has changed.
+#[unsafe(no_mangle)]
+pub extern "C" fn caladan_audit_pass(
+    alloc: Global,
+    handle: &mut AuditHandle,
+    now: u64,
+    bandwidth: u64,
+    looks: &[Found],
+    judged: &[u8],
+    actions: &[Told],
+) -> u8
+    ensures closed { is_some handle.old.pointer.kept ≡ false → result ≡ 10 }
+    ensures taken { result ≡ 0 → ForSome handle.old.pointer.kept (λ a.
+        IsSomeAnd handle.new.pointer.kept (TookRecorded a now bandwidth looks.now judged.now
+        actions.now)) }
+    ensures no_judgement { result ≡ 19 → AreNoJudgements looks.now judged.now }
+    ensures no_action { result ≡ 17 → AreNoActions actions.now }
+    ensures wrong_count { ForSome handle.old.pointer.kept (λ _.
+        length looks.now ≢ length judged.now → result ≡ 13) }
+    ensures answers { ForSome handle.old.pointer.kept (λ _. length looks.now ≡ length judged.now →
+        (result ≡ 0) ⊎ (result ≡ 19) ⊎ (result ≡ 17) ⊎ (result ≡ 9)) }
+    ensures own { (result ≡ 0) ⊎ (result ≡ 9) ⊎ (result ≡ 10) ⊎ (result ≡ 13) ⊎ (result ≡ 17) ⊎
+        (result ≡ 19) }
+    ensures refused { result ≢ 0 → handle.new.pointer.kept ≡ handle.old.pointer.kept }
+{
+    match handle.take(alloc) {
+        None => Refusal::Closed as u8,
+        Some(mut kept) => {
+            let given = Given {
+                now,
+                bandwidth,
+                looks,
+            };
+            let answer = kept.next_recorded(alloc, given, judged, actions);
+            *handle = AuditHandle::of(kept);
+            match answer {
+                Ok(()) => 0,
+                Err(refusal) => refusal.number(),
+            }
+        }
+    }
+}
+
+/// What the audit says of the passes so far: 0 each is legal; 20 one is not, and `pass` is the
+/// first that is not, counted from 0; 10 the handle is closed.
+#[unsafe(no_mangle)]
+pub extern "C" fn caladan_audit_verdict(
+    alloc: Global,
+    handle: &mut AuditHandle,
+    pass: &mut u64,
+) -> u8
+    ensures closed { is_some handle.old.pointer.kept ≡ false → result ≡ 10 }
+    ensures legal { result ≡ 0 → ForSome handle.old.pointer.kept (λ a. (h : List PassEntry) →
+        Audits a h → IsVerdict a.table h Legal) }
+    ensures illegal { result ≡ 20 → ForSome handle.old.pointer.kept (λ a. (h : List PassEntry) →
+        Audits a h → IsVerdict a.table h (Illegal pass.new)) }
+    ensures answers { ForSome handle.old.pointer.kept (λ _. (result ≡ 0) ⊎ (result ≡ 20)) }
+    ensures other { result ≢ 20 → pass.new ≡ pass.old }
+    ensures same { handle.new.pointer.kept ≡ handle.old.pointer.kept }
+{
+    match handle.take(alloc) {
+        None => Refusal::Closed as u8,
+        Some(kept) => {
+            let verdict = kept.verdict();
+            *handle = AuditHandle::of(kept);
+            match verdict {
+                Verdict::Legal => 0,
+                Verdict::Illegal { pass: first } => {
+                    *pass = first;
+                    Finding::Illegal as u8
+                }
+            }
+        }
+    }
+}
+
+/// Lets go of what the handle keeps: 0; 10 it is closed already.
+#[unsafe(no_mangle)]
+pub extern "C" fn caladan_audit_close(alloc: Global, handle: &mut AuditHandle) -> u8
+    ensures already { is_some handle.old.pointer.kept ≡ false → result ≡ 10 }
+    ensures closed { is_some handle.old.pointer.kept ≡ true → result ≡ 0 }
+    ensures after { handle.new.pointer.kept ≡ None }
+{
+    match handle.take(alloc) {
+        None => Refusal::Closed as u8,
+        Some(kept) => {
+            drop(kept);
+            0
+        }
+    }
+}

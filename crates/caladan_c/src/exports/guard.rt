@@ -1,0 +1,265 @@
+//! The calls of a guard: it is opened, lets passes through whose actions somebody else chose, says
+//! who has what, and is closed.
+
+mod each;
+mod facts;
+
+ghost use Rattle.std.specs.Prelude.{◌≡◌, ◌≢◌, ◌⊎◌, ◌<◌, ◌≤◌, IfOk, IfErr, IfNone, OnErr, Err, None};
+ghost use Rattle.std.specs.Prelude.{List, [], length, true, false};
+ghost use Rattle.std.specs.Option.{is_some, ForSome, IfSome, IsSomeAnd};
+ghost use Rattle.cal_machine.specs.Outcome.{Gives};
+ghost use Rattle.cal_machine.specs.Reading.{table_in};
+ghost use Rattle.cal_policy.specs.Board.{kept_holder};
+ghost use Rattle.cal_policy.specs.History.{actions_of, holder_of};
+ghost use Rattle.cal_policy.specs.Judgement.Judging.{IsInput};
+ghost use Rattle.cal_policy.specs.Tasks.{threads_of_table};
+ghost use Rattle.cal_policy.specs.declared.history.entry.PassEntry.{PassEntry};
+ghost use Rattle.caladan_c.specs.Found.{input_of, input_given};
+ghost use Rattle.caladan_c.specs.Gated.{GuardsAfter, SaysGate, WentThrough, WasStopped};
+ghost use Rattle.caladan_c.specs.Gated.{WasStoppedAt};
+ghost use Rattle.caladan_c.specs.Told.{AreJudgements, counts_of, told_holder_of};
+ghost use Rattle.caladan_c.specs.Recorded.{AreNoActions};
+ghost use Rattle.caladan_c.specs.declared.answer.Refusal.TheVariants.{Memory, NoAction, NoRoom};
+ghost use Rattle.caladan_c.specs.declared.answer.Refusal.TheVariants.{Unfit, WrongCount};
+
+use crate::answer::{Finding, Refusal};
+use crate::found::Found;
+use crate::gate::Gate;
+use crate::given::Given;
+use crate::handle::gate::GateHandle;
+use crate::told::Told;
+use crate::told::counts::Counts;
+use crate::told::holder::{ToldHolder, tell_holder};
+use crate::told::refused::{ToldRefused, tell_refused};
+use cal_guard::Refused;
+use cal_machine::ConfigFault;
+use std::alloc::Global;
+
+/// A new gate on the heap.
+fn open(alloc: Global, table: &[u8]) -> Result<Box<Gate>, ConfigFault>
+    ensures table { Gives (λ opened. opened.value.table) result (table_in table.now) }
+    ensures new { IfOk result (λ opened. GuardsAfter opened.value []) }
+{
+    let gate = Gate::open(alloc, table)?;
+    Ok(Box::new(alloc, gate)?)
+}
+
+/// Opens a guard of the table that a text spells, in a closed handle: 0, or the table's fault, 1 to
+/// 9.
+#[unsafe(no_mangle)]
+pub extern "C" fn caladan_guard_open(alloc: Global, table: &[u8], handle: &mut GateHandle) -> u8
+    ensures already { is_some handle.old.pointer.kept ≡ true → result ≡ 11 }
+    ensures opened { is_some handle.old.pointer.kept ≡ false → result ≢ 9 →
+        SaysGate (table_in table.now) result handle.new.pointer.kept }
+    ensures refused { result ≢ 0 → handle.new ≡ handle.old }
+{
+    if handle.is_open() {
+        return Refusal::Open as u8;
+    }
+    match open(alloc, table) {
+        Ok(opened) => {
+            *handle = GateHandle::of(opened);
+            0
+        }
+        Err(first) => first as u8,
+    }
+}
+
+impl Gate {
+    /// Lets the next pass through, or names the first action that is not permitted; or says why it
+    /// did nothing.
+    fn pass_told(
+        &mut self,
+        alloc: Global,
+        given: Given<'_>,
+        judged: &mut [u8],
+        actions: &[Told],
+    ) -> Result<Option<Refused>, Refusal>
+        ensures through { IfOk result (λ said.
+            IfNone said ((h : List PassEntry) → GuardsAfter self.old h →
+            WentThrough self.old h (input_given self.old.table h given.entry) actions.now
+            self.new)) }
+        ensures judged { IfOk result (λ said.
+            IfNone said ((h : List PassEntry) → GuardsAfter self.old h →
+            AreJudgements (input_given self.old.table h given.entry).seen judged.new)) }
+        ensures stopped { IfOk result (λ said. IfSome said (λ first. (h : List PassEntry) →
+            GuardsAfter self.old h → WasStopped self.old h
+            (input_given self.old.table h given.entry) actions.now first)) }
+        ensures unfit { result ≡ Err Unfit → (h : List PassEntry) → GuardsAfter self.old h →
+            IsInput self.old.table h (input_given self.old.table h given.entry) → ⊥ }
+        ensures no_action { result ≡ Err NoAction → AreNoActions actions.now }
+        ensures wrong_count { length given.entry.looks.now ≢ threads_of_table self.old.table →
+            result ≡ Err WrongCount }
+        ensures no_room { length given.entry.looks.now ≡ threads_of_table self.old.table →
+            length judged.old < threads_of_table self.old.table → result ≡ Err NoRoom }
+        ensures answers { length given.entry.looks.now ≡ threads_of_table self.old.table →
+            threads_of_table self.old.table ≤ length judged.old →
+            IfErr result (λ why. (why ≡ Unfit) ⊎ (why ≡ NoAction) ⊎ (why ≡ Memory)) }
+        ensures why { IfErr result (λ why. (why ≡ WrongCount) ⊎ (why ≡ NoRoom) ⊎ (why ≡ Unfit) ⊎
+            (why ≡ NoAction) ⊎ (why ≡ Memory)) }
+        ensures stands { IfOk result (λ said. IfSome said (λ _. (self.new ≡ self.old) ×
+            (judged.new ≡ judged.old))) }
+        ensures refused { OnErr result ((self.new ≡ self.old) × (judged.new ≡ judged.old)) }
+    {
+        let threads = self.threads();
+        if given.looks.len() != threads {
+            return Err(Refusal::WrongCount);
+        }
+        if judged.len() < threads {
+            return Err(Refusal::NoRoom);
+        }
+        self.pass(alloc, given, judged, actions)
+    }
+}
+
+/// Hands the guard the next pass: what was found of each thread, in thread order, and the actions
+/// that somebody chose. 0: each is permitted at its place, the pass went through, and what was
+/// judged of each look is written; 18: one is not, and `refused` says which and why; 10 the handle
+/// is closed; 13 there is not one look for each thread; 14 there is not room for a judgement of
+/// each; 15 a look does not fit what its thread showed before, or has not the right shape; 17 an
+/// action is none; 9 no memory. After another number than 0 nothing has changed, but that 18 writes
+/// `refused`.
+#[unsafe(no_mangle)]
+pub extern "C" fn caladan_guard_pass(
+    alloc: Global,
+    handle: &mut GateHandle,
+    now: u64,
+    bandwidth: u64,
+    looks: &[Found],
+    judged: &mut [u8],
+    actions: &[Told],
+    refused: &mut ToldRefused,
+) -> u8
+    ensures closed { is_some handle.old.pointer.kept ≡ false → result ≡ 10 }
+    ensures through { result ≡ 0 → ForSome handle.old.pointer.kept (λ g. (h : List PassEntry) →
+        GuardsAfter g h → IsSomeAnd handle.new.pointer.kept
+        (WentThrough g h (input_of g.table h now bandwidth looks.now) actions.now)) }
+    ensures judged { result ≡ 0 → ForSome handle.old.pointer.kept (λ g. (h : List PassEntry) →
+        GuardsAfter g h → AreJudgements (input_of g.table h now bandwidth looks.now).seen
+        judged.new) }
+    ensures stopped { result ≡ 18 → ForSome handle.old.pointer.kept (λ g. (h : List PassEntry) →
+        GuardsAfter g h → WasStoppedAt g h (input_of g.table h now bandwidth looks.now) actions.now
+        refused.new) }
+    ensures unfit { result ≡ 15 → ForSome handle.old.pointer.kept (λ g. (h : List PassEntry) →
+        GuardsAfter g h → IsInput g.table h (input_of g.table h now bandwidth looks.now) → ⊥) }
+    ensures no_action { result ≡ 17 → AreNoActions actions.now }
+    ensures wrong_count { ForSome handle.old.pointer.kept (λ g.
+        length looks.now ≢ threads_of_table g.table → result ≡ 13) }
+    ensures no_room { ForSome handle.old.pointer.kept (λ g.
+        length looks.now ≡ threads_of_table g.table → length judged.old < threads_of_table g.table →
+        result ≡ 14) }
+    ensures answers { ForSome handle.old.pointer.kept (λ g.
+        length looks.now ≡ threads_of_table g.table → threads_of_table g.table ≤ length judged.old →
+        (result ≡ 0) ⊎ (result ≡ 18) ⊎ (result ≡ 15) ⊎ (result ≡ 17) ⊎ (result ≡ 9)) }
+    ensures own { (result ≡ 0) ⊎ (result ≡ 9) ⊎ (result ≡ 10) ⊎ (result ≡ 13) ⊎ (result ≡ 14) ⊎
+        (result ≡ 15) ⊎ (result ≡ 17) ⊎ (result ≡ 18) }
+    ensures unchanged { result ≢ 0 → (handle.new.pointer.kept ≡ handle.old.pointer.kept) ×
+        (judged.new ≡ judged.old) }
+    ensures told { result ≢ 18 → refused.new ≡ refused.old }
+{
+    match handle.take(alloc) {
+        None => Refusal::Closed as u8,
+        Some(mut kept) => {
+            let given = Given {
+                now,
+                bandwidth,
+                looks,
+            };
+            let answer = kept.pass_told(alloc, given, judged, actions);
+            *handle = GateHandle::of(kept);
+            match answer {
+                Ok(None) => 0,
+                Ok(Some(first)) => {
+                    *refused = tell_refused(first);
+                    Finding::Stopped as u8
+                }
+                Err(refusal) => refusal.number(),
+            }
+        }
+    }
+}
+
+/// Who has a core after the passes that went through: 0; 10 the handle is closed; 16 the table has
+/// no such core.
+#[unsafe(no_mangle)]
+pub extern "C" fn caladan_guard_holder(
+    alloc: Global,
+    handle: &mut GateHandle,
+    core: u8,
+    holder: &mut ToldHolder,
+) -> u8
+    ensures closed { is_some handle.old.pointer.kept ≡ false → result ≡ 10 }
+    ensures told { result ≡ 0 → ForSome handle.old.pointer.kept (λ g. (h : List PassEntry) →
+        GuardsAfter g h → holder.new ≡ told_holder_of
+        (kept_holder (holder_of (actions_of h) core))) }
+    ensures there { ForSome handle.old.pointer.kept (λ g. core < g.table.cores → result ≡ 0) }
+    ensures no_core { ForSome handle.old.pointer.kept (λ g. g.table.cores ≤ core → result ≡ 16) }
+    ensures refused { result ≢ 0 → holder.new ≡ holder.old }
+    ensures same { handle.new.pointer.kept ≡ handle.old.pointer.kept }
+{
+    match handle.take(alloc) {
+        None => Refusal::Closed as u8,
+        Some(kept) => {
+            let found = kept.holder(core);
+            *handle = GateHandle::of(kept);
+            match found {
+                Some(found) => {
+                    *holder = tell_holder(found);
+                    0
+                }
+                None => Refusal::NoSuch as u8,
+            }
+        }
+    }
+}
+
+/// What a task has after the passes that went through: 0; 10 the handle is closed; 16 the table has
+/// no such task.
+#[unsafe(no_mangle)]
+pub extern "C" fn caladan_guard_task(
+    alloc: Global,
+    handle: &mut GateHandle,
+    task: usize,
+    counts: &mut Counts,
+) -> u8
+    ensures closed { is_some handle.old.pointer.kept ≡ false → result ≡ 10 }
+    ensures told { result ≡ 0 → ForSome handle.old.pointer.kept (λ g. (h : List PassEntry) →
+        GuardsAfter g h → counts.new ≡ counts_of g.table (actions_of h) task) }
+    ensures there { ForSome handle.old.pointer.kept (λ g. task < length g.table.tasks →
+        result ≡ 0) }
+    ensures no_task { ForSome handle.old.pointer.kept (λ g. length g.table.tasks ≤ task →
+        result ≡ 16) }
+    ensures refused { result ≢ 0 → counts.new ≡ counts.old }
+    ensures same { handle.new.pointer.kept ≡ handle.old.pointer.kept }
+{
+    match handle.take(alloc) {
+        None => Refusal::Closed as u8,
+        Some(kept) => {
+            let found = kept.counts(task);
+            *handle = GateHandle::of(kept);
+            match found {
+                Some(found) => {
+                    *counts = found;
+                    0
+                }
+                None => Refusal::NoSuch as u8,
+            }
+        }
+    }
+}
+
+/// Lets go of what the handle keeps: 0; 10 it is closed already.
+#[unsafe(no_mangle)]
+pub extern "C" fn caladan_guard_close(alloc: Global, handle: &mut GateHandle) -> u8
+    ensures already { is_some handle.old.pointer.kept ≡ false → result ≡ 10 }
+    ensures closed { is_some handle.old.pointer.kept ≡ true → result ≡ 0 }
+    ensures after { handle.new.pointer.kept ≡ None }
+{
+    match handle.take(alloc) {
+        None => Refusal::Closed as u8,
+        Some(kept) => {
+            drop(kept);
+            0
+        }
+    }
+}

@@ -1,0 +1,285 @@
+//! The calls of a scheduler: it is opened, makes passes, says who has what, and is closed.
+
+mod each;
+mod facts;
+
+ghost use Rattle.std.specs.Prelude.{◌≡◌, ◌≢◌, ◌⊎◌, ◌<◌, ◌≤◌, IfOk, IfErr, OnErr, Err, None, List};
+ghost use Rattle.std.specs.Prelude.{[], length, true, false};
+ghost use Rattle.std.specs.Option.{is_some, ForSome, IsSomeAnd};
+ghost use Rattle.cal_machine.specs.Outcome.{Gives};
+ghost use Rattle.cal_machine.specs.Reading.{table_in};
+ghost use Rattle.cal_policy.specs.Board.{kept_holder};
+ghost use Rattle.cal_policy.specs.History.{actions_of, holder_of};
+ghost use Rattle.cal_policy.specs.Judgement.Judging.{IsInput};
+ghost use Rattle.cal_policy.specs.Tasks.{threads_of_table};
+ghost use Rattle.cal_policy.specs.declared.history.entry.PassEntry.{PassEntry};
+ghost use Rattle.caladan_c.specs.Found.{input_of, input_given};
+ghost use Rattle.caladan_c.specs.Opening.{Says};
+ghost use Rattle.caladan_c.specs.Passing.{StandsAfter, IsPassed, HasRoom, IsShort};
+ghost use Rattle.caladan_c.specs.Told.{AreTold, AreJudgements, counts_of, told_holder_of};
+ghost use Rattle.caladan_c.specs.declared.answer.Refusal.TheVariants.{Memory, NoRoom, Unfit};
+ghost use Rattle.caladan_c.specs.declared.answer.Refusal.TheVariants.{WrongCount};
+
+use crate::answer::Refusal;
+use crate::found::Found;
+use crate::given::Given;
+use crate::handle::Handle;
+use crate::scheduler::Scheduler;
+use crate::told::counts::Counts;
+use crate::told::holder::{ToldHolder, tell_holder};
+use crate::told::{Told, tell_all};
+use cal_machine::ConfigFault;
+use cal_policy::MOST_ACTIONS;
+use std::alloc::Global;
+
+/// A new scheduler on the heap.
+fn open(alloc: Global, table: &[u8]) -> Result<Box<Scheduler>, ConfigFault>
+    ensures table { Gives (λ opened. opened.value.table) result (table_in table.now) }
+    ensures new { IfOk result (λ opened. StandsAfter opened.value []) }
+{
+    let scheduler = Scheduler::open(alloc, table)?;
+    Ok(Box::new(alloc, scheduler)?)
+}
+
+/// Opens the table that a text spells, in a closed handle: 0, or the table's fault, 1 to 9. It
+/// takes all the memory that the passes need.
+#[unsafe(no_mangle)]
+pub extern "C" fn caladan_open(alloc: Global, table: &[u8], handle: &mut Handle) -> u8
+    ensures already { is_some handle.old.pointer.kept ≡ true → result ≡ 11 }
+    ensures opened { is_some handle.old.pointer.kept ≡ false → result ≢ 9 →
+        Says (table_in table.now) result handle.new.pointer.kept }
+    ensures refused { result ≢ 0 → handle.new ≡ handle.old }
+{
+    if handle.is_open() {
+        return Refusal::Open as u8;
+    }
+    match open(alloc, table) {
+        Ok(opened) => {
+            *handle = Handle::of(opened);
+            0
+        }
+        Err(fault) => fault as u8,
+    }
+}
+
+/// How many kernel threads the table has: each pass is given as many looks. 0 of a closed handle.
+#[unsafe(no_mangle)]
+pub extern "C" fn caladan_threads(alloc: Global, handle: &mut Handle) -> usize
+    ensures closed { is_some handle.old.pointer.kept ≡ false → result ≡ 0 }
+    ensures count { ForSome handle.old.pointer.kept (λ s. result ≡ threads_of_table s.table) }
+    ensures same { handle.new.pointer.kept ≡ handle.old.pointer.kept }
+{
+    match handle.take(alloc) {
+        None => 0,
+        Some(kept) => {
+            let threads = kept.threads();
+            *handle = Handle::of(kept);
+            threads
+        }
+    }
+}
+
+/// The bandwidth figure above which a best-effort task loses a core. 0 of a closed handle.
+#[unsafe(no_mangle)]
+pub extern "C" fn caladan_bandwidth_limit(alloc: Global, handle: &mut Handle) -> u64
+    ensures closed { is_some handle.old.pointer.kept ≡ false → result ≡ 0 }
+    ensures limit { ForSome handle.old.pointer.kept (λ s. result ≡ s.table.bandwidth_limit) }
+    ensures same { handle.new.pointer.kept ≡ handle.old.pointer.kept }
+{
+    match handle.take(alloc) {
+        None => 0,
+        Some(kept) => {
+            let limit = kept.bandwidth_limit();
+            *handle = Handle::of(kept);
+            limit
+        }
+    }
+}
+
+impl Scheduler {
+    /// Makes the next pass and writes its actions: how many they are, or why it did nothing.
+    fn pass_told(
+        &mut self,
+        alloc: Global,
+        given: Given<'_>,
+        judged: &mut [u8],
+        actions: &mut [Told],
+    ) -> Result<usize, Refusal>
+        ensures passed { IfOk result (λ made. (h : List PassEntry) → StandsAfter self.old h →
+            IsPassed self.old h (input_given self.old.table h given.entry) self.new
+            × AreTold self.new.made made actions.new) }
+        ensures judged { IfOk result (λ _. (h : List PassEntry) → StandsAfter self.old h →
+            AreJudgements (input_given self.old.table h given.entry).seen judged.new) }
+        ensures unfit { result ≡ Err Unfit → (h : List PassEntry) → StandsAfter self.old h →
+            IsInput self.old.table h (input_given self.old.table h given.entry) → ⊥ }
+        ensures wrong_count { length given.entry.looks.now ≢ threads_of_table self.old.table →
+            result ≡ Err WrongCount }
+        ensures no_room { length given.entry.looks.now ≡ threads_of_table self.old.table →
+            IsShort (threads_of_table self.old.table) judged.old actions.old →
+            result ≡ Err NoRoom }
+        ensures answers { length given.entry.looks.now ≡ threads_of_table self.old.table →
+            HasRoom (threads_of_table self.old.table) judged.old actions.old →
+            IfErr result (λ why. (why ≡ Unfit) ⊎ (why ≡ Memory)) }
+        ensures why { IfErr result (λ why. (why ≡ WrongCount) ⊎ (why ≡ NoRoom) ⊎ (why ≡ Unfit) ⊎
+            (why ≡ Memory)) }
+        ensures refused { OnErr result ((self.new ≡ self.old) × (actions.new ≡ actions.old) ×
+            (judged.new ≡ judged.old)) }
+    {
+        let threads = self.threads();
+        if given.looks.len() != threads {
+            return Err(Refusal::WrongCount);
+        }
+        if judged.len() < threads || actions.len() < MOST_ACTIONS {
+            return Err(Refusal::NoRoom);
+        }
+        self.pass(alloc, given, judged)?;
+        Ok(tell_all(self.made(), actions))
+    }
+}
+
+/// Makes the next pass on what was found of each thread, in thread order, and writes its actions
+/// and what was judged of each look: 0; 10 the handle is closed; 13 there is not one look for each
+/// thread; 14 there is not room for 338 actions and a judgement of each look; 15 a look does not
+/// fit what its thread showed before, or has not the right shape; 9 no memory. After another number
+/// than 0 nothing has changed, but that `made` is 0.
+#[unsafe(no_mangle)]
+pub extern "C" fn caladan_pass(
+    alloc: Global,
+    handle: &mut Handle,
+    now: u64,
+    bandwidth: u64,
+    looks: &[Found],
+    judged: &mut [u8],
+    actions: &mut [Told],
+    made: &mut usize,
+) -> u8
+    ensures closed { is_some handle.old.pointer.kept ≡ false → result ≡ 10 }
+    ensures passed { result ≡ 0 → ForSome handle.old.pointer.kept (λ s. (h : List PassEntry) →
+        StandsAfter s h → IsSomeAnd handle.new.pointer.kept (λ after.
+        IsPassed s h (input_of s.table h now bandwidth looks.now) after ×
+        AreTold after.made made.new actions.new)) }
+    ensures judged { result ≡ 0 → ForSome handle.old.pointer.kept (λ s. (h : List PassEntry) →
+        StandsAfter s h → AreJudgements (input_of s.table h now bandwidth looks.now).seen
+        judged.new) }
+    ensures unfit { result ≡ 15 → ForSome handle.old.pointer.kept (λ s. (h : List PassEntry) →
+        StandsAfter s h → IsInput s.table h (input_of s.table h now bandwidth looks.now) → ⊥) }
+    ensures wrong_count { ForSome handle.old.pointer.kept (λ s.
+        length looks.now ≢ threads_of_table s.table → result ≡ 13) }
+    ensures no_room { ForSome handle.old.pointer.kept (λ s.
+        length looks.now ≡ threads_of_table s.table →
+        IsShort (threads_of_table s.table) judged.old actions.old → result ≡ 14) }
+    ensures answers { ForSome handle.old.pointer.kept (λ s.
+        length looks.now ≡ threads_of_table s.table →
+        HasRoom (threads_of_table s.table) judged.old actions.old → (result ≡ 0) ⊎ (result ≡ 15) ⊎
+        (result ≡ 9)) }
+    ensures own { (result ≡ 0) ⊎ (result ≡ 9) ⊎ (result ≡ 10) ⊎ (result ≡ 13) ⊎ (result ≡ 14) ⊎
+        (result ≡ 15) }
+    ensures refused { result ≢ 0 → (handle.new.pointer.kept ≡ handle.old.pointer.kept)
+        × (actions.new ≡ actions.old) × (judged.new ≡ judged.old) × (made.new ≡ 0) }
+{
+    *made = 0;
+    match handle.take(alloc) {
+        None => Refusal::Closed as u8,
+        Some(mut kept) => {
+            let given = Given {
+                now,
+                bandwidth,
+                looks,
+            };
+            let answer = kept.pass_told(alloc, given, judged, actions);
+            *handle = Handle::of(kept);
+            match answer {
+                Ok(count) => {
+                    *made = count;
+                    0
+                }
+                Err(refusal) => refusal.number(),
+            }
+        }
+    }
+}
+
+/// Who has a core after the passes so far: 0; 10 the handle is closed; 16 the table has no such
+/// core.
+#[unsafe(no_mangle)]
+pub extern "C" fn caladan_holder(
+    alloc: Global,
+    handle: &mut Handle,
+    core: u8,
+    holder: &mut ToldHolder,
+) -> u8
+    ensures closed { is_some handle.old.pointer.kept ≡ false → result ≡ 10 }
+    ensures told { result ≡ 0 → ForSome handle.old.pointer.kept (λ s. (h : List PassEntry) →
+        StandsAfter s h → holder.new ≡ told_holder_of
+        (kept_holder (holder_of (actions_of h) core))) }
+    ensures there { ForSome handle.old.pointer.kept (λ s. core < s.table.cores → result ≡ 0) }
+    ensures no_core { ForSome handle.old.pointer.kept (λ s. s.table.cores ≤ core → result ≡ 16) }
+    ensures refused { result ≢ 0 → holder.new ≡ holder.old }
+    ensures same { handle.new.pointer.kept ≡ handle.old.pointer.kept }
+{
+    match handle.take(alloc) {
+        None => Refusal::Closed as u8,
+        Some(kept) => {
+            let found = kept.holder(core);
+            *handle = Handle::of(kept);
+            match found {
+                Some(found) => {
+                    *holder = tell_holder(found);
+                    0
+                }
+                None => Refusal::NoSuch as u8,
+            }
+        }
+    }
+}
+
+/// What a task has after the passes so far: 0; 10 the handle is closed; 16 the table has no such
+/// task.
+#[unsafe(no_mangle)]
+pub extern "C" fn caladan_task(
+    alloc: Global,
+    handle: &mut Handle,
+    task: usize,
+    counts: &mut Counts,
+) -> u8
+    ensures closed { is_some handle.old.pointer.kept ≡ false → result ≡ 10 }
+    ensures told { result ≡ 0 → ForSome handle.old.pointer.kept (λ s. (h : List PassEntry) →
+        StandsAfter s h → counts.new ≡ counts_of s.table (actions_of h) task) }
+    ensures there { ForSome handle.old.pointer.kept (λ s. task < length s.table.tasks →
+        result ≡ 0) }
+    ensures no_task { ForSome handle.old.pointer.kept (λ s. length s.table.tasks ≤ task →
+        result ≡ 16) }
+    ensures refused { result ≢ 0 → counts.new ≡ counts.old }
+    ensures same { handle.new.pointer.kept ≡ handle.old.pointer.kept }
+{
+    match handle.take(alloc) {
+        None => Refusal::Closed as u8,
+        Some(kept) => {
+            let found = kept.counts(task);
+            *handle = Handle::of(kept);
+            match found {
+                Some(found) => {
+                    *counts = found;
+                    0
+                }
+                None => Refusal::NoSuch as u8,
+            }
+        }
+    }
+}
+
+/// Lets go of what the handle keeps: 0; 10 it is closed already.
+#[unsafe(no_mangle)]
+pub extern "C" fn caladan_close(alloc: Global, handle: &mut Handle) -> u8
+    ensures already { is_some handle.old.pointer.kept ≡ false → result ≡ 10 }
+    ensures closed { is_some handle.old.pointer.kept ≡ true → result ≡ 0 }
+    ensures after { handle.new.pointer.kept ≡ None }
+{
+    match handle.take(alloc) {
+        None => Refusal::Closed as u8,
+        Some(kept) => {
+            drop(kept);
+            0
+        }
+    }
+}
