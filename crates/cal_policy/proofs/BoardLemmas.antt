@@ -6,9 +6,11 @@ pub mod BansKept
 pub mod CommandNumbers
 pub mod FitLooks
 pub mod Holders
+pub mod News
 pub mod OpenCores
 pub mod Replayed
 pub mod Sorted
 pub mod StateKept
 pub mod Surveyed
 pub mod TwoSets
+pub mod Unshown

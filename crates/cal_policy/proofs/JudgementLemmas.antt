@@ -3,3 +3,4 @@ pub mod Gone
 pub mod Judged
 pub mod OneByOne
 pub mod OpenInput
+pub mod Weighing

@@ -3,9 +3,11 @@ pub mod CoreSets
 pub mod Counts
 pub mod KeepingSets
 pub mod Losing
+pub mod News
 pub mod OpenCores
 pub mod Survey
 pub mod ThreadSet
+pub mod Unshown
 use Rattle.std.specs.Prelude.{◌≡◌, ℕ, ◌<◌, ◌≤◌, ◌^◌, List, min, Option, Some, None}
 use Rattle.std.specs.Prelude.{slice_index, slice_index_or, option_map, [], ◌∷◌, ◌++◌, length}
 use Rattle.std.specs.Option.{IfSome}
@@ -40,7 +42,8 @@ use Rattle.cal_policy.specs.Pass.Grants.{is_granted_in}
 use Rattle.cal_policy.specs.Board.Survey.{Surveys}
 use Rattle.cal_policy.specs.Board.CoreSets.{Sorts, IsSetOfBanned}
 use Rattle.cal_policy.specs.Board.OpenCores.{Opens}
-use Rattle.cal_policy.specs.Board.KeepingSets.{KeepsSets}
+use Rattle.cal_policy.specs.Board.KeepingSets.{KeepsSets, kept_in}
+use Rattle.cal_policy.specs.Board.Unshown.{Shows}
 
 -- a number of commands as it is kept: no record acknowledges 2^64, so what is above need not be
 -- told apart
@@ -150,7 +153,8 @@ abbrev pub NamesTable : Table → Action → Type 0
 NamesTable table action = NamesCores table.cores (threads_of_table table) action
 
 -- the board's threads are the table's, its counts are those of its cores, its sets have each core
--- where its holder and its ban say, and each thread where its kept record says
+-- where its holder, its ban and its thread's kept record say, and each thread where its kept record
+-- says
 pub record IsReady (table : Table) (b : Board) : Type 0 where
   pub sound : BoardSound MOST_THREADS b
   pub own : BoardSound (threads_of_table table) b
@@ -158,6 +162,7 @@ pub record IsReady (table : Table) (b : Board) : Type 0 where
   pub sets : Sorts (holder_in b.holding) b.sets
   pub opens : Opens (holder_in b.holding) b.sets.banned b.open_cores
   pub keeping : KeepsSets b.keeping
+  pub shows : Shows (holder_in b.holding) (kept_in b.keeping) b.unshown
 
 -- the set has the cores that were granted in this pass
 pub record HasGranted (granted : CoreSet) (acts : List Action) : Type 0 where

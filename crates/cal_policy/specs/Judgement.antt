@@ -5,3 +5,4 @@ pub mod OneByOne
 pub mod OpenInput
 pub mod Orderly
 pub mod Taken
+pub mod Weighing

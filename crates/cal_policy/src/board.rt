@@ -10,6 +10,7 @@ pub mod records;
 pub mod replay;
 pub mod survey;
 pub mod thread_set;
+pub mod unshown;
 
 ghost use Rattle.std.specs.Prelude.{◌≡◌, ◌≤◌, ◌++◌, ◌∷◌, [], List, length};
 ghost use Rattle.cal_machine.specs.declared.machine.TheConstants.{MOST_CORES};
@@ -20,6 +21,7 @@ ghost use Rattle.cal_machine.specs.Table.{Table, IsTable};
 ghost use Rattle.cal_policy.specs.Board.{Agrees, IsReady, HasGranted, KeepingAgrees};
 ghost use Rattle.cal_policy.specs.Board.{KeepsBefore, NamesCores, NamesTable};
 ghost use Rattle.cal_policy.specs.Board.KeepingSets.{FitAfter, KeepsSets};
+ghost use Rattle.cal_policy.specs.Board.News.{HasNews};
 
 use crate::board::bans::Bans;
 use crate::board::caps::Caps;
@@ -28,6 +30,8 @@ use crate::board::holders::{Holding, core_changed_by};
 use crate::board::open_cores::OpenCores;
 use crate::board::records::Keeping;
 use crate::board::survey::Survey;
+use crate::board::thread_set::ThreadSet;
+use crate::board::unshown::note_changed;
 use crate::history::action::Action;
 use crate::history::look::Seen;
 use cal_machine::{Config, CoreSet};
@@ -50,6 +54,8 @@ pub struct Board {
     pub caps: Caps,
     /// The records that are kept.
     pub keeping: Keeping,
+    /// The cores that the kept record of their thread may not show: all that may have been left.
+    pub unshown: CoreSet,
     /// The cores granted in this pass.
     pub fresh: CoreSet,
 }
@@ -86,6 +92,7 @@ impl Board {
             bans: Bans::new(),
             caps: Caps::new(),
             keeping: Keeping::new(),
+            unshown: CoreSet::empty(),
             fresh: CoreSet::empty(),
         }
     }
@@ -109,6 +116,7 @@ impl Board {
         let after = self.holding.holder_at(core);
         self.survey.add(config, after);
         self.sets.move_core(core, before, after);
+        note_changed(&mut self.unshown, core);
         self.sets.note_ban(action);
         let banned = self.sets.banned;
         self.open_cores.note(config, &self.holding, &banned, action);
@@ -156,6 +164,7 @@ impl Board {
                 waiting: self.keeping.waiting,
                 settled: self.keeping.settled,
             },
+            unshown: self.unshown,
             fresh: self.fresh,
         }
     }
@@ -172,7 +181,7 @@ impl Board {
             KeepsBefore self.new.keeping looks }
     {
         self.fresh = CoreSet::empty();
-        self.keeping.look(seen);
+        self.keeping.look(seen, &mut self.unshown);
     }
 
     /// Begins a pass with its looks, which fit those before. Only those that are not as the ones
@@ -189,6 +198,22 @@ impl Board {
             KeepsBefore self.new.keeping looks }
     {
         self.fresh = CoreSet::empty();
-        self.keeping.look_fit(seen);
+        self.keeping.look_fit(seen, &mut self.unshown);
+    }
+    /// The same, where only the looks at the threads of a set may tell what is not kept yet.
+    pub fn begin_news(&mut self, seen: &[Seen], news: &ThreadSet)
+        requires looks { length seen.now ≤ MOST_THREADS }
+        requires sets { KeepsSets self.old.keeping }
+        requires news { HasNews self.old.keeping seen.now news.now }
+        ensures agrees { (x : List Action) → Agrees self.old x → Agrees self.new x }
+        ensures fresh { HasGranted self.new.fresh [] }
+        ensures ready { (table : Table) → IsReady table self.old → IsReady table self.new }
+        ensures keeping { (looks : List (List Seen)) → KeepingAgrees self.old.keeping looks →
+            FitAfter looks seen.now → KeepingAgrees self.new.keeping (looks ++ seen.now ∷ []) }
+        ensures before { (looks : List (List Seen)) → KeepingAgrees self.old.keeping looks →
+            KeepsBefore self.new.keeping looks }
+    {
+        self.fresh = CoreSet::empty();
+        self.keeping.look_news(seen, news, &mut self.unshown);
     }
 }

@@ -1,5 +1,7 @@
 -- Cores that a part of a pass goes past, since nothing is due for them.
-use Rattle.std.proofs.Common.{◌≡◌, ℕ, ◌+◌, ◌-◌, ◌*◌, ◌<◌, ◌≤◌, Bool, true, false, not, ◌&&◌, ◌||◌, nat_lt, max, cond, List, length, [], ◌∷◌, ◌++◌, Option, Some, None, refl, ap, sym, ◌∙◌, arith}
+use Rattle.std.proofs.Common.{◌≡◌, ℕ, ◌+◌, ◌-◌, ◌*◌, ◌<◌, ◌≤◌, Bool, true, false, not, ◌&&◌, ◌||◌, nat_lt, nat_le, max, cond, eqb, List, length, [], ◌∷◌, ◌++◌, Option, Some, None, refl, ap, sym, subst, ◌∙◌, arith}
+use Rattle.std.proofs.lemmas.Bool.Decides.{nat_tests}
+use Rattle.cal_machine.specs.Table.{Table}
 use Rattle.std.proofs.lemmas.List.{append-nil}
 use Rattle.std.specs.Option.{IfSome, is_some}
 use Rattle.cal_machine.proofs.ThreadNumbers.{task_in}
@@ -20,7 +22,7 @@ use Rattle.cal_policy.specs.History.{holder_of, ban_of}
 use Rattle.cal_policy.specs.Board.Counts.{is_free, is_held, is_over}
 use Rattle.cal_machine.specs.Machine.{sibling_of}
 use Rattle.cal_policy.specs.Setting.{Setting, so_far, kept_now}
-use Rattle.cal_policy.specs.Pass.Frees.{free_at, shows_left}
+use Rattle.cal_policy.specs.Pass.Frees.{free_at, has_left, shows_left}
 use Rattle.cal_policy.specs.Pass.Bans.{unban_at, unban_for, bans_at, ban_for, may_ban_beside, may_be_emptied, too_long_on}
 use Rattle.cal_policy.specs.Board.{Stands, IsReady, holder_in, kept_holder, placement_of}
 use Rattle.cal_policy.specs.Board.OpenCores.{is_alone_by}
@@ -28,6 +30,7 @@ use Rattle.cal_policy.specs.Pass.ToBan.{NoneOver, cores_to_ban}
 use Rattle.cal_policy.specs.Board.CoreSets.{Sorts}
 use Rattle.cal_policy.specs.Board.KeepingSets.{KeepsSets, kept_in, shows_waiting}
 use Rattle.cal_policy.specs.Board.ThreadSet.{has_thread}
+use Rattle.cal_policy.specs.Board.Unshown.{IsShownOn}
 use Rattle.cal_policy.specs.Pass.Grants.{record_delay, thread_delay, waited}
 use Rattle.cal_machine.specs.Tasks.{first_thread}
 use Rattle.cal_policy.specs.Tasks.{thread_of}
@@ -35,17 +38,32 @@ use Rattle.cal_policy.specs.Pass.Choice.{greatest_below}
 use Rattle.cal_policy.proofs.BoardLemmas.TwoSets.{in_taken}
 use Rattle.cal_policy.proofs.ListLemmas.OneNumberMore.{greatest_past}
 
--- nobody leaves a free core
-none_left : (kept : ℕ → Record) (h : Holder) → not (is_free h) ≡ false → shows_left kept h ≡ false
-none_left kept Free e = refl
-none_left kept (Held p) e = cc
-none_left kept (Leaving p cause) e = cc
+and_false : (a : Bool) → (a && false) ≡ false
+and_false true = refl
+and_false false = refl
 
--- a core that is not taken is not freed
-pub free_not_taken : (b : Board) (s : Setting) (acts : List Action) → Stands b s acts → Sorts (holder_in b.holding) b.sets →
-    (c : ℕ) → c < 128 → has b.sets.taken c ≡ false → free_at s acts c ≡ []
-free_not_taken b s acts st sorts c lt e = ap (λ w. cond w (actions.Free c ∷ []) [])
-    (none_left (kept_now s) (holder_of (so_far s acts) c) (sym (in_taken b s acts st sorts c lt) ∙ e))
+-- a thread that is shown on its core has not left it
+shown_stays : (rec : Record) (n c : ℕ) → rec.running ≡ c + 1 → has_left rec n ≡ false
+shown_stays rec n c e =
+    let on : eqb rec.running 0 ≡ false = grind (arith, nat_tests) in
+    ap (λ b. nat_le n rec.taken && b) on ∙ and_false (nat_le n rec.taken)
+
+none_left : (kept now : ℕ → Record) (c : ℕ) (h : Holder) → ((k : ℕ) → k < 128 → kept k ≡ now k) →
+    IfSome (placement_of (kept_holder h)) (λ p. p.thread < 128) → IsShownOn kept c (kept_holder h) → shows_left now h ≡ false
+none_left kept now c Free same low on = refl
+none_left kept now c (Held p) same low on = shown_stays (now p.thread) p.number c (ap (λ (r : Record). r.running) (sym (same p.thread low)) ∙ on low)
+none_left kept now c (Leaving p cause) same low on = shown_stays (now p.thread) p.number c (ap (λ (r : Record). r.running) (sym (same p.thread low)) ∙ on low)
+
+-- a core that nobody has, or on which its thread is shown, is not freed
+pub free_not_unshown : (table : Table) (b : Board) (s : Setting) (acts : List Action) → Stands b s acts → IsReady table b →
+    (c : ℕ) → c < 128 → has b.unshown c ≡ false → free_at s acts c ≡ []
+free_not_unshown table b s acts st ready c lt e =
+    let h : Holder = holder_of (so_far s acts) c in
+    let is : holder_in b.holding c ≡ kept_holder h = st.agrees.holding.holders c lt in
+    let Low : Holder → Type 0 = λ x. IfSome (placement_of x) (λ p. p.thread < 128) in
+    let On : Holder → Type 0 = λ x. IsShownOn (kept_in b.keeping) c x in
+    ap (λ w. cond w (actions.Free c ∷ []) [])
+    (none_left (kept_in b.keeping) (kept_now s) c h st.kept (subst Low is (ready.sound.holding.holders c)) (subst On is (ready.shows.shown c lt e)))
 
 none_banned : (s : Setting) (c : ℕ) (o : Option BannedFor) → is_some o ≡ false → unban_for s c o ≡ []
 none_banned s c None e = refl

@@ -1,7 +1,7 @@
 //! What the looks so far have shown.
 
 ghost use Rattle.std.specs.Prelude.{◌≡◌, ℕ, ◌<◌, ◌≤◌, ◌==◌, ◌++◌, ◌∷◌, [], List, length};
-ghost use Rattle.std.specs.Prelude.{replicate, slice_index, if◌then◌else◌, IsTrue};
+ghost use Rattle.std.specs.Prelude.{replicate, slice_index, if◌then◌else◌, IsTrue, false};
 ghost use Rattle.std.specs.Option.{unwrap_or};
 ghost use Rattle.cal_machine.specs.declared.numbering.TheConstants.{MOST_THREADS};
 ghost use Rattle.cal_policy.specs.declared.history.look.Seen.{Seen};
@@ -11,12 +11,16 @@ ghost use Rattle.cal_policy.specs.History.Looks.{record_to_keep, shown_by};
 ghost use Rattle.cal_policy.specs.Board.{KeepingAgrees, KeepsBefore};
 ghost use Rattle.cal_policy.specs.Board.KeepingSets.{KeepsSets, kept_in, shown_in, shows_waiting};
 ghost use Rattle.cal_policy.specs.Board.KeepingSets.{FitAfter};
+ghost use Rattle.cal_policy.specs.Board.News.{HasNews, IsAsKept};
+ghost use Rattle.cal_policy.specs.Board.Unshown.{Shows};
+ghost use Rattle.cal_policy.specs.declared.board.holders.Holder.{Holder};
 ghost use Rattle.cal_policy.specs.Judgement.Judging.{IsFitLook};
 ghost use Rattle.cal_policy.specs.declared.history.look.Seen.TheVariants.{Whole};
 
 use crate::board::thread_set::ThreadSet;
+use crate::board::unshown::note_left;
 use crate::history::look::Seen;
-use cal_machine::MOST_THREADS;
+use cal_machine::{CoreSet, MOST_THREADS};
 use cal_signal::{Record, Shown};
 
 /// The records of each thread that the looks so far have given.
@@ -110,7 +114,7 @@ impl Keeping {
     }
 
     /// Keeps a record of thread `k`, which it showed at place `number`.
-    fn keep(&mut self, k: usize, number: u64, rec: Record)
+    fn put(&mut self, k: usize, number: u64, rec: Record)
         requires thread { k < MOST_THREADS }
         ensures kept { (j : ℕ) → j < MOST_THREADS →
             kept_in self.new j ≡ (if j == k then rec else kept_in self.old j) }
@@ -130,6 +134,30 @@ impl Keeping {
         self.settled.insert(k);
         self.kept[k] = rec;
         self.shown[k] = Shown { number, rec };
+    }
+
+    /// What the kept record of thread `k` shows it on: 0, or the core's number plus one.
+    pub fn running(&self, k: usize) -> u64
+        requires { k < MOST_THREADS }
+        ensures { result ≡ (kept_in self.now k).running }
+    {
+        self.kept[k].running
+    }
+
+    /// The same, and notes the core that the record kept before showed, where this one does not.
+    fn keep(&mut self, k: usize, number: u64, rec: Record, unshown: &mut CoreSet)
+        requires thread { k < MOST_THREADS }
+        ensures kept { (j : ℕ) → j < MOST_THREADS →
+            kept_in self.new j ≡ (if j == k then rec else kept_in self.old j) }
+        ensures shown { (j : ℕ) → j < MOST_THREADS → shown_in self.new j
+            ≡ (if j == k then record { number = number; rec = rec } else shown_in self.old j) }
+        ensures before { self.new.before ≡ self.old.before }
+        ensures sets { KeepsSets self.old → KeepsSets self.new }
+        ensures shows { (holder : ℕ → Holder) → Shows holder (kept_in self.old) unshown.old →
+            Shows holder (kept_in self.new) unshown.new }
+    {
+        note_left(unshown, self.running(k), rec.running);
+        self.put(k, number, rec);
     }
 
     /// Notes what thread `k` showed, where that is not kept.
@@ -157,8 +185,22 @@ impl Keeping {
         self.settled.has(k) && self.shown[k].number == number
     }
 
+    /// Whether a look, where it fits, may tell of thread `k` what is not kept yet.
+    pub fn is_news(&self, k: usize, look: &Seen) -> bool
+        requires thread { k < MOST_THREADS }
+        requires sets { KeepsSets self.now }
+        ensures { result ≡ false → IsFitLook (shown_in self.now k) look.now →
+            IsAsKept self.now k look.now }
+    {
+        match look {
+            Seen::Busy { .. } => false,
+            Seen::Whole { number, .. } => !self.is_as_kept(k, *number),
+            Seen::Ahead { .. } | Seen::Foreign { .. } => true,
+        }
+    }
+
     /// Takes one look, at thread `k`.
-    fn take(&mut self, k: usize, look: Seen)
+    fn take(&mut self, k: usize, look: Seen, unshown: &mut CoreSet)
         requires thread { k < MOST_THREADS }
         ensures kept { (j : ℕ) → j < MOST_THREADS → kept_in self.new j
             ≡ (if j == k then unwrap_or (record_to_keep look) (kept_in self.old j)
@@ -168,9 +210,11 @@ impl Keeping {
             else shown_in self.old j) }
         ensures before { self.new.before ≡ self.old.before }
         ensures sets { KeepsSets self.old → KeepsSets self.new }
+        ensures shows { (holder : ℕ → Holder) → Shows holder (kept_in self.old) unshown.old →
+            Shows holder (kept_in self.new) unshown.new }
     {
         match look {
-            Seen::Whole { number, rec } => self.keep(k, number, rec),
+            Seen::Whole { number, rec } => self.keep(k, number, rec, unshown),
             Seen::Ahead { number, rec } | Seen::Foreign { number, rec } => {
                 self.note(k, number, rec);
             }
@@ -180,7 +224,7 @@ impl Keeping {
 
     /// Takes one fit look, at thread `k`. A whole one at the place that was shown before changes
     /// nothing.
-    fn take_fit(&mut self, k: usize, look: &Seen)
+    fn take_fit(&mut self, k: usize, look: &Seen, unshown: &mut CoreSet)
         requires thread { k < MOST_THREADS }
         requires sets { KeepsSets self.old }
         ensures kept { IsFitLook (shown_in self.old k) look.now → (j : ℕ) → j < MOST_THREADS →
@@ -191,30 +235,34 @@ impl Keeping {
             then unwrap_or (shown_by look.now) (shown_in self.old j) else shown_in self.old j) }
         ensures before { self.new.before ≡ self.old.before }
         ensures sets { KeepsSets self.new }
+        ensures shows { (holder : ℕ → Holder) → Shows holder (kept_in self.old) unshown.old →
+            Shows holder (kept_in self.new) unshown.new }
     {
         match look {
             Seen::Whole { number, .. } if self.is_as_kept(k, *number) => {}
-            _ => self.take(k, *look),
+            _ => self.take(k, *look, unshown),
         }
     }
 
     /// Takes the looks of one more pass.
-    pub fn look(&mut self, seen: &[Seen])
+    pub fn look(&mut self, seen: &[Seen], unshown: &mut CoreSet)
         requires { length seen.now ≤ MOST_THREADS }
         ensures agrees { (looks : List (List Seen)) → KeepingAgrees self.old looks →
             KeepingAgrees self.new (looks ++ seen.now ∷ []) }
         ensures before { (looks : List (List Seen)) → KeepingAgrees self.old looks →
             KeepsBefore self.new looks }
         ensures sets { KeepsSets self.old → KeepsSets self.new }
+        ensures shows { (holder : ℕ → Holder) → Shows holder (kept_in self.old) unshown.old →
+            Shows holder (kept_in self.new) unshown.new }
     {
         self.settle_all();
         for (k, look) in seen.iter().enumerate() {
-            self.take(k, *look);
+            self.take(k, *look, unshown);
         }
     }
 
     /// Takes the looks of one more pass, which fit those before.
-    pub fn look_fit(&mut self, seen: &[Seen])
+    pub fn look_fit(&mut self, seen: &[Seen], unshown: &mut CoreSet)
         requires looks { length seen.now ≤ MOST_THREADS }
         requires sets { KeepsSets self.old }
         ensures agrees { (looks : List (List Seen)) → KeepingAgrees self.old looks →
@@ -222,10 +270,33 @@ impl Keeping {
         ensures before { (looks : List (List Seen)) → KeepingAgrees self.old looks →
             KeepsBefore self.new looks }
         ensures sets { KeepsSets self.new }
+        ensures shows { (holder : ℕ → Holder) → Shows holder (kept_in self.old) unshown.old →
+            Shows holder (kept_in self.new) unshown.new }
     {
         self.settle();
         for (k, look) in seen.iter().enumerate() {
-            self.take_fit(k, look);
+            self.take_fit(k, look, unshown);
+        }
+    }
+    /// Takes the looks of one more pass, which fit those before. Only those at the threads of a set
+    /// are gone over, since the others change nothing.
+    pub fn look_news(&mut self, seen: &[Seen], news: &ThreadSet, unshown: &mut CoreSet)
+        requires looks { length seen.now ≤ MOST_THREADS }
+        requires sets { KeepsSets self.old }
+        requires news { HasNews self.old seen.now news.now }
+        ensures agrees { (looks : List (List Seen)) → KeepingAgrees self.old looks →
+            FitAfter looks seen.now → KeepingAgrees self.new (looks ++ seen.now ∷ []) }
+        ensures before { (looks : List (List Seen)) → KeepingAgrees self.old looks →
+            KeepsBefore self.new looks }
+        ensures sets { KeepsSets self.new }
+        ensures shows { (holder : ℕ → Holder) → Shows holder (kept_in self.old) unshown.old →
+            Shows holder (kept_in self.new) unshown.new }
+    {
+        self.settle();
+        let mut first = 0;
+        while let Some(k) = news.next(first, seen.len()) {
+            self.take(k, seen[k], unshown);
+            first = k + 1;
         }
     }
 }

@@ -92,22 +92,22 @@ fn look_at(seen: Seen) -> Look
 }
 
 /// Whether a record has the right shape and may be shown after another one.
-fn is_fit_record(last: &Shown, number: u64, rec: Record) -> bool
-    ensures { IsTrue result ↔ IsFitShown last.now (record { number = number; rec = rec }) }
+fn is_fit_record(last: &Shown, number: u64, rec: &Record) -> bool
+    ensures { IsTrue result ↔ IsFitShown last.now (record { number = number; rec = rec.now }) }
 {
-    let next = Shown { number, rec };
-    shaped(&rec) && may_follow(last, &next)
+    let next = Shown { number, rec: *rec };
+    shaped(rec) && may_follow(last, &next)
 }
 
 /// Whether a look fits what was shown of its thread before.
-fn is_fit_look(last: &Shown, look: Seen) -> bool
-    ensures { IsTrue result ↔ IsFitLook last.now look }
+pub fn is_fit_look(last: &Shown, look: &Seen) -> bool
+    ensures { IsTrue result ↔ IsFitLook last.now look.now }
 {
     match look {
-        Seen::Busy { first, second } => is_busy_pair(first, second),
-        Seen::Whole { number, rec } => is_fit_record(last, number, rec),
-        Seen::Ahead { number, rec } => is_fit_record(last, number, rec),
-        Seen::Foreign { number, rec } => is_fit_record(last, number, rec),
+        Seen::Busy { first, second } => is_busy_pair(*first, *second),
+        Seen::Whole { number, rec } => is_fit_record(last, *number, rec),
+        Seen::Ahead { number, rec } => is_fit_record(last, *number, rec),
+        Seen::Foreign { number, rec } => is_fit_record(last, *number, rec),
     }
 }
 
@@ -119,7 +119,7 @@ fn each_fits(keeping: &Keeping, seen: &[Seen]) -> bool
         IsFitLook (last_shown looks k) look) }
 {
     for (k, look) in seen.iter().enumerate() {
-        if !is_fit_look(&keeping.shown[k], *look) {
+        if !is_fit_look(&keeping.shown[k], look) {
             return false;
         }
     }

@@ -11,8 +11,10 @@ ghost use Rattle.cal_policy.specs.Pass.{pass_of};
 ghost use Rattle.cal_policy.specs.Board.{Agrees, KeepingAgrees, Stands};
 ghost use Rattle.cal_policy.specs.Board.{IsReady, IsOfTable, AgreesAfter, HasSizes};
 ghost use Rattle.cal_policy.specs.Board.KeepingSets.{FitAfter, KeepsSets};
+ghost use Rattle.cal_policy.specs.Board.News.{HasNews};
 
 use crate::board::Board;
+use crate::board::thread_set::ThreadSet;
 use crate::history::action_list::Actions;
 use crate::history::input::Input;
 use crate::pass::bandwidth::keep_bandwidth;
@@ -34,6 +36,19 @@ fn begin(board: &mut Board, input: &Input)
     board.begin_fit(input.seen.as_slice());
 }
 
+/// The same, where only the looks at the threads of a set may tell what is not kept yet.
+fn begin_news(board: &mut Board, input: &Input, news: &ThreadSet)
+    requires looks { length input.now.seen ≤ MOST_THREADS }
+    requires sets { KeepsSets board.old.keeping }
+    requires news { HasNews board.old.keeping input.now.seen news.now }
+    ensures stands { (table : Table) (h : List PassEntry) → Agrees board.old (actions_of h) →
+        KeepingAgrees board.old.keeping (looks_of h) → FitAfter (looks_of h) input.entry.now.seen →
+        Stands board.new (setting table h input.entry.now) [] }
+    ensures ready { (table : Table) → IsReady table board.old → IsReady table board.new }
+{
+    board.begin_news(input.seen.as_slice(), news);
+}
+
 /// Makes the parts of a pass, each after the one before.
 fn make_parts(config: &Config, input: &Input, board: &mut Board, out: &mut Actions)
     requires of_table { IsOfTable config.now input.now board.old }
@@ -52,9 +67,9 @@ fn make_parts(config: &Config, input: &Input, board: &mut Board, out: &mut Actio
     best_effort_grants(config, input, board, out);
 }
 
-/// Appends the actions of the next pass, on this input, which fits, to an empty list, and brings the board up
-/// to that pass. Every pass is decided here: the plain one from the board of its whole history, and
-/// a Book's from the board that it keeps.
+/// Appends the actions of the next pass, on this input, which fits, to an empty list, and brings the
+/// board up to that pass: of the plain one from the board of its whole history, and of a Book's from
+/// the board that it keeps.
 pub fn decide(config: &Config, input: &Input, board: &mut Board, out: &mut Actions)
     requires ready { IsReady config.now board.old }
     requires sizes { HasSizes config.now input.now }
@@ -68,5 +83,29 @@ pub fn decide(config: &Config, input: &Input, board: &mut Board, out: &mut Actio
 {
     config.limits();
     begin(board, input);
+    make_parts(config, input, board, out);
+}
+
+/// The same, where only the looks at the threads of a set may tell what is not kept yet.
+pub fn decide_news(
+    config: &Config,
+    input: &Input,
+    news: &ThreadSet,
+    board: &mut Board,
+    out: &mut Actions,
+)
+    requires ready { IsReady config.now board.old }
+    requires sizes { HasSizes config.now input.now }
+    requires news { HasNews board.old.keeping input.now.seen news.now }
+    requires empty { out.old ≡ [] }
+    ensures acts { (h : List PassEntry) → NoPairBanned (actions_of h) →
+        Agrees board.old (actions_of h) → KeepingAgrees board.old.keeping (looks_of h) →
+        FitAfter (looks_of h) input.entry.now.seen →
+        (out.new ≡ pass_of (setting config.now h input.entry.now))
+        × AgreesAfter board.new h (record { input = input.entry.now; actions = out.new }) }
+    ensures ready { IsReady config.now board.new }
+{
+    config.limits();
+    begin_news(board, input, news);
     make_parts(config, input, board, out);
 }

@@ -69,7 +69,8 @@ impl Pass<'_> {
     }
 }
 
-/// Frees each core whose thread has left it, upwards. Only those that are taken are gone over.
+/// Frees each core whose thread has left it, upwards. Only those that may have been left are gone
+/// over.
 pub fn free_left(config: &Config, input: &Input, board: &mut Board, out: &mut Actions)
     requires of_table { IsOfTable config.now input.now board.old }
     requires room { length out.old + config.now.cores ≤ MOST_ACTIONS }
@@ -81,7 +82,7 @@ pub fn free_left(config: &Config, input: &Input, board: &mut Board, out: &mut Ac
     ensures length { length out.new ≤ length out.old + config.now.cores }
 {
     let mut first = 0;
-    while let Some(core) = next_core(config, &board.sets.taken, first) {
+    while let Some(core) = next_core(config, &board.unshown, first) {
         let pass = Pass {
             config,
             input,
@@ -89,6 +90,7 @@ pub fn free_left(config: &Config, input: &Input, board: &mut Board, out: &mut Ac
         };
         let action = pass.free_due(core);
         make(config, board, out, action);
+        board.note_shown(core);
         first = core + 1;
     }
 }

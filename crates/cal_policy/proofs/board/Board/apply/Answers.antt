@@ -11,6 +11,7 @@ use Rattle.cal_policy.proofs.BoardLemmas.StateKept.{names_fixed, names_threads, 
 use Rattle.cal_policy.proofs.BoardLemmas.Surveyed.{Surveys_moved, counted_at, few_left}
 use Rattle.cal_policy.proofs.BoardLemmas.Sorted.{Sorts_moved, sorted_at}
 use Rattle.cal_policy.proofs.BoardLemmas.OpenCores.{changes_named}
+use Rattle.cal_policy.proofs.BoardLemmas.Unshown.{shows_moved}
 use Rattle.cal_policy.proofs.board.Board.apply.Goals as goal
 
 pub remove-requires-clause-counted : goal.remove-requires-clause-counted
@@ -76,4 +77,7 @@ returns-clause-ready c =
         bans = λ k off. c.note_ban.ensures.elsewhere k off ∙ ap (λ set. has set k) c.move_core.ensures.banned;
       });
       keeping = c.requires.ready.keeping;
+      shows = shows_moved (holder_in old.holding) (holder_in c.apply.new.self) _ old.unshown _ core
+          (λ k off. c.apply.ensures.others k (λ same. off (c.core_changed_by-core.ensures.changed ∙ same)))
+          c.note_changed.ensures.before c.note_changed.ensures.changed c.requires.ready.shows;
     }

@@ -6,6 +6,7 @@ use Rattle.cal_policy.specs.Board.{holder_in}
 use Rattle.cal_policy.specs.Board.CoreSets.{IsSorted}
 use Rattle.cal_policy.proofs.BoardLemmas.Surveyed.{Surveys_free}
 use Rattle.cal_policy.proofs.BoardLemmas.OpenCores.{opens_free}
+use Rattle.cal_policy.proofs.BoardLemmas.Unshown.{shows_free}
 use Rattle.cal_policy.proofs.board.Board.new.Goals as goal
 
 pub returns-clause-ready : goal.returns-clause-ready
@@ -19,4 +20,5 @@ returns-clause-ready c = λ table. record {
   opens = opens_free (holder_in c.new.result) c.new-3.result.banned c.new-4.result c.new.ensures.free
       (λ k lt. c.new-3.ensures.banned.banned k lt) c.new-4.ensures.idle c.new-4.ensures.alone;
   keeping = c.new-7.ensures.sets;
+  shows = shows_free (holder_in c.new.result) _ _ c.new.ensures.free;
 }

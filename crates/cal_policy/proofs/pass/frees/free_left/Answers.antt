@@ -1,9 +1,9 @@
--- Each taken core gives what is due, and the cores between give nothing.
+-- Each core that may have been left gives what is due, and the cores between give nothing.
 use Rattle.std.proofs.Common.{◌<◌, arith}
 use Rattle.cal_policy.specs.Setting.{setting}
 use Rattle.cal_policy.specs.Pass.Frees.{free_at}
 use Rattle.cal_policy.proofs.PassLemmas.PartSoFar.{Reached_step, Reached_skip}
-use Rattle.cal_policy.proofs.PassLemmas.NothingDue.{free_not_taken}
+use Rattle.cal_policy.proofs.PassLemmas.NothingDue.{free_not_unshown}
 use Rattle.cal_policy.proofs.pass.frees.free_left.Goals as goal
 
 pub loop-core-preserved : goal.loop-core-preserved
@@ -14,11 +14,11 @@ loop-core-preserved c =
       acts = λ h st.
           let s = setting c.args.config.now h c.args.input.now in
           let r = c.loop-core.invariant.acts h st in
-          Reached_step (free_at s) s c.args.out.now _ _ c.loop-core.board _ core _
+          Reached_step (free_at s) s c.args.out.now _ _ c.loop-core.board c.note_shown.new.self core _
           (Reached_skip (free_at s) s c.args.out.now _ c.loop-core.board c.loop-core.first core c.in-Some.ensures.next.0
-          (λ k a b. free_not_taken c.loop-core.board s c.loop-core.out r.1 c.loop-core.invariant.ready.sets k (omega (arith, b, few)) (c.in-Some.ensures.between k a b)) r)
-          (c.free_due-action.ensures.due h _ r.1) c.make.ensures.out (c.make.ensures.stands _);
-      ready = c.make.ensures.ready;
+          (λ k a b. free_not_unshown c.args.config.now c.loop-core.board s c.loop-core.out r.1 c.loop-core.invariant.ready k (omega (arith, b, few)) (c.in-Some.ensures.between k a b)) r)
+          (c.free_due-action.ensures.due h _ r.1) c.make.ensures.out (λ st2. c.note_shown.ensures.stands s _ (c.make.ensures.stands s st2));
+      ready = c.note_shown.ensures.ready c.args.config.now c.make.ensures.ready;
       length = omega (arith, c.make.ensures.length, c.loop-core.invariant.length, c.in-Some.ensures.next.0);
       first = omega (arith, c.in-Some.ensures.next.1);
     }
@@ -29,4 +29,4 @@ returns-clause-acts c = λ h st.
     let r = c.loop-core.invariant.acts h st in
     let few = c.requires.of_table.accepted.machine.most in
     Reached_skip (free_at s) s c.args.out.now _ c.loop-core.board c.loop-core.first c.args.config.now.cores c.loop-core.invariant.first
-    (λ k a b. free_not_taken c.loop-core.board s c.loop-core.out r.1 c.loop-core.invariant.ready.sets k (omega (arith, b, few)) (c.in_default.ensures.none k a b)) r
+    (λ k a b. free_not_unshown c.args.config.now c.loop-core.board s c.loop-core.out r.1 c.loop-core.invariant.ready k (omega (arith, b, few)) (c.in_default.ensures.none k a b)) r

@@ -23,6 +23,7 @@ loop-k-preserved c =
       shown_done = done_one_more (shown_in new) (shown_in cur) (shown_in old) (shown_at seen) k _
           (ap (option_and_then shown_by) (slice_get-get_or seen k _ (omega arith))) c.take.ensures.shown lt i.shown_done i.shown_left;
       shown_left = left_one_less (shown_in new) (shown_in cur) (shown_in old) _ k c.take.ensures.shown i.shown_left;
+      shows = λ holder was. c.take.ensures.shows holder (i.shows holder was);
       before = λ j low. rw c.take.ensures.before (i.before j low);
       sets = λ was. c.take.ensures.sets (i.sets was);
     }

@@ -1,0 +1,22 @@
+use Rattle.std.proofs.Common.{◌≡◌, ℕ, ◌-◌, ◌<◌, ◌≤◌, length, slice_index}
+use Rattle.std.specs.Option.{unwrap_or}
+use Rattle.cal_policy.specs.History.Looks.{to_keep_at, shown_at}
+use Rattle.cal_policy.specs.Board.KeepingSets.{KeepsSets, FitShown, kept_in, shown_in}
+use Rattle.cal_policy.specs.declared.board.holders.Holder.{Holder}
+use Rattle.cal_policy.specs.Board.Unshown.{Shows}
+use Rattle.cal_policy.proofs.board.records.Keeping.look_news.Given as goal
+
+abbrev pub invariant-loop-k : goal.invariant-loop-k
+invariant-loop-k l = record {
+  kept_done : FitShown l.fn.self l.seen → (j : ℕ) → j < l.first → kept_in l.self j ≡ unwrap_or (to_keep_at l.seen j) (kept_in l.fn.self j);
+  kept_left : (j : ℕ) → l.first ≤ j → j < 128 → kept_in l.self j ≡ kept_in l.fn.self j;
+  shown_done : FitShown l.fn.self l.seen → (j : ℕ) → j < l.first → shown_in l.self j ≡ unwrap_or (shown_at l.seen j) (shown_in l.fn.self j);
+  shown_left : (j : ℕ) → l.first ≤ j → j < 128 → shown_in l.self j ≡ shown_in l.fn.self j;
+  shows : (holder : ℕ → Holder) → Shows holder (kept_in l.fn.self) l.fn.unshown → Shows holder (kept_in l.self) l.unshown;
+  before : (j : ℕ) → j < 128 → slice_index l.self.before j ≡ (kept_in l.fn.self j).misses;
+  sets : KeepsSets l.self;
+  first : l.first ≤ length l.seen;
+}
+
+abbrev pub decreases-loop-k : goal.decreases-loop-k
+decreases-loop-k l = length l.seen - l.first
