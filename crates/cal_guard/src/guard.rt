@@ -3,7 +3,7 @@
 
 mod looks;
 
-ghost use Rattle.std.specs.Prelude.{◌≡◌, ◌<◌, ◌++◌, ◌↔◌, [], List, length};
+ghost use Rattle.std.specs.Prelude.{◌≡◌, ℕ, ◌<◌, ◌++◌, ◌↔◌, [], List, length};
 ghost use Rattle.std.specs.Prelude.{IsOk, IfOk, IfErr, OnErr, IsTrue};
 ghost use Rattle.cal_machine.specs.declared.machine.TheConstants.{MOST_CORES};
 ghost use Rattle.cal_policy.specs.Tasks.{threads_of_table};
@@ -12,6 +12,8 @@ ghost use Rattle.cal_policy.specs.declared.history.entry.PassEntry.{PassEntry};
 ghost use Rattle.cal_policy.specs.Board.Counts as counts;
 ghost use Rattle.cal_policy.specs.History.{actions_of, holder_of};
 ghost use Rattle.cal_policy.specs.Judgement.Judging.{judged, IsInput};
+ghost use Rattle.cal_policy.specs.Judgement.OpenInput.{judged_input};
+ghost use Rattle.cal_policy.specs.declared.judgement.open_input.FoundLook.{FoundLook};
 ghost use Rattle.cal_policy.specs.Setting.{setting};
 ghost use Rattle.cal_policy.specs.Board.{HasSizes, kept_holder};
 ghost use Rattle.cal_guard.specs.Permitted.{ArePermitted, IsPermittedHistory};
@@ -19,17 +21,17 @@ ghost use Rattle.cal_guard.specs.Refusals.{MayEndWith, IsFirstWrong};
 ghost use Rattle.cal_guard.specs.Guarded.{Keeps, IsWithin, IsGuardOf};
 ghost use Rattle.cal_guard.specs.Guarded.{PassesAreKept, GroupsMakeAPass, and_then};
 
-use crate::histories::permitted_goes_on;
+use crate::histories::{doing_nothing_is_permitted, permitted_goes_on};
 use crate::passing::Passing;
 use crate::refusal::Refused;
 use cal_machine::Config;
-use cal_policy::state::{Holder, booked_by, cap_of, fits, held_by, judged_by};
+use cal_policy::state::{Holder, booked_by, cap_of, fits, held_by, judged_by, looks_fit};
 use cal_policy::{Action, Input, Look, Seen};
 use std::alloc::{AllocError, Global};
 
 /// The state after the history so far, and the actions that the pass has so far. Only opening a
-/// guard takes memory; a pass costs a copy of the state, which is put back where an action is not
-/// permitted, and, for each action, the cores and tasks.
+/// guard takes memory; a pass with actions costs a copy of the state, which is put back where an
+/// action is not permitted, and, for each action, the cores and tasks.
 ///
 /// Every call is to be given the table that the guard was opened for. What a guard says holds of
 /// every permitted history with which it agrees.
@@ -78,6 +80,18 @@ impl Guard {
     {
         config.limits();
         fits(&self.passing.board, config, input)
+    }
+
+    /// Whether the next pass may be given an input that was made of what was found, by this guard
+    /// as it stands: `fits`, but no look is judged again.
+    pub fn made_fits(&self, config: &Config, input: &Input) -> bool
+        ensures fits { (h : List PassEntry) (now bandwidth : ℕ) (found : List FoundLook) →
+            Keeps self.now h → input.entry.now ≡ judged_input config.now h now bandwidth found →
+            IsTrue result ↔ IsInput config.now h input.entry.now }
+        ensures sizes { IsTrue result → HasSizes config.now input.entry.now }
+    {
+        config.limits();
+        looks_fit(&self.passing.board.keeping, config, input)
     }
 
     /// Who has a core after the history. A number is the least of the Run's and 2^64.
@@ -167,6 +181,25 @@ impl Guard {
         }
     }
 
+    /// Takes in a pass that does nothing. Nothing is wrong with one, so no state is kept aside.
+    fn step_idle(&mut self, config: &Config, input: &Input)
+        requires of { IsGuardOf config.now self.old }
+        requires sizes { HasSizes config.now input.now }
+        ensures exact { (h : List PassEntry) → IsPermittedHistory config.now h →
+            ArePermitted (setting config.now h input.entry.now) [] }
+        ensures keeps { (h : List PassEntry) → IsPermittedHistory config.now h →
+            Keeps self.old h → Keeps self.new (and_then h input.entry.now []) }
+        ensures permitted { (h : List PassEntry) → IsPermittedHistory config.now h →
+            IsInput config.now h input.entry.now →
+            IsPermittedHistory config.now (and_then h input.entry.now []) }
+        ensures of { IsGuardOf config.now self.new }
+    {
+        config.limits();
+        doing_nothing_is_permitted();
+        permitted_goes_on();
+        self.passing.begin(input.seen.as_slice());
+    }
+
     /// Lets the next pass through, on an input that fits, with the actions that a policy chose,
     /// where they are permitted, and takes it in; else names the first that is not, and takes
     /// nothing in.
@@ -187,6 +220,10 @@ impl Guard {
         ensures unchanged { OnErr result (self.new ≡ self.old) }
         ensures of { IsGuardOf config.now self.new }
     {
+        if chosen.is_empty() {
+            self.step_idle(config, input);
+            return Ok(());
+        }
         config.limits();
         permitted_goes_on();
         let before = self.passing.duplicate();

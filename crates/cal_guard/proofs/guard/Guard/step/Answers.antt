@@ -1,4 +1,8 @@
-use Rattle.std.proofs.Common.{◌≡◌, [], true, false, refl, ◌∙◌}
+use Rattle.std.proofs.Common.{◌≡◌, ◌==◌, List, [], ◌∷◌, length, true, false, refl, sym, subst, ◌∙◌, arith}
+use Rattle.std.proofs.lemmas.Bool.{eqb-true}
+use Rattle.cal_policy.specs.declared.history.action.Action.{Action}
+use Rattle.cal_guard.specs.Permitted.{ArePermitted, IsPermittedHistory}
+use Rattle.cal_guard.specs.Guarded.{Keeps, and_then}
 use Rattle.cal_policy.specs.declared.history.entry.PassEntry.{PassEntry}
 use Rattle.cal_policy.specs.Setting.{Setting, setting}
 use Rattle.cal_policy.proofs.PassLemmas.FromParts.{Stands_end}
@@ -46,3 +50,25 @@ returns-in-Err-clause-first c = λ h permitted keeps.
 
 pub returns-in-Err-clause-unchanged : goal.returns-in-Err-clause-unchanged
 returns-in-Err-clause-unchanged c = rw (c.duplicate-before.ensures ∙ c.deref.ensures) refl
+
+none : (xs : List Action) → (length xs == 0) ≡ true → xs ≡ []
+none [] e = refl
+none (x ∷ xs) e = let z : length (x ∷ xs) ≡ 0 = eqb-true (length (x ∷ xs)) 0 e in absurd (omega (arith, z))
+
+pub returns-then-is_empty-clause-exact : goal.returns-then-is_empty-clause-exact
+returns-then-is_empty-clause-exact c = λ h permitted keeps.
+    let is : c.args.chosen.now ≡ [] = none c.args.chosen.now (sym c.is_empty.ensures ∙ c.if-is_empty.true) in
+    let P : List Action → Type 0 = λ xs. ArePermitted (setting c.args.config.now h c.args.input.now) xs in
+    (λ yes. subst P (sym is) (c.step_idle.ensures.exact h permitted), λ all. refl)
+
+pub returns-then-is_empty-clause-keeps : goal.returns-then-is_empty-clause-keeps
+returns-then-is_empty-clause-keeps c = λ ok h permitted keeps.
+    let is : c.args.chosen.now ≡ [] = none c.args.chosen.now (sym c.is_empty.ensures ∙ c.if-is_empty.true) in
+    let P : List Action → Type 0 = λ xs. Keeps c.step_idle.new.self (and_then h c.args.input.now xs) in
+    subst P (sym is) (c.step_idle.ensures.keeps h permitted keeps)
+
+pub returns-then-is_empty-clause-permitted : goal.returns-then-is_empty-clause-permitted
+returns-then-is_empty-clause-permitted c = λ ok h permitted keeps input.
+    let is : c.args.chosen.now ≡ [] = none c.args.chosen.now (sym c.is_empty.ensures ∙ c.if-is_empty.true) in
+    let P : List Action → Type 0 = λ xs. IsPermittedHistory c.args.config.now (and_then h c.args.input.now xs) in
+    subst P (sym is) (c.step_idle.ensures.permitted h permitted input)
