@@ -6,8 +6,7 @@ use Rattle.cal_run.specs.declared.fault.SimFault.{SimFault}
 use Rattle.cal_run.specs.declared.fault.SimFault.TheVariants as sim
 use Rattle.cal_trace.specs.declared.fault.FaultKind.{FaultKind}
 use Rattle.cal_trace.specs.declared.fault.FaultKind.TheVariants as kind
-use Rattle.cal_trace.specs.declared.write_fault.WriteFault.{WriteFault}
-use Rattle.cal_trace.specs.declared.write_fault.WriteFault.TheVariants as write
+use Rattle.cal_trace.specs.declared.fault.TraceFault.{TraceFault}
 use Rattle.cal_engine.specs.declared.fault.RunFault.{RunFault}
 use Rattle.cal_engine.specs.declared.fault.RunFault.TheVariants as fault
 
@@ -23,11 +22,6 @@ config_number_of config.GuaranteesExceedCores = 7
 config_number_of config.TooManyThreads = 8
 config_number_of config.Memory = 9
 
--- what is wrong with a task table
-abbrev pub config_reason_of : ConfigFault → List ℕ
-config_reason_of config.Memory = codes "memory"
-config_reason_of f = codes "config " ++ decimal (config_number_of f)
-
 -- the number of what is wrong with the row of a trace
 abbrev pub trace_number_of : FaultKind → ℕ
 trace_number_of kind.Read = 1
@@ -40,54 +34,57 @@ trace_number_of kind.Backwards = 7
 trace_number_of kind.Memory = 8
 trace_number_of kind.Repeated = 9
 
--- what is wrong with the row of a trace
-abbrev pub trace_reason_of : FaultKind → ℕ → List ℕ
-trace_reason_of kind.Memory row = codes "memory"
-trace_reason_of k row =
-    codes "trace row " ++ decimal row ++ codes " fault " ++ decimal (trace_number_of k)
+-- a trace's fault; of one that memory was refused to, that alone
+abbrev pub folded_trace : FaultKind → TraceFault → RunFault
+folded_trace kind.Memory f = fault.Memory
+folded_trace k f = fault.Trace f
+
+-- the same fault; of a part that memory was refused to, that alone
+abbrev pub folded_of : RunFault → RunFault
+folded_of (fault.Config config.Memory) = fault.Memory
+folded_of (fault.Trace f) = folded_trace f.kind f
+folded_of f = f
+
+-- the reason of a fault that is folded
+abbrev pub plain_reason_of : RunFault → List ℕ
+plain_reason_of fault.Read = codes "input read"
+plain_reason_of fault.Length = codes "input length"
+plain_reason_of fault.Separator = codes "no separator"
+plain_reason_of (fault.Config f) = codes "config " ++ decimal (config_number_of f)
+plain_reason_of (fault.Trace f) =
+    codes "trace row " ++ decimal f.row ++ codes " fault " ++ decimal (trace_number_of f.kind)
+plain_reason_of fault.Memory = codes "memory"
+plain_reason_of fault.Write = codes "write"
+plain_reason_of fault.Spawn = codes "spawn"
+plain_reason_of fault.Gate = codes "gate"
 
 -- the reason as the program names it
 abbrev pub reason_of : RunFault → List ℕ
-reason_of fault.Read = codes "input read"
-reason_of fault.Length = codes "input length"
-reason_of fault.Separator = codes "no separator"
-reason_of (fault.Config f) = config_reason_of f
-reason_of (fault.Trace f) = trace_reason_of f.kind f.row
-reason_of fault.Memory = codes "memory"
-reason_of fault.Write = codes "write"
-reason_of fault.Spawn = codes "spawn"
-reason_of fault.Gate = codes "gate"
+reason_of f = plain_reason_of (folded_of f)
 
--- the one line that the program writes on standard error
+-- the one line that a program of this name writes on standard error
+abbrev pub fault_line_as : List ℕ → RunFault → List ℕ
+fault_line_as program f = program ++ codes ": " ++ reason_of f ++ codes "\n"
+
+-- the one line that caladan_sim writes on standard error
 abbrev pub fault_line_of : RunFault → List ℕ
-fault_line_of f = codes "caladan_sim: " ++ reason_of f ++ codes "\n"
+fault_line_of f = fault_line_as (codes "caladan_sim") f
 
--- the status where a table is refused
-abbrev pub config_status_of : ConfigFault → ℕ
-config_status_of config.Memory = 3
-config_status_of _ = 2
-
--- the status where a trace is refused
-abbrev pub trace_status_of : FaultKind → ℕ
-trace_status_of kind.Memory = 3
-trace_status_of _ = 2
+-- the exit status after a fault that is folded
+abbrev pub plain_status_of : RunFault → ℕ
+plain_status_of fault.Read = 2
+plain_status_of fault.Length = 2
+plain_status_of fault.Separator = 2
+plain_status_of (fault.Config f) = 2
+plain_status_of (fault.Trace f) = 2
+plain_status_of fault.Memory = 3
+plain_status_of fault.Write = 3
+plain_status_of fault.Spawn = 3
+plain_status_of fault.Gate = 3
 
 -- the exit status after a fault: 2 where the input was refused, and else 3
 abbrev pub status_of : RunFault → ℕ
-status_of fault.Read = 2
-status_of fault.Length = 2
-status_of fault.Separator = 2
-status_of (fault.Config f) = config_status_of f
-status_of (fault.Trace f) = trace_status_of f.kind
-status_of fault.Memory = 3
-status_of fault.Write = 3
-status_of fault.Spawn = 3
-status_of fault.Gate = 3
-
--- a writer of cal_trace failed
-abbrev pub fault_of_writing : WriteFault → RunFault
-fault_of_writing write.Write = fault.Write
-fault_of_writing write.Memory = fault.Memory
+status_of f = plain_status_of (folded_of f)
 
 -- a run came to no outcome
 abbrev pub fault_of_run : SimFault → RunFault

@@ -2,7 +2,7 @@
 
 ghost use Rattle.std.specs.Prelude.{◌≡◌, Some, OnOk};
 ghost use Rattle.std.specs.Io.KnownBytes.{Appends};
-ghost use Rattle.cal_engine.specs.Faults.{fault_line_of, status_of};
+ghost use Rattle.cal_engine.specs.Faults.{fault_line_as, fault_line_of, status_of};
 
 use cal_machine::ConfigFault;
 use cal_run::SimFault;
@@ -35,6 +35,24 @@ pub enum RunFault {
     Gate,
 }
 
+ghost use Rattle.cal_engine.specs.Faults.{config_number_of, folded_of, trace_number_of};
+
+/// The same fault; of a part that memory was refused to, `Memory`.
+fn folded(fault: &RunFault) -> RunFault
+    ensures { result ≡ folded_of fault.now }
+{
+    match fault {
+        RunFault::Config(ConfigFault::Memory) => RunFault::Memory,
+        RunFault::Trace(
+            TraceFault {
+                row: _,
+                kind: FaultKind::Memory,
+            },
+        ) => RunFault::Memory,
+        fault => *fault,
+    }
+}
+
 /// The reason as the program names it, without the program's name.
 impl fmt::Display for RunFault {
     ghost use Rattle.cal_engine.specs.Faults.{reason_of};
@@ -42,16 +60,19 @@ impl fmt::Display for RunFault {
     ghost output = { λ fault. Some (reason_of fault) };
 
     fn fmt<W: fmt::Write>(&self, f: &mut fmt::Formatter<W>) -> fmt::Result {
-        match self {
+        match folded(self) {
             RunFault::Read => f.write_str("input read"),
             RunFault::Length => f.write_str("input length"),
             RunFault::Separator => f.write_str("no separator"),
-            RunFault::Config(ConfigFault::Memory) => f.write_str("memory"),
-            RunFault::Config(fault) => write!(f, "config {}", config_number(*fault)),
-            RunFault::Trace(fault) => match fault.kind {
-                FaultKind::Memory => f.write_str("memory"),
-                kind => write!(f, "trace row {} fault {}", fault.row, trace_number(kind)),
-            },
+            RunFault::Config(fault) => write!(f, "config {}", config_number(fault)),
+            RunFault::Trace(fault) => {
+                write!(
+                    f,
+                    "trace row {} fault {}",
+                    fault.row,
+                    trace_number(fault.kind)
+                )
+            }
             RunFault::Memory => f.write_str("memory"),
             RunFault::Write => f.write_str("write"),
             RunFault::Spawn => f.write_str("spawn"),
@@ -61,8 +82,6 @@ impl fmt::Display for RunFault {
 }
 
 impl Error for RunFault {}
-
-ghost use Rattle.cal_engine.specs.Faults.{config_number_of, trace_number_of};
 
 fn config_number(fault: ConfigFault) -> u8
     ensures { result ≡ config_number_of fault }
@@ -130,27 +149,26 @@ impl From<SimFault> for RunFault {
     }
 }
 
-impl From<WriteFault> for RunFault {
-    ghost use Rattle.cal_engine.specs.Faults.{fault_of_writing};
-
-    ghost from_gives = { λ fault e. e ≡ fault_of_writing fault };
-
-    fn from(fault: WriteFault) -> RunFault {
-        match fault {
-            WriteFault::Write => RunFault::Write,
-            WriteFault::Memory => RunFault::Memory,
-        }
-    }
-}
-
-/// Writes the one line that the program says of a fault: its name, the reason, and a line feed.
+/// Writes the one line that caladan_sim says of a fault: its name, the reason, and a line feed.
 ///
 /// `WriteFault::Write` comes if the writer returns an error. It takes no memory.
 pub fn fault_line<W: Write>(fault: &RunFault, writer: &mut W) -> Result<(), WriteFault>
     ensures { OnOk result (Appends (W.contents writer.old) (W.contents writer.new)
         (fault_line_of fault.now)) }
 {
-    match writeln!(writer, "caladan_sim: {fault}") {
+    fault_line_as("caladan_sim", fault, writer)
+}
+
+/// Writes the one line that a program of this name says of a fault, as `fault_line` does.
+pub fn fault_line_as<W: Write>(
+    program: &str,
+    fault: &RunFault,
+    writer: &mut W,
+) -> Result<(), WriteFault>
+    ensures { OnOk result (Appends (W.contents writer.old) (W.contents writer.new)
+        (fault_line_as program.now fault.now)) }
+{
+    match writeln!(writer, "{program}: {fault}") {
         Ok(()) => Ok(()),
         Err(_) => Err(WriteFault::Write),
     }
@@ -161,14 +179,7 @@ pub fn fault_line<W: Write>(fault: &RunFault, writer: &mut W) -> Result<(), Writ
 pub fn status(fault: &RunFault) -> u8
     ensures { result ≡ status_of fault.now }
 {
-    match fault {
-        RunFault::Config(ConfigFault::Memory) => 3,
-        RunFault::Trace(
-            TraceFault {
-                row: _,
-                kind: FaultKind::Memory,
-            },
-        ) => 3,
+    match folded(fault) {
         RunFault::Read
         | RunFault::Length
         | RunFault::Separator

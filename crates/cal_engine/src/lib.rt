@@ -4,7 +4,7 @@
 //! An engine takes any reader and any writer. It reads one input to its end, and writes its answer
 //! and nothing else, once the whole input was read and accepted. What the words of a command line
 //! ask for is `words`, and what the program says and exits with after a fault are `fault_line` and
-//! `status`.
+//! `status`. `caladan_view` goes by the same shell (shell.rt).
 #![tactic(auto)]
 
 mod command_words;
@@ -12,15 +12,17 @@ mod fault;
 mod input;
 mod jobs;
 mod program;
+mod shell;
 
 pub use cal_policy::Verdict;
 pub use command_words::command_line::{Job, VERSION, words};
 pub use command_words::given::given_words;
-pub use fault::{RunFault, fault_line, status};
+pub use fault::{RunFault, fault_line, fault_line_as, status};
 pub use input::separator::split_input;
 pub use input::{INPUT_LIMIT, read_input};
 pub use jobs::auditing::{recorded_passes, recorded_run, run_audit};
 pub use jobs::deciding::{decide, decided_run};
 pub use jobs::running::{RunAnswer, run_lockstep};
 pub use jobs::simulating::run_sim;
-pub use program::{end_with, refuse_words, run_program};
+pub use program::run_program;
+pub use shell::{end_with, refuse_words, words_after_first};

@@ -1,25 +1,20 @@
 //! A whole run of the program: words and an input in; an answer, an error line and an exit status
 //! out.
 
-ghost use Rattle.std.specs.Prelude.{◌≡◌, ◌≢◌, ◌⊎◌, ◌↔◌, IfErr, IfOk, IfSome, IsErrOf};
-ghost use Rattle.std.specs.Prelude.{drop, map, string_bytes};
-ghost use Rattle.clap.specs.Values.{kind_of};
-ghost use Rattle.clap.specs.declared.error.kind.ErrorKind.TheVariants.{DisplayHelp, DisplayVersion};
-ghost use Rattle.clap.specs.declared.error.kind.ErrorKind.TheVariants.{OutOfMemory};
+ghost use Rattle.std.specs.Prelude.{◌≡◌, ◌≢◌, IfErr, IfOk, IfSome, drop, map, string_bytes};
 ghost use Rattle.cal_engine.specs.CommandWords.{Asks};
-ghost use Rattle.cal_engine.specs.Faults.{status_of};
 ghost use Rattle.cal_engine.specs.Program.{verdict_status, DoesJob, EndsJob};
 ghost use Rattle.cal_engine.specs.declared.command_words.command_line.Job.{Job as JobOf};
 
 use crate::command_words::command_line::{Job, words};
-use crate::fault::{RunFault, fault_line, status};
+use crate::fault::RunFault;
 use crate::jobs::auditing::run_audit;
 use crate::jobs::deciding::decide;
 use crate::jobs::running::run_lockstep;
 use crate::jobs::simulating::run_sim;
+use crate::shell::{end_with, refuse_words, words_after_first};
 use cal_policy::Verdict;
-use clap::error::{Error, ErrorKind};
-use std::alloc::{AllocError, Global};
+use std::alloc::Global;
 use std::io::{Read, Write};
 use std::sync::Wait;
 use std::thread::Threads;
@@ -48,7 +43,7 @@ pub fn run_program<H: Threads + Wait + Sync, R: Read + Drop, W: Write, E: Write>
 {
     match answer_words(rt, alloc, named, reader, output, errors) {
         Ok(status) => status,
-        Err(fault) => end_with(&fault, errors),
+        Err(fault) => end_with("caladan_sim", &fault, errors),
     }
 }
 
@@ -73,29 +68,6 @@ fn answer_words<H: Threads + Wait + Sync, R: Read + Drop, W: Write, E: Write>(
         Ok(job) => do_job(rt, alloc, job, reader, output),
         Err(error) => refuse_words(&error, output, errors),
     }
-}
-
-/// The words after the first one.
-fn words_after_first<'a>(alloc: Global, named: &'a [String]) -> Result<Vec<&'a str>, AllocError>
-    ensures { IfOk result (λ given.
-        map (λ word. word.now) given.items ≡ map string_bytes (drop 1 named.now)) }
-{
-    let mut given = Vec::new(alloc);
-    if let Some((_, after)) = named.split_first() {
-        for word in after {
-            given.push(word.as_str())?;
-        }
-    }
-    Ok(given)
-}
-
-/// Writes the line of a fault, and answers the exit status after it. Where the writer answers an
-/// error the status is the same. Takes no memory.
-pub fn end_with<E: Write>(fault: &RunFault, errors: &mut E) -> u8
-    ensures { result ≡ status_of fault.now }
-{
-    let _ = fault_line(fault, errors);
-    status(fault)
 }
 
 /// Does a job on an input, and answers the exit status where there is no fault.
@@ -138,39 +110,5 @@ fn verdict_status(verdict: Verdict) -> u8
     match verdict {
         Verdict::Legal => 0,
         Verdict::Illegal { .. } => 1,
-    }
-}
-
-/// Writes what `clap` says of the words, and answers the exit status: 0 for help and the version, 2
-/// for bad words. The faults are `Memory`, where the words were refused for want of it, and
-/// `Write`.
-pub fn refuse_words<W: Write, E: Write>(
-    error: &Error,
-    output: &mut W,
-    errors: &mut E,
-) -> Result<u8, RunFault>
-    ensures status { IfOk result (λ status. (status ≡ 0) ⊎ (status ≡ 2)) }
-    // Help and the version are answers, all else is a mistake.
-    ensures mistake { IfOk result (λ status. (status ≡ 2)
-        ↔ (kind_of error.now ≢ DisplayHelp) × (kind_of error.now ≢ DisplayVersion)) }
-    // Each goes to its own writer alone.
-    ensures apart { IfOk result (λ status. (status ≡ 0 → errors.new ≡ errors.old)
-        × (status ≡ 2 → output.new ≡ output.old)) }
-    ensures kind { IfErr result (λ fault. (fault ≡ RunFault.Memory) ⊎ (fault ≡ RunFault.Write)) }
-    // Out of memory comes before anything is written.
-    ensures memory { kind_of error.now ≡ OutOfMemory → IsErrOf result RunFault.Memory }
-    ensures untouched { IfErr result (λ fault. fault ≢ RunFault.Write → output.new ≡ output.old) }
-{
-    if error.kind() == ErrorKind::OutOfMemory {
-        return Err(RunFault::Memory);
-    }
-    let (written, status) = if error.use_stderr() {
-        (write!(errors, "{error}"), 2)
-    } else {
-        (write!(output, "{error}"), 0)
-    };
-    match written {
-        Ok(()) => Ok(status),
-        Err(_) => Err(RunFault::Write),
     }
 }

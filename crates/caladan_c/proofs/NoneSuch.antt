@@ -1,5 +1,5 @@
 -- A list with an element that is no image is the image of no list.
-use Rattle.std.proofs.Common.{◌≡◌, ℕ, List, Option, Some, None, true, false, map, slice_get, sym, ap, ◌∙◌}
+use Rattle.std.proofs.Common.{◌≡◌, ℕ, List, Option, Some, None, map, slice_get, sym, ap, ◌∙◌}
 use mathlib.Core.Bool.{true≢false}
 use Rattle.std.specs.Option.{is_some, option_map, unwrap_or}
 use Rattle.std.proofs.lemmas.Option.{slice_get-map}

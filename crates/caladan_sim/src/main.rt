@@ -18,7 +18,7 @@ fn main(rt: HostRuntime) -> ExitCode {
             &mut rt.stdout(),
             &mut rt.stderr(),
         ),
-        Err(fault) => end_with(&fault, &mut rt.stderr()),
+        Err(fault) => end_with("caladan_sim", &fault, &mut rt.stderr()),
     };
     ExitCode::from(status)
 }

@@ -29,7 +29,7 @@ fn main(rt: HostRuntime) -> ExitCode {
     };
     let status = match answer {
         Ok(status) => status,
-        Err(fault) => end_with(&fault, &mut rt.stderr()),
+        Err(fault) => end_with("caladan_sim", &fault, &mut rt.stderr()),
     };
     ExitCode::from(status)
 }

@@ -1,6 +1,23 @@
 //! What help says of each word below its options: what goes in and comes out, the exit statuses,
 //! and a whole small run to copy, which tools/examples makes.
 
+/// A help text with a whole small run to copy: what goes in and comes out, with the exit statuses;
+/// the command; and what stands after the task table, with what the run writes.
+#[macro_export]
+macro_rules! help_with_a_run {
+    ($says:literal, $command:literal, $trace:literal) => {
+        concat!(
+            $says,
+            "\n\nTo try it:\n\n",
+            $command,
+            " <<'END'\n",
+            "cores = 2\nbandwidth_limit = 1000\n",
+            "[[task]]\nkind = \"lc\"\nguaranteed = 1\nlimit = 1\ndelay = 10\nrequest = 50\n---\n",
+            $trace
+        )
+    };
+}
+
 /// Of the program as a whole.
 pub const PROGRAM: &str = "\
 Without a word it runs `decide`. Each word reads one input from the standard input: a task table
@@ -11,24 +28,14 @@ Exit status: 0 done, 1 an illegal history, 2 bad words or a refused input, 3 mem
 thread was refused. A fault is one line on the standard error.";
 
 /// Of the word `decide`.
-pub const DECIDE: &str = "\
+pub const DECIDE: &str = help_with_a_run!(
+    "\
 Standard input: a task table (TOML), the line ---, and signals (CSV): for each pass a row with its
 clock and bandwidth figure, and what was found on the page of each kernel thread.
 Standard output: the report: what each pass did, and what each task has at the end.
-Exit status: 0 done, 2 a refused input, 3 memory or output was refused.
-
-To try it:
-
-./caladan_sim decide <<'END'
-cores = 2
-bandwidth_limit = 1000
-[[task]]
-kind = \"lc\"
-guaranteed = 1
-limit = 1
-delay = 10
-request = 50
----
+Exit status: 0 done, 2 a refused input, 3 memory or output was refused.",
+    "./caladan_sim decide",
+    "\
 caladan-signals,2
 pass,111,0
 whole,0,1,1,0,0,1,100,0,0,105,0,0
@@ -40,28 +47,19 @@ It writes:
 pass 0 now 111 bandwidth 0
   grant core 0 to thread 0 class 3
 end 1 passes
-task 0 lc held 1 leaving 0";
+task 0 lc held 1 leaving 0"
+);
 
 /// Of the word `lockstep`.
-pub const LOCKSTEP: &str = "\
+pub const LOCKSTEP: &str = help_with_a_run!(
+    "\
 Standard input: a task table (TOML), the line ---, and arrivals (CSV): the clocks of the passes and
 of the kernel threads' turns, and the requests that come to the threads.
 Standard output: the history of the run, which `audit` reads after the table; with --summary, what
 each kernel thread did; with --report, what `audit` writes of that history above its last line.
-Exit status: 0 done, 2 a refused input, 3 memory or output was refused.
-
-To try it:
-
-./caladan_sim lockstep <<'END'
-cores = 2
-bandwidth_limit = 1000
-[[task]]
-kind = \"lc\"
-guaranteed = 1
-limit = 1
-delay = 10
-request = 50
----
+Exit status: 0 done, 2 a refused input, 3 memory or output was refused.",
+    "./caladan_sim lockstep",
+    "\
 caladan-arrivals,1
 pass,100,0
 pass,116,0
@@ -79,29 +77,20 @@ whole,0,1,0,0,0,0,0,0,0,0,0,0
 pass,116,0
 whole,0,1,1,0,0,1,105,0,0,105,0,0
 grant,0,0,3
-end,2";
+end,2"
+);
 
 /// Of the word `sim`.
-pub const SIM: &str = "\
+pub const SIM: &str = help_with_a_run!(
+    "\
 Standard input: a task table (TOML), the line ---, and arrivals (CSV): the clocks of the passes and
 of the kernel threads' turns, and the requests that come to the threads.
 Standard output: the history of the run, which `audit` reads after the table; with --summary, what
 each kernel thread did; with --report, what `audit` writes of that history above its last line.
 Threads interleave differently on every run, so the output varies.
-Exit status: 0 done, 2 a refused input, 3 memory, output or a thread was refused.
-
-To try it:
-
-./caladan_sim sim <<'END'
-cores = 2
-bandwidth_limit = 1000
-[[task]]
-kind = \"lc\"
-guaranteed = 1
-limit = 1
-delay = 10
-request = 50
----
+Exit status: 0 done, 2 a refused input, 3 memory, output or a thread was refused.",
+    "./caladan_sim sim",
+    "\
 caladan-arrivals,1
 pass,100,0
 pass,116,0
@@ -119,28 +108,19 @@ whole,0,1,0,0,0,0,0,0,0,0,0,0
 pass,116,0
 whole,0,1,1,0,0,1,105,0,0,105,0,0
 grant,0,0,3
-end,2";
+end,2"
+);
 
 /// Of the word `audit`.
-pub const AUDIT: &str = "\
+pub const AUDIT: &str = help_with_a_run!(
+    "\
 Standard input: a task table (TOML), the line ---, and a history (CSV), as `lockstep`, `sim` and
 `caladan_view history` write it.
 Standard output: if every pass is the policy's, the report and the line `legal`; else the one line
 `illegal pass P`, where P is the first pass, from 0, that is not.
-Exit status: 0 legal, 1 illegal, 2 a refused input, 3 memory or output was refused.
-
-To try it:
-
-./caladan_sim audit <<'END'
-cores = 2
-bandwidth_limit = 1000
-[[task]]
-kind = \"lc\"
-guaranteed = 1
-limit = 1
-delay = 10
-request = 50
----
+Exit status: 0 legal, 1 illegal, 2 a refused input, 3 memory or output was refused.",
+    "./caladan_sim audit",
+    "\
 caladan-history,2
 pass,111,0
 whole,0,1,1,0,0,1,100,0,0,105,0,0
@@ -154,4 +134,5 @@ pass 0 now 111 bandwidth 0
   grant core 0 to thread 0 class 3
 end 1 passes
 task 0 lc held 1 leaving 0
-legal";
+legal"
+);

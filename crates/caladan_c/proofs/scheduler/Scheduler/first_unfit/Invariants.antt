@@ -1,5 +1,4 @@
 use Rattle.std.proofs.Common.{◌≡◌, ℕ, ◌<◌, List, Some, None, slice_get}
-use Rattle.cal_policy.specs.Book.{AgreesWith}
 use Rattle.cal_policy.specs.declared.history.entry.PassEntry.{PassEntry}
 use Rattle.caladan_c.specs.OneByOne.{is_unfit}
 use Rattle.caladan_c.specs.Passing.{StandsAfter}

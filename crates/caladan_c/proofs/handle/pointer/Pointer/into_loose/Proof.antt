@@ -1,5 +1,5 @@
 -- `into_loose` moves two fields of a pointer that keeps something, and what they own goes with them.
-use Rattle.caladan_c.proofs.HandleLemmas.Walking.{refl, sym, subst, ◌≡◌, true, false, Option, Some, None, is_some, List, [], ◌∷◌, ◌++◌, Ura, Val, SProp, ent, emp, id⊢, ftrue, fsep, Memory, Routine, WpFn, Tables, Logic, Fun, fact, tables, tables_of, WpFn-mono, Item, ‵, raw, ◌⊛◌, ◌$◌, ◌∵◌, !, qed, by, move, drop, use1, join, split, rewrite, fsplit, fjoin, suffices, done, whole, sub, agg, stop, fld, no_more, and_then, of_opd, returns, enter, alloc_all, pass_all, free_all, look_at, get, get_in, sets, yes, type_at, nothing, heard, triple_of, entered, says, Stays, stay_dropped, walk_of, ends_at, Goes-dropped, walk_Meets, D, B, word, box_typed, box_out, box_in}
+use Rattle.caladan_c.proofs.HandleLemmas.Walking.{refl, sym, subst, ◌≡◌, true, Option, is_some, List, [], ◌∷◌, ◌++◌, Ura, Val, SProp, ent, id⊢, ftrue, fsep, Memory, Routine, WpFn, Tables, Logic, Fun, fact, tables, tables_of, WpFn-mono, Item, ‵, raw, ◌⊛◌, ◌$◌, ◌∵◌, !, qed, by, move, drop, use1, join, split, rewrite, fsplit, fjoin, suffices, done, whole, sub, agg, stop, fld, no_more, and_then, of_opd, returns, enter, alloc_all, pass_all, free_all, look_at, get, get_in, sets, yes, type_at, nothing, heard, triple_of, entered, says, Stays, stay_dropped, walk_of, ends_at, Goes-dropped, walk_Meets, D, B, word, box_typed, box_out, box_in}
 use Rattle.caladan_c.specs.contracts.scheduler.Scheduler as Scheduler
 use Rattle.caladan_c.specs.contracts.handle.pointer.Pointer as Pointer
 use Rattle.caladan_c.proofs.HandleLemmas.AsBox.{E, FromPointer as From, kept_of}

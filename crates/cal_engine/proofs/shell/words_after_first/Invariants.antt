@@ -1,5 +1,5 @@
 use Rattle.std.proofs.Common.{◌≡◌, map, string_bytes, take}
-use Rattle.cal_engine.proofs.program.words_after_first.Given as goal
+use Rattle.cal_engine.proofs.shell.words_after_first.Given as goal
 
 abbrev pub invariant-loop-word : goal.invariant-loop-word
 invariant-loop-word l =
