@@ -21,11 +21,11 @@ last_or_before : {X : Type 0} (xs : List X) (x : X) (j : ℕ) (y : X) → slice_
 last_or_before xs x j y e = ⊎_elim
     (λ low. inl (sym (slice_get_front xs (x ∷ []) j low) ∙ e))
     (λ high.
-      let within = slice_get_within (xs ++ x ∷ []) j y e in
-      let at : j ≡ length xs = omega (arith, high, within, length-append xs (x ∷ [])) in
-      let seam = slice_get_seam xs x [] in
-      let here : slice_get (xs ++ x ∷ []) (length xs) ≡ Some y = ap (slice_get (xs ++ x ∷ [])) (sym at) ∙ e in
-      let same : x ≡ y = cc in inr (at, same))
+    let within = slice_get_within (xs ++ x ∷ []) j y e in
+    let at : j ≡ length xs = omega (arith, high, within, length-append xs (x ∷ [])) in
+    let seam = slice_get_seam xs x [] in
+    let here : slice_get (xs ++ x ∷ []) (length xs) ≡ Some y = ap (slice_get (xs ++ x ∷ [])) (sym at) ∙ e in
+    let same : x ≡ y = cc in inr (at, same))
     (cases_lt j (length xs))
 
 -- of each before and of the last: of each
