@@ -179,7 +179,7 @@ impl Gate {
         let used = mem::replace(&mut self.used, nothing(alloc));
         let input = judge_looks(used, &self.config, &self.guard, given)?;
         self.used = input;
-        if !self.guard.fits(&self.config, &self.used) {
+        if !self.guard.made_fits(&self.config, &self.used) {
             return Err(Refusal::Unfit);
         }
         let chosen = self.chosen.as_slice();
