@@ -1,12 +1,13 @@
 -- What came of the cores of a task, and of the machine's, over a whole history.
-use Rattle.std.specs.Prelude.{◌≡◌, ℕ, ◌+◌, ◌*◌, List, length, take}
+use Rattle.std.specs.Prelude.{◌≡◌, ℕ, ◌+◌, ◌*◌, ◌<◌, List, length, take, slice_index}
+use Rattle.std.specs.Prelude.{if◌then◌else◌}
 use Rattle.cal_machine.specs.Table.{Table}
 use Rattle.cal_policy.specs.Board.Counts.{held_by}
 use Rattle.cal_policy.specs.History.{actions_of}
 use Rattle.cal_policy.specs.Pass.Choice.{greatest_below, sum_below}
 use Rattle.cal_policy.specs.declared.history.entry.PassEntry.{PassEntry}
 use Rattle.cal_measure.specs.Actions.{AreActionsOf}
-use Rattle.cal_measure.specs.States.{count_in_state, lasts_at}
+use Rattle.cal_measure.specs.States.{count_in_state, is_congested_at, lasts_at}
 use Rattle.cal_measure.specs.declared.cores.MachineCores.{MachineCores}
 use Rattle.cal_measure.specs.declared.cores.TaskCores.{TaskCores}
 use Rattle.cal_measure.specs.declared.states.CoreState.{CoreState}
@@ -16,6 +17,13 @@ use Rattle.cal_measure.specs.declared.states.CoreState.TheVariants as states
 abbrev pub held_after : Table → List PassEntry → ℕ → ℕ → ℕ
 held_after table history t p = held_by table (actions_of (take (p + 1) history)) t
 
+-- so many cores the threads of task t hold after each pass
+pub record IsHeldCourse (table : Table) (history : List PassEntry) (t : ℕ)
+    (course : List ℕ) : Type 0 where
+  pub many : length course ≡ length history
+  pub each : (p : ℕ) → p < length history →
+      slice_index course p ≡ held_after table history t p
+
 -- how many cores are in this state after pass p
 abbrev pub in_state_after : Table → List PassEntry → CoreState → ℕ → ℕ
 in_state_after table history state p =
@@ -24,6 +32,12 @@ in_state_after table history state p =
 -- over the passes of a history, so many cores after each times how long that lasts
 abbrev pub core_time : List PassEntry → (ℕ → ℕ) → ℕ
 core_time history cores = sum_below (λ p. cores p * lasts_at history p) (length history)
+
+-- for how long task t was congested: over the passes that found it so, how long what was so after
+-- each of them lasted
+abbrev pub congested_for : Table → List PassEntry → ℕ → ℕ
+congested_for table history t = sum_below
+    (λ p. if is_congested_at table history t p then lasts_at history p else 0) (length history)
 
 -- how long a history lasts
 abbrev pub lasted : List PassEntry → ℕ
@@ -35,6 +49,7 @@ pub record AreCoresOf (table : Table) (history : List PassEntry) (t : ℕ)
   pub actions : AreActionsOf table t (actions_of history) numbers.actions
   pub most : numbers.most ≡ greatest_below (held_after table history t) (length history)
   pub held : numbers.held ≡ core_time history (held_after table history t)
+  pub congested : numbers.congested ≡ congested_for table history t
 
 -- the numbers of the machine's cores in this history
 pub record AreMachineCores (table : Table) (history : List PassEntry)

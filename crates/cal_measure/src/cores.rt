@@ -8,6 +8,7 @@ ghost use Rattle.cal_policy.specs.Pass.{IsLegal};
 ghost use Rattle.cal_policy.specs.declared.history.entry.TheConstants.{MOST_PASSES};
 
 use crate::actions::count_actions;
+use crate::congestion::congested_for;
 use crate::states::{CoreState, apply_each, count_in_state, lasts_at};
 use cal_machine::Config;
 use cal_policy::state::{Board, held_by};
@@ -47,6 +48,9 @@ pub struct TaskCores {
     /// The core time that its threads held: over the passes, the cores held after one times how
     /// long that lasted. In clock ticks.
     pub held: u128,
+    /// How long it was congested, in clock ticks: over the passes that found it so, how long what
+    /// was so after each lasted.
+    pub congested: u128,
 }
 
 /// What came of the machine's cores: core time, in clock ticks, in each state. Together they are
@@ -122,6 +126,7 @@ pub fn cores_of(config: &Config, history: &[PassEntry], task: usize) -> TaskCore
         actions,
         most,
         held,
+        congested: congested_for(config, history, task),
     }
 }
 

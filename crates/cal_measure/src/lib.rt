@@ -7,7 +7,9 @@
 
 mod actions;
 mod clocks;
+mod congestion;
 mod cores;
+mod course;
 mod requests;
 mod services;
 mod shares;
@@ -18,7 +20,8 @@ mod turns;
 pub use actions::LossKind;
 pub use clocks::{ArrivalClocks, last_clock};
 pub use cores::{MachineCores, TaskActions, TaskCores, cores_of, machine_of};
-pub use requests::{TaskRequests, requests_of};
+pub use course::held_course;
+pub use requests::{TaskRequests, requests_of, responses_of};
 pub use services::{Service, services_of};
 pub use shares::thousandths;
 pub use spread::{Spread, spread_of};

@@ -99,6 +99,26 @@ fn responses(
     Ok(times)
 }
 
+/// How long each request took that the threads of a task served, from its arrival to its answer,
+/// thread by thread. Fails only when out of memory.
+pub fn responses_of(
+    alloc: Global,
+    config: &Config,
+    arrivals: &Arrivals,
+    clocks: &ArrivalClocks,
+    journals: &[Journal],
+    task: usize,
+) -> Result<Vec<u64>, AllocError>
+    requires clocks { AreClocksOf arrivals.now.turns arrivals.now.requests clocks.now }
+    requires task { task < length config.now.tasks }
+    ensures { IfOk result (λ times. times.items
+        ≡ map (response_of arrivals.now.turns arrivals.now.requests)
+        (services_of_task config.now journals.now task)) }
+{
+    let services = task_services(alloc, config, journals, task)?;
+    responses(alloc, clocks, services.as_slice())
+}
+
 /// How long each of these requests waited, from its arrival until it was begun. Fails only when out
 /// of memory.
 fn waits(

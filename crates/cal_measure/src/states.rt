@@ -44,8 +44,8 @@ fn clock_at(history: &[PassEntry], pass: usize) -> u64
     }
 }
 
-/// How long what is so after a pass lasts, in clock ticks: until the clock of the next pass; 0 where
-/// that is not later, and after the last pass.
+/// How long what is so after a pass lasts, in clock ticks: until the clock of the next pass; 0
+/// where that is not later, and after the last pass.
 pub fn lasts_at(history: &[PassEntry], pass: usize) -> u64
     requires { pass < length history.now }
     ensures { result ≡ lasts_at history.now pass }
@@ -152,7 +152,7 @@ fn task_delay(config: &Config, board: &Board, clock: u64, task: usize) -> u64
 }
 
 /// Whether a task's delay is strictly above its threshold.
-fn is_congested(config: &Config, board: &Board, clock: u64, task: usize) -> bool
+pub fn is_congested(config: &Config, board: &Board, clock: u64, task: usize) -> bool
     requires { task < length config.now.tasks }
     ensures { (looks : List (List Seen)) → KeepingAgrees board.now.keeping looks →
         result ≡ nat_lt (delay_of config.now task) (delay_after config.now looks clock task) }

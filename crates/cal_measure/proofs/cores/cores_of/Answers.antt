@@ -73,4 +73,5 @@ returns c =
       actions = subst (λ (l : List PassEntry). AreActionsOf table t (actions_of l) c.loop-pass.actions) all inv.actions;
       most = inv.most ∙ ap (greatest_below (held_after table h t)) end;
       held = inv.held ∙ ap (sum_below (λ p. held_after table h t p * lasts_at h p)) end;
+      congested = c.congested_for.ensures;
     }
