@@ -9,9 +9,8 @@ ghost use Rattle.cal_machine.specs.Outcome.{Gives};
 ghost use Rattle.cal_machine.specs.Reading.{table_in};
 ghost use Rattle.cal_policy.specs.declared.history.entry.PassEntry.{PassEntry};
 ghost use Rattle.cal_policy.specs.Board.{HasSizes};
-ghost use Rattle.cal_policy.specs.Book.{AgreesWith, IsBookOf};
+ghost use Rattle.cal_policy.specs.Book.{AgreesWith};
 ghost use Rattle.cal_policy.specs.Judgement.Judging.{IsInput};
-ghost use Rattle.cal_policy.specs.Judgement.Weighing.{IsWeighedBy};
 ghost use Rattle.cal_policy.specs.Tasks.{threads_of_table};
 ghost use Rattle.cal_policy.specs.History.{actions_of, holder_of};
 ghost use Rattle.cal_policy.specs.Board.{kept_holder};
@@ -26,7 +25,7 @@ use crate::told::counts::Counts;
 use crate::told::judgement::tell_judgements;
 use cal_machine::{Config, ConfigFault};
 use cal_policy::{
-    Action, Actions, Book, Holder, Input, OpenInput, Rooms, SeenList, Weighed, legal_is_short,
+    Action, Actions, Book, Holder, Input, OpenInput, Rooms, SeenList, legal_is_short,
     one_pass_more_is_legal,
 };
 use std::alloc::{AllocError, Global};
@@ -77,25 +76,20 @@ pub fn with_room(alloc: Global, threads: usize) -> Result<Input, AllocError> {
 }
 
 /// The input of the next pass of a book, of what was found, in the memory of one that is used up.
-/// Each look is judged and weighed in the one walk.
 fn judge_looks(
     used: Input,
     config: &Config,
     book: &Book,
     given: Given<'_>,
-    weighed: &mut Weighed,
 ) -> Result<Input, AllocError>
-    requires count { length given.looks.now ≡ threads_of_table config.now }
-    requires of { IsBookOf config.now book.now }
-    requires none { IsWeighedBy book.now [] weighed.old }
+    requires { length given.looks.now ≡ threads_of_table config.now }
     ensures judged { IfOk result (λ input. (h : List PassEntry) → AgreesWith book.now h →
         input ≡ input_given config.now h given.entry) }
     ensures sizes { IfOk result (HasSizes config.now) }
-    ensures weighed { IfOk result (λ input. IsWeighedBy book.now input.seen weighed.new) }
 {
     let mut open = OpenInput::again(used, config)?;
     for one in given.looks {
-        open.look_weighed(config, book, found_look(one), weighed);
+        open.look(config, book, found_look(one));
     }
     Ok(open.finish(given.now, given.bandwidth))
 }
@@ -195,18 +189,16 @@ impl Scheduler {
         ensures refused { OnErr result ((self.new ≡ self.old) × (judged.new ≡ judged.old)) }
     {
         let used = mem::replace(&mut self.used, nothing(alloc));
-        let mut weighed = Weighed::nothing();
-        let input = judge_looks(used, &self.config, &self.book, given, &mut weighed)?;
+        let input = judge_looks(used, &self.config, &self.book, given)?;
         self.used = input;
-        if !self.book.weighed_fits(&self.config, &self.used, &weighed) {
+        if !self.book.made_fits(&self.config, &self.used) {
             return Err(Refusal::Unfit);
         }
         self.config.limits();
         legal_is_short();
         one_pass_more_is_legal();
         self.made.clear();
-        self.book
-            .step_weighed(&self.config, &self.used, &weighed, &mut self.made);
+        self.book.step(&self.config, &self.used, &mut self.made);
         tell_judgements(self.used.seen.as_slice(), judged);
         Ok(())
     }

@@ -4,9 +4,8 @@ use Rattle.caladan_c.proofs.scheduler.judge_looks.Goals as goal
 
 pub loop-one-preserved : goal.loop-one-preserved
 loop-one-preserved c = record {
-  threads = c.look_weighed.ensures.threads ∙ c.loop-one.invariant.threads;
-  size = c.look_weighed.ensures.one ∙ ap (λ k. k + 1) c.loop-one.invariant.size;
-  weighed = c.look_weighed.ensures.weighed c.loop-one.invariant.weighed;
+  threads = c.look.ensures.threads ∙ c.loop-one.invariant.threads;
+  size = c.look.ensures.one ∙ ap (λ k. k + 1) c.loop-one.invariant.size;
   found = λ h agrees. found_taken c.args.config.now h c.args.given.looks.now c.loop-one.one-index _ c.found_look.result _ c.loop-one-test.true c.found_look.ensures
-      (c.look_weighed.ensures.found h _ agrees (c.loop-one.invariant.found h agrees));
+      (c.look.ensures.found h _ agrees (c.loop-one.invariant.found h agrees));
 }

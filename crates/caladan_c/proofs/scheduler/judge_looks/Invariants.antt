@@ -1,7 +1,6 @@
 use Rattle.std.proofs.Common.{◌≡◌, List, length, take, map}
 use Rattle.cal_policy.specs.Book.{AgreesWith}
 use Rattle.cal_policy.specs.Judgement.OpenInput.{IsOfFound}
-use Rattle.cal_policy.specs.Judgement.Weighing.{IsWeighedBy}
 use Rattle.cal_policy.specs.Tasks.{threads_of_table}
 use Rattle.cal_policy.specs.declared.history.entry.PassEntry.{PassEntry}
 use Rattle.caladan_c.specs.Found.{found_of}
@@ -11,6 +10,5 @@ abbrev pub invariant-loop-one : goal.invariant-loop-one
 invariant-loop-one l = record {
   threads : l.open.threads ≡ threads_of_table l.config;
   size : length l.open.seen ≡ l.one-index;
-  weighed : IsWeighedBy l.book l.open.seen l.weighed;
   found : (h : List PassEntry) → AgreesWith l.book h → IsOfFound l.config h (map found_of (take l.one-index l.given.looks.now)) l.open;
 }
