@@ -1,4 +1,4 @@
-//! The scheduler: passes over pages and rings.
+//! The scheduler, with the history of its passes.
 
 ghost use Rattle.std.specs.Prelude.{◌≡◌, ◌<◌, ◌≤◌, ◌↔◌, [], Err, length, IfOk, IfErr};
 ghost use Rattle.cal_policy.specs.Board.Counts as counts;
@@ -9,15 +9,13 @@ ghost use Rattle.cal_sched.specs.declared.fault.PassFault.TheVariants.{HistoryFu
 ghost use Rattle.cal_sched.specs.Passing.{IsPassed};
 ghost use Rattle.cal_sched.specs.Scheduler.{IsKept, HaveSeenNothing, HaveSentNothing};
 
+use crate::bare_scheduler::{BareEnd, BareScheduler, NotMade};
 use crate::fault::PassFault;
-use crate::finding::find_each;
-use crate::sending::send_last;
 use cal_command::Sender;
-use cal_laws::{holders_are_of_their_last_run, threads_are_sent_one_command};
 use cal_machine::Config;
-use cal_policy::{Actions, Book, Holder, MOST_PASSES, OpenInput, PassEntry};
+use cal_policy::{Holder, MOST_PASSES, PassEntry};
 use cal_signal::Observer;
-use std::alloc::{AllocError, Global};
+use std::alloc::Global;
 use std::marker::Model;
 
 /// The scheduler of a table's kernel threads. It may be moved to a thread of its own; no call of it
@@ -28,44 +26,20 @@ use std::marker::Model;
 /// observer found, and what was sent on its ring are its commands.
 #[derive(Drop)]
 pub struct Scheduler {
-    alloc: Global,
-    config: Config,
-    book: Book,
+    bare: BareScheduler,
+    // the entries of its passes
     history: Vec<PassEntry>,
-    observers: Vec<Observer>,
-    senders: Vec<Sender>,
 }
 
 impl Model for Scheduler {
-    ghost use Rattle.cal_policy.specs.Book.{AgreesWith, IsBookOf};
+    ghost use Rattle.std.specs.Prelude.{◌≡◌};
     ghost use Rattle.cal_sched.specs.Scheduler.{SchedulerView, IsKept};
 
     ghost Value = { SchedulerView };
 
-    ghost view = { λ s. record {
-      table = s.config;
-      history = s.history.items;
-      observers = s.observers.items;
-      senders = s.senders.items;
-    } };
+    ghost view = { λ s. s.bare };
 
-    ghost invariant = { λ s. IsKept (record {
-      table = s.config;
-      history = s.history.items;
-      observers = s.observers.items;
-      senders = s.senders.items;
-    }) × AgreesWith s.book s.history.items × IsBookOf s.config s.book };
-}
-
-/// What `Scheduler::new` was given, where memory was refused.
-#[derive(Drop)]
-pub struct NotMade {
-    /// The table.
-    pub config: Config,
-    /// The observers, in thread order.
-    pub observers: Vec<Observer>,
-    /// The senders, in thread order.
-    pub senders: Vec<Sender>,
+    ghost invariant = { λ s. IsKept s.bare × (s.history.items ≡ s.bare.history) };
 }
 
 /// What a scheduler had when it ended.
@@ -105,21 +79,11 @@ impl Scheduler {
             (refused.config ≡ config) × (refused.observers ≡ observers)
             × (refused.senders ≡ senders)) }
     {
-        match Book::open(alloc, &config) {
-            Ok(book) => Ok(Scheduler {
-                alloc,
-                config,
-                book,
-                history: Vec::new(alloc),
-                observers,
-                senders,
-            }),
-            Err(AllocError) => Err(NotMade {
-                config,
-                observers,
-                senders,
-            }),
-        }
+        let bare = BareScheduler::new(alloc, config, observers, senders)?;
+        Ok(Scheduler {
+            bare,
+            history: Vec::new(alloc),
+        })
     }
 
     /// One pass, at this clock (in ticks) and bandwidth figure (in the unit of the table's limit):
@@ -141,25 +105,8 @@ impl Scheduler {
             return Err(PassFault::HistoryFull);
         }
         self.history.reserve(1)?;
-        let mut found = OpenInput::reserved(self.alloc, &self.config)?;
-        let mut actions = Actions::reserved(self.alloc)?;
-        find_each(
-            &self.config,
-            &self.book,
-            self.observers.as_mut_slice(),
-            self.senders.as_mut_slice(),
-            &mut found,
-        );
-        let input = found.finish(now, bandwidth);
-        self.book.step(&self.config, &input, &mut actions);
-        let actions = actions.list();
-        self.history.push_reserved(PassEntry { input, actions });
-        send_last(
-            &self.config,
-            &self.book,
-            self.history.as_slice(),
-            self.senders.as_mut_slice(),
-        );
+        let entry = self.bare.pass(now, bandwidth)?;
+        self.history.push_reserved(entry);
         Ok(())
     }
 
@@ -176,7 +123,7 @@ impl Scheduler {
         requires { t < length self.now.table.tasks }
         ensures { result ≡ counts.booked_by self.now.table (actions_of self.now.history) t }
     {
-        self.book.booked(&self.config, t)
+        self.bare.booked(t)
     }
 
     /// Who has the core: the thread, the number of the Run that put it there, and the cause for
@@ -185,10 +132,15 @@ impl Scheduler {
         requires { core < self.now.table.cores }
         ensures { result ≡ holder_of (actions_of self.now.history) core }
     {
-        self.config.limits();
-        threads_are_sent_one_command();
-        holders_are_of_their_last_run();
-        self.book.holder(core)
+        self.bare.holder(core)
+    }
+
+    /// The same scheduler without the list of its passes, which is let go of.
+    pub fn bare(self) -> BareScheduler
+        ensures same { result ≡ self }
+    {
+        let Scheduler { bare, .. } = self;
+        bare
     }
 
     /// The table, the history, and the ends of the pages and rings, in thread order. Takes no
@@ -200,13 +152,12 @@ impl Scheduler {
         ensures senders { result.senders.items ≡ self.senders }
         ensures kept { IsKept self }
     {
-        let Scheduler {
+        let Scheduler { bare, history } = self;
+        let BareEnd {
             config,
-            history,
             observers,
             senders,
-            ..
-        } = self;
+        } = bare.end();
         SchedulerEnd {
             config,
             history,

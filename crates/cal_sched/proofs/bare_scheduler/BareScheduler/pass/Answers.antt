@@ -1,4 +1,4 @@
-use Rattle.std.proofs.Common.{◌≡◌, ◌<◌, List, [], ◌∷◌, ◌++◌, length, take, drop, refl, sym, ap, subst, ◌∙◌, arith}
+use Rattle.std.proofs.Common.{◌≡◌, ◌+◌, ◌<◌, List, [], ◌∷◌, ◌++◌, length, take, drop, refl, sym, ap, subst, ◌∙◌, arith, length-append}
 use Rattle.cal_signal.specs.Ends.{ObserverView}
 use Rattle.cal_command.specs.Rings.{SenderView}
 use Rattle.cal_policy.specs.declared.history.action.Action.{Action}
@@ -13,14 +13,14 @@ use Rattle.cal_sched.specs.Passing.{HaveFound, HaveSent, IsPassed, pass_on}
 use Rattle.cal_sched.specs.Scheduler.{SchedulerView, IsKept}
 use Rattle.cal_sched.proofs.Lists.{written_whole}
 use Rattle.cal_sched.proofs.Passed.{is_input, pass_made, may_send, kept_after}
-use Rattle.cal_sched.proofs.scheduler.Scheduler.pass.Goals as goal
-use Rattle.cal_sched.proofs.scheduler.Scheduler.pass.Goals.{After-as_mut_slice-3, After-self-3-1}
+use Rattle.cal_sched.proofs.bare_scheduler.BareScheduler.pass.Goals as goal
+use Rattle.cal_sched.proofs.bare_scheduler.BareScheduler.pass.Goals.{After-as_mut_slice-3, After-add}
 
 -- the scheduler as the pass begins
 abbrev start : After-as_mut_slice-3 → SchedulerView
 start c = record {
   table = c.self.inside.config;
-  history = c.self.inside.history.items;
+  history = c.self.inside.past;
   observers = c.self.inside.observers.items;
   senders = c.self.inside.senders.items;
 }
@@ -35,7 +35,7 @@ after c =
 record Entered (c : After-as_mut_slice-3) : Type 0 where
   kept : IsKept (start c)
   finds : HaveFound (start c).observers c.find_each.new.observers (start c).senders c.find_each.new.senders c.find_each.ensures.found.0
-  whole : c.push_reserved.new.self.items ≡ after c
+  whole : c.self.inside.past ++ record { input = c.finish-input.result; actions = c.list-actions.result } ∷ [] ≡ after c
   agreed : AgreesWith c.step.new.self (after c)
   rung : take c.self.inside.senders.len (c.find_each.new.senders ++ drop (length c.find_each.new.senders) c.self.inside.senders.items) ≡ c.find_each.new.senders
 
@@ -57,78 +57,82 @@ entered c =
     subst (IsInput s.table s.history) (sym same) (is_input s c.args.now c.args.bandwidth looked asked found kept finds) in
     let acts : c.step.new.out ≡ pass_of (setting s.table s.history input) = c.step.ensures.acts s.history kept.legal agrees fits in
     let with : List Action → List PassEntry → List PassEntry = λ actions h. let e : PassEntry = record { input = input; actions = actions } in h ++ e ∷ [] in
-    let items : c.push_reserved.new.self.items ≡ with c.list-actions.result s.history = c.push_reserved.ensures.items ∙ ap (with c.list-actions.result) c.in_ok-reserve.ensures.items in
-    let whole : c.push_reserved.new.self.items ≡ after c =
-    pass_made s c.args.now c.args.bandwidth looked asked found input c.step.new.out c.list-actions.result c.push_reserved.new.self.items same acts c.list-actions.ensures items in
+    let whole : with c.list-actions.result s.history ≡ after c =
+    pass_made s c.args.now c.args.bandwidth looked asked found input c.step.new.out c.list-actions.result (with c.list-actions.result s.history) same acts c.list-actions.ensures refl in
     let ring_items = c.self.inside.senders in
     let many_rings : length asked ≡ length ring_items.items = finds.rings in
     record {
       kept = kept;
       finds = finds;
       whole = whole;
-      agreed = subst (AgreesWith c.step.new.self) (ap (λ (l : List Action). with l s.history) (sym c.list-actions.ensures) ∙ sym items ∙ whole) (c.step.ensures.agrees s.history kept.legal agrees fits);
+      agreed = subst (AgreesWith c.step.new.self) (ap (λ (l : List Action). with l s.history) (sym c.list-actions.ensures) ∙ whole) (c.step.ensures.agrees s.history kept.legal agrees fits);
       rung = written_whole ring_items.len asked ring_items.items ring_items.ok.0 many_rings;
     }
 
-pub send_last-requires : goal.send_last-requires
-send_last-requires c =
+pub send_commands-requires : goal.send_commands-requires
+send_commands-requires c =
     let was = entered c in
-    rw (c.as_slice.ensures.value, was.whole, c.as_mut_slice-3.ensures.value, was.rung)
+    rw (was.whole, c.as_mut_slice-3.ensures.value, was.rung)
     (may_send (start c) c.args.now c.args.bandwidth c.find_each.new.observers c.find_each.new.senders c.find_each.ensures.found.0 c.step.new.self was.kept was.finds was.agreed)
 
 -- the pass at the end, and as it began to send
-abbrev sending : After-self-3-1 → After-as_mut_slice-3
-sending c = (goal.at.invariant_of-self-2 c).After-as_mut_slice-3
+abbrev sending : After-add → After-as_mut_slice-3
+sending c = (goal.at.invariant_of-self c).After-as_mut_slice-3
 
 -- the scheduler as the pass ends
-abbrev end : After-self-3-1 → SchedulerView
+abbrev end : After-add → SchedulerView
 end c =
     let looked : List ObserverView = c.find_each.new.observers in
     let asked : List SenderView = c.find_each.new.senders in
-    let sent : List SenderView = c.send_last.new.senders in
+    let sent : List SenderView = c.send_commands.new.senders in
     let pages = c.self.inside.observers in
     let rings = c.self.inside.senders in record {
       table = c.self.inside.config;
-      history = c.push_reserved.new.self.items;
+      history = c.add.new.self;
       observers = take pages.len (looked ++ drop (length looked) pages.items);
       senders = take rings.len (sent ++ drop (length sent) (take rings.len (asked ++ drop (length asked) rings.items)));
     }
 
 -- what was sent; the ends that looked and sent are those that are kept
-record Sent (c : After-self-3-1) : Type 0 where
+record Sent (c : After-add) : Type 0 where
   was : Entered (sending c)
-  sends : HaveSent c.find_each.new.senders c.send_last.new.senders (after (sending c))
-  ends : end c ≡ record { table = c.self.inside.config; history = after (sending c); observers = c.find_each.new.observers; senders = c.send_last.new.senders }
+  sends : HaveSent c.find_each.new.senders c.send_commands.new.senders (after (sending c))
+  history : c.add.new.self ≡ after (sending c)
+  ends : end c ≡ record { table = c.self.inside.config; history = after (sending c); observers = c.find_each.new.observers; senders = c.send_commands.new.senders }
 
-all_sent : (c : After-self-3-1) → Sent c
+all_sent : (c : After-add) → Sent c
 all_sent c =
     let was = entered (sending c) in
     let looked : List ObserverView = c.find_each.new.observers in
     let asked : List SenderView = c.find_each.new.senders in
-    let sent : List SenderView = c.send_last.new.senders in
+    let sent : List SenderView = c.send_commands.new.senders in
     let pages = c.self.inside.observers in
     let rings = c.self.inside.senders in
     let many_pages : length looked ≡ length pages.items = was.finds.pages in
     let paged : take pages.len (looked ++ drop (length looked) pages.items) ≡ looked = written_whole pages.len looked pages.items pages.ok.0 many_pages in
     let given : c.as_mut_slice-3.result.now ≡ asked = c.as_mut_slice-3.ensures.value ∙ was.rung in
-    let history : c.as_slice.result.now ≡ after (sending c) = c.as_slice.ensures.value ∙ was.whole in
-    let sends : HaveSent asked sent (after (sending c)) = rw (given, history) at c.send_last.ensures in
+    let history : c.add.new.self ≡ after (sending c) = c.add.ensures.added ∙ was.whole in
+    let sends : HaveSent asked sent (after (sending c)) = rw (given, was.whole) at c.send_commands.ensures in
     let many_sent : length sent ≡ length asked = sends.rings in
     let many_rings : length asked ≡ length rings.items = was.finds.rings in
     let rung : take rings.len (sent ++ drop (length sent) asked) ≡ sent = written_whole rings.len sent asked (rings.ok.0 ∙ sym many_rings) many_sent in
-    record { was = was; sends = sends; ends = rw (was.whole, paged, was.rung, rung) refl }
+    record { was = was; sends = sends; history = history; ends = rw (history, paged, was.rung, rung) refl }
 
-kept : (c : After-self-3-1) → IsKept (end c)
+kept : (c : After-add) → IsKept (end c)
 kept c =
     let all = all_sent c in
     let s : SchedulerView = start (sending c) in
-    let len : c.len.result ≡ length s.history = c.len.ensures ∙ c.self.inside.history.ok.0 in
-    let room = c.if-len-ge-MOST_PASSES.false in
+    let len : c.self.inside.passes ≡ length s.history = c.self.invariant.3 in
+    let room = c.if-self-ge-MOST_PASSES.false in
     let few : length s.history < 1048576 = omega (arith, len, room) in
-    rw all.ends (kept_after s c.args.now c.args.bandwidth c.find_each.new.observers c.find_each.new.senders c.find_each.ensures.found.0 c.send_last.new.senders all.was.kept few all.was.finds all.sends)
+    rw all.ends (kept_after s c.args.now c.args.bandwidth c.find_each.new.observers c.find_each.new.senders c.find_each.ensures.found.0 c.send_commands.new.senders all.was.kept few all.was.finds all.sends)
 
-pub invariant_of-self-2 : goal.invariant_of-self-2
-invariant_of-self-2 c = let all = all_sent c in (kept c, rw all.was.whole all.was.agreed, c.step.ensures.of)
+pub invariant_of-self : goal.invariant_of-self
+invariant_of-self c =
+    let all = all_sent c in
+    let counted : c.self.inside.passes + 1 ≡ length c.add.new.self =
+    ap (λ n. n + 1) c.self.invariant.3 ∙ sym (length-append c.self.inside.past _) ∙ ap length (sym c.add.ensures.added) in
+    (kept c, rw all.history all.was.agreed, c.step.ensures.of, counted)
 
 pub returns-clause-passed : goal.returns-clause-passed
 returns-clause-passed c =
