@@ -22,6 +22,7 @@ use Rattle.cal_trace.specs.declared.arrivals.GivenPass.{GivenPass}
 use Rattle.cal_run.specs.Workers.Given.{IsGiven, turns_given}
 use Rattle.cal_run.specs.declared.outcome.Outcome.{Outcome}
 use Rattle.cal_run.specs.declared.outcome.RunEnd.{RunEnd}
+use Rattle.cal_run.specs.declared.outcome.ThreadsEnd.{ThreadsEnd}
 
 -- the clock and the bandwidth figure of a pass that was made
 abbrev pub figures_of : PassEntry → GivenPass
@@ -84,3 +85,10 @@ outcome_of end = record {
 -- a run on these arrivals ended with these
 abbrev pub IsRunEnd : Table → Arrivals → RunEnd → Type 0
 IsRunEnd table arrivals end = IsRun table arrivals (outcome_of end)
+
+-- a run on these arrivals came to some outcome, of which these are the journals and what was left
+pub record IsThreadsEnd (table : Table) (arrivals : Arrivals) (end : ThreadsEnd) : Type 0 where
+  pub outcome : Outcome
+  pub run : IsRun table arrivals outcome
+  pub journals : outcome.journals ≡ end.journals
+  pub left : outcome.left ≡ end.left

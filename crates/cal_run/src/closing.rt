@@ -5,8 +5,8 @@ mod thread_ends;
 
 ghost use Rattle.std.specs.Prelude.{◌≡◌, IfErr, IfOk, length};
 ghost use Rattle.cal_linear.specs.Runs.{AreOfOneRun, AreWatched};
-ghost use Rattle.cal_run.specs.Outcome.{IsRun, IsRunEnd, outcome_of};
-ghost use Rattle.cal_run.specs.Parts.{AreParts, rounds_of};
+ghost use Rattle.cal_run.specs.Outcome.{IsRun, IsRunEnd, IsThreadsEnd, outcome_of};
+ghost use Rattle.cal_run.specs.Parts.{AreParts, rounds_of, with_history};
 ghost use Rattle.cal_run.specs.declared.fault.SimFault.TheVariants.{Memory};
 ghost use Rattle.cal_trace.specs.Arrivals.FitsTable.{FitsTable};
 
@@ -14,12 +14,12 @@ use crate::closing::pages_and_rings::close_threads;
 use crate::fault::SimFault;
 use crate::outcome::given_once::given_stand_once;
 use crate::outcome::headline::headline_of_runs;
-use crate::outcome::{Outcome, RunEnd};
-use crate::parts::Parts;
+use crate::outcome::{Outcome, RunEnd, ThreadsEnd};
+use crate::parts::{BareParts, Parts};
 use cal_linear::{fitting_looks_are_publications, linear_is_legal, linearise};
 use cal_lists::Listed;
 use cal_machine::Config;
-use cal_sched::SchedulerEnd;
+use cal_sched::{BareEnd, SchedulerEnd};
 use cal_trace::Arrivals;
 use std::alloc::{AllocError, Global};
 
@@ -80,6 +80,41 @@ pub fn end_parts(
         journals: Listed::new(journals),
         left: Listed::new(left),
         watched: Listed::new(watched),
+    })
+}
+
+/// What the kernel threads of a run end with, which kept no history, and whose passes, turns and
+/// rounds were all made. Fails only when out of memory.
+pub(crate) fn end_threads(
+    alloc: Global,
+    config: &Config,
+    arrivals: &Arrivals,
+    parts: BareParts,
+) -> Result<ThreadsEnd, SimFault>
+    requires fits { FitsTable config.now arrivals.now }
+    requires parts { AreParts config.now arrivals.now (length arrivals.now.passes)
+        (length arrivals.now.turns) (rounds_of arrivals.now) (with_history parts) }
+    ensures run { IfOk result (IsThreadsEnd config.now arrivals.now) }
+    ensures memory { IfErr result (λ fault. fault ≡ Memory) }
+{
+    fitting_looks_are_publications();
+    given_stand_once();
+    linear_is_legal();
+    let BareParts {
+        scheduler,
+        workers,
+        watch,
+    } = parts;
+    let BareEnd {
+        observers,
+        senders,
+        ..
+    } = scheduler.end();
+    let (watchers, _watched) = watch.end();
+    let (journals, left) = close_threads(alloc, config, workers, observers, watchers, senders)?;
+    Ok(ThreadsEnd {
+        journals: Listed::new(journals),
+        left: Listed::new(left),
     })
 }
 

@@ -18,10 +18,10 @@ mod workers;
 
 pub use closing::{close_parts, end_parts};
 pub use fault::SimFault;
-pub use one_thread::{lockstep, lockstep_end};
+pub use one_thread::{lockstep, lockstep_end, lockstep_threads};
 pub use outcome::given_once::given_stand_once;
 pub use outcome::headline::headline_of_runs;
-pub use outcome::{Outcome, RunEnd};
+pub use outcome::{Outcome, RunEnd, ThreadsEnd};
 pub use parts::Parts;
 pub use parts::opening::open_parts;
 pub use rounds::passes::pass_given;

@@ -14,16 +14,18 @@ ghost use Rattle.cal_policy.specs.Tasks.{threads_of_table};
 ghost use Rattle.cal_run.specs.Workers.Given.{turns_given};
 ghost use Rattle.cal_run.specs.Outcome.Headline.{Headline};
 ghost use Rattle.cal_run.specs.Outcome.{EachStandsOnce, IsRun, IsRunEnd, figures_of, most_rounds};
-ghost use Rattle.cal_run.specs.Outcome.{outcome_of};
+ghost use Rattle.cal_run.specs.Outcome.{IsThreadsEnd, outcome_of};
 ghost use Rattle.cal_run.specs.declared.fault.SimFault.TheVariants.{Memory};
 ghost use Rattle.cal_signal.specs.Pages.{FitsPage};
 ghost use Rattle.cal_trace.specs.Arrivals.FitsTable.{FitsTable};
 
-use crate::closing::{close_parts, end_parts};
+use crate::closing::{close_parts, end_parts, end_threads};
 use crate::fault::SimFault;
 use crate::outcome::headline::headline_of_runs;
-use crate::outcome::{Outcome, RunEnd};
+use crate::outcome::{Outcome, RunEnd, ThreadsEnd};
 use crate::parts::opening::open_parts;
+use crate::parts::{BareParts, Parts};
+use crate::rounds::bare::make_bare_rounds;
 use crate::rounds::make_rounds;
 use cal_machine::Config;
 use cal_trace::Arrivals;
@@ -88,4 +90,31 @@ pub fn lockstep_end(alloc: Global, config: &Config, arrivals: &Arrivals) -> Resu
     let mut parts = open_parts(alloc, config, arrivals)?;
     make_rounds(&mut parts, arrivals)?;
     end_parts(alloc, config, arrivals, parts)
+}
+
+/// What the kernel threads of the same run end with. No pass is kept: the memory that this takes
+/// grows with what the threads did alone. Fails only when out of memory; nothing is left of the run
+/// then.
+pub fn lockstep_threads(
+    alloc: Global,
+    config: &Config,
+    arrivals: &Arrivals,
+) -> Result<ThreadsEnd, SimFault>
+    requires fits { FitsTable config.now arrivals.now }
+    ensures run { IfOk result (IsThreadsEnd config.now arrivals.now) }
+    ensures memory { IfErr result (λ fault. fault ≡ Memory) }
+{
+    config.limits();
+    let Parts {
+        scheduler,
+        workers,
+        watch,
+    } = open_parts(alloc, config, arrivals)?;
+    let mut parts = BareParts {
+        scheduler: scheduler.bare(),
+        workers,
+        watch,
+    };
+    make_bare_rounds(&mut parts, arrivals)?;
+    end_threads(alloc, config, arrivals, parts)
 }

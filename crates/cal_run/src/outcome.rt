@@ -37,3 +37,12 @@ pub struct Outcome {
     /// What the watch found on each thread's page, round by round.
     pub watched: Listed<Round>,
 }
+
+/// What the kernel threads of a run end with.
+#[derive(Drop)]
+pub struct ThreadsEnd {
+    /// What each kernel thread did, in thread order.
+    pub journals: Listed<Journal>,
+    /// The requests that were left with each kernel thread, in thread order.
+    pub left: Listed<RequestList>,
+}

@@ -1,5 +1,6 @@
 //! The rounds of a run on one thread.
 
+pub mod bare;
 pub mod passes;
 pub mod watch;
 
@@ -67,7 +68,11 @@ fn pass_of_round(scheduler: &mut Scheduler, arrivals: &Arrivals, r: usize) -> Re
 }
 
 /// Turn `r` of each thread, in thread order, if there is one.
-fn turns_of_round(workers: &mut [Worker], arrivals: &Arrivals, r: usize) -> Result<(), SimFault>
+pub(crate) fn turns_of_round(
+    workers: &mut [Worker],
+    arrivals: &Arrivals,
+    r: usize,
+) -> Result<(), SimFault>
     requires fits { FitSomeTable arrivals.now }
     requires made { HaveMade arrivals.now (min r (length arrivals.now.turns)) workers.old }
     ensures made { IfOk result (λ _.
