@@ -4,7 +4,7 @@
 //! An engine takes any reader and any writer. It reads one input to its end, and writes its answer
 //! and nothing else, once the whole input was read and accepted. What the words of a command line
 //! ask for is `words`, and what the program says and exits with after a fault are `fault_line` and
-//! `status`. `caladan_view` goes by the same shell (shell.rt).
+//! `status`. `caladan_view` refuses words by the same shell (shell.rt).
 #![tactic(auto)]
 
 mod command_words;
