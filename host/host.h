@@ -25,7 +25,7 @@
 #endif
 #define HOST_VERSION ((uint64_t)HOST_LAYOUT << 32 | CALADAN_PAGES_VERSION)
 #define HOST_SIGNAL SIGURG /* by default it is ignored: a thread that has no handler for it takes no harm */
-enum { HOST_CORES = 128, HOST_TASKS = 16, HOST_THREADS = 128, HOST_LIMIT = 16 };
+enum { HOST_CORES = CALADAN_MOST_CORES, HOST_TASKS = 16, HOST_THREADS = CALADAN_MOST_THREADS, HOST_LIMIT = 16 };
 
 /* The nine words of a record. */
 enum { TAKEN, RUNNING, QUEUED, OLDEST, STARTED, MISSES, STAMP, PAUSED, SINCE };

@@ -12,10 +12,12 @@ typedef struct histogram {
 
 typedef struct latency {
     /* what is under way in this piece; 0 is nothing */
-    uint64_t asked[16];                                        /* of a task: when a core was revoked for it */
-    uint64_t revoked[128];                                     /* of a core: when */
-    uint8_t revoked_for[128], left_by[128];                    /* for which task, or 255; and from which thread */
-    uint64_t granted[128], decided[128], waited[128], on[128]; /* of a thread that is not seen on its core yet */
+    uint64_t asked[16];                        /* of a task: when a core was revoked for it */
+    uint64_t revoked[CALADAN_MOST_CORES];      /* of a core: when */
+    uint8_t revoked_for[CALADAN_MOST_CORES];   /* for which task, or 255 */
+    uint8_t left_by[CALADAN_MOST_CORES];       /* and from which thread */
+    uint64_t granted[CALADAN_MOST_THREADS];    /* of a thread that is not seen on its core yet */
+    uint64_t decided[CALADAN_MOST_THREADS], waited[CALADAN_MOST_THREADS], on[CALADAN_MOST_THREADS];
     /* of the whole run */
     uint64_t wasted;
     histogram leaving, starting, moving, waiting;

@@ -26,7 +26,7 @@
  * Since version 1: nothing that was there has changed. New are caladan_pass_each, caladan_first_unfit,
  * caladan_table, caladan_table_task, caladan_thread, caladan_gone and caladan_revoked, the same of a guard
  * (caladan_guard_pass_each and so on), the judgements from CALADAN_NO_PAIR on, the answer CALADAN_LOST,
- * and the texts.
+ * the texts, CALADAN_MOST_CORES and CALADAN_MOST_THREADS.
  */
 #ifndef CALADAN_H
 #define CALADAN_H
@@ -40,6 +40,11 @@ extern "C" {
 
 /* The version of this interface, which caladan_version answers. */
 #define CALADAN_VERSION 2
+
+/* The most cores of a machine, the most threads of a table, and the most actions that a pass has. */
+#define CALADAN_MOST_CORES 128
+#define CALADAN_MOST_THREADS 128
+#define CALADAN_MOST_ACTIONS 338
 
 /* What a call answers. Up to CALADAN_TOO_MANY_THREADS it is the first fault of a table; 12 is no answer.
  * A pass answers none but those that are named at it [own]. */
@@ -108,7 +113,7 @@ enum {
     CALADAN_FOREIGN = 4,
     CALADAN_NO_PAIR = 5,    /* a busy look whose versions are neither one odd version, given twice, nor an
                                even one and then a greater */
-    CALADAN_MISSHAPEN = 6,  /* running above 128, or misses above 2^56 */
+    CALADAN_MISSHAPEN = 6,  /* running above CALADAN_MOST_CORES, or misses above 2^56 */
     CALADAN_PLACE_FELL = 7, /* its place is lower than the last one's */
     CALADAN_CHANGED = 8,    /* it is at the last one's place, and another record */
     CALADAN_WORD_FELL = 9   /* its place is higher, and taken, misses or stamp is lower than the last one's */
@@ -137,9 +142,6 @@ typedef struct caladan_action {
     uint8_t cap;        /* of a cap: the most cores that the task may book */
     uint64_t started;   /* of a ban: when the request was begun */
 } caladan_action;
-
-/* The most actions that a pass has. */
-#define CALADAN_MOST_ACTIONS 338
 
 /* Who has a core. */
 enum { CALADAN_CORE_FREE = 0, CALADAN_CORE_HELD = 1, CALADAN_CORE_LEAVING = 2 };
@@ -205,9 +207,9 @@ uint8_t caladan_first_unfit(caladan *handle, const caladan_look *looks, size_t c
 /* What the table says of the machine: DONE [told], or IS_CLOSED [closed], which writes nothing [refused].
  * Nothing changes [same]. */
 typedef struct caladan_machine {
-    uint8_t cores;            /* 2 to 128 */
+    uint8_t cores;            /* 2 to CALADAN_MOST_CORES */
     uint8_t tasks;            /* 1 to 16 */
-    uint8_t threads;          /* 1 to 128 */
+    uint8_t threads;          /* 1 to CALADAN_MOST_THREADS */
     uint64_t bandwidth_limit; /* the figure above which a best-effort task loses a core */
 } caladan_machine;
 uint8_t caladan_table(caladan *handle, caladan_machine *machine);

@@ -6,7 +6,7 @@
 #include <stdlib.h>
 #include <string.h>
 
-enum { THREADS = 128, FIELDS = 13 };
+enum { THREADS = CALADAN_MOST_THREADS, FIELDS = 13 };
 
 /* A pass as it is read. */
 typedef struct recorded {

@@ -13,14 +13,14 @@
 #include <string.h>
 #include <time.h>
 
-enum { MOST = 128, RING = 4, PARK = -1 };
+enum { MOST = CALADAN_MOST_THREADS, RING = 4, PARK = -1 };
 
 typedef struct {
     int command[RING]; /* a core, or PARK */
     int count;
 } ring;
 
-static int passes = 20000, THREADS = 128;
+static int passes = 20000, THREADS = MOST;
 static uint32_t each = 4, yields = 16, asks = 16, fresh = 16, more = 64;
 static ring rings[MOST];
 static int core_of[MOST], holder[MOST];

@@ -5,7 +5,7 @@
 #include <stdlib.h>
 #include <string.h>
 
-enum { THREADS = 128, FIELDS = 13 };
+enum { THREADS = CALADAN_MOST_THREADS, FIELDS = 13 };
 
 static char *read_all(size_t *length) {
     size_t room = 1 << 16, used = 0;

@@ -1,15 +1,14 @@
 -- Runs of several tables on the same arrivals, side by side.
 use Rattle.std.specs.Prelude.{◌≡◌, ℕ, List, [], ◌∷◌, length, Some, None, Ok, slice_get}
 use Rattle.cal_engine.specs.Input.{input_parts}
-use Rattle.cal_engine.specs.Runs.{parts_of}
 use Rattle.cal_machine.specs.Reading.{table_in}
 use Rattle.cal_machine.specs.Table.{Table}
 use Rattle.cal_machine.specs.Tasks.{threads_in}
-use Rattle.cal_measure.specs.declared.requests.TaskRequests.{TaskRequests}
 use Rattle.cal_trace.specs.Arrivals.{arrivals_of}
 use Rattle.cal_trace.specs.Rows.{rows_of}
 use Rattle.cal_trace.specs.declared.arrivals.Arrivals.{Arrivals}
-use Rattle.cal_tables.specs.Measured.{IsMeasured}
+use Rattle.cal_tables.specs.Measured.{IsMeasuredRun}
+use Rattle.cal_tables.specs.declared.measuring.RunNumbers.{RunNumbers}
 
 -- the tables of an input, each ended by a separator line, and what stands after the last of these
 -- lines
@@ -20,22 +19,22 @@ AreTables input (table ∷ tables) trace = (front : List ℕ) × (back : List �
     × AreTables back tables trace
 
 -- the numbers of a run of this table on the arrivals that a text tells
-pub record IsColumn (table : Table) (trace : List ℕ) (column : List TaskRequests) : Type 0 where
+pub record IsColumn (table : Table) (trace : List ℕ) (column : RunNumbers) : Type 0 where
   pub arrivals : Arrivals
   pub given : arrivals_of (threads_in table.tasks) (rows_of trace) ≡ Ok arrivals
-  pub measured : IsMeasured table arrivals column
+  pub measured : IsMeasuredRun table arrivals column
 
 -- as many columns as tables, each with the numbers of the table at its place
 pub record AreColumns (tables : List Table) (trace : List ℕ)
-    (columns : List (List TaskRequests)) : Type 0 where
+    (columns : List RunNumbers) : Type 0 where
   pub many : length columns ≡ length tables
-  pub each : (i : ℕ) (table : Table) (column : List TaskRequests) →
+  pub each : (i : ℕ) (table : Table) (column : RunNumbers) →
       slice_get tables i ≡ Some table → slice_get columns i ≡ Some column →
       IsColumn table trace column
 
 -- the tables of an input, and the numbers of each one's run on its arrivals
 pub record IsComparison (input : List ℕ) (tables : List Table)
-    (columns : List (List TaskRequests)) : Type 0 where
+    (columns : List RunNumbers) : Type 0 where
   pub trace : List ℕ
   pub given : AreTables input tables trace
   pub are : AreColumns tables trace columns

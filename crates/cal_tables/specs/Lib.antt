@@ -2,3 +2,4 @@ pub mod Measured
 pub mod Compared
 pub mod Varied
 pub mod Changed
+pub mod Courses

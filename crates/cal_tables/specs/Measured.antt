@@ -18,13 +18,6 @@ pub record AreNumbersOf (table : Table) (arrivals : Arrivals) (outcome : Outcome
   pub each : (t : ℕ) (of_task : TaskRequests) → slice_get numbers t ≡ Some of_task →
       AreRequestsOf table arrivals outcome.journals outcome.left t of_task
 
--- a run on these arrivals came to some outcome, and these are its numbers
-pub record IsMeasured (table : Table) (arrivals : Arrivals)
-    (numbers : List TaskRequests) : Type 0 where
-  pub outcome : Outcome
-  pub run : IsRun table arrivals outcome
-  pub are : AreNumbersOf table arrivals outcome numbers
-
 -- for each task, in task order, the numbers of its cores in this history
 pub record AreCoresOfTasks (table : Table) (history : List PassEntry)
     (numbers : List TaskCores) : Type 0 where

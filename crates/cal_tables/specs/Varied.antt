@@ -10,9 +10,9 @@ use Rattle.cal_machine.specs.declared.fault.ConfigFault.TheVariants.{UnknownKey}
 use Rattle.cal_machine.specs.declared.task.Kind.{Kind}
 use Rattle.cal_machine.specs.declared.task.Kind.TheVariants.{LatencyCritical, BestEffort}
 use Rattle.cal_machine.specs.declared.task.Task.{Task}
-use Rattle.cal_measure.specs.declared.requests.TaskRequests.{TaskRequests}
 use Rattle.cal_trace.specs.Rows.Text.{numbered}
 use Rattle.cal_tables.specs.Compared.{AreColumns}
+use Rattle.cal_tables.specs.declared.measuring.RunNumbers.{RunNumbers}
 
 -- the key of a task's field, as task.1.delay
 abbrev pub field_key : ℕ → List ℕ → List ℕ
@@ -76,7 +76,7 @@ AreVaried table key values tables = map (varied table key) values ≡ map Ok tab
 -- the tables that the table of an input gives with each of these values at this key, and the
 -- numbers of each one's run on the input's arrivals
 pub record IsVariation (input key : List ℕ) (values : List (List ℕ)) (tables : List Table)
-    (columns : List (List TaskRequests)) : Type 0 where
+    (columns : List RunNumbers) : Type 0 where
   pub table : Table
   pub trace : List ℕ
   pub given : parts_of input ≡ Ok (record { table = table; trace = trace })

@@ -17,20 +17,19 @@ use crate::comparing::sheet::comparison_sheet;
 use crate::comparing::tables::read_tables;
 use crate::comparing::varying::varied_tables;
 use crate::input::read_parts;
+use crate::measuring::RunNumbers;
 use cal_engine::{RunFault, read_input};
-use cal_lists::Listed;
 use cal_machine::Config;
-use cal_measure::TaskRequests;
 use std::alloc::Global;
 use std::io::{Read, Write};
 
-/// Some tables, and of each the numbers of its tasks' requests in its run.
+/// Some tables, and of each the numbers of its run.
 #[derive(Drop)]
 pub struct Comparison {
     /// The tables.
     pub tables: Vec<Config>,
-    /// A column for each table, with the numbers of each of its tasks.
-    pub columns: Vec<Listed<TaskRequests>>,
+    /// A column for each table: the numbers of its run.
+    pub columns: Vec<RunNumbers>,
 }
 
 /// The tables of an input, each ended by a separator line, and the numbers of each one's run on the
@@ -97,7 +96,7 @@ fn compared_text(
     csv: bool,
 ) -> Result<String, ComparisonFault> {
     let comparison = comparison_of(alloc, input, variation)?;
-    let sheet = comparison_sheet(alloc, variation, comparison.columns.as_slice())?;
+    let sheet = comparison_sheet(alloc, variation, &comparison)?;
     let text = if csv {
         sheet.csv(alloc)?
     } else {

@@ -2,12 +2,13 @@
 
 use crate::measuring::RunNumbers;
 use crate::sheet::Sheet;
+use crate::writing::{Unit, cell};
 use cal_measure::{MachineCores, TaskCores, thousandths};
 use std::alloc::{AllocError, Global};
 
 /// What a row says of the cores of each task.
 #[derive(Clone, Copy)]
-enum CoreLine {
+pub enum CoreLine {
     GrantsBeside,
     GrantsAgain,
     GrantsOther,
@@ -19,10 +20,11 @@ enum CoreLine {
     Bans,
     Most,
     Mean,
+    Congested,
 }
 
 /// The rows of the tasks, in order.
-const CORE_LINES: [CoreLine; 11] = [
+pub const CORE_LINES: [CoreLine; 12] = [
     CoreLine::GrantsBeside,
     CoreLine::GrantsAgain,
     CoreLine::GrantsOther,
@@ -34,11 +36,12 @@ const CORE_LINES: [CoreLine; 11] = [
     CoreLine::Bans,
     CoreLine::Most,
     CoreLine::Mean,
+    CoreLine::Congested,
 ];
 
 /// What a row says of the machine's cores.
 #[derive(Clone, Copy)]
-enum MachineLine {
+pub enum MachineLine {
     Held,
     Leaving,
     Banned,
@@ -46,7 +49,7 @@ enum MachineLine {
 }
 
 /// The rows of the machine, in order.
-const MACHINE_LINES: [MachineLine; 4] = [
+pub const MACHINE_LINES: [MachineLine; 4] = [
     MachineLine::Held,
     MachineLine::Leaving,
     MachineLine::Banned,
@@ -54,7 +57,7 @@ const MACHINE_LINES: [MachineLine; 4] = [
 ];
 
 /// What stands in front of a row of the tasks.
-fn core_label(line: CoreLine) -> &'static str {
+pub fn core_label(line: CoreLine) -> &'static str {
     match line {
         CoreLine::GrantsBeside => "grants class 1",
         CoreLine::GrantsAgain => "grants class 2",
@@ -67,11 +70,12 @@ fn core_label(line: CoreLine) -> &'static str {
         CoreLine::Bans => "bans",
         CoreLine::Most => "most cores held",
         CoreLine::Mean => "mean cores held",
+        CoreLine::Congested => "share congested",
     }
 }
 
 /// What stands in front of a row of the machine.
-fn machine_label(line: MachineLine) -> &'static str {
+pub fn machine_label(line: MachineLine) -> &'static str {
     match line {
         MachineLine::Held => "machine held",
         MachineLine::Leaving => "machine leaving",
@@ -80,58 +84,37 @@ fn machine_label(line: MachineLine) -> &'static str {
     }
 }
 
-/// A count as it is written.
-fn count_cell(alloc: Global, count: usize) -> Result<String, AllocError> {
-    format!(in alloc; "{count}")
-}
-
-/// A part of a whole as it is written, with three digits after the point; a dash where there is no
-/// whole.
-fn share_cell(alloc: Global, part: u128, whole: u128) -> Result<String, AllocError> {
-    match thousandths(part, whole) {
-        Some(share) => {
-            let (ones, rest) = (share / 1000, (share % 1000) as u64);
-            format!(in alloc; "{ones}.{rest:03}")
-        }
-        None => String::from_str(alloc, "-"),
+/// What the numbers of a row of the tasks count.
+pub fn core_unit(line: CoreLine) -> Unit {
+    match line {
+        CoreLine::Mean | CoreLine::Congested => Unit::Thousandth,
+        _ => Unit::One,
     }
 }
 
-/// What a row says of a task's cores, in a run that lasted so long.
-fn core_cell(
-    alloc: Global,
-    line: CoreLine,
-    cores: &TaskCores,
-    lasted: u128,
-) -> Result<String, AllocError> {
+/// How many thousandths of a whole a part is, where there is a whole.
+fn share(part: u128, whole: u128) -> Option<u64> {
+    let share = thousandths(part, whole)?;
+    Some(share.min(u64::MAX as u128) as u64)
+}
+
+/// What a row says of a task's cores, in a run that lasted so long, where there is something.
+pub fn core_figure(cores: &TaskCores, line: CoreLine, lasted: u128) -> Option<u64> {
     let actions = cores.actions;
     match line {
-        CoreLine::GrantsBeside => count_cell(alloc, actions.grants_beside),
-        CoreLine::GrantsAgain => count_cell(alloc, actions.grants_again),
-        CoreLine::GrantsOther => count_cell(alloc, actions.grants_other),
-        CoreLine::LostToBans => count_cell(alloc, actions.lost_to_bans),
-        CoreLine::LostToBandwidth => count_cell(alloc, actions.lost_to_bandwidth),
-        CoreLine::LostToTasks => count_cell(alloc, actions.lost_to_tasks),
-        CoreLine::LostByOthers => count_cell(alloc, actions.lost_by_others),
-        CoreLine::Caps => count_cell(alloc, actions.caps),
-        CoreLine::Bans => count_cell(alloc, actions.bans),
-        CoreLine::Most => count_cell(alloc, cores.most as usize),
-        CoreLine::Mean => share_cell(alloc, cores.held, lasted),
+        CoreLine::GrantsBeside => Some(actions.grants_beside as u64),
+        CoreLine::GrantsAgain => Some(actions.grants_again as u64),
+        CoreLine::GrantsOther => Some(actions.grants_other as u64),
+        CoreLine::LostToBans => Some(actions.lost_to_bans as u64),
+        CoreLine::LostToBandwidth => Some(actions.lost_to_bandwidth as u64),
+        CoreLine::LostToTasks => Some(actions.lost_to_tasks as u64),
+        CoreLine::LostByOthers => Some(actions.lost_by_others as u64),
+        CoreLine::Caps => Some(actions.caps as u64),
+        CoreLine::Bans => Some(actions.bans as u64),
+        CoreLine::Most => Some(cores.most as u64),
+        CoreLine::Mean => share(cores.held, lasted),
+        CoreLine::Congested => share(cores.congested, lasted),
     }
-}
-
-/// A row: what it says of each task's cores.
-fn core_row(
-    alloc: Global,
-    line: CoreLine,
-    numbers: &RunNumbers,
-) -> Result<Vec<String>, AllocError> {
-    let mut row = Vec::new(alloc);
-    row.push(String::from_str(alloc, core_label(line))?)?;
-    for task in numbers.cores.as_slice() {
-        row.push(core_cell(alloc, line, task, numbers.machine.lasted)?)?;
-    }
-    Ok(row)
 }
 
 /// The core time of a row of the machine.
@@ -144,6 +127,27 @@ fn machine_time(machine: &MachineCores, line: MachineLine) -> u128 {
     }
 }
 
+/// What a row says of the machine's cores, of which there are so many, where there is something.
+pub fn machine_figure(machine: &MachineCores, line: MachineLine, cores: u8) -> Option<u64> {
+    let whole = machine.lasted.saturating_mul(cores as u128);
+    share(machine_time(machine, line), whole)
+}
+
+/// A row: what it says of each task's cores.
+fn core_row(
+    alloc: Global,
+    line: CoreLine,
+    numbers: &RunNumbers,
+) -> Result<Vec<String>, AllocError> {
+    let lasted = numbers.machine.lasted;
+    let mut row = Vec::new(alloc);
+    row.push(String::from_str(alloc, core_label(line))?)?;
+    for task in numbers.cores.as_slice() {
+        row.push(cell(alloc, core_figure(task, line, lasted), core_unit(line))?)?;
+    }
+    Ok(row)
+}
+
 /// A row of the machine: one number after the label.
 fn machine_row(
     alloc: Global,
@@ -151,10 +155,10 @@ fn machine_row(
     numbers: &RunNumbers,
     cores: u8,
 ) -> Result<Vec<String>, AllocError> {
-    let whole = numbers.machine.lasted.saturating_mul(cores as u128);
+    let figure = machine_figure(&numbers.machine, line, cores);
     let mut row = Vec::new(alloc);
     row.push(String::from_str(alloc, machine_label(line))?)?;
-    row.push(share_cell(alloc, machine_time(&numbers.machine, line), whole)?)?;
+    row.push(cell(alloc, figure, Unit::Thousandth)?)?;
     Ok(row)
 }
 

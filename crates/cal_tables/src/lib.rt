@@ -1,10 +1,11 @@
 //! What a task table makes of arrivals, in numbers: a run on one thread, measured.
 //!
-//! Which numbers these are is proved (`measured`, `measured_run`); how they are written is only tested.
+//! Which numbers these are is proved (`measured_run`); how they are written is only tested.
 #![tactic(auto)]
 
 mod comparing;
 mod core_rows;
+mod courses;
 mod input;
 mod measuring;
 mod sheet;
@@ -12,4 +13,5 @@ mod writing;
 
 pub use comparing::fault::ComparisonFault;
 pub use comparing::{Comparison, Variation, compare, compared, compared_values};
-pub use measuring::{RunNumbers, measure, measured, measured_run};
+pub use courses::{Courses, RunCourse, TaskCourse, courses_of, run_course};
+pub use measuring::{RunNumbers, measure, measured_run};

@@ -4,9 +4,9 @@ ghost use Rattle.std.specs.Prelude.{◌≡◌, ◌≢◌, ◌≤◌, IfErr, IfOk
 ghost use Rattle.cal_measure.specs.Clocks.{AreClocksOf};
 ghost use Rattle.cal_policy.specs.Pass.{IsLegal};
 ghost use Rattle.cal_policy.specs.declared.history.entry.TheConstants.{MOST_PASSES};
+ghost use Rattle.cal_run.specs.Outcome.{outcome_of};
 ghost use Rattle.cal_trace.specs.Arrivals.FitsTable.{FitsTable};
-ghost use Rattle.cal_tables.specs.Measured.{AreCoresOfTasks, AreNumbersOf, IsMeasured};
-ghost use Rattle.cal_tables.specs.Measured.{IsMeasuredRun};
+ghost use Rattle.cal_tables.specs.Measured.{AreCoresOfTasks, AreNumbersOf, IsMeasuredRun};
 
 use crate::core_rows::put_core_rows;
 use crate::input::run_input;
@@ -17,7 +17,7 @@ use cal_measure::{
     ArrivalClocks, MachineCores, TaskCores, TaskRequests, cores_of, machine_of, requests_of,
 };
 use cal_policy::PassEntry;
-use cal_run::{Outcome, lockstep};
+use cal_run::{RunEnd, lockstep_end};
 use cal_trace::Arrivals;
 use std::alloc::{AllocError, Global};
 use std::io::{Read, Write};
@@ -39,15 +39,15 @@ fn numbers_of(
     config: &Config,
     arrivals: &Arrivals,
     clocks: &ArrivalClocks,
-    outcome: &Outcome,
+    end: &RunEnd,
 ) -> Result<Vec<TaskRequests>, AllocError>
     requires fits { FitsTable config.now arrivals.now }
     requires clocks { AreClocksOf arrivals.now.turns arrivals.now.requests clocks.now }
     ensures { IfOk result (λ numbers.
-        AreNumbersOf config.now arrivals.now outcome.now numbers.items) }
+        AreNumbersOf config.now arrivals.now (outcome_of end.now) numbers.items) }
 {
-    let journals = outcome.journals.as_slice();
-    let left = outcome.left.as_slice();
+    let journals = end.journals.as_slice();
+    let left = end.left.as_slice();
     let mut numbers = Vec::new(alloc);
     for task in 0..config.tasks() {
         let of_task = requests_of(alloc, config, arrivals, clocks, journals, left, task)?;
@@ -83,11 +83,11 @@ pub fn measured_run(
     ensures numbers { IfOk result (IsMeasuredRun config.now arrivals.now) }
     ensures kind { IfErr result (λ fault. fault ≡ RunFault.Memory) }
 {
-    let outcome = lockstep(alloc, config, arrivals)?;
+    let end = lockstep_end(alloc, config, arrivals)?;
     let turns = arrivals.turns.as_slice();
     let clocks = ArrivalClocks::of(alloc, turns, arrivals.requests.as_slice())?;
-    let requests = numbers_of(alloc, config, arrivals, &clocks, &outcome)?;
-    let history = outcome.history.as_slice();
+    let requests = numbers_of(alloc, config, arrivals, &clocks, &end)?;
+    let history = end.history.as_slice();
     let cores = cores_of_tasks(alloc, config, history)?;
     let machine = machine_of(config, history);
     Ok(RunNumbers {
@@ -95,25 +95,6 @@ pub fn measured_run(
         cores,
         machine,
     })
-}
-
-/// Makes a whole run on one thread on these arrivals, and measures its requests: the numbers of
-/// each task's, in task order. Its fault is `Memory`.
-pub fn measured(
-    alloc: Global,
-    config: &Config,
-    arrivals: &Arrivals,
-) -> Result<Vec<TaskRequests>, RunFault>
-    requires fits { FitsTable config.now arrivals.now }
-    ensures numbers { IfOk result (λ numbers.
-        IsMeasured config.now arrivals.now numbers.items) }
-    ensures kind { IfErr result (λ fault. fault ≡ RunFault.Memory) }
-{
-    let outcome = lockstep(alloc, config, arrivals)?;
-    let turns = arrivals.turns.as_slice();
-    let clocks = ArrivalClocks::of(alloc, turns, arrivals.requests.as_slice())?;
-    let numbers = numbers_of(alloc, config, arrivals, &clocks, &outcome)?;
-    Ok(numbers)
 }
 
 /// What is written of the run on an input, in memory.

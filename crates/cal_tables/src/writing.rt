@@ -95,10 +95,30 @@ pub fn figure(numbers: &TaskRequests, line: Line) -> Option<u64> {
     }
 }
 
+/// What a number counts.
+#[derive(Clone, Copy)]
+pub enum Unit {
+    /// Whole ones.
+    One,
+    /// Thousandths of one.
+    Thousandth,
+}
+
+/// A number as it is written: whole ones, or with three digits after the point.
+pub fn number(alloc: Global, number: u64, unit: Unit) -> Result<String, AllocError> {
+    match unit {
+        Unit::One => format!(in alloc; "{number}"),
+        Unit::Thousandth => {
+            let (ones, rest) = (number / 1000, number % 1000);
+            format!(in alloc; "{ones}.{rest:03}")
+        }
+    }
+}
+
 /// A figure as it is written; a dash where there is none.
-pub fn cell(alloc: Global, figure: Option<u64>) -> Result<String, AllocError> {
+pub fn cell(alloc: Global, figure: Option<u64>, unit: Unit) -> Result<String, AllocError> {
     match figure {
-        Some(figure) => format!(in alloc; "{figure}"),
+        Some(figure) => number(alloc, figure, unit),
         None => String::from_str(alloc, "-"),
     }
 }
@@ -126,7 +146,7 @@ fn line_row(
     let mut row = Vec::new(alloc);
     row.push(label(alloc, line)?)?;
     for task in numbers {
-        row.push(cell(alloc, figure(task, line))?)?;
+        row.push(cell(alloc, figure(task, line), Unit::One)?)?;
     }
     Ok(row)
 }

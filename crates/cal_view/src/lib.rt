@@ -11,9 +11,8 @@ mod recording;
 mod story;
 mod timeline;
 
-pub use command_words::command_line::{Job, words};
-pub use command_words::fault::fault_line;
-pub use command_words::program::{end_with, run_program};
+pub use command_words::command_line::{Form, Job, words};
+pub use command_words::program::{run_program, say_help};
 pub use picture::draw_picture;
 pub use recording::record;
 pub use timeline::write_timeline;

@@ -1,34 +1,35 @@
 //! The picture of a history: one SVG.
 
+pub mod axis;
 pub mod bandwidth;
-pub mod colours;
 pub mod columns;
 pub mod cores;
 pub mod heading;
 pub mod layout;
 pub mod legend;
-pub mod page;
+pub mod overview;
 pub mod sheet;
 pub mod style;
 pub mod tasks;
 pub mod telling;
 
 use crate::counting::count_passes;
+use crate::picture::axis::{draw_axis, draw_grid};
 use crate::picture::bandwidth::draw_bandwidth;
 use crate::picture::cores::draw_cores;
 use crate::picture::heading::{
-    draw_axis, draw_grid, draw_heading, draw_overview, tell_end, tell_machine, tell_sums,
-    tell_tasks, tell_window,
+    draw_heading, tell_end, tell_machine, tell_sums, tell_tasks, tell_window,
 };
 use crate::picture::layout::Layout;
 use crate::picture::legend::draw_legend;
-use crate::picture::page::Page;
+use crate::picture::overview::draw_overview;
 use crate::picture::sheet::Sheet;
 use crate::picture::style::{draw_signs, draw_style};
 use crate::picture::tasks::draw_tasks;
 use crate::story::Story;
 use crate::story::window::{Columns, Window};
 use cal_engine::{RunFault, recorded_passes};
+use cal_picture::Page;
 use std::alloc::Global;
 use std::io::Write;
 

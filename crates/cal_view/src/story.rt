@@ -7,7 +7,7 @@ pub mod window;
 ghost use Rattle.cal_trace.specs.History.Reading.{IsOpen};
 
 use crate::story::clocks::{ClockedBan, ClockedSpan};
-use crate::story::walk::{Over, Row, Walk, is_critical};
+use crate::story::walk::{Row, SpanAndBan, Walk, is_critical};
 use crate::story::window::{Window, plot_width};
 use cal_engine::RunFault;
 use cal_machine::Config;
@@ -157,14 +157,14 @@ impl Gathering {
     }
 
     /// Keeps a span and a ban, where they show in the window.
-    fn keep(&mut self, window: Window, over: Over) -> Result<(), AllocError> {
-        match over.span {
+    fn keep(&mut self, window: Window, both: SpanAndBan) -> Result<(), AllocError> {
+        match both.span {
             Some(clocked) if window.shows(clocked.span.from, clocked.span.to) => self
                 .spans
                 .push(clocked)?,
             _ => {}
         }
-        match over.ban {
+        match both.ban {
             Some(clocked) if window.shows(clocked.ban.from, clocked.ban.to) => self
                 .bans
                 .push(clocked)?,
@@ -175,11 +175,11 @@ impl Gathering {
 
     /// Goes on by the actions of a pass.
     fn note(&mut self, window: Window, pass: usize, entry: &PassEntry) -> Result<(), AllocError> {
-        self.walk.look(entry.input.seen.as_slice());
+        self.walk.take_looks(entry.input.seen.as_slice());
         for action in entry.actions.as_slice() {
             self.sums.note(*action);
-            let over = self.walk.note(pass, entry.input.now, *action);
-            self.keep(window, over)?;
+            let ended = self.walk.note(pass, entry.input.now, *action);
+            self.keep(window, ended)?;
         }
         Ok(())
     }

@@ -6,12 +6,12 @@
 ghost use Rattle.cal_trace.specs.History.Reading.{IsOpen};
 
 use crate::counting::count_passes;
-use crate::picture::page::Page;
 use crate::picture::telling::{kind_word, tell_ban, tell_span};
 use crate::story::clocks::{ClockedBan, ClockedSpan};
-use crate::story::walk::{Over, Row, Walk, is_critical, task_of};
+use crate::story::walk::{Row, SpanAndBan, Walk, is_critical, task_of};
 use cal_engine::{RunFault, recorded_passes};
 use cal_machine::{Config, MOST_TASKS};
+use cal_picture::Page;
 use cal_policy::{Action, Cause, PassEntry};
 use cal_trace::HistoryRows;
 use serde::Serialize;
@@ -219,7 +219,7 @@ impl Told {
     /// Goes on by one pass, and puts what it changes and ends.
     fn pass(&mut self, config: &Config, entry: &PassEntry, events: &mut Events) {
         self.now = entry.input.now;
-        self.walk.look(entry.input.seen.as_slice());
+        self.walk.take_looks(entry.input.seen.as_slice());
         self.note(config, entry.actions.as_slice(), events);
         let row = self.walk.row(config, self.now);
         put_row(config, self.now, &row, self.row, events);
@@ -231,26 +231,26 @@ impl Told {
     /// What the actions of a pass end.
     fn note(&mut self, config: &Config, actions: &[Action], events: &mut Events) {
         for action in actions {
-            let over = self.walk.note(self.passes, self.now, *action);
-            put_over(config, self.now, over, events);
+            let ended = self.walk.note(self.passes, self.now, *action);
+            put_ended(config, self.now, ended, events);
         }
     }
 
     /// What goes on after the last pass.
     fn rest(&self, config: &Config, events: &mut Events) {
         for core in 0..config.machine().cores() {
-            put_over(config, self.now, self.walk.open(core), events);
+            put_ended(config, self.now, self.walk.open(core), events);
         }
     }
 }
 
 /// A span and a ban that end by this clock, where there are such.
-fn put_over(config: &Config, end: u64, over: Over, events: &mut Events) {
-    if let Some(clocked) = over.span {
+fn put_ended(config: &Config, end: u64, ended: SpanAndBan, events: &mut Events) {
+    if let Some(clocked) = ended.span {
         put_span(config, end, &clocked, events);
         put_leaving(end, &clocked, events);
     }
-    if let Some(clocked) = over.ban {
+    if let Some(clocked) = ended.ban {
         put_ban(config, end, &clocked, events);
     }
 }

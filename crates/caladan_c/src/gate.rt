@@ -90,7 +90,7 @@ ghost use Rattle.caladan_c.specs.declared.answer.Refusal.TheVariants.{Memory, Un
 
 impl Gate {
     /// A gate of this table that was handed no pass, or the table's fault. It takes all the memory
-    /// that passes of at most 338 actions need.
+    /// that passes of at most `MOST_ACTIONS` actions need.
     pub fn open(alloc: Global, table: &[u8]) -> Result<Gate, ConfigFault>
         ensures table { Gives (λ gate. gate.table) result (table_in table.now) }
         ensures new { IfOk result (λ gate. GuardsAfter gate []) }
@@ -147,7 +147,7 @@ impl Gate {
 
     /// Lets the next pass through with the actions that C chose, where each is permitted at its
     /// place, and tells what was judged of each look: None; or names the first that is not. It
-    /// takes memory only for more than 338 actions.
+    /// takes memory only for more than `MOST_ACTIONS` actions.
     pub fn pass(
         &mut self,
         alloc: Global,

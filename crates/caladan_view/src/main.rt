@@ -5,8 +5,8 @@
 //! ends of the process.
 #![tactic(auto)]
 
-use cal_engine::given_words;
-use cal_view::{end_with, run_program};
+use cal_engine::{end_with, given_words};
+use cal_view::run_program;
 use std::process::ExitCode;
 
 fn main(rt: HostRuntime) -> ExitCode {
@@ -18,7 +18,7 @@ fn main(rt: HostRuntime) -> ExitCode {
             &mut rt.stdout(),
             &mut rt.stderr(),
         ),
-        Err(fault) => end_with(&fault, &mut rt.stderr()),
+        Err(fault) => end_with("caladan_view", &fault, &mut rt.stderr()),
     };
     ExitCode::from(status)
 }

@@ -8,8 +8,8 @@
 
 ghost use Rattle.std.specs.Prelude.{◌≡◌, ◌≢◌, IfErr};
 
-use cal_engine::{RunFault, end_with, given_words, refuse_words, words};
-use std::alloc::{AllocError, Global};
+use cal_engine::{RunFault, end_with, given_words, refuse_words, words, words_after_first};
+use std::alloc::Global;
 use std::io::Write;
 use std::process::ExitCode;
 
@@ -44,8 +44,11 @@ fn answer_words<W: Write, E: Write>(
 ) -> Result<u8, RunFault>
     ensures untouched { IfErr result (λ fault. fault ≢ RunFault.Write → output.new ≡ output.old) }
 {
-    let given = words_after(alloc, named)?;
-    match named.get(1) {
+    let Some((_, asked)) = named.split_first() else {
+        return Ok(IS_A_JOB);
+    };
+    let given = words_after_first(alloc, asked)?;
+    match asked.first() {
         Some(program) if program.as_str() == "caladan_sim" => {
             sim_words(alloc, given.as_slice(), output, errors)
         }
@@ -54,15 +57,6 @@ fn answer_words<W: Write, E: Write>(
         }
         _ => Ok(IS_A_JOB),
     }
-}
-
-/// The words after the first two, which name this program and the one that is asked for.
-fn words_after<'a>(alloc: Global, named: &'a [String]) -> Result<Vec<&'a str>, AllocError> {
-    let mut given = Vec::new(alloc);
-    for word in named.iter().skip(2) {
-        given.push(word.as_str())?;
-    }
-    Ok(given)
 }
 
 /// What caladan_sim says of words.
@@ -90,23 +84,10 @@ fn view_words<W: Write, E: Write>(
     ensures untouched { IfErr result (λ fault. fault ≢ RunFault.Write → output.new ≡ output.old) }
 {
     if given.is_empty() {
-        return say_help(alloc, errors);
+        return cal_view::say_help(alloc, errors);
     }
     match cal_view::words(alloc, given) {
         Ok(_) => Ok(IS_A_JOB),
         Err(error) => refuse_words(&error, output, errors),
-    }
-}
-
-/// Writes the help of caladan_view on the standard error, and answers 2.
-fn say_help<E: Write>(alloc: Global, errors: &mut E) -> Result<u8, RunFault>
-    ensures { IfErr result (λ fault. fault ≢ RunFault.Write → errors.new ≡ errors.old) }
-{
-    match cal_view::words(alloc, &["--help"]) {
-        Ok(_) => Ok(IS_A_JOB),
-        Err(help) => match refuse_words(&help, errors, &mut std::io::sink()) {
-            Ok(_) => Ok(2),
-            Err(fault) => Err(fault),
-        },
     }
 }

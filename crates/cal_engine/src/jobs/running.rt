@@ -1,9 +1,10 @@
 //! Whole runs on the arrivals of an input.
 
-ghost use Rattle.std.specs.Prelude.{◌≡◌, ◌≢◌, Err, IfOk, IfErr, IfSome};
+ghost use Rattle.std.specs.Prelude.{◌≡◌, ◌≢◌, Err, length, IfOk, IfErr, IfSome};
 ghost use Rattle.cal_policy.specs.Pass.{IsLegal};
 ghost use Rattle.cal_run.specs.Outcome.{outcome_of};
 ghost use Rattle.cal_trace.specs.Arrivals.FitsTable.{FitsTable};
+ghost use Rattle.cal_trace.specs.Report.Summary.{summary_text};
 ghost use Rattle.cal_engine.specs.Outcome.{Decided, Gives};
 ghost use Rattle.cal_engine.specs.Runs.{within_limit};
 ghost use Rattle.cal_engine.specs.Running.{run_input_of, run_text, IsTextOfRun, Runs, TellsRun};
@@ -14,7 +15,7 @@ use crate::input::read_input;
 use crate::jobs::answer::write_answer;
 use cal_machine::Config;
 use cal_policy::legal_is_orderly;
-use cal_run::{RunEnd, lockstep_end};
+use cal_run::{RunEnd, ThreadsEnd, lockstep_end, lockstep_threads};
 use cal_trace::{Arrivals, read_arrivals, write_history, write_report, write_summary};
 use std::alloc::Global;
 use std::io::{Read, Write};
@@ -78,8 +79,42 @@ fn lockstep_on(
         (record { table = config.now; arrivals = arrivals.now }) text.items) }
     ensures kind { IfErr result (λ fault. fault ≡ RunFault.Memory) }
 {
-    let end = lockstep_end(alloc, config, arrivals)?;
-    run_text(alloc, answer, config, arrivals, &end)
+    match answer {
+        // A summary reads no pass, so none is kept.
+        RunAnswer::Summary => {
+            let end = lockstep_threads(alloc, config, arrivals)?;
+            threads_summary(alloc, arrivals, &end)
+        }
+        _ => {
+            let end = lockstep_end(alloc, config, arrivals)?;
+            run_text(alloc, answer, config, arrivals, &end)
+        }
+    }
+}
+
+/// The summary of what the kernel threads of a run end with, in memory. Its fault is `Memory`.
+fn threads_summary(
+    alloc: Global,
+    arrivals: &Arrivals,
+    end: &ThreadsEnd,
+) -> Result<Vec<u8>, RunFault>
+    ensures text { IfOk result (λ text. text.items ≡ summary_text
+        (length arrivals.now.passes) (length arrivals.now.turns) end.now.journals end.now.left) }
+    ensures kind { IfErr result (λ fault. fault ≡ RunFault.Memory) }
+{
+    let mut text = Vec::new(alloc);
+    let written = write_summary(
+        arrivals.passes.as_slice().len(),
+        arrivals.turns.as_slice().len(),
+        end.journals.as_slice(),
+        end.left.as_slice(),
+        &mut text,
+    );
+    match written {
+        Ok(()) => Ok(text),
+        // A list in memory refuses nothing but memory.
+        Err(_) => Err(RunFault::Memory),
+    }
 }
 
 /// The task table of an input, and the arrivals for its threads.

@@ -4,21 +4,18 @@ ghost use Rattle.std.specs.Prelude.{◌≡◌, ◌<◌, length, slice_get, IfOk}
 ghost use Rattle.cal_tables.specs.Compared.{AreColumns, IsColumn};
 
 use crate::comparing::fault::{ComparisonFault, fault_of};
-use crate::measuring::measured;
+use crate::measuring::{RunNumbers, measured_run};
 use cal_engine::RunFault;
-use cal_lists::Listed;
 use cal_machine::Config;
-use cal_measure::TaskRequests;
 use cal_trace::read_arrivals;
 use std::alloc::Global;
 
 /// The numbers of a table's run on the arrivals that a text tells.
-fn column_of(alloc: Global, table: &Config, trace: &[u8]) -> Result<Listed<TaskRequests>, RunFault>
+fn column_of(alloc: Global, table: &Config, trace: &[u8]) -> Result<RunNumbers, RunFault>
     ensures { IfOk result (IsColumn table.now trace.now) }
 {
     let arrivals = read_arrivals(alloc, table, trace)?;
-    let numbers = measured(alloc, table, &arrivals)?;
-    Ok(Listed::new(numbers))
+    measured_run(alloc, table, &arrivals)
 }
 
 /// The table at a place.
@@ -35,7 +32,7 @@ fn placed_column(
     table: &Config,
     place: usize,
     trace: &[u8],
-) -> Result<Listed<TaskRequests>, ComparisonFault>
+) -> Result<RunNumbers, ComparisonFault>
     ensures { IfOk result (IsColumn table.now trace.now) }
 {
     match column_of(alloc, table, trace) {
@@ -51,7 +48,7 @@ pub fn columns_of(
     alloc: Global,
     tables: &[Config],
     trace: &[u8],
-) -> Result<Vec<Listed<TaskRequests>>, ComparisonFault>
+) -> Result<Vec<RunNumbers>, ComparisonFault>
     ensures { IfOk result (λ columns. AreColumns tables.now trace.now columns.items) }
 {
     let mut columns = Vec::new(alloc);

@@ -1,13 +1,65 @@
 //! The numbers of several runs, row by row: a column for each run, and beside each but the first
 //! what it has more or less than the first.
 
-use crate::comparing::Variation;
 use crate::comparing::changes::{Change, changes_of};
+use crate::comparing::{Comparison, Variation};
+use crate::core_rows::{
+    CORE_LINES, CoreLine, MACHINE_LINES, MachineLine, core_figure, core_label, core_unit,
+    machine_figure, machine_label,
+};
 use crate::sheet::Sheet;
-use crate::writing::{LINES, Line, cell, figure, label};
-use cal_lists::Listed;
-use cal_measure::TaskRequests;
+use crate::writing::{LINES, Line, Unit, cell, figure, label, number};
 use std::alloc::{AllocError, Global};
+
+/// What a row says of each run.
+#[derive(Clone, Copy)]
+enum Row {
+    /// Of a task's requests.
+    Requests(usize, Line),
+    /// Of a task's cores.
+    Cores(usize, CoreLine),
+    /// Of the machine's cores.
+    Machine(MachineLine),
+}
+
+impl Row {
+    /// What stands in front of it.
+    fn label(self, alloc: Global) -> Result<String, AllocError> {
+        match self {
+            Row::Requests(task, line) => {
+                let of_task = label(alloc, line)?;
+                format!(in alloc; "task {task} {}", of_task.as_str())
+            }
+            Row::Cores(task, line) => format!(in alloc; "task {task} {}", core_label(line)),
+            Row::Machine(line) => String::from_str(alloc, machine_label(line)),
+        }
+    }
+
+    /// What its numbers count.
+    fn unit(self) -> Unit {
+        match self {
+            Row::Requests(..) => Unit::One,
+            Row::Cores(_, line) => core_unit(line),
+            Row::Machine(_) => Unit::Thousandth,
+        }
+    }
+
+    /// What it says of a run, which may have no such task.
+    fn figure_in(self, runs: &Comparison, column: usize) -> Option<u64> {
+        let numbers = runs.columns.as_slice().get(column)?;
+        match self {
+            Row::Requests(task, line) => figure(numbers.requests.as_slice().get(task)?, line),
+            Row::Cores(task, line) => {
+                let of_task = numbers.cores.as_slice().get(task)?;
+                core_figure(of_task, line, numbers.machine.lasted)
+            }
+            Row::Machine(line) => {
+                let table = runs.tables.as_slice().get(column)?;
+                machine_figure(&numbers.machine, line, table.machine().cores())
+            }
+        }
+    }
+}
 
 /// What stands over the rows' names.
 fn corner<'a>(variation: Option<Variation<'a>>) -> &'a str {
@@ -52,95 +104,98 @@ fn heading_row(
     Ok(row)
 }
 
-/// What a row says of a task in a run that may have no such task.
-fn figure_in(
-    columns: &[Listed<TaskRequests>],
-    column: usize,
-    task: usize,
-    line: Line,
-) -> Option<u64> {
-    let numbers = columns.get(column)?;
-    let of_task = numbers.as_slice().get(task)?;
-    figure(of_task, line)
-}
-
 /// A change as it is written.
-fn change_cell(alloc: Global, change: Change) -> Result<String, AllocError> {
-    match change {
-        Change::More(more) => format!(in alloc; "+{more}"),
-        Change::Less(0) => String::from_str(alloc, "0"),
-        Change::Less(less) => format!(in alloc; "-{less}"),
-        Change::Nothing => String::from_str(alloc, "-"),
-    }
+fn change_cell(alloc: Global, change: Change, unit: Unit) -> Result<String, AllocError> {
+    let (sign, by) = match change {
+        Change::Nothing => return String::from_str(alloc, "-"),
+        Change::Less(0) => return String::from_str(alloc, "0"),
+        Change::More(more) => ("+", more),
+        Change::Less(less) => ("-", less),
+    };
+    let text = number(alloc, by, unit)?;
+    format!(in alloc; "{sign}{}", text.as_str())
 }
 
-/// What a row says of a task in each run.
-fn figures_in(
-    alloc: Global,
-    columns: &[Listed<TaskRequests>],
-    task: usize,
-    line: Line,
-) -> Result<Vec<Option<u64>>, AllocError> {
+/// What a row says of each run.
+fn figures_in(alloc: Global, runs: &Comparison, row: Row) -> Result<Vec<Option<u64>>, AllocError> {
     let mut figures = Vec::new(alloc);
-    for column in 0..columns.len() {
-        figures.push(figure_in(columns, column, task, line))?;
+    for column in 0..runs.columns.len() {
+        figures.push(row.figure_in(runs, column))?;
     }
     Ok(figures)
 }
 
-/// A row: what it says of a task in each run, and the change from the first.
-fn task_row(
-    alloc: Global,
-    columns: &[Listed<TaskRequests>],
-    task: usize,
-    line: Line,
-) -> Result<Vec<String>, AllocError> {
-    let figures = figures_in(alloc, columns, task, line)?;
+/// The cells of a row: what it says of each run, and the change from the first.
+fn cells_of(alloc: Global, runs: &Comparison, row: Row) -> Result<Vec<String>, AllocError> {
+    let figures = figures_in(alloc, runs, row)?;
     let changes = changes_of(alloc, figures.as_slice())?;
-    let name = label(alloc, line)?;
-    let mut row = Vec::new(alloc);
-    row.push(format!(in alloc; "task {task} {}", name.as_str())?)?;
+    let mut cells = Vec::new(alloc);
+    cells.push(row.label(alloc)?)?;
     for column in 0..figures.len().min(changes.len()) {
-        row.push(cell(alloc, figures[column])?)?;
+        cells.push(cell(alloc, figures[column], row.unit())?)?;
         if column > 0 {
-            row.push(change_cell(alloc, changes[column])?)?;
+            cells.push(change_cell(alloc, changes[column], row.unit())?)?;
         }
     }
-    Ok(row)
+    Ok(cells)
 }
 
 /// The most tasks that one of the runs has.
-fn most_tasks(columns: &[Listed<TaskRequests>]) -> usize {
+fn most_tasks(runs: &Comparison) -> usize {
     let mut most = 0usize;
-    for column in columns {
-        most = most.max(column.as_slice().len());
+    for numbers in runs.columns.as_slice() {
+        most = most.max(numbers.requests.len());
     }
     most
 }
 
-/// Puts the rows of a task.
-fn put_task(
+/// Puts the rows of a task's requests.
+fn put_requests(
     alloc: Global,
     sheet: &mut Sheet,
-    columns: &[Listed<TaskRequests>],
+    runs: &Comparison,
     task: usize,
 ) -> Result<(), AllocError> {
     for line in LINES {
-        sheet.put(task_row(alloc, columns, task, line)?)?;
+        sheet.put(cells_of(alloc, runs, Row::Requests(task, line))?)?;
     }
     Ok(())
 }
 
-/// The numbers of these runs, task by task and row by row. Fails only when out of memory.
+/// Puts the rows of a task's cores.
+fn put_cores(
+    alloc: Global,
+    sheet: &mut Sheet,
+    runs: &Comparison,
+    task: usize,
+) -> Result<(), AllocError> {
+    for line in CORE_LINES {
+        sheet.put(cells_of(alloc, runs, Row::Cores(task, line))?)?;
+    }
+    Ok(())
+}
+
+/// Puts the rows of the machine's cores.
+fn put_machine(alloc: Global, sheet: &mut Sheet, runs: &Comparison) -> Result<(), AllocError> {
+    for line in MACHINE_LINES {
+        sheet.put(cells_of(alloc, runs, Row::Machine(line))?)?;
+    }
+    Ok(())
+}
+
+/// The numbers of these runs, task by task and row by row, and last those of the machine. Fails
+/// only when out of memory.
 pub fn comparison_sheet(
     alloc: Global,
     variation: Option<Variation<'_>>,
-    columns: &[Listed<TaskRequests>],
+    runs: &Comparison,
 ) -> Result<Sheet, AllocError> {
     let mut sheet = Sheet::new(alloc);
-    sheet.put(heading_row(alloc, variation, columns.len())?)?;
-    for task in 0..most_tasks(columns) {
-        put_task(alloc, &mut sheet, columns, task)?;
+    sheet.put(heading_row(alloc, variation, runs.columns.len())?)?;
+    for task in 0..most_tasks(runs) {
+        put_requests(alloc, &mut sheet, runs, task)?;
+        put_cores(alloc, &mut sheet, runs, task)?;
     }
+    put_machine(alloc, &mut sheet, runs)?;
     Ok(sheet)
 }

@@ -2,6 +2,7 @@
 
 use crate::command_words::help_texts;
 use cal_engine::VERSION;
+use clap::error::ErrorKind;
 use clap::{Arg, ArgAction, ArgMatches, Command, Error};
 use std::alloc::{AllocError, Global};
 
@@ -27,25 +28,46 @@ pub enum Job<'a> {
         /// Whether they are written as CSV.
         csv: bool,
     },
-    /// Make runs of several tables on the same arrivals, and write their numbers side by side.
+    /// Make runs of several tables on the same arrivals, and show them side by side.
     Compare {
         /// The key of a table and the values that make several tables of it, as `KEY=V1,V2`.
         vary: Option<&'a str>,
-        /// Whether the numbers are written as CSV.
-        csv: bool,
+        /// As what they are shown.
+        form: Form,
     },
     /// Say how the program is used.
     Help,
 }
 
+/// As what several runs are shown.
+#[derive(Clone, Copy, Debug, PartialEq, Eq)]
+pub enum Form {
+    /// Numbers in columns that line up.
+    Text,
+    /// Numbers as CSV.
+    Csv,
+    /// A picture.
+    Picture,
+}
+
 /// What the words after the program's name ask for; no words are `Job::Help`.
 ///
-/// The error is clap's own. A word that is not in the table is refused; a request for help is an
-/// error of the kind `DisplayHelp`, one for the version of the kind `DisplayVersion`, whose texts
-/// go to the standard output; out of memory has the kind `OutOfMemory`.
+/// The error is clap's own. A word that is not in the table is refused; CSV and a picture at once
+/// are an error of the kind `ArgumentConflict`; a request for help is an error of the kind
+/// `DisplayHelp`, one for the version of the kind `DisplayVersion`, whose texts go to the standard
+/// output; out of memory has the kind `OutOfMemory`.
 pub fn words<'a>(alloc: Global, words: &'a [&'a str]) -> Result<Job<'a>, Error> {
     let matches = program(alloc)?.try_get_matches_from(words)?;
-    Ok(job_of(&matches))
+    match job_of(&matches) {
+        Some(job) => Ok(job),
+        None => Err(conflict(alloc)?),
+    }
+}
+
+/// That runs are to be shown as CSV and as a picture at once. Fails only when out of memory.
+fn conflict(alloc: Global) -> Result<Error, AllocError> {
+    let said = "the argument '--csv' cannot be used with '--picture'";
+    compare_word(alloc)?.error(ErrorKind::ArgumentConflict, said)
 }
 
 /// How the program is used.
@@ -71,11 +93,6 @@ fn program<'a>(alloc: Global) -> Result<Command<'a>, AllocError> {
         .about("Make a run on arrivals, and write its numbers")
         .after_help(help_texts::MEASURE)
         .arg(csv_word(alloc))?;
-    let compare = Command::new(alloc, "compare")
-        .about("Make runs of several tables on the same arrivals, and write their numbers")
-        .after_help(help_texts::COMPARE)
-        .arg(vary_word(alloc))?
-        .arg(csv_word(alloc))?;
     Command::new(alloc, "caladan_view")
         .version(VERSION)
         .about("Looks at runs of the core scheduler of Caladan: an input on standard input")
@@ -85,7 +102,16 @@ fn program<'a>(alloc: Global) -> Result<Command<'a>, AllocError> {
         .subcommand(picture)?
         .subcommand(timeline)?
         .subcommand(measure)?
-        .subcommand(compare)
+        .subcommand(compare_word(alloc)?)
+}
+
+fn compare_word<'a>(alloc: Global) -> Result<Command<'a>, AllocError> {
+    Command::new(alloc, "compare")
+        .about("Make runs of several tables on the same arrivals, and write their numbers")
+        .after_help(help_texts::COMPARE)
+        .arg(vary_word(alloc))?
+        .arg(csv_word(alloc))?
+        .arg(picture_word(alloc))
 }
 
 fn table_word<'a>(alloc: Global) -> Arg<'a> {
@@ -100,6 +126,13 @@ fn csv_word<'a>(alloc: Global) -> Arg<'a> {
         .long("csv")
         .action(ArgAction::SetTrue)
         .help("Write the numbers as CSV")
+}
+
+fn picture_word<'a>(alloc: Global) -> Arg<'a> {
+    Arg::new(alloc, "picture")
+        .long("picture")
+        .action(ArgAction::SetTrue)
+        .help("Draw the runs as one SVG, in place of their numbers")
 }
 
 fn vary_word<'a>(alloc: Global) -> Arg<'a> {
@@ -128,9 +161,9 @@ fn passes_word<'a>(alloc: Global) -> Arg<'a> {
         .help("How many passes are shown, 1 to 1000 [default: those that fit]")
 }
 
-/// The job of a parsed command line.
-fn job_of<'a>(matches: &ArgMatches<'a>) -> Job<'a> {
-    match matches.subcommand() {
+/// The job of a parsed command line; nothing where it asks for CSV and for a picture at once.
+fn job_of<'a>(matches: &ArgMatches<'a>) -> Option<Job<'a>> {
+    let job = match matches.subcommand() {
         Some((name, own)) if name == "history" => Job::History {
             table: own.get_flag("table"),
         },
@@ -144,9 +177,19 @@ fn job_of<'a>(matches: &ArgMatches<'a>) -> Job<'a> {
         },
         Some((name, own)) if name == "compare" => Job::Compare {
             vary: own.get_str("vary"),
-            csv: own.get_flag("csv"),
+            form: form_of(own.get_flag("csv"), own.get_flag("picture"))?,
         },
         _ => Job::Help,
+    };
+    Some(job)
+}
+
+fn form_of(csv: bool, picture: bool) -> Option<Form> {
+    match (csv, picture) {
+        (false, false) => Some(Form::Text),
+        (true, false) => Some(Form::Csv),
+        (false, true) => Some(Form::Picture),
+        (true, true) => None,
     }
 }
 

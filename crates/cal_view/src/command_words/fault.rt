@@ -1,36 +1,35 @@
-//! What the program says of a fault.
+//! What the program says of the fault of several tables.
 
-use cal_engine::{RunFault, status};
+use cal_engine::{end_with, status};
 use cal_tables::{ComparisonFault, Variation};
-use std::io;
 use std::io::Write;
 
-/// Writes the one line that the program says of a fault: its name, the reason as caladan_sim names
-/// it, and a line feed. It takes no memory.
-pub fn fault_line<W: Write>(fault: &RunFault, writer: &mut W) -> io::Result<()> {
-    writeln!(writer, "caladan_view: {fault}")
-}
-
-/// Writes the one line that the program says of a fault of several tables: its name, the table or
-/// the value that the fault is of, if it is of one, and the reason. It takes no memory.
-pub fn comparison_fault_line<W: Write>(
+/// Writes the one line that the program says of a fault of several tables, and answers the exit
+/// status after it. The line is that of `end_with`; of a fault that a table or a value has, which
+/// stands before the reason. It takes no memory.
+pub fn end_comparison<W: Write>(
     fault: &ComparisonFault,
     variation: Option<Variation<'_>>,
-    writer: &mut W,
-) -> io::Result<()> {
+    errors: &mut W,
+) -> u8 {
     let reason = fault.fault;
     let Some(table) = fault.table else {
-        return fault_line(&reason, writer);
+        return end_with("caladan_view", &reason, errors);
     };
     // What memory, the writer or a thread refused is no table's.
     if status(&reason) != 2 {
-        return fault_line(&reason, writer);
+        return end_with("caladan_view", &reason, errors);
     }
-    if let Some(variation) = variation {
-        if let Some(value) = variation.values.get(table) {
-            let (key, value) = (variation.key, *value);
-            return writeln!(writer, "caladan_view: {key}={value} {reason}");
-        }
-    }
-    writeln!(writer, "caladan_view: table {table} {reason}")
+    let _ = match value_of(variation, table) {
+        Some((key, value)) => writeln!(errors, "caladan_view: {key}={value} {reason}"),
+        None => writeln!(errors, "caladan_view: table {table} {reason}"),
+    };
+    2
+}
+
+/// The key and the value that make this table, where it is made by one.
+fn value_of<'a>(variation: Option<Variation<'a>>, table: usize) -> Option<(&'a str, &'a str)> {
+    let variation = variation?;
+    let value = variation.values.get(table)?;
+    Some((variation.key, *value))
 }

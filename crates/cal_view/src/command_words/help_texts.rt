@@ -1,6 +1,8 @@
 //! What help says of each word below its options: what goes in and comes out, the exit statuses,
 //! and a whole small run to copy, which tools/examples makes.
 
+use cal_engine::help_with_a_run;
+
 /// Of the program as a whole.
 pub const PROGRAM: &str = "\
 Each word reads one input from the standard input: a task table (TOML), the line ---, and signals, a
@@ -11,24 +13,14 @@ Exit status: 0 done, 2 bad words or a refused input, 3 memory or output was refu
 line on the standard error.";
 
 /// Of the word `history`.
-pub const HISTORY: &str = "\
+pub const HISTORY: &str = help_with_a_run!(
+    "\
 Standard input: a task table (TOML), the line ---, and signals (CSV), as `caladan_sim decide` reads.
 Standard output: the history that they lead to; with --table an input of `picture`, of `timeline`
 and of `caladan_sim audit`.
-Exit status: 0 done, 2 a refused input, 3 memory or output was refused.
-
-To try it:
-
-./caladan_view history <<'END'
-cores = 2
-bandwidth_limit = 1000
-[[task]]
-kind = \"lc\"
-guaranteed = 1
-limit = 1
-delay = 10
-request = 50
----
+Exit status: 0 done, 2 a refused input, 3 memory or output was refused.",
+    "./caladan_view history",
+    "\
 caladan-signals,2
 pass,111,0
 whole,0,1,1,0,0,1,100,0,0,105,0,0
@@ -41,26 +33,17 @@ caladan-history,2
 pass,111,0
 whole,0,1,1,0,0,1,100,0,0,105,0,0
 grant,0,0,3
-end,1";
+end,1"
+);
 
 /// Of the word `picture`.
-pub const PICTURE: &str = "\
+pub const PICTURE: &str = help_with_a_run!(
+    "\
 Standard input: a task table (TOML), the line ---, and a history (CSV).
 Standard output: one SVG, which any browser opens.
-Exit status: 0 done, 2 a refused input, 3 memory or output was refused.
-
-To try it:
-
-./caladan_view picture > picture.svg <<'END'
-cores = 2
-bandwidth_limit = 1000
-[[task]]
-kind = \"lc\"
-guaranteed = 1
-limit = 1
-delay = 10
-request = 50
----
+Exit status: 0 done, 2 a refused input, 3 memory or output was refused.",
+    "./caladan_view picture > picture.svg",
+    "\
 caladan-history,2
 pass,111,0
 whole,0,1,1,0,0,1,100,0,0,105,0,0
@@ -68,26 +51,17 @@ grant,0,0,3
 pass,121,0
 whole,0,1,2,1,1,0,0,112,0,112,0,0
 end,2
-END";
+END"
+);
 
 /// Of the word `timeline`.
-pub const TIMELINE: &str = "\
+pub const TIMELINE: &str = help_with_a_run!(
+    "\
 Standard input: a task table (TOML), the line ---, and a history (CSV).
 Standard output: trace events (JSON), which https://ui.perfetto.dev and chrome://tracing open.
-Exit status: 0 done, 2 a refused input, 3 memory or output was refused.
-
-To try it:
-
-./caladan_view timeline > timeline.json <<'END'
-cores = 2
-bandwidth_limit = 1000
-[[task]]
-kind = \"lc\"
-guaranteed = 1
-limit = 1
-delay = 10
-request = 50
----
+Exit status: 0 done, 2 a refused input, 3 memory or output was refused.",
+    "./caladan_view timeline > timeline.json",
+    "\
 caladan-history,2
 pass,111,0
 whole,0,1,1,0,0,1,100,0,0,105,0,0
@@ -95,38 +69,30 @@ grant,0,0,3
 pass,121,0
 whole,0,1,2,1,1,0,0,112,0,112,0,0
 end,2
-END";
+END"
+);
 
 /// Of the word `measure`.
-pub const MEASURE: &str = "\
+pub const MEASURE: &str = help_with_a_run!(
+    "\
 Standard input: a task table (TOML), the line ---, and arrivals (CSV), as `caladan_sim lockstep`
 reads.
 Standard output: the numbers of each task's requests and cores, in the run that `caladan_sim
-lockstep` makes, in clock ticks; with --csv as CSV. A request arrives at the clock of its turn, is begun at the stamp
-of the first publication with it at work, and answered at the stamp of the publication of the turn
-that served it. `response` is from arrival to answer and `wait` from arrival until begun, of those
-that were served: the least, by nearest rank the median, 90, 99 and 99.9 of 100, and the greatest.
-`longest left` is from arrival to the last turn's clock, of those that were left. Of nothing there
-is a dash.
+lockstep` makes, in clock ticks; with --csv as CSV. A request arrives at the clock of its turn, is
+begun at the stamp of the first publication with it at work, and answered at the stamp of the
+publication of the turn that served it. `response` is from arrival to answer and `wait` from arrival
+until begun, of those that were served: the least, by nearest rank the median, 90, 99 and 99.9 of
+100, and the greatest. `longest left` is from arrival to the last turn's clock, of those that were
+left. Of nothing there is a dash.
 Of cores: the grants to the task's threads by class; the cores that it lost, to bans, to the
 bandwidth limit, to congested tasks; those that others lost for it; how often it was given a cap;
 the bans for its threads; the most cores that it held after a pass, and how many over the run's
-clock. `machine` is of the machine's core time: the parts held, being left, banned and empty, and
-free to be granted. A state lasts from its pass's clock to the next pass's.
-Exit status: 0 done, 2 a refused input, 3 memory or output was refused.
-
-To try it:
-
-./caladan_view measure <<'END'
-cores = 2
-bandwidth_limit = 1000
-[[task]]
-kind = \"lc\"
-guaranteed = 1
-limit = 1
-delay = 10
-request = 50
----
+clock; and the part of the run's clock for which it was congested. `machine` is of the machine's
+core time: the parts held, being left, banned and empty, and free to be granted. A state lasts from
+its pass's clock to the next pass's.
+Exit status: 0 done, 2 a refused input, 3 memory or output was refused.",
+    "./caladan_view measure",
+    "\
 caladan-arrivals,1
 pass,100,0
 pass,120,0
@@ -169,38 +135,32 @@ caps                          0
 bans                          0
 most cores held               1
 mean cores held           0.500
+share congested           0.500
 machine held              0.250
 machine leaving           0.000
 machine banned            0.000
-machine free              0.750";
+machine free              0.750"
+);
 
 /// Of the word `compare`.
-pub const COMPARE: &str = "\
+pub const COMPARE: &str = help_with_a_run!(
+    "\
 Standard input: task tables (TOML), each ended by the line ---, and after the last of these lines
 arrivals (CSV).
-Standard output: the numbers that `caladan_view measure` gives of the requests of each table's run
-on the arrivals, a column for each table; beside each column but the first how much it is above or
-below the first; with --csv as CSV. A task that a table has not, and a change of nothing, has a
-dash.
+Standard output: the numbers that `caladan_view measure` gives of each table's run on the arrivals,
+a column for each table; beside each column but the first how much it is above or below the first;
+with --csv as CSV. A task that a table has not, and a change of nothing, has a dash. With --picture
+it is one SVG in place of the numbers: for each task the share of its requests that was answered
+within how long, and the cores that it held, table by table. The run below as a picture:
+`./caladan_view compare --picture > runs.svg <<'END'` in place of its first line.
 With --vary the input is that of `measure`, with one table, and there is a column for each value:
 the table with that value at the key. Keys are cores, bandwidth_limit, and of task 1 task.1.kind,
 task.1.guaranteed, task.1.limit, task.1.delay and task.1.request. A value is written as in a table.
 To have the table as it is among the columns, name its own value, best as the first.
 Exit status: 0 done, 2 a refused input, 3 memory or output was refused. A table that is refused, or
-has too few threads for the arrivals, is named by its number, from 0, or by its value.
-
-To try it:
-
-./caladan_view compare <<'END'
-cores = 2
-bandwidth_limit = 1000
-[[task]]
-kind = \"lc\"
-guaranteed = 1
-limit = 1
-delay = 10
-request = 50
----
+has too few threads for the arrivals, is named by its number, from 0, or by its value.",
+    "./caladan_view compare",
+    "\
 cores = 2
 bandwidth_limit = 1000
 [[task]]
@@ -240,4 +200,21 @@ task 0 wait 90 of 100             20       40             +20
 task 0 wait 99 of 100             20       40             +20
 task 0 wait 99.9 of 100           20       40             +20
 task 0 wait greatest              20       40             +20
-task 0 longest left                -        0               -";
+task 0 longest left                -        0               -
+task 0 grants class 1              0        0               0
+task 0 grants class 2              0        0               0
+task 0 grants class 3              1        1               0
+task 0 lost to bans                0        0               0
+task 0 lost to bandwidth           0        0               0
+task 0 lost to tasks               0        0               0
+task 0 lost by others              0        0               0
+task 0 caps                        0        0               0
+task 0 bans                        0        0               0
+task 0 most cores held             1        1               0
+task 0 mean cores held         0.500    0.000          -0.500
+task 0 share congested         0.500    0.000          -0.500
+machine held                   0.250    0.000          -0.250
+machine leaving                0.000    0.000               0
+machine banned                 0.000    0.000               0
+machine free                   0.750    1.000          +0.250"
+);

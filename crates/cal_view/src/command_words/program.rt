@@ -1,13 +1,16 @@
 //! A whole run of the program: words and an input in; an answer, an error line and an exit status
 //! out.
 
-use crate::command_words::command_line::{Job, help, words};
-use crate::command_words::fault::{comparison_fault_line, fault_line};
+ghost use Rattle.std.specs.Prelude.{◌≡◌, ◌≢◌, IfErr};
+
+use crate::command_words::command_line::{Form, Job, help, words};
+use crate::command_words::fault::end_comparison;
 use crate::command_words::variation::{key_of, values_of};
 use crate::picture::draw_picture;
 use crate::recording::record;
 use crate::timeline::write_timeline;
-use cal_engine::{RunFault, read_input, refuse_words, status};
+use cal_engine::{RunFault, end_with, read_input, refuse_words, words_after_first};
+use cal_picture::draw_comparison;
 use cal_tables::{ComparisonFault, Variation, compare, measure};
 use std::alloc::Global;
 use std::io::{BufWriter, Read, Write};
@@ -27,15 +30,8 @@ pub fn run_program<R: Read + Drop, W: Write, E: Write>(
 ) -> u8 {
     match answer_words(alloc, named, reader, output, errors) {
         Ok(status) => status,
-        Err(fault) => end_with(&fault, errors),
+        Err(fault) => end_with("caladan_view", &fault, errors),
     }
-}
-
-/// Writes the line of a fault, and answers the exit status after it. Where the writer answers an
-/// error the status is the same. Takes no memory.
-pub fn end_with<E: Write>(fault: &RunFault, errors: &mut E) -> u8 {
-    let _ = fault_line(fault, errors);
-    status(fault)
 }
 
 /// Does what the words after the first one ask for, and answers the exit status where there is no
@@ -47,14 +43,11 @@ fn answer_words<R: Read + Drop, W: Write, E: Write>(
     output: &mut W,
     errors: &mut E,
 ) -> Result<u8, RunFault> {
-    let mut given = Vec::new(alloc);
-    for word in named.iter().skip(1) {
-        given.push(word.as_str())?;
-    }
+    let given = words_after_first(alloc, named)?;
     match words(alloc, given.as_slice()) {
         Ok(Job::Help) => say_help(alloc, errors),
-        Ok(Job::Compare { vary, csv }) => {
-            answer_compare(alloc, reader, vary, csv, output, errors)
+        Ok(Job::Compare { vary, form }) => {
+            answer_compare(alloc, reader, vary, form, output, errors)
         }
         Ok(job) => {
             do_job(alloc, job, reader, output)?;
@@ -65,7 +58,9 @@ fn answer_words<R: Read + Drop, W: Write, E: Write>(
 }
 
 /// Says how the program is used, where no word was given. That is no job, so the status is 2.
-fn say_help<E: Write>(alloc: Global, errors: &mut E) -> Result<u8, RunFault> {
+pub fn say_help<E: Write>(alloc: Global, errors: &mut E) -> Result<u8, RunFault>
+    ensures { IfErr result (λ fault. fault ≢ RunFault.Write → errors.new ≡ errors.old) }
+{
     let text = help(alloc)?;
     match errors.write_all(text.as_bytes()) {
         Ok(()) => Ok(2),
@@ -103,12 +98,12 @@ fn answer_compare<R: Read + Drop, W: Write, E: Write>(
     alloc: Global,
     reader: R,
     vary: Option<&str>,
-    csv: bool,
+    form: Form,
     output: &mut W,
     errors: &mut E,
 ) -> Result<u8, RunFault> {
     let Some(vary) = vary else {
-        return Ok(answer_comparison(alloc, reader, None, csv, output, errors));
+        return Ok(answer_comparison(alloc, reader, None, form, output, errors));
     };
     let values = values_of(alloc, vary)?;
     let key = key_of(vary);
@@ -116,7 +111,7 @@ fn answer_compare<R: Read + Drop, W: Write, E: Write>(
         key,
         values: values.as_slice(),
     };
-    Ok(answer_comparison(alloc, reader, Some(variation), csv, output, errors))
+    Ok(answer_comparison(alloc, reader, Some(variation), form, output, errors))
 }
 
 /// Compares the runs of an input, and answers the exit status: its faults name the table or the
@@ -125,16 +120,13 @@ fn answer_comparison<R: Read + Drop, W: Write, E: Write>(
     alloc: Global,
     reader: R,
     variation: Option<Variation<'_>>,
-    csv: bool,
+    form: Form,
     output: &mut W,
     errors: &mut E,
 ) -> u8 {
-    match write_comparison(alloc, reader, variation, csv, output) {
+    match write_comparison(alloc, reader, variation, form, output) {
         Ok(()) => 0,
-        Err(fault) => {
-            let _ = comparison_fault_line(&fault, variation, errors);
-            status(&fault.fault)
-        }
+        Err(fault) => end_comparison(&fault, variation, errors),
     }
 }
 
@@ -143,14 +135,18 @@ fn write_comparison<R: Read + Drop, W: Write>(
     alloc: Global,
     reader: R,
     variation: Option<Variation<'_>>,
-    csv: bool,
+    form: Form,
     output: &mut W,
 ) -> Result<(), ComparisonFault> {
     let mut buffer = match BufWriter::new(alloc, output) {
         Ok(buffer) => buffer,
         Err(_) => return Err(ComparisonFault::from(RunFault::Memory)),
     };
-    compare(alloc, reader, variation, csv, &mut buffer)?;
+    match form {
+        Form::Text => compare(alloc, reader, variation, false, &mut buffer)?,
+        Form::Csv => compare(alloc, reader, variation, true, &mut buffer)?,
+        Form::Picture => draw_comparison(alloc, reader, variation, &mut buffer)?,
+    }
     match buffer.flush() {
         Ok(()) => Ok(()),
         Err(_) => Err(ComparisonFault::from(RunFault::Write)),

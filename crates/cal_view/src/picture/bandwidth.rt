@@ -1,10 +1,10 @@
 //! The lane of the bandwidth figure.
 
 use crate::picture::layout::BAND;
-use crate::picture::page::Page;
 use crate::picture::sheet::Sheet;
 use crate::picture::telling::draw_box;
-use crate::story::window::{LEFT, scaled};
+use crate::story::window::LEFT;
+use cal_picture::{Page, scaled};
 
 fn figure_of(sheet: &Sheet<'_>, pass: usize) -> u64 {
     match sheet.entry(pass) {

@@ -1,8 +1,8 @@
 //! The columns of the passes, which tell their reports.
 
-use crate::picture::page::Page;
 use crate::picture::sheet::Sheet;
 use crate::picture::telling::{draw_box, tell_pass};
+use cal_picture::Page;
 
 /// Writes an unseen box for each pass; it tells the pass's report where it is pointed at.
 pub fn draw_columns(sheet: &Sheet<'_>, top: u64, bottom: u64, page: &mut Page) {

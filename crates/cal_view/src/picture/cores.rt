@@ -1,12 +1,12 @@
 //! The lanes of the cores: their spans, and the bans that keep them empty.
 
 use crate::picture::layout::{Ground, Sizes, digits};
-use crate::picture::page::Page;
 use crate::picture::sheet::Sheet;
 use crate::picture::telling::{draw_box, tell_ban, tell_span};
 use crate::story::clocks::{ClockedBan, ClockedSpan};
 use crate::story::walk::task_of;
 use crate::story::window::LEFT;
+use cal_picture::Page;
 use cal_policy::Cause;
 use cal_spans::{BanSpan, Left, Span};
 

@@ -1,8 +1,8 @@
 //! What each sign means.
 
-use crate::picture::page::Page;
 use crate::picture::sheet::Sheet;
 use crate::story::walk::is_critical;
+use cal_picture::Page;
 
 /// Writes the legend, in three columns: spans, marks and lines. Its samples are grey: the colours
 /// are the tasks', and stand beside their names.

@@ -1,10 +1,9 @@
 //! The rules of a picture's style sheet, and the patterns and signs that it draws with.
 
-use crate::picture::colours::{Paper, Scheme, Shade, paper_of, shade_of};
-use crate::picture::page::Page;
 use crate::picture::sheet::Sheet;
 use crate::story::walk::is_critical;
 use cal_machine::Config;
+use cal_picture::{Page, Paper, Scheme, Shade, paper_of, shade_of};
 
 const FIXED: &str =
     "<style>svg{font:11px system-ui,'Segoe UI',Roboto,'Helvetica Neue',Arial,sans-serif;\

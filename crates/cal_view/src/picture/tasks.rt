@@ -1,12 +1,12 @@
 //! The lanes of the tasks: what each holds and leaves, its limit, guarantee and cap.
 
 use crate::picture::layout::TaskLane;
-use crate::picture::page::Page;
 use crate::picture::sheet::Sheet;
 use crate::picture::telling::{draw_box, ending, kind_word};
 use crate::story::walk::{Row, is_critical};
 use crate::story::window::LEFT;
 use cal_machine::MOST_TASKS;
+use cal_picture::Page;
 
 /// What is drawn of a task as steps.
 #[derive(Clone, Copy)]
@@ -124,7 +124,7 @@ fn draw_name(sheet: &Sheet<'_>, task: usize, lane: &TaskLane, page: &mut Page) {
     page.put("), ");
     tell_table_row(sheet, task, page);
     page.put("</title><path d='");
-    draw_label(sheet, task, lane, page);
+    draw_task_name(sheet, task, lane, page);
     page.put("</text></g>\n");
 }
 
@@ -149,7 +149,7 @@ fn tell_table_row(sheet: &Sheet<'_>, task: usize, page: &mut Page) {
 
 /// The square of a task and its name; where there is room its threads stand in a line of their own
 /// below the name.
-fn draw_label(sheet: &Sheet<'_>, task: usize, lane: &TaskLane, page: &mut Page) {
+fn draw_task_name(sheet: &Sheet<'_>, task: usize, lane: &TaskLane, page: &mut Page) {
     if task >= sheet.config.tasks() {
         return;
     }

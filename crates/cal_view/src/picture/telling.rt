@@ -1,10 +1,10 @@
 //! The words of a picture: what its tooltips tell, and the small marks of its paths.
 
-use crate::picture::page::Page;
 use crate::picture::sheet::Sheet;
 use crate::story::clocks::{ClockedBan, ClockedSpan};
 use crate::story::walk::{is_critical, task_of};
 use cal_machine::Config;
+use cal_picture::Page;
 use cal_policy::{Action, Cause, Seen};
 
 /// `lc` or `be`.

@@ -78,7 +78,7 @@ impl Tasks {
     }
 
     /// Keeps the records of whole looks.
-    fn look(&mut self, looks: &[Seen]) {
+    fn keep_records(&mut self, looks: &[Seen]) {
         for thread in 0..looks.len().min(MOST_THREADS) {
             if let Seen::Whole { rec, .. } = looks[thread] {
                 self.kept[thread] = Some(rec);
@@ -86,8 +86,8 @@ impl Tasks {
         }
     }
 
-    /// Notes a cap.
-    fn cap(&mut self, action: Action) {
+    /// Takes the cap of a Cap; no other action has one.
+    fn note_cap(&mut self, action: Action) {
         if let Action::Cap { task, cap } = action {
             if (task as usize) < MOST_TASKS {
                 self.caps[task as usize] = cap;
@@ -96,7 +96,7 @@ impl Tasks {
     }
 
     /// Whether each task has a thread whose delay is over the threshold.
-    fn late(&self, config: &Config, now: u64) -> [bool; MOST_TASKS] {
+    fn late_tasks(&self, config: &Config, now: u64) -> [bool; MOST_TASKS] {
         let mut late = [false; MOST_TASKS];
         for thread in 0..config.threads() {
             let task = config.task_of(thread);
@@ -111,15 +111,15 @@ impl Tasks {
 }
 
 /// One more for a task.
-fn count(counts: &mut [u8; MOST_TASKS], task: usize) {
+fn add_one(counts: &mut [u8; MOST_TASKS], task: usize) {
     if task < MOST_TASKS {
         counts[task] = counts[task].saturating_add(1);
     }
 }
 
-/// What an action ends.
+/// A span and a ban of a core, where there are such.
 #[derive(Clone, Copy)]
-pub struct Over {
+pub struct SpanAndBan {
     pub span: Option<ClockedSpan>,
     pub ban: Option<ClockedBan>,
 }
@@ -145,29 +145,30 @@ impl Walk {
     }
 
     /// Goes on by the looks of a pass.
-    pub fn look(&mut self, looks: &[Seen]) {
-        self.tasks.look(looks);
+    pub fn take_looks(&mut self, looks: &[Seen]) {
+        self.tasks.keep_records(looks);
     }
 
     /// Goes on by one action of a pass of this clock, and answers what it ends.
-    pub fn note(&mut self, pass: usize, now: u64, action: Action) -> Over {
-        self.tasks.cap(action);
+    pub fn note(&mut self, pass: usize, now: u64, action: Action) -> SpanAndBan {
+        self.tasks.note_cap(action);
         let span = self.spans.note(pass, action);
         let ban = self.bans.note(pass, action);
-        let over = self.clocked(span, ban);
+        let ended = self.clocked(span, ban);
         self.clocks.note(now, action);
-        over
+        ended
     }
 
-    fn clocked(&self, span: Option<Span>, ban: Option<BanSpan>) -> Over {
-        Over {
+    /// The same with their clocks.
+    fn clocked(&self, span: Option<Span>, ban: Option<BanSpan>) -> SpanAndBan {
+        SpanAndBan {
             span: self.clocks.span(span),
             ban: self.clocks.ban(ban),
         }
     }
 
     /// What goes on at a core.
-    pub fn open(&self, core: u8) -> Over {
+    pub fn open(&self, core: u8) -> SpanAndBan {
         self.clocked(self.spans.span(core), self.bans.ban(core))
     }
 
@@ -178,9 +179,9 @@ impl Walk {
         for core in 0..config.machine().cores() {
             if let Some(span) = self.spans.span(core) {
                 if let Some(task) = task_of(config, span.thread) {
-                    count(&mut booked, task);
+                    add_one(&mut booked, task);
                     if span.left.is_none() {
-                        count(&mut held, task);
+                        add_one(&mut held, task);
                     }
                 }
             }
@@ -189,7 +190,7 @@ impl Walk {
             held,
             booked,
             caps: self.tasks.caps,
-            late: self.tasks.late(config, now),
+            late: self.tasks.late_tasks(config, now),
         }
     }
 }

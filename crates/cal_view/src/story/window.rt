@@ -1,5 +1,6 @@
 //! Which passes are shown, and where on the paper each stands.
 
+use cal_picture::scaled;
 use cal_policy::PassEntry;
 use std::alloc::{AllocError, Global};
 
@@ -79,11 +80,6 @@ pub fn plot_width(count: usize) -> u64 {
     let count = (count as u64).max(1);
     let usual = PLOT.min(STEP_MOST.saturating_mul(count));
     usual.max(PLOT_LEAST).max(STEP_LEAST.saturating_mul(count))
-}
-
-/// `part` of `whole`, of a length.
-pub fn scaled(length: u64, part: u64, whole: u64) -> u64 {
-    length.saturating_mul(part).checked_div(whole).unwrap_or(0)
 }
 
 fn clock_of(shown: &[PassEntry], place: usize) -> Option<u64> {

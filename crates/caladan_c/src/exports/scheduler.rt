@@ -23,7 +23,7 @@ ghost use Rattle.caladan_c.specs.declared.answer.Refusal.TheVariants.{WrongCount
 use crate::answer::Refusal;
 use crate::found::Found;
 use crate::given::Given;
-use crate::handle::Handle;
+use crate::handle::scheduler::SchedulerHandle;
 use crate::scheduler::Scheduler;
 use crate::told::counts::Counts;
 use crate::told::holder::{ToldHolder, tell_holder};
@@ -44,7 +44,7 @@ fn open(alloc: Global, table: &[u8]) -> Result<Box<Scheduler>, ConfigFault>
 /// Opens the table that a text spells, in a closed handle: 0, or the table's fault, 1 to 9. It
 /// takes all the memory that the passes need.
 #[unsafe(no_mangle)]
-pub extern "C" fn caladan_open(alloc: Global, table: &[u8], handle: &mut Handle) -> u8
+pub extern "C" fn caladan_open(alloc: Global, table: &[u8], handle: &mut SchedulerHandle) -> u8
     ensures already { is_some handle.old.pointer.kept ≡ true → result ≡ 11 }
     ensures opened { is_some handle.old.pointer.kept ≡ false → result ≢ 9 →
         Says (table_in table.now) result handle.new.pointer.kept }
@@ -55,7 +55,7 @@ pub extern "C" fn caladan_open(alloc: Global, table: &[u8], handle: &mut Handle)
     }
     match open(alloc, table) {
         Ok(opened) => {
-            *handle = Handle::of(opened);
+            *handle = SchedulerHandle::of(opened);
             0
         }
         Err(fault) => fault as u8,
@@ -64,7 +64,7 @@ pub extern "C" fn caladan_open(alloc: Global, table: &[u8], handle: &mut Handle)
 
 /// How many kernel threads the table has: each pass is given as many looks. 0 of a closed handle.
 #[unsafe(no_mangle)]
-pub extern "C" fn caladan_threads(alloc: Global, handle: &mut Handle) -> usize
+pub extern "C" fn caladan_threads(alloc: Global, handle: &mut SchedulerHandle) -> usize
     ensures closed { is_some handle.old.pointer.kept ≡ false → result ≡ 0 }
     ensures count { ForSome handle.old.pointer.kept (λ s. result ≡ threads_of_table s.table) }
     ensures same { handle.new.pointer.kept ≡ handle.old.pointer.kept }
@@ -73,7 +73,7 @@ pub extern "C" fn caladan_threads(alloc: Global, handle: &mut Handle) -> usize
         None => 0,
         Some(kept) => {
             let threads = kept.threads();
-            *handle = Handle::of(kept);
+            *handle = SchedulerHandle::of(kept);
             threads
         }
     }
@@ -81,7 +81,7 @@ pub extern "C" fn caladan_threads(alloc: Global, handle: &mut Handle) -> usize
 
 /// The bandwidth figure above which a best-effort task loses a core. 0 of a closed handle.
 #[unsafe(no_mangle)]
-pub extern "C" fn caladan_bandwidth_limit(alloc: Global, handle: &mut Handle) -> u64
+pub extern "C" fn caladan_bandwidth_limit(alloc: Global, handle: &mut SchedulerHandle) -> u64
     ensures closed { is_some handle.old.pointer.kept ≡ false → result ≡ 0 }
     ensures limit { ForSome handle.old.pointer.kept (λ s. result ≡ s.table.bandwidth_limit) }
     ensures same { handle.new.pointer.kept ≡ handle.old.pointer.kept }
@@ -90,7 +90,7 @@ pub extern "C" fn caladan_bandwidth_limit(alloc: Global, handle: &mut Handle) ->
         None => 0,
         Some(kept) => {
             let limit = kept.bandwidth_limit();
-            *handle = Handle::of(kept);
+            *handle = SchedulerHandle::of(kept);
             limit
         }
     }
@@ -139,13 +139,13 @@ impl Scheduler {
 
 /// Makes the next pass on what was found of each thread, in thread order, and writes its actions
 /// and what was judged of each look: 0; 10 the handle is closed; 13 there is not one look for each
-/// thread; 14 there is not room for 338 actions and a judgement of each look; 15 a look does not
-/// fit what its thread showed before, or has not the right shape; 9 no memory. After another number
-/// than 0 nothing has changed, but that `made` is 0.
+/// thread; 14 there is not room for `MOST_ACTIONS` actions and a judgement of each look; 15 a look
+/// does not fit what its thread showed before, or has not the right shape; 9 no memory. After
+/// another number than 0 nothing has changed, but that `made` is 0.
 #[unsafe(no_mangle)]
 pub extern "C" fn caladan_pass(
     alloc: Global,
-    handle: &mut Handle,
+    handle: &mut SchedulerHandle,
     now: u64,
     bandwidth: u64,
     looks: &[Found],
@@ -187,7 +187,7 @@ pub extern "C" fn caladan_pass(
                 looks,
             };
             let answer = kept.pass_told(alloc, given, judged, actions);
-            *handle = Handle::of(kept);
+            *handle = SchedulerHandle::of(kept);
             match answer {
                 Ok(count) => {
                     *made = count;
@@ -204,7 +204,7 @@ pub extern "C" fn caladan_pass(
 #[unsafe(no_mangle)]
 pub extern "C" fn caladan_holder(
     alloc: Global,
-    handle: &mut Handle,
+    handle: &mut SchedulerHandle,
     core: u8,
     holder: &mut ToldHolder,
 ) -> u8
@@ -221,7 +221,7 @@ pub extern "C" fn caladan_holder(
         None => Refusal::Closed as u8,
         Some(kept) => {
             let found = kept.holder(core);
-            *handle = Handle::of(kept);
+            *handle = SchedulerHandle::of(kept);
             match found {
                 Some(found) => {
                     *holder = tell_holder(found);
@@ -238,7 +238,7 @@ pub extern "C" fn caladan_holder(
 #[unsafe(no_mangle)]
 pub extern "C" fn caladan_task(
     alloc: Global,
-    handle: &mut Handle,
+    handle: &mut SchedulerHandle,
     task: usize,
     counts: &mut Counts,
 ) -> u8
@@ -256,7 +256,7 @@ pub extern "C" fn caladan_task(
         None => Refusal::Closed as u8,
         Some(kept) => {
             let found = kept.counts(task);
-            *handle = Handle::of(kept);
+            *handle = SchedulerHandle::of(kept);
             match found {
                 Some(found) => {
                     *counts = found;
@@ -270,7 +270,7 @@ pub extern "C" fn caladan_task(
 
 /// Lets go of what the handle keeps: 0; 10 it is closed already.
 #[unsafe(no_mangle)]
-pub extern "C" fn caladan_close(alloc: Global, handle: &mut Handle) -> u8
+pub extern "C" fn caladan_close(alloc: Global, handle: &mut SchedulerHandle) -> u8
     ensures already { is_some handle.old.pointer.kept ≡ false → result ≡ 10 }
     ensures closed { is_some handle.old.pointer.kept ≡ true → result ≡ 0 }
     ensures after { handle.new.pointer.kept ≡ None }

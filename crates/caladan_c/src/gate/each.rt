@@ -94,7 +94,7 @@ impl Gate {
     /// Lets the next pass through with the actions that C chose, each look by itself: a look that
     /// is unfit, ahead or foreign is taken as a busy one. None, where each action is permitted at
     /// its place; or the first that is not. Either way it tells what was judged of each look. It
-    /// takes memory only for more than 338 actions.
+    /// takes memory only for more than `MOST_ACTIONS` actions.
     pub fn pass_each(
         &mut self,
         alloc: Global,

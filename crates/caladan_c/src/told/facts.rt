@@ -11,11 +11,11 @@ use cal_policy::Shown;
 #[repr(C)]
 #[derive(Clone, Copy)]
 pub struct MachineFacts {
-    /// How many cores there are, 2 to 128.
+    /// How many cores there are, 2 to `MOST_CORES`.
     pub cores: u8,
     /// How many tasks, 1 to 16.
     pub tasks: u8,
-    /// How many kernel threads, 1 to 128.
+    /// How many kernel threads, 1 to `MOST_THREADS`.
     pub threads: u8,
     /// The bandwidth figure above which a best-effort task loses a core.
     pub bandwidth_limit: u64,

@@ -9,9 +9,9 @@ loop-task-preserved c =
     let before = c.loop-task.numbers.items in
     let now = c.in_ok-of_task.of_task in
     let more : c.push.new.self.items ≡ before ++ now ∷ [] = c.in_ok-push.ensures.items in
-    let Q : ℕ → TaskRequests → Type 0 = λ t n. AreRequestsOf c.args.config.now c.args.arrivals.now c.args.outcome.now.journals c.args.outcome.now.left t n in
+    let Q : ℕ → TaskRequests → Type 0 = λ t n. AreRequestsOf c.args.config.now c.args.arrivals.now c.args.end.now.journals c.args.end.now.left t n in
     let here : Q c.loop-task.task now =
-    subst (λ js. AreRequestsOf c.args.config.now c.args.arrivals.now js c.args.outcome.now.left c.loop-task.task now) c.as_slice-journals.ensures
+    subst (λ js. AreRequestsOf c.args.config.now c.args.arrivals.now js c.args.end.now.left c.loop-task.task now) c.as_slice-journals.ensures
     (subst (λ ls. AreRequestsOf c.args.config.now c.args.arrivals.now c.as_slice-journals.result.now ls c.loop-task.task now) c.as_slice-left.ensures c.in_ok-of_task.ensures) in
     record {
       many = let many = c.loop-task.invariant.many in let e = ap (λ (l : List TaskRequests). length l) more in omega (arith, e, length-append before (now ∷ []));

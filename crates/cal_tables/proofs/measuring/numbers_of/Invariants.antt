@@ -7,5 +7,5 @@ abbrev pub invariant-loop-task : goal.invariant-loop-task
 invariant-loop-task l = record {
   many : length l.numbers.items ≡ l.task;
   each : (t : ℕ) (of_task : TaskRequests) → slice_get l.numbers.items t ≡ Some of_task →
-      AreRequestsOf l.config l.arrivals l.outcome.journals l.outcome.left t of_task;
+      AreRequestsOf l.config l.arrivals l.end.journals l.end.left t of_task;
 }

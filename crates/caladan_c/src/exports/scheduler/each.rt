@@ -14,7 +14,7 @@ ghost use Rattle.caladan_c.specs.declared.answer.Refusal.TheVariants.{WrongCount
 use crate::answer::Refusal;
 use crate::found::Found;
 use crate::given::Given;
-use crate::handle::Handle;
+use crate::handle::scheduler::SchedulerHandle;
 use crate::scheduler::Scheduler;
 use crate::told::{Told, tell_all};
 use cal_policy::MOST_ACTIONS;
@@ -62,13 +62,13 @@ impl Scheduler {
 
 /// Makes the next pass as `caladan_pass` does, each look by itself: one that is unfit, ahead or
 /// foreign is taken as a busy one, so it stops nobody and leaves no trace. 0; 10 the handle is
-/// closed; 13 there is not one look for each thread; 14 there is not room for 338 actions and a
-/// judgement of each look; 9 no memory. After another number than 0 nothing has changed, but that
-/// `made` is 0.
+/// closed; 13 there is not one look for each thread; 14 there is not room for `MOST_ACTIONS`
+/// actions and a judgement of each look; 9 no memory. After another number than 0 nothing has
+/// changed, but that `made` is 0.
 #[unsafe(no_mangle)]
 pub extern "C" fn caladan_pass_each(
     alloc: Global,
-    handle: &mut Handle,
+    handle: &mut SchedulerHandle,
     now: u64,
     bandwidth: u64,
     looks: &[Found],
@@ -107,7 +107,7 @@ pub extern "C" fn caladan_pass_each(
                 looks,
             };
             let answer = kept.pass_each_told(alloc, given, judged, actions);
-            *handle = Handle::of(kept);
+            *handle = SchedulerHandle::of(kept);
             match answer {
                 Ok(count) => {
                     *made = count;
@@ -126,7 +126,7 @@ pub extern "C" fn caladan_pass_each(
 #[unsafe(no_mangle)]
 pub extern "C" fn caladan_first_unfit(
     alloc: Global,
-    handle: &mut Handle,
+    handle: &mut SchedulerHandle,
     looks: &[Found],
     thread: &mut usize,
 ) -> u8
@@ -146,11 +146,11 @@ pub extern "C" fn caladan_first_unfit(
         None => Refusal::Closed as u8,
         Some(kept) => {
             if looks.len() != kept.threads() {
-                *handle = Handle::of(kept);
+                *handle = SchedulerHandle::of(kept);
                 return Refusal::WrongCount as u8;
             }
             let first = kept.first_unfit(looks);
-            *handle = Handle::of(kept);
+            *handle = SchedulerHandle::of(kept);
             match first {
                 Some(first) => {
                     *thread = first;

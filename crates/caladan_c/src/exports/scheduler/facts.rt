@@ -10,7 +10,7 @@ ghost use Rattle.caladan_c.specs.Passing.{StandsAfter};
 
 use crate::answer::Refusal;
 use crate::found::Found;
-use crate::handle::Handle;
+use crate::handle::scheduler::SchedulerHandle;
 use crate::told::facts::{MachineFacts, TaskRow, ThreadState, tell_shown};
 use std::alloc::Global;
 
@@ -18,7 +18,7 @@ use std::alloc::Global;
 #[unsafe(no_mangle)]
 pub extern "C" fn caladan_table(
     alloc: Global,
-    handle: &mut Handle,
+    handle: &mut SchedulerHandle,
     machine: &mut MachineFacts,
 ) -> u8
     ensures closed { is_some handle.old.pointer.kept ≡ false → result ≡ 10 }
@@ -31,7 +31,7 @@ pub extern "C" fn caladan_table(
         None => Refusal::Closed as u8,
         Some(kept) => {
             *machine = kept.machine();
-            *handle = Handle::of(kept);
+            *handle = SchedulerHandle::of(kept);
             0
         }
     }
@@ -41,7 +41,7 @@ pub extern "C" fn caladan_table(
 #[unsafe(no_mangle)]
 pub extern "C" fn caladan_table_task(
     alloc: Global,
-    handle: &mut Handle,
+    handle: &mut SchedulerHandle,
     task: usize,
     row: &mut TaskRow,
 ) -> u8
@@ -59,7 +59,7 @@ pub extern "C" fn caladan_table_task(
         None => Refusal::Closed as u8,
         Some(kept) => {
             let found = kept.task(task);
-            *handle = Handle::of(kept);
+            *handle = SchedulerHandle::of(kept);
             match found {
                 Some(found) => {
                     *row = found;
@@ -76,7 +76,7 @@ pub extern "C" fn caladan_table_task(
 #[unsafe(no_mangle)]
 pub extern "C" fn caladan_thread(
     alloc: Global,
-    handle: &mut Handle,
+    handle: &mut SchedulerHandle,
     thread: usize,
     state: &mut ThreadState,
 ) -> u8
@@ -94,7 +94,7 @@ pub extern "C" fn caladan_thread(
         None => Refusal::Closed as u8,
         Some(kept) => {
             let found = kept.thread(thread);
-            *handle = Handle::of(kept);
+            *handle = SchedulerHandle::of(kept);
             match found {
                 Some(found) => {
                     *state = found;
@@ -112,7 +112,7 @@ pub extern "C" fn caladan_thread(
 #[unsafe(no_mangle)]
 pub extern "C" fn caladan_gone(
     alloc: Global,
-    handle: &mut Handle,
+    handle: &mut SchedulerHandle,
     thread: usize,
     look: &mut Found,
 ) -> u8
@@ -132,11 +132,11 @@ pub extern "C" fn caladan_gone(
         None => Refusal::Closed as u8,
         Some(kept) => {
             if thread >= kept.threads() {
-                *handle = Handle::of(kept);
+                *handle = SchedulerHandle::of(kept);
                 return Refusal::NoSuch as u8;
             }
             let found = kept.gone_look(thread);
-            *handle = Handle::of(kept);
+            *handle = SchedulerHandle::of(kept);
             match found {
                 Some(found) => {
                     *look = found;

@@ -1,4 +1,4 @@
-use Rattle.std.proofs.Common.{◌≡◌, ◌++◌, ℕ, List, codes, decimal, string_bytes, ap, ◌∙◌}
+use Rattle.std.proofs.Common.{◌++◌, ℕ, List, codes, decimal, string_bytes, ap, ◌∙◌}
 use Rattle.cal_tables.specs.Varied.{field_line, kind_text}
 use Rattle.cal_tables.proofs.Joined.{six}
 use Rattle.cal_tables.proofs.comparing.varying.put_task.Goals as goal

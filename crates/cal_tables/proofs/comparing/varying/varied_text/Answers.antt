@@ -1,4 +1,4 @@
-use Rattle.std.proofs.Common.{◌≡◌, ◌++◌, [], ℕ, List, codes, decimal, string_bytes, ap, ◌∙◌}
+use Rattle.std.proofs.Common.{◌++◌, [], ℕ, List, codes, decimal, string_bytes, ap, ◌∙◌}
 use Rattle.std.specs.List.{concat}
 use Rattle.cal_trace.specs.Rows.Text.{numbered}
 use Rattle.cal_tables.specs.Varied.{key_line, task_text}

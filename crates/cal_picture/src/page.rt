@@ -29,6 +29,26 @@ impl Page {
         }
     }
 
+    /// Puts words that may have any letters in them, so that they stay words: `&` and `<` have their
+    /// names, and what has no place in a picture is a blank.
+    pub fn put_escaped(&mut self, words: &str) {
+        for letter in words.chars() {
+            match letter {
+                '&' => self.put("&amp;"),
+                '<' => self.put("&lt;"),
+                '>' => self.put("&gt;"),
+                letter if letter < ' ' => self.put(" "),
+                letter => self.put_letter(letter),
+            }
+        }
+    }
+
+    fn put_letter(&mut self, letter: char) {
+        if !self.refused && self.text.push(letter).is_err() {
+            self.refused = true;
+        }
+    }
+
     fn put_figure(&mut self, figure: u64) {
         if !self.refused && write!(self.text, "{figure}").is_err() {
             self.refused = true;

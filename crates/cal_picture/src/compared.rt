@@ -1,0 +1,112 @@
+//! The picture of several runs on the same arrivals: one SVG. For each task the share of its
+//! requests that was answered within how long, and the cores that it held.
+
+pub mod sheet;
+pub mod steps;
+pub mod strips;
+pub mod style;
+pub mod words;
+
+ghost use Rattle.std.specs.Prelude.{◌≡◌, ◌≢◌, IfErr};
+
+use crate::compared::sheet::{CANVAS, Graphs};
+use crate::compared::steps::draw_plot;
+use crate::compared::strips::draw_strips;
+use crate::compared::style::{dash_of, draw_style};
+use crate::compared::words::{tell_runs, tell_tasks};
+use crate::page::Page;
+use cal_engine::{RunFault, read_input};
+use cal_tables::{ComparisonFault, Variation, courses_of};
+use std::alloc::Global;
+use std::io::{Read, Write};
+
+/// Reads an input of tables and arrivals to its end, makes a whole run of each table on one thread,
+/// and draws what came of each task as one SVG that stands alone. With a variation the input has
+/// one table, and the runs are those of the tables that it gives. Nothing is written before the
+/// runs were made and the picture is in memory.
+///
+/// The faults are those of the word `compare`, in its order.
+pub fn draw_comparison<R: Read + Drop, W: Write>(
+    alloc: Global,
+    mut reader: R,
+    variation: Option<Variation<'_>>,
+    writer: &mut W,
+) -> Result<(), ComparisonFault>
+    // Nothing is written before the runs were made.
+    ensures untouched { IfErr result (λ fault.
+        fault.fault ≢ RunFault.Write → writer.new ≡ writer.old) }
+{
+    let input = read_input(alloc, &mut reader)?;
+    let page = drawn(alloc, input.as_slice(), variation)?;
+    let text = page.whole()?;
+    match writer.write_all(text.as_bytes()) {
+        Ok(()) => Ok(()),
+        Err(_) => Err(ComparisonFault::from(RunFault::Write)),
+    }
+}
+
+/// The whole picture, in memory.
+fn drawn(
+    alloc: Global,
+    input: &[u8],
+    variation: Option<Variation<'_>>,
+) -> Result<Page, ComparisonFault> {
+    let courses = courses_of(alloc, input, variation)?;
+    let graphs = Graphs::new(&courses, variation);
+    let mut page = Page::new(alloc);
+    draw_frame(&graphs, &mut page);
+    draw_style(&graphs, &mut page);
+    draw_heading(&graphs, &mut page);
+    draw_tasks(&graphs, &mut page);
+    page.put("</svg>\n");
+    Ok(page)
+}
+
+/// The size of the paper, and what the picture is in words.
+fn draw_frame(graphs: &Graphs<'_>, page: &mut Page) {
+    let high = graphs.height();
+    page.fill(
+        "<svg xmlns='http://www.w3.org/2000/svg' width='{}' height='{}' \
+viewBox='0 0 {} {}' lang='en' role='img' aria-labelledby='a b'>\n<title id='a'>",
+        &[CANVAS, high, CANVAS, high],
+    );
+    tell_runs(graphs, page);
+    page.put("</title>\n<desc id='b'>What came of each task with each table.");
+    tell_tasks(graphs, page);
+    page.put(" `caladan_view compare` has the numbers.</desc>\n");
+}
+
+/// What is compared, how it is drawn, and the colour of each table.
+fn draw_heading(graphs: &Graphs<'_>, page: &mut Page) {
+    page.put("<text class='h' x='16' y='30'>");
+    tell_runs(graphs, page);
+    page.put(
+        "</text>\n<text x='16' y='50'>Steps: which share of the requests that came to a task was \
+answered within so many clock ticks. What is missing at the right was left.</text>\n\
+<text class='q' x='16' y='68'>Strips: how many cores its threads held. \
+<tspan class='hint'>Point at steps or at a strip for its numbers.</tspan></text>\n",
+    );
+    for run in 0..graphs.runs() {
+        draw_entry(graphs, run, page);
+    }
+}
+
+/// A table in the legend.
+fn draw_entry(graphs: &Graphs<'_>, run: usize, page: &mut Page) {
+    let (x, y) = graphs.entry_at(run);
+    page.fill("<path class='r r{}", &[run as u64]);
+    page.put(dash_of(run));
+    let line = y.saturating_sub(4);
+    page.fill("' d='M{} {}h30'/>", &[x, line]);
+    page.fill("<text x='{}' y='{}'>", &[x.saturating_add(38), y]);
+    graphs.tell_name(run, page);
+    page.put("</text>\n");
+}
+
+/// The plot and the strips of each task.
+fn draw_tasks(graphs: &Graphs<'_>, page: &mut Page) {
+    for task in 0..graphs.tasks {
+        draw_plot(graphs, task, page);
+        draw_strips(graphs, task, page);
+    }
+}

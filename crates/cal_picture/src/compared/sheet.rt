@@ -1,0 +1,234 @@
+//! What the picture of several runs is drawn from, and where its parts stand, in whole pixels.
+
+use crate::page::Page;
+use crate::scale::{ClockScale, TimeScale};
+use cal_machine::Kind;
+use cal_tables::{Courses, RunCourse, TaskCourse, Variation};
+
+/// Where the plots begin; names stand at their left.
+pub const LEFT: u64 = 176;
+
+/// How wide a plot is.
+pub const PLOT: u64 = 640;
+
+/// Where the plots end; numbers stand at their right.
+pub const RIGHT: u64 = LEFT + PLOT;
+
+/// How wide the paper is.
+pub const CANVAS: u64 = RIGHT + 96;
+
+/// The height of a plot of steps.
+pub const GRAPH: u64 = 120;
+
+/// The height of a strip.
+pub const STRIP: u64 = 22;
+
+/// From the foot of a plot to the first strip.
+const UNDER: u64 = 40;
+
+/// From one strip to the next.
+const STEP: u64 = STRIP + 5;
+
+/// From the last strip of a task to the plot of the next.
+const BETWEEN: u64 = 44;
+
+const LEGEND: u64 = 96;
+
+/// The runs of some tables, what made the tables, and the scales of all plots.
+#[derive(Clone, Copy)]
+pub struct Graphs<'a> {
+    pub courses: &'a Courses,
+    pub variation: Option<Variation<'a>>,
+    pub times: TimeScale,
+    pub clocks: ClockScale,
+    /// How many tasks are shown: the most that a table has.
+    pub tasks: usize,
+}
+
+/// How many letters the longest of some words has.
+fn longest_of(words: &[&str]) -> usize {
+    let mut longest = 0usize;
+    for word in words {
+        longest = longest.max(word.len());
+    }
+    longest
+}
+
+/// The least time above 0 and the greatest, of these and some more times.
+fn widened(range: (u64, u64), times: &[u64]) -> (u64, u64) {
+    let (mut least, mut greatest) = range;
+    for time in times {
+        if *time > 0 {
+            least = least.min(*time);
+        }
+        greatest = greatest.max(*time);
+    }
+    (least, greatest)
+}
+
+/// The same of all tasks of a run.
+fn run_range(range: (u64, u64), run: &RunCourse) -> (u64, u64) {
+    let mut range = range;
+    for task in run.tasks.as_slice() {
+        range = widened(range, task.responses.as_slice());
+    }
+    range
+}
+
+/// The scale on which all times of all runs stand.
+fn times_of(runs: &[RunCourse]) -> TimeScale {
+    let mut range = (u64::MAX, 0);
+    for run in runs {
+        range = run_range(range, run);
+    }
+    let (least, greatest) = range;
+    if greatest == 0 {
+        TimeScale::new(1, 1)
+    } else {
+        TimeScale::new(least, greatest)
+    }
+}
+
+/// From the clock of the first pass to that of the last.
+fn clocks_of(runs: &[RunCourse]) -> ClockScale {
+    let clocks = match runs.get(0) {
+        Some(run) => run.clocks.as_slice(),
+        None => &[],
+    };
+    let last = clocks.len().saturating_sub(1);
+    ClockScale {
+        from: clocks.get(0).copied().unwrap_or(0),
+        to: clocks.get(last).copied().unwrap_or(0),
+    }
+}
+
+/// The most tasks that a run has.
+fn most_tasks(runs: &[RunCourse]) -> usize {
+    let mut most = 0usize;
+    for run in runs {
+        most = most.max(run.tasks.len());
+    }
+    most
+}
+
+impl<'a> Graphs<'a> {
+    /// All that is drawn of some runs.
+    pub fn new(courses: &'a Courses, variation: Option<Variation<'a>>) -> Graphs<'a> {
+        let runs = courses.runs.as_slice();
+        Graphs {
+            courses,
+            variation,
+            times: times_of(runs),
+            clocks: clocks_of(runs),
+            tasks: most_tasks(runs),
+        }
+    }
+
+    /// How many runs there are.
+    pub fn runs(&self) -> usize {
+        self.courses.runs.len()
+    }
+
+    /// What came of a task in a run that may have no such task.
+    pub fn course(&self, run: usize, task: usize) -> Option<&'a TaskCourse> {
+        let run = self.courses.runs.as_slice().get(run)?;
+        run.tasks.as_slice().get(task)
+    }
+
+    /// The clocks of a run's passes.
+    pub fn clocks_of(&self, run: usize) -> &'a [u64] {
+        match self.courses.runs.as_slice().get(run) {
+            Some(run) => run.clocks.as_slice(),
+            None => &[],
+        }
+    }
+
+    /// `lc` or `be`, by the first table that has the task.
+    pub fn kind_word(&self, task: usize) -> &'static str {
+        for table in self.courses.tables.as_slice() {
+            if task < table.tasks() {
+                return match table.task(task).kind {
+                    Kind::LatencyCritical => "lc",
+                    Kind::BestEffort => "be",
+                };
+            }
+        }
+        ""
+    }
+
+    /// What a run is called beside its strip: its value, or the number of its table.
+    pub fn tell_short(&self, run: usize, page: &mut Page) {
+        let value = match self.variation {
+            Some(variation) => variation.values.get(run).copied(),
+            None => None,
+        };
+        match value {
+            Some(value) => page.put_escaped(value),
+            None => page.fill("table {}", &[run as u64]),
+        }
+    }
+
+    /// What a run is called: its key and its value, or the number of its table.
+    pub fn tell_name(&self, run: usize, page: &mut Page) {
+        if let Some(variation) = self.variation {
+            page.put_escaped(variation.key);
+            page.put("=");
+        }
+        self.tell_short(run, page);
+    }
+
+    /// How many letters the longest name has.
+    fn longest_name(&self) -> u64 {
+        let Some(variation) = self.variation else {
+            return 10;
+        };
+        let key = variation.key.len().saturating_add(1);
+        longest_of(variation.values).saturating_add(key) as u64
+    }
+
+    /// How wide an entry of the legend is.
+    pub fn entry_width(&self) -> u64 {
+        let letters = self.longest_name();
+        letters.saturating_mul(7).saturating_add(56).max(104)
+    }
+
+    /// How many entries a line of the legend has.
+    pub fn entries(&self) -> u64 {
+        let room = CANVAS - 32;
+        room.checked_div(self.entry_width()).unwrap_or(1).max(1)
+    }
+
+    /// Where an entry of the legend stands.
+    pub fn entry_at(&self, run: usize) -> (u64, u64) {
+        let entries = self.entries();
+        let row = (run as u64).checked_div(entries).unwrap_or(0);
+        let place = (run as u64).checked_rem(entries).unwrap_or(0);
+        let x = place.saturating_mul(self.entry_width()).saturating_add(16);
+        (x, row.saturating_mul(18).saturating_add(LEGEND))
+    }
+
+    /// The top of the plot of a task.
+    pub fn top(&self, task: usize) -> u64 {
+        let (_, last) = self.entry_at(self.runs().saturating_sub(1));
+        let strips = STEP.saturating_mul(self.runs() as u64);
+        let block = strips.saturating_add(GRAPH + UNDER + BETWEEN);
+        let first = last.saturating_add(36);
+        block.saturating_mul(task as u64).saturating_add(first)
+    }
+
+    /// The foot of the plot of a task.
+    pub fn base(&self, task: usize) -> u64 {
+        self.top(task).saturating_add(GRAPH)
+    }
+
+    /// The top of the strip of a run.
+    pub fn strip(&self, task: usize, run: usize) -> u64 {
+        let first = self.base(task).saturating_add(UNDER);
+        STEP.saturating_mul(run as u64).saturating_add(first)
+    }
+
+    /// How high the paper is.
+    pub fn height(&self) -> u64 {
+        self.top(self.tasks).saturating_add(8)
+    }
+}

@@ -1,0 +1,65 @@
+//! What the picture of several runs says in words.
+
+use crate::compared::sheet::Graphs;
+use crate::page::Page;
+use cal_measure::TaskRequests;
+use cal_tables::TaskCourse;
+
+/// The most cores that a task held after a pass.
+pub fn most_held(course: &TaskCourse) -> u64 {
+    let mut most = 0u64;
+    for cores in course.held.as_slice() {
+        most = most.max(u64::from(*cores));
+    }
+    most
+}
+
+/// What is compared.
+pub fn tell_runs(graphs: &Graphs<'_>, page: &mut Page) {
+    let runs = graphs.runs() as u64;
+    page.fill("{} table", &[runs]);
+    page.put(if runs == 1 { "" } else { "s" });
+    page.put(" on the same arrivals");
+}
+
+/// How soon a task's requests were answered.
+fn tell_requests(requests: &TaskRequests, page: &mut Page) {
+    let (served, given) = (requests.served as u64, requests.given as u64);
+    page.fill("{} of {} requests answered", &[served, given]);
+    if let Some(median) = requests.response.median {
+        page.fill(", half of these within {} ticks", &[median]);
+    }
+    if let Some(greatest) = requests.response.greatest {
+        page.fill(", all within {}", &[greatest]);
+    }
+}
+
+/// What came of a task in a run.
+pub fn tell_task(graphs: &Graphs<'_>, task: usize, run: usize, page: &mut Page) {
+    page.fill("task {}, ", &[task as u64]);
+    graphs.tell_name(run, page);
+    page.put(": ");
+    match graphs.course(run, task) {
+        Some(course) => {
+            tell_requests(&course.requests, page);
+            page.fill("; at most {} cores held", &[most_held(course)]);
+        }
+        None => page.put("no such task"),
+    }
+}
+
+/// What came of a task in each run.
+fn tell_task_in_all(graphs: &Graphs<'_>, task: usize, page: &mut Page) {
+    for run in 0..graphs.runs() {
+        page.put(" ");
+        tell_task(graphs, task, run, page);
+        page.put(".");
+    }
+}
+
+/// What came of each task in each run.
+pub fn tell_tasks(graphs: &Graphs<'_>, page: &mut Page) {
+    for task in 0..graphs.tasks {
+        tell_task_in_all(graphs, task, page);
+    }
+}

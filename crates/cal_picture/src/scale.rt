@@ -1,0 +1,142 @@
+//! Where numbers stand on the paper: times by their logarithms, all else in proportion.
+
+use crate::compared::sheet::{LEFT, PLOT};
+
+/// `part` of `whole`, of a length.
+pub fn scaled(length: u64, part: u64, whole: u64) -> u64 {
+    length.saturating_mul(part).checked_div(whole).unwrap_or(0)
+}
+
+/// 1,000 times the logarithm to base ten of 1.0, of 1.1 and so on up to 10.0.
+const LOGS: [u64; 91] = [
+    0, 41, 79, 114, 146, 176, 204, 230, 255, 279, 301, 322, 342, 362, 380, 398, 415, 431, 447, 462,
+    477, 491, 505, 519, 531, 544, 556, 568, 580, 591, 602, 613, 623, 633, 643, 653, 663, 672, 681,
+    690, 699, 708, 716, 724, 732, 740, 748, 756, 763, 771, 778, 785, 792, 799, 806, 813, 820, 826,
+    833, 839, 845, 851, 857, 863, 869, 875, 881, 886, 892, 898, 903, 908, 914, 919, 924, 929, 934,
+    940, 944, 949, 954, 959, 964, 968, 973, 978, 982, 987, 991, 996, 1000,
+];
+
+/// The room at the left edge, for times of 0, which have no logarithm.
+const NOTHING: u64 = 24;
+
+/// The greatest power of ten that a number reaches, and its exponent; 1 and 0 for the number 0.
+fn decade(number: u64) -> (u64, u64) {
+    let mut power = 1u64;
+    let mut exponent = 0u64;
+    for _ in 0..19 {
+        if number / 10 < power {
+            break;
+        }
+        power = power.saturating_mul(10);
+        exponent = exponent.saturating_add(1);
+    }
+    (power, exponent)
+}
+
+/// How many hundredths of a power of ten a number is.
+fn hundredths(number: u64, power: u64) -> u64 {
+    if power < 100 {
+        number.saturating_mul(100).checked_div(power).unwrap_or(100)
+    } else {
+        number.checked_div(power / 100).unwrap_or(100)
+    }
+}
+
+/// The logarithm in the table at a place, or that of ten.
+fn log_at(place: u64) -> u64 {
+    LOGS.get(place as usize).copied().unwrap_or(1000)
+}
+
+/// 1,000 times the logarithm to base ten of a number; of the number 0 that of 1.
+fn log(number: u64) -> u64 {
+    let (power, exponent) = decade(number);
+    let far = hundredths(number, power).saturating_sub(100);
+    let below = log_at(far / 10);
+    let above = log_at((far / 10).saturating_add(1));
+    let between = scaled(above.saturating_sub(below), far % 10, 10);
+    exponent
+        .saturating_mul(1000)
+        .saturating_add(below)
+        .saturating_add(between)
+}
+
+/// A power of ten, up to the greatest that fits.
+fn power_of(exponent: u64) -> u64 {
+    let mut power = 1u64;
+    for _ in 0..exponent.min(19) {
+        power = power.saturating_mul(10);
+    }
+    power
+}
+
+/// A scale of times: the left edge stands for 0, and after some room come powers of ten, one as far
+/// from the next as any other.
+#[derive(Clone, Copy)]
+pub struct TimeScale {
+    /// The exponent of the first power of ten.
+    pub first: u64,
+    /// That of the last one, which is greater.
+    pub last: u64,
+}
+
+impl TimeScale {
+    /// The scale on which these times and all between them stand.
+    pub fn new(least: u64, greatest: u64) -> TimeScale {
+        let (_, first) = decade(least);
+        let (power, exponent) = decade(greatest);
+        let over = if power < greatest {
+            exponent.saturating_add(1)
+        } else {
+            exponent
+        };
+        TimeScale {
+            first,
+            last: over.max(first.saturating_add(1)),
+        }
+    }
+
+    /// How many powers of ten it goes over.
+    pub fn decades(&self) -> u64 {
+        self.last.saturating_sub(self.first)
+    }
+
+    /// The time of a tick: so many times a power of ten.
+    pub fn tick(&self, exponent: u64, times: u64) -> u64 {
+        power_of(exponent).saturating_mul(times)
+    }
+
+    /// Where a time stands.
+    pub fn at(&self, time: u64) -> u64 {
+        if time == 0 {
+            return LEFT;
+        }
+        let far = log(time).saturating_sub(self.first.saturating_mul(1000));
+        let whole = self.decades().saturating_mul(1000);
+        let room = scaled(PLOT - NOTHING, far, whole).min(PLOT - NOTHING);
+        (LEFT + NOTHING).saturating_add(room)
+    }
+}
+
+/// A scale of clocks, from the first to the last pass of a run.
+#[derive(Clone, Copy)]
+pub struct ClockScale {
+    /// The clock at the left edge.
+    pub from: u64,
+    /// The clock at the right edge.
+    pub to: u64,
+}
+
+impl ClockScale {
+    /// Where a clock stands.
+    pub fn at(&self, clock: u64) -> u64 {
+        let far = clock.saturating_sub(self.from);
+        let whole = self.to.saturating_sub(self.from);
+        // Times too long to be multiplied are told apart by their upper bits.
+        let room = if whole > 1 << 48 {
+            scaled(PLOT, far >> 16, whole >> 16)
+        } else {
+            scaled(PLOT, far, whole)
+        };
+        LEFT.saturating_add(room.min(PLOT))
+    }
+}

@@ -1,0 +1,21 @@
+use Rattle.std.proofs.Common.{◌≡◌, ◌++◌, ◌∷◌, [], ℕ, List, Some, slice_get, length, length-append, ap, subst, sym, ⊎_elim, arith}
+use Rattle.cal_lists.proofs.Last.{last_or_before}
+use Rattle.cal_run.specs.Outcome.{outcome_of}
+use Rattle.cal_tables.specs.Courses.{IsTaskCourse}
+use Rattle.cal_tables.specs.declared.courses.TaskCourse.{TaskCourse}
+use Rattle.cal_tables.proofs.courses.task_courses.Goals as goal
+
+pub loop-task-preserved : goal.loop-task-preserved
+loop-task-preserved c =
+    let before = c.loop-task.courses.items in
+    let now = c.in_ok-course.course in
+    let more : c.push.new.self.items ≡ before ++ now ∷ [] = c.in_ok-push.ensures.items in
+    let Q : ℕ → TaskCourse → Type 0 = λ t n. IsTaskCourse c.args.config.now c.args.arrivals.now (outcome_of c.args.end.now) t n in
+    let here : Q c.loop-task.task now = c.in_ok-course.ensures in
+    record {
+      many = let many = c.loop-task.invariant.many in let e = ap (λ (l : List TaskCourse). length l) more in omega (arith, e, length-append before (now ∷ []));
+      each = λ t n at. ⊎_elim
+          (λ was. c.loop-task.invariant.each t n was.1)
+          (λ last. subst (λ m. Q t m) last.1 (subst (λ k. Q k now) (sym (let many = c.loop-task.invariant.many in let p = last.0 in omega arith)) here))
+          (last_or_before before now n t (subst (λ (l : List TaskCourse). slice_get l t ≡ Some n) more at));
+    }

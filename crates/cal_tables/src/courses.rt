@@ -1,0 +1,181 @@
+//! Runs of several tables on the same arrivals, told so that pictures can be drawn of them.
+
+ghost use Rattle.std.specs.Prelude.{◌≡◌, ◌<◌, ◌≤◌, IfErr, IfOk, length, map};
+ghost use Rattle.cal_measure.specs.Clocks.{AreClocksOf};
+ghost use Rattle.cal_policy.specs.Pass.{IsLegal};
+ghost use Rattle.cal_policy.specs.declared.history.entry.TheConstants.{MOST_PASSES};
+ghost use Rattle.cal_run.specs.Outcome.{outcome_of};
+ghost use Rattle.cal_trace.specs.Arrivals.FitsTable.{FitsTable};
+ghost use Rattle.cal_tables.specs.Courses.{AreTaskCourses, IsRunCourse, IsTaskCourse};
+
+use crate::comparing::Variation;
+use crate::comparing::fault::{ComparisonFault, fault_of};
+use crate::comparing::tables::read_tables;
+use crate::comparing::varying::varied_tables;
+use crate::input::read_parts;
+use cal_engine::RunFault;
+use cal_machine::Config;
+use cal_measure::{ArrivalClocks, TaskRequests, held_course, requests_of, responses_of};
+use cal_policy::PassEntry;
+use cal_run::{RunEnd, lockstep_end};
+use cal_trace::{Arrivals, read_arrivals};
+use std::alloc::{AllocError, Global};
+
+/// What came of a task in a run.
+#[derive(Drop)]
+pub struct TaskCourse {
+    /// The numbers of its requests.
+    pub requests: TaskRequests,
+    /// How long each request took that its threads served, in clock ticks, the shortest first.
+    pub responses: Vec<u64>,
+    /// How many cores its threads held after each pass.
+    pub held: Vec<u8>,
+}
+
+/// What a run went through.
+#[derive(Drop)]
+pub struct RunCourse {
+    /// The clock of each pass.
+    pub clocks: Vec<u64>,
+    /// What came of each task, in task order.
+    pub tasks: Vec<TaskCourse>,
+}
+
+/// Some tables, and what each one's run went through.
+#[derive(Drop)]
+pub struct Courses {
+    /// The tables.
+    pub tables: Vec<Config>,
+    /// The run of each table.
+    pub runs: Vec<RunCourse>,
+}
+
+/// What came of a task in a run. Fails only when out of memory.
+fn task_course(
+    alloc: Global,
+    config: &Config,
+    arrivals: &Arrivals,
+    clocks: &ArrivalClocks,
+    end: &RunEnd,
+    task: usize,
+) -> Result<TaskCourse, AllocError>
+    requires fits { FitsTable config.now arrivals.now }
+    requires clocks { AreClocksOf arrivals.now.turns arrivals.now.requests clocks.now }
+    requires legal { IsLegal config.now end.now.history }
+    requires task { task < length config.now.tasks }
+    ensures { IfOk result (IsTaskCourse config.now arrivals.now (outcome_of end.now) task) }
+{
+    let journals = end.journals.as_slice();
+    let left = end.left.as_slice();
+    let requests = requests_of(alloc, config, arrivals, clocks, journals, left, task)?;
+    let mut responses = responses_of(alloc, config, arrivals, clocks, journals, task)?;
+    responses.sort()?;
+    let held = held_course(alloc, config, end.history.as_slice(), task)?;
+    Ok(TaskCourse {
+        requests,
+        responses,
+        held,
+    })
+}
+
+/// What came of each task in a run, in task order. Fails only when out of memory.
+fn task_courses(
+    alloc: Global,
+    config: &Config,
+    arrivals: &Arrivals,
+    clocks: &ArrivalClocks,
+    end: &RunEnd,
+) -> Result<Vec<TaskCourse>, AllocError>
+    requires fits { FitsTable config.now arrivals.now }
+    requires clocks { AreClocksOf arrivals.now.turns arrivals.now.requests clocks.now }
+    requires legal { IsLegal config.now end.now.history }
+    ensures { IfOk result (λ courses.
+        AreTaskCourses config.now arrivals.now (outcome_of end.now) courses.items) }
+{
+    let mut courses = Vec::new(alloc);
+    for task in 0..config.tasks() {
+        let course = task_course(alloc, config, arrivals, clocks, end, task)?;
+        courses.push(course)?;
+    }
+    Ok(courses)
+}
+
+/// The clock of each pass. Fails only when out of memory.
+fn clocks_of(alloc: Global, history: &[PassEntry]) -> Result<Vec<u64>, AllocError>
+    ensures { IfOk result (λ clocks.
+        clocks.items ≡ map (λ entry. entry.input.now) history.now) }
+{
+    let mut clocks = Vec::new(alloc);
+    for entry in history {
+        clocks.push(entry.input.now)?;
+    }
+    Ok(clocks)
+}
+
+/// Makes a whole run on one thread on these arrivals, and tells what it went through. Its fault is
+/// `Memory`.
+pub fn run_course(
+    alloc: Global,
+    config: &Config,
+    arrivals: &Arrivals,
+) -> Result<RunCourse, RunFault>
+    requires fits { FitsTable config.now arrivals.now }
+    ensures course { IfOk result (IsRunCourse config.now arrivals.now) }
+    ensures kind { IfErr result (λ fault. fault ≡ RunFault.Memory) }
+{
+    let end = lockstep_end(alloc, config, arrivals)?;
+    let turns = arrivals.turns.as_slice();
+    let arrived = ArrivalClocks::of(alloc, turns, arrivals.requests.as_slice())?;
+    let tasks = task_courses(alloc, config, arrivals, &arrived, &end)?;
+    let clocks = clocks_of(alloc, end.history.as_slice())?;
+    Ok(RunCourse { clocks, tasks })
+}
+
+/// The run of a table on the arrivals that a text tells.
+fn course_of(alloc: Global, table: &Config, trace: &[u8]) -> Result<RunCourse, RunFault> {
+    let arrivals = read_arrivals(alloc, table, trace)?;
+    run_course(alloc, table, &arrivals)
+}
+
+/// The run of a table; a fault is that of the table at this place.
+fn placed_course(
+    alloc: Global,
+    table: &Config,
+    place: usize,
+    trace: &[u8],
+) -> Result<RunCourse, ComparisonFault> {
+    match course_of(alloc, table, trace) {
+        Ok(course) => Ok(course),
+        Err(fault) => Err(fault_of(place, fault)),
+    }
+}
+
+/// The tables of an input, or those that its table gives with some values, and what stands after
+/// them.
+fn tables_of<'a>(
+    alloc: Global,
+    input: &'a [u8],
+    variation: Option<Variation<'_>>,
+) -> Result<(Vec<Config>, &'a [u8]), ComparisonFault> {
+    let Some(variation) = variation else {
+        return read_tables(alloc, input);
+    };
+    let (table, trace) = read_parts(alloc, input)?;
+    let tables = varied_tables(alloc, &table, variation.key, variation.values)?;
+    Ok((tables, trace))
+}
+
+/// The tables of an input, or those that its table gives with some values, and what the run of each
+/// on the input's arrivals goes through. The faults are those of `compared` and `compared_values`.
+pub fn courses_of(
+    alloc: Global,
+    input: &[u8],
+    variation: Option<Variation<'_>>,
+) -> Result<Courses, ComparisonFault> {
+    let (tables, trace) = tables_of(alloc, input, variation)?;
+    let mut runs = Vec::new(alloc);
+    for place in 0..tables.len() {
+        runs.push(placed_course(alloc, &tables[place], place, trace)?)?;
+    }
+    Ok(Courses { tables, runs })
+}
