@@ -21,6 +21,7 @@ use Rattle.cal_policy.specs.History.Looks.{last_shown, look_of, shown_at, shown_
 use Rattle.cal_policy.specs.Judgement.Judging.{judged, is_foreign, IsFitLook, IsInput}
 use Rattle.cal_policy.specs.declared.history.input.Input.{Input}
 use Rattle.cal_policy.proofs.HistoryLemmas.OneMore.{shown_push}
+use Rattle.cal_policy.proofs.JudgementLemmas.Judged.{look_of-judged}
 use Rattle.cal_policy.specs.Pass.{pass_of, IsPass, IsLegal}
 use Rattle.cal_policy.specs.Setting.{setting}
 use Rattle.cal_trace.proofs.SignalLemmas.LastShown.{shown-push}
@@ -74,15 +75,6 @@ shown_by-judged : (ahead foreign : Bool) (number : ℕ) (rec : Record)
 shown_by-judged true foreign number rec = refl
 shown_by-judged false true number rec = refl
 shown_by-judged false false number rec = refl
-
-look_of-judged : (cores : ℕ) (x : List Action) (k : ℕ) (look : Look) → look_of (judged cores x k look) ≡ look
-look_of-judged cores x k (Busy first second) = refl
-look_of-judged cores x k (Whole number rec) = go (nat_lt (sent_to x k) rec.taken) (is_foreign cores x k rec)
-  where
-    go : (ahead foreign : Bool) → look_of (if ahead then seen.Ahead number rec else if foreign then seen.Foreign number rec else seen.Whole number rec) ≡ Whole number rec
-    go true foreign = refl
-    go false true = refl
-    go false false = refl
 
 -- what each thread showed last is the same, by the looks as judged and by the signals
 abbrev pub SameShown : List (List Seen) → List SignalPass → Type 0

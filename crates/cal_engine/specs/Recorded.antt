@@ -2,20 +2,18 @@
 use Rattle.std.specs.Prelude.{◌≡◌, ℕ, List, Result, Ok, Err}
 use Rattle.cal_machine.specs.Table.{Table}
 use Rattle.cal_policy.specs.Auditor.{IsAuditOf}
-use Rattle.cal_policy.specs.Board.{Agrees}
-use Rattle.cal_policy.specs.History.{actions_of}
 use Rattle.cal_policy.specs.Verdict.{IsVerdict}
-use Rattle.cal_policy.specs.declared.auditor.Auditor.{Auditor}
-use Rattle.cal_policy.specs.declared.board.Board.{Board}
 use Rattle.cal_policy.specs.declared.history.entry.PassEntry.{PassEntry}
 use Rattle.cal_policy.specs.declared.verdict.Verdict.{Verdict}
 use Rattle.cal_trace.specs.History.{history_of}
 use Rattle.cal_trace.specs.History.Reading.{extent_of, HasGiven}
+use Rattle.cal_trace.specs.Report.{passes_text, IsReportOf}
 use Rattle.cal_trace.specs.Rows.{rows_of}
 use Rattle.cal_trace.specs.declared.history.file.HistoryRows.{HistoryRows}
 use Rattle.cal_engine.specs.Outcome.{audit_text, Decided}
 use Rattle.cal_engine.specs.Runs.{Run, parts_of, recorded_on}
 use Rattle.cal_engine.specs.declared.fault.RunFault.{RunFault}
+use Rattle.cal_engine.specs.declared.jobs.auditing.OpenAudit.{OpenAudit}
 
 -- These passes of an input's history were given, by its table: its trace is a text of which they
 -- were.
@@ -29,20 +27,21 @@ pub record HasGivenOf (input : List ℕ) (table : Table) (given : List PassEntry
 abbrev pub recorded_in : Table → List ℕ → Result Run RunFault
 recorded_in table trace = recorded_on table (history_of (extent_of table) (rows_of trace))
 
--- there is a run, and the auditor was handed its history
-abbrev pub HasTaken : Auditor → Result Run RunFault → Type 0
-HasTaken auditor (Err f) = ⊥
-HasTaken auditor (Ok run) = IsAuditOf run.table run.history auditor
+-- the audit has come to the end of this history: its auditor was handed it, and it has its lines
+pub record HasTaken (table : Table) (history : List PassEntry) (audit : OpenAudit) : Type 0 where
+  pub audits : IsAuditOf table history audit.auditor
+  pub of : IsReportOf history audit.report
+  pub written : audit.text.items ≡ passes_text history
 
--- the auditor was handed the history of the run, or the fault is the first
-abbrev pub Takes : Result Auditor RunFault → Result Run RunFault → Type 0
-Takes (Ok auditor) outcome = HasTaken auditor outcome
+-- there is a run, and the audit has come to the end of its history
+abbrev pub HasTakenRun : OpenAudit → Result Run RunFault → Type 0
+HasTakenRun audit (Err f) = ⊥
+HasTakenRun audit (Ok run) = HasTaken run.table run.history audit
+
+-- the audit has come to the end of the run's history, or the fault is the first
+abbrev pub Takes : Result OpenAudit RunFault → Result Run RunFault → Type 0
+Takes (Ok audit) outcome = HasTakenRun audit outcome
 Takes (Err f) outcome = Decided f (outcome ≡ Err f)
-
--- there is a run, and the board is the state that its history leaves
-abbrev pub IsLeft : Board → Result Run RunFault → Type 0
-IsLeft board (Err f) = ⊥
-IsLeft board (Ok run) = Agrees board (actions_of run.history)
 
 -- the verdict on a run, and the text that the audit writes of it
 pub record IsAnswer (verdict : Verdict) (text : List ℕ) (run : Run) : Type 0 where

@@ -3,5 +3,6 @@
 pub mod answer;
 pub mod auditing;
 pub mod deciding;
+pub mod run_text;
 pub mod running;
 pub mod simulating;

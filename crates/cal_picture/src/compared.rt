@@ -16,7 +16,7 @@ use crate::compared::style::{dash_of, draw_style};
 use crate::compared::words::{tell_runs, tell_tasks};
 use crate::page::Page;
 use cal_engine::{RunFault, read_input};
-use cal_tables::{ComparisonFault, Variation, courses_of};
+use cal_tables::{ComparisonFault, Courses, Variation, courses_of, courses_of_values};
 use std::alloc::Global;
 use std::io::{Read, Write};
 
@@ -45,13 +45,25 @@ pub fn draw_comparison<R: Read + Drop, W: Write>(
     }
 }
 
+/// The runs of an input: of its tables, or of those that its table gives with some values.
+fn courses(
+    alloc: Global,
+    input: &[u8],
+    variation: Option<Variation<'_>>,
+) -> Result<Courses, ComparisonFault> {
+    match variation {
+        Some(variation) => courses_of_values(alloc, input, variation),
+        None => courses_of(alloc, input),
+    }
+}
+
 /// The whole picture, in memory.
 fn drawn(
     alloc: Global,
     input: &[u8],
     variation: Option<Variation<'_>>,
 ) -> Result<Page, ComparisonFault> {
-    let courses = courses_of(alloc, input, variation)?;
+    let courses = courses(alloc, input, variation)?;
     let graphs = Graphs::new(&courses, variation);
     let mut page = Page::new(alloc);
     draw_frame(&graphs, &mut page);

@@ -1,13 +1,17 @@
 -- What a picture of a run is drawn from.
-use Rattle.std.specs.Prelude.{◌≡◌, ℕ, List, length, map, Some, slice_get}
+use Rattle.std.specs.Prelude.{◌≡◌, ℕ, List, length, map, Some, Ok, slice_get}
 use Rattle.std.specs.List.Sorted.{IsNonDecreasing, IsPermutation}
 use Rattle.cal_machine.specs.Table.{Table}
+use Rattle.cal_machine.specs.Tasks.{threads_in}
 use Rattle.cal_measure.specs.Cores.{IsHeldCourse}
 use Rattle.cal_measure.specs.Requests.{AreRequestsOf, response_of, services_of_task}
 use Rattle.cal_run.specs.Outcome.{IsRun}
 use Rattle.cal_run.specs.declared.outcome.Outcome.{Outcome}
+use Rattle.cal_tables.specs.Compared.{AreOfTables, AreTables}
 use Rattle.cal_tables.specs.declared.courses.RunCourse.{RunCourse}
 use Rattle.cal_tables.specs.declared.courses.TaskCourse.{TaskCourse}
+use Rattle.cal_trace.specs.Arrivals.{arrivals_of}
+use Rattle.cal_trace.specs.Rows.{rows_of}
 use Rattle.cal_trace.specs.declared.arrivals.Arrivals.{Arrivals}
 
 -- what came of task t in this run: the numbers of its requests, how long each took that was served,
@@ -34,3 +38,20 @@ pub record IsRunCourse (table : Table) (arrivals : Arrivals) (course : RunCourse
   pub run : IsRun table arrivals outcome
   pub clocks : course.clocks.items ≡ map (λ entry. entry.input.now) outcome.history
   pub tasks : AreTaskCourses table arrivals outcome course.tasks.items
+
+-- what a run of this table on the arrivals that a text tells went through
+pub record IsCourse (table : Table) (trace : List ℕ) (course : RunCourse) : Type 0 where
+  pub arrivals : Arrivals
+  pub given : arrivals_of (threads_in table.tasks) (rows_of trace) ≡ Ok arrivals
+  pub gone : IsRunCourse table arrivals course
+
+-- as many runs as tables, each of the table at its place
+abbrev pub AreCourses : List Table → List ℕ → List RunCourse → Type 0
+AreCourses tables trace runs = AreOfTables (λ table run. IsCourse table trace run) tables runs
+
+-- the tables of an input, and what each one's run on its arrivals went through
+pub record AreCoursesOf (input : List ℕ) (tables : List Table)
+    (runs : List RunCourse) : Type 0 where
+  pub trace : List ℕ
+  pub given : AreTables input tables trace
+  pub are : AreCourses tables trace runs

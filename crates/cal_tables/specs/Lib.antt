@@ -1,5 +1,5 @@
 pub mod Measured
 pub mod Compared
+pub mod Courses
 pub mod Varied
 pub mod Changed
-pub mod Courses

@@ -12,6 +12,8 @@ use Rattle.cal_machine.specs.declared.task.Kind.TheVariants.{LatencyCritical, Be
 use Rattle.cal_machine.specs.declared.task.Task.{Task}
 use Rattle.cal_trace.specs.Rows.Text.{numbered}
 use Rattle.cal_tables.specs.Compared.{AreColumns}
+use Rattle.cal_tables.specs.Courses.{AreCourses}
+use Rattle.cal_tables.specs.declared.courses.RunCourse.{RunCourse}
 use Rattle.cal_tables.specs.declared.measuring.RunNumbers.{RunNumbers}
 
 -- the key of a task's field, as task.1.delay
@@ -82,3 +84,13 @@ pub record IsVariation (input key : List ℕ) (values : List (List ℕ)) (tables
   pub given : parts_of input ≡ Ok (record { table = table; trace = trace })
   pub varied : AreVaried table key values tables
   pub are : AreColumns tables trace columns
+
+-- the tables that the one of an input gives with these values at this key, and what each one's run
+-- on the input's arrivals went through
+pub record AreCoursesOfValues (input key : List ℕ) (values : List (List ℕ)) (tables : List Table)
+    (runs : List RunCourse) : Type 0 where
+  pub table : Table
+  pub trace : List ℕ
+  pub given : parts_of input ≡ Ok (record { table = table; trace = trace })
+  pub varied : AreVaried table key values tables
+  pub are : AreCourses tables trace runs

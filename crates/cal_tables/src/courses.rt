@@ -6,14 +6,16 @@ ghost use Rattle.cal_policy.specs.Pass.{IsLegal};
 ghost use Rattle.cal_policy.specs.declared.history.entry.TheConstants.{MOST_PASSES};
 ghost use Rattle.cal_run.specs.Outcome.{outcome_of};
 ghost use Rattle.cal_trace.specs.Arrivals.FitsTable.{FitsTable};
-ghost use Rattle.cal_tables.specs.Courses.{AreTaskCourses, IsRunCourse, IsTaskCourse};
+ghost use Rattle.cal_tables.specs.Courses.{AreCourses, AreCoursesOf, AreTaskCourses};
+ghost use Rattle.cal_tables.specs.Courses.{IsCourse, IsRunCourse, IsTaskCourse};
+ghost use Rattle.cal_tables.specs.Varied.{AreCoursesOfValues};
 
 use crate::comparing::Variation;
+use crate::comparing::columns::table_at;
 use crate::comparing::fault::{ComparisonFault, fault_of};
 use crate::comparing::tables::read_tables;
 use crate::comparing::varying::varied_tables;
-use crate::input::read_parts;
-use cal_engine::RunFault;
+use cal_engine::{RunFault, read_parts};
 use cal_machine::Config;
 use cal_measure::{ArrivalClocks, TaskRequests, held_course, requests_of, responses_of};
 use cal_policy::PassEntry;
@@ -131,51 +133,71 @@ pub fn run_course(
     Ok(RunCourse { clocks, tasks })
 }
 
-/// The run of a table on the arrivals that a text tells.
-fn course_of(alloc: Global, table: &Config, trace: &[u8]) -> Result<RunCourse, RunFault> {
+/// What the run of a table on the arrivals that a text tells goes through.
+fn course_of(alloc: Global, table: &Config, trace: &[u8]) -> Result<RunCourse, RunFault>
+    ensures { IfOk result (IsCourse table.now trace.now) }
+{
     let arrivals = read_arrivals(alloc, table, trace)?;
     run_course(alloc, table, &arrivals)
 }
 
-/// The run of a table; a fault is that of the table at this place.
+/// What the run of a table goes through; a fault is that of the table at this place.
 fn placed_course(
     alloc: Global,
     table: &Config,
     place: usize,
     trace: &[u8],
-) -> Result<RunCourse, ComparisonFault> {
+) -> Result<RunCourse, ComparisonFault>
+    ensures { IfOk result (IsCourse table.now trace.now) }
+{
     match course_of(alloc, table, trace) {
         Ok(course) => Ok(course),
         Err(fault) => Err(fault_of(place, fault)),
     }
 }
 
-/// The tables of an input, or those that its table gives with some values, and what stands after
-/// them.
-fn tables_of<'a>(
+/// What each table's run on the arrivals that a text tells goes through, in the order of the tables.
+fn courses_on(
     alloc: Global,
-    input: &'a [u8],
-    variation: Option<Variation<'_>>,
-) -> Result<(Vec<Config>, &'a [u8]), ComparisonFault> {
-    let Some(variation) = variation else {
-        return read_tables(alloc, input);
-    };
-    let (table, trace) = read_parts(alloc, input)?;
-    let tables = varied_tables(alloc, &table, variation.key, variation.values)?;
-    Ok((tables, trace))
-}
-
-/// The tables of an input, or those that its table gives with some values, and what the run of each
-/// on the input's arrivals goes through. The faults are those of `compared` and `compared_values`.
-pub fn courses_of(
-    alloc: Global,
-    input: &[u8],
-    variation: Option<Variation<'_>>,
-) -> Result<Courses, ComparisonFault> {
-    let (tables, trace) = tables_of(alloc, input, variation)?;
+    tables: &[Config],
+    trace: &[u8],
+) -> Result<Vec<RunCourse>, ComparisonFault>
+    ensures { IfOk result (λ runs. AreCourses tables.now trace.now runs.items) }
+{
     let mut runs = Vec::new(alloc);
     for place in 0..tables.len() {
-        runs.push(placed_course(alloc, &tables[place], place, trace)?)?;
+        let run = placed_course(alloc, table_at(tables, place), place, trace)?;
+        runs.push(run)?;
     }
+    Ok(runs)
+}
+
+/// The tables of an input, each ended by a separator line, and what each one's run on the arrivals
+/// after the last of these lines goes through, in the order of the tables. The faults are those of
+/// `compared`.
+pub fn courses_of(alloc: Global, input: &[u8]) -> Result<Courses, ComparisonFault>
+    ensures { IfOk result (λ courses.
+        AreCoursesOf input.now courses.tables.items courses.runs.items) }
+{
+    let (tables, trace) = read_tables(alloc, input)?;
+    let runs = courses_on(alloc, tables.as_slice(), trace)?;
+    Ok(Courses { tables, runs })
+}
+
+/// The tables that the one of an input gives with each of these values at this key, and what each
+/// one's run on the input's arrivals goes through, in the order of the values. The faults are those
+/// of `compared_values`.
+pub fn courses_of_values(
+    alloc: Global,
+    input: &[u8],
+    variation: Variation<'_>,
+) -> Result<Courses, ComparisonFault>
+    ensures { IfOk result (λ courses. AreCoursesOfValues input.now variation.entry.key.now
+        (map (λ value. value.now) variation.entry.values.now)
+        courses.tables.items courses.runs.items) }
+{
+    let (table, trace) = read_parts(alloc, input)?;
+    let tables = varied_tables(alloc, &table, variation.key, variation.values)?;
+    let runs = courses_on(alloc, tables.as_slice(), trace)?;
     Ok(Courses { tables, runs })
 }

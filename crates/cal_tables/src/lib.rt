@@ -6,12 +6,11 @@
 mod comparing;
 mod core_rows;
 mod courses;
-mod input;
 mod measuring;
 mod sheet;
 mod writing;
 
 pub use comparing::fault::ComparisonFault;
 pub use comparing::{Comparison, Variation, compare, compared, compared_values};
-pub use courses::{Courses, RunCourse, TaskCourse, courses_of, run_course};
+pub use courses::{Courses, RunCourse, TaskCourse, courses_of, courses_of_values, run_course};
 pub use measuring::{RunNumbers, measure, measured_run};

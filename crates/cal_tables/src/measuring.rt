@@ -9,9 +9,8 @@ ghost use Rattle.cal_trace.specs.Arrivals.FitsTable.{FitsTable};
 ghost use Rattle.cal_tables.specs.Measured.{AreCoresOfTasks, AreNumbersOf, IsMeasuredRun};
 
 use crate::core_rows::put_core_rows;
-use crate::input::run_input;
 use crate::writing::sheet_of;
-use cal_engine::{RunFault, read_input};
+use cal_engine::{RunFault, read_input, run_input};
 use cal_machine::Config;
 use cal_measure::{
     ArrivalClocks, MachineCores, TaskCores, TaskRequests, cores_of, machine_of, requests_of,

@@ -5,11 +5,10 @@
 //! with it. tools/count_requests reads this.
 #![tactic(auto)]
 
-use cal_engine::{RunFault, fault_line, read_input, split_input, status};
+use cal_engine::{RunFault, fault_line, read_input, run_input, status};
 use cal_kthread::Entry;
-use cal_machine::{Command, Config, Request};
-use cal_run::{Outcome, lockstep};
-use cal_trace::read_arrivals;
+use cal_machine::{Command, Request};
+use cal_run::{ThreadsEnd, lockstep_threads};
 use std::alloc::Global;
 use std::io;
 use std::io::{BufWriter, Read, Write};
@@ -32,27 +31,23 @@ fn tell_run<R: Read + Drop, W: Write>(
     output: &mut W,
 ) -> Result<(), RunFault> {
     let input = read_input(alloc, &mut reader)?;
-    let Some((table, trace)) = split_input(input.as_slice()) else {
-        return Err(RunFault::Separator);
-    };
-    let config = Config::read(alloc, table)?;
-    let arrivals = read_arrivals(alloc, &config, trace)?;
-    let outcome = lockstep(alloc, &config, &arrivals)?;
+    let (config, arrivals) = run_input(alloc, input.as_slice())?;
+    let end = lockstep_threads(alloc, &config, &arrivals)?;
     let Ok(mut buffer) = BufWriter::new(alloc, output) else {
         return Err(RunFault::Memory);
     };
-    match put_journals(&outcome, &mut buffer) {
+    match put_journals(&end, &mut buffer) {
         Ok(()) => Ok(()),
         Err(_) => Err(RunFault::Write),
     }
 }
 
 /// Writes the rows of each thread.
-fn put_journals<W: Write>(outcome: &Outcome, writer: &mut W) -> io::Result<()> {
-    for (thread, journal) in outcome.journals.as_slice().iter().enumerate() {
+fn put_journals<W: Write>(end: &ThreadsEnd, writer: &mut W) -> io::Result<()> {
+    for (thread, journal) in end.journals.as_slice().iter().enumerate() {
         put_entries(thread, journal.as_slice(), writer)?;
     }
-    for (thread, left) in outcome.left.as_slice().iter().enumerate() {
+    for (thread, left) in end.left.as_slice().iter().enumerate() {
         put_left(thread, left.as_slice(), writer)?;
     }
     writer.flush()

@@ -1,11 +1,15 @@
 //! The task table and the trace of an input.
 
+ghost use Rattle.std.specs.Prelude.{IfOk};
+ghost use Rattle.cal_trace.specs.Arrivals.FitsTable.{FitsTable};
 ghost use Rattle.cal_engine.specs.Outcome.{Gives};
+ghost use Rattle.cal_engine.specs.Running.{run_input_of};
 ghost use Rattle.cal_engine.specs.Runs.{parts_of};
 
 use crate::fault::RunFault;
 use crate::input::separator::split_input;
 use cal_machine::Config;
+use cal_trace::{Arrivals, read_arrivals};
 use std::alloc::Global;
 
 /// The task table of an input, and the text of the trace after it.
@@ -20,4 +24,16 @@ pub fn read_parts(alloc: Global, input: &[u8]) -> Result<(Config, &[u8]), RunFau
     };
     let config = Config::read(alloc, table)?;
     Ok((config, trace))
+}
+
+/// The task table of an input, and the arrivals for its threads. The faults are those of the word
+/// `lockstep`, in its order: `Separator`, `Config`, `Trace`; `Memory` may come at any place.
+pub fn run_input(alloc: Global, input: &[u8]) -> Result<(Config, Arrivals), RunFault>
+    ensures exact { Gives (λ r. record { table = r.0; arrivals = r.1 }) result
+        (run_input_of input.now) }
+    ensures fits { IfOk result (λ r. FitsTable r.0 r.1) }
+{
+    let (config, trace) = read_parts(alloc, input)?;
+    let arrivals = read_arrivals(alloc, &config, trace)?;
+    Ok((config, arrivals))
 }

@@ -1,23 +1,24 @@
 //! Auditing a history against the policy.
 
-ghost use Rattle.std.specs.Prelude.{◌≡◌, ◌≢◌, [], ℕ, List, Ok, Err, IfOk, IfErr, IfSome};
+ghost use Rattle.std.specs.Prelude.{◌≡◌, ◌≢◌, ◌<◌, ◌+◌, ◌^◌, ◌++◌, ◌∷◌, [], ℕ, List, Ok, Err};
+ghost use Rattle.std.specs.Prelude.{length, codes, IfOk, IfErr, IfSome, OnOk};
 ghost use Rattle.cal_policy.specs.Auditor.{IsAuditorOf};
-ghost use Rattle.cal_policy.specs.Board.{IsReady};
+ghost use Rattle.cal_policy.specs.Pass.{IsLegal};
+ghost use Rattle.cal_policy.specs.Verdict.{IsVerdict};
 ghost use Rattle.cal_trace.specs.History.Reading.{extent_of, HasGiven, IsOpen};
-ghost use Rattle.cal_engine.specs.Outcome.{audit_text, illegal_line, report_of};
-ghost use Rattle.cal_engine.specs.Outcome.{Audits, Decided, Gives};
-ghost use Rattle.cal_engine.specs.Recorded.{recorded_in, HasGivenOf, IsAnswerTo, IsLeft, Takes};
-ghost use Rattle.cal_engine.specs.Runs.{recorded_run_of, within_limit, Run};
+ghost use Rattle.cal_trace.specs.Report.{report_text};
+ghost use Rattle.cal_engine.specs.Outcome.{audit_text, illegal_line, Audits, Decided};
+ghost use Rattle.cal_engine.specs.Recorded.{recorded_in, HasGivenOf, HasTaken, IsAnswerTo, Takes};
+ghost use Rattle.cal_engine.specs.Runs.{recorded_run_of, within_limit};
 
 use crate::fault::RunFault;
 use crate::input::parts::read_parts;
 use crate::input::read_input;
 use crate::jobs::answer::write_answer;
 use cal_machine::Config;
-use cal_policy::state::Board;
 use cal_policy::{Auditor, PassEntry, Verdict};
-use cal_trace::{HistoryRows, Report, read_history};
-use std::alloc::Global;
+use cal_trace::{HistoryRows, Report};
+use std::alloc::{AllocError, Global};
 use std::io::{Read, Write};
 
 /// Reads an input of a task table and a history to its end, audits the history, and writes what the
@@ -47,17 +48,6 @@ pub fn run_audit<R: Read + Drop, W: Write>(
     Ok(verdict)
 }
 
-/// The task table of an input, and its history as it is there. The faults come in this order:
-/// `Separator`, `Config`, `Trace`; `Memory` may come at any place.
-pub fn recorded_run(alloc: Global, input: &[u8]) -> Result<(Config, Vec<PassEntry>), RunFault>
-    ensures { Gives (λ r. record { table = r.0; history = r.1.items }) result
-        (recorded_run_of input.now) }
-{
-    let (config, trace) = read_parts(alloc, input)?;
-    let history = read_history(alloc, &config, trace)?;
-    Ok((config, history))
-}
-
 /// The task table of an input, and its history as it is there, before its first pass. The faults
 /// come in this order: `Separator`, `Config`, `Trace` where the history has not its header;
 /// `Memory` may come at any place.
@@ -72,110 +62,114 @@ pub fn recorded_passes(alloc: Global, input: &[u8]) -> Result<(Config, HistoryRo
 }
 
 /// The verdict on the history of an input, and what the program writes of it. The text is gone over
-/// pass by pass, first for the verdict and then for the report, and no pass is kept.
+/// once, and no pass is kept: each is judged, and its lines are written in memory, as soon as its
+/// rows were read. Of a history that is not legal the lines are dropped.
 fn audited(alloc: Global, input: &[u8]) -> Result<(Verdict, Vec<u8>), RunFault>
     ensures answer { IfOk result (λ r. IsAnswerTo r.0 r.1.items (recorded_run_of input.now)) }
     ensures fault { IfErr result (λ fault. Decided fault (recorded_run_of input.now ≡ Err fault)) }
 {
     let (config, trace) = read_parts(alloc, input)?;
-    let auditor = audit_in_turn(alloc, &config, trace)?;
-    let verdict = auditor.verdict();
-    let text = audit_text(alloc, &config, trace, verdict, auditor.board())?;
+    let audit = audit_in_turn(alloc, &config, trace)?;
+    let verdict = audit.auditor.verdict();
+    let text = audit.end(alloc, &config, verdict)?;
     Ok((verdict, text))
 }
 
-/// The auditor of a history, which is handed to it one pass after the other as its rows are read.
-fn audit_in_turn(alloc: Global, config: &Config, trace: &[u8]) -> Result<Auditor, RunFault>
+/// The audit of a history, which is handed its passes one after the other as their rows are read.
+fn audit_in_turn(alloc: Global, config: &Config, trace: &[u8]) -> Result<OpenAudit, RunFault>
     ensures audits { Takes result (recorded_in config.now trace.now) }
-    ensures of { IfOk result (λ auditor. IsAuditorOf config.now auditor) }
+    ensures of { IfOk result (λ audit. IsAuditorOf config.now audit.auditor) }
 {
     let mut rows = HistoryRows::open(alloc, config, trace)?;
     audit_rows(alloc, config, &mut rows)
 }
 
-/// The auditor of a history before its first pass, which is handed all its passes.
+/// The audit of a history before its first pass, which is handed all its passes.
 fn audit_rows(
     alloc: Global,
     config: &Config,
     rows: &mut HistoryRows<'_>,
-) -> Result<Auditor, RunFault>
+) -> Result<OpenAudit, RunFault>
     requires { IsOpen rows.old }
     ensures audits { (trace : List ℕ) → HasGiven (extent_of config.now) trace [] rows.old →
         Takes result (recorded_in config.now trace) }
-    ensures of { IfOk result (λ auditor. IsAuditorOf config.now auditor) }
+    ensures of { IfOk result (λ audit. IsAuditorOf config.now audit.auditor) }
 {
-    let mut auditor = Auditor::open(alloc, config)?;
+    let mut audit = OpenAudit::open(alloc, config)?;
     while let Some(entry) = rows.next()? {
-        auditor.next(config, &entry);
+        audit.take(config, &entry)?;
     }
-    Ok(auditor)
+    Ok(audit)
 }
 
-/// What the program writes of a verdict. The board is what a legal history leaves.
-fn audit_text(
-    alloc: Global,
-    config: &Config,
-    trace: &[u8],
-    verdict: Verdict,
-    board: &Board,
-) -> Result<Vec<u8>, RunFault>
-    requires ready { IsReady config.now board.now }
-    requires left { verdict ≡ Verdict.Legal → IsLeft board.now (recorded_in config.now trace.now) }
-    ensures text { (run : Run) → recorded_in config.now trace.now ≡ Ok run →
-        IfOk result (λ text. text.items ≡ audit_text run verdict) }
-    ensures fault { IfErr result (λ fault.
-        Decided fault (recorded_in config.now trace.now ≡ Err fault)) }
-{
-    match verdict {
-        Verdict::Legal => {
-            let mut text = report_history(alloc, config, trace, board)?;
-            text.extend_from_slice(b"legal\n")?;
-            Ok(text)
+/// The audit of the passes so far, with the lines of their report.
+#[derive(Drop)]
+struct OpenAudit {
+    auditor: Auditor,
+    report: Report,
+    text: Vec<u8>,
+}
+
+impl OpenAudit {
+    /// The audit before the first pass. Fails only when out of memory.
+    fn open(alloc: Global, config: &Config) -> Result<OpenAudit, AllocError>
+        ensures takes { IfOk result (HasTaken config.now []) }
+        ensures of { IfOk result (λ audit. IsAuditorOf config.now audit.auditor) }
+    {
+        let auditor = Auditor::open(alloc, config)?;
+        Ok(OpenAudit {
+            auditor,
+            report: Report::new(),
+            text: Vec::new(alloc),
+        })
+    }
+
+    /// Judges the next pass, and writes its lines. The fault is `Memory`.
+    fn take(&mut self, config: &Config, entry: &PassEntry) -> Result<(), RunFault>
+        requires of { IsAuditorOf config.now self.old.auditor }
+        ensures takes { OnOk result ((h : List PassEntry) → length h + 1 < 2 ^ 64 →
+            HasTaken config.now h self.old → HasTaken config.now (h ++ entry.now ∷ []) self.new) }
+        ensures of { OnOk result (IsAuditorOf config.now self.new.auditor) }
+        ensures kind { IfErr result (λ fault. fault ≡ RunFault.Memory) }
+    {
+        self.auditor.next(config, entry);
+        match self.report.write_pass(entry, &mut self.text) {
+            Ok(()) => Ok(()),
+            // A list in memory refuses nothing but memory.
+            Err(_) => Err(RunFault::Memory),
         }
-        Verdict::Illegal { pass } => illegal_line(alloc, pass),
     }
-}
 
-/// The report of a history, in memory, by the board that it leaves. The lines of each pass are made
-/// as soon as its rows were read, and nothing else is kept of it.
-fn report_history(
-    alloc: Global,
-    config: &Config,
-    trace: &[u8],
-    board: &Board,
-) -> Result<Vec<u8>, RunFault>
-    requires ready { IsReady config.now board.now }
-    requires left { IsLeft board.now (recorded_in config.now trace.now) }
-    ensures { Gives (λ report. report.items) result (report_of (recorded_in config.now trace.now)) }
-{
-    let mut rows = HistoryRows::open(alloc, config, trace)?;
-    report_rows(alloc, config, &mut rows, board)
-}
-
-/// The report of a history before its first pass, by the board that it leaves.
-fn report_rows(
-    alloc: Global,
-    config: &Config,
-    rows: &mut HistoryRows<'_>,
-    board: &Board,
-) -> Result<Vec<u8>, RunFault>
-    requires open { IsOpen rows.old }
-    requires ready { IsReady config.now board.now }
-    ensures { (trace : List ℕ) → HasGiven (extent_of config.now) trace [] rows.old →
-        IsLeft board.now (recorded_in config.now trace) →
-        Gives (λ report. report.items) result (report_of (recorded_in config.now trace)) }
-{
-    let mut report = Report::new();
-    let mut text = Vec::new(alloc);
-    while let Some(entry) = rows.next()? {
-        // A list in memory refuses nothing but memory.
-        let Ok(()) = report.write_pass(&entry, &mut text) else {
-            return Err(RunFault::Memory);
-        };
+    /// What the program writes of the whole history, by its verdict. The fault is `Memory`.
+    fn end(self, alloc: Global, config: &Config, verdict: Verdict) -> Result<Vec<u8>, RunFault>
+        requires { IsAuditorOf config.now self.auditor }
+        ensures text { (h : List PassEntry) → HasTaken config.now h self →
+            IsVerdict config.now h verdict → IfOk result (λ text. text.items ≡
+            audit_text (record { table = config.now; history = h }) verdict) }
+        ensures kind { IfErr result (λ fault. fault ≡ RunFault.Memory) }
+    {
+        match verdict {
+            Verdict::Legal => self.end_legal(config),
+            Verdict::Illegal { pass } => illegal_line(alloc, pass),
+        }
     }
-    match report.write_end(config, board, &mut text) {
-        Ok(()) => Ok(text),
-        Err(_) => Err(RunFault::Memory),
+
+    /// The report of a legal history, and the line `legal`. The fault is `Memory`.
+    fn end_legal(mut self, config: &Config) -> Result<Vec<u8>, RunFault>
+        requires { IsAuditorOf config.now self.auditor }
+        ensures text { (h : List PassEntry) → HasTaken config.now h self → IsLegal config.now h →
+            IfOk result (λ text. text.items ≡ report_text config.now h ++ codes "legal\n") }
+        ensures kind { IfErr result (λ fault. fault ≡ RunFault.Memory) }
+    {
+        match self
+            .report
+            .write_end(config, self.auditor.board(), &mut self.text)
+        {
+            Ok(()) => {}
+            Err(_) => return Err(RunFault::Memory),
+        }
+        self.text.extend_from_slice(b"legal\n")?;
+        Ok(self.text)
     }
 }
 

@@ -1,22 +1,19 @@
 //! Whole runs on the arrivals of an input.
 
-ghost use Rattle.std.specs.Prelude.{◌≡◌, ◌≢◌, Err, length, IfOk, IfErr, IfSome};
-ghost use Rattle.cal_policy.specs.Pass.{IsLegal};
-ghost use Rattle.cal_run.specs.Outcome.{outcome_of};
+ghost use Rattle.std.specs.Prelude.{◌≡◌, ◌≢◌, Err, IfOk, IfErr, IfSome};
 ghost use Rattle.cal_trace.specs.Arrivals.FitsTable.{FitsTable};
-ghost use Rattle.cal_trace.specs.Report.Summary.{summary_text};
-ghost use Rattle.cal_engine.specs.Outcome.{Decided, Gives};
+ghost use Rattle.cal_engine.specs.Outcome.{Decided};
 ghost use Rattle.cal_engine.specs.Runs.{within_limit};
-ghost use Rattle.cal_engine.specs.Running.{run_input_of, run_text, IsTextOfRun, Runs, TellsRun};
+ghost use Rattle.cal_engine.specs.Running.{run_input_of, IsTextOfRun, Runs, TellsRun};
 
 use crate::fault::RunFault;
-use crate::input::parts::read_parts;
+use crate::input::parts::run_input;
 use crate::input::read_input;
 use crate::jobs::answer::write_answer;
+use crate::jobs::run_text::{run_text, threads_summary};
 use cal_machine::Config;
-use cal_policy::legal_is_orderly;
-use cal_run::{RunEnd, ThreadsEnd, lockstep_end, lockstep_threads};
-use cal_trace::{Arrivals, read_arrivals, write_history, write_report, write_summary};
+use cal_run::{lockstep_end, lockstep_threads};
+use cal_trace::Arrivals;
 use std::alloc::Global;
 use std::io::{Read, Write};
 
@@ -89,75 +86,5 @@ fn lockstep_on(
             let end = lockstep_end(alloc, config, arrivals)?;
             run_text(alloc, answer, config, arrivals, &end)
         }
-    }
-}
-
-/// The summary of what the kernel threads of a run end with, in memory. Its fault is `Memory`.
-fn threads_summary(
-    alloc: Global,
-    arrivals: &Arrivals,
-    end: &ThreadsEnd,
-) -> Result<Vec<u8>, RunFault>
-    ensures text { IfOk result (λ text. text.items ≡ summary_text
-        (length arrivals.now.passes) (length arrivals.now.turns) end.now.journals end.now.left) }
-    ensures kind { IfErr result (λ fault. fault ≡ RunFault.Memory) }
-{
-    let mut text = Vec::new(alloc);
-    let written = write_summary(
-        arrivals.passes.as_slice().len(),
-        arrivals.turns.as_slice().len(),
-        end.journals.as_slice(),
-        end.left.as_slice(),
-        &mut text,
-    );
-    match written {
-        Ok(()) => Ok(text),
-        // A list in memory refuses nothing but memory.
-        Err(_) => Err(RunFault::Memory),
-    }
-}
-
-/// The task table of an input, and the arrivals for its threads.
-pub fn run_input(alloc: Global, input: &[u8]) -> Result<(Config, Arrivals), RunFault>
-    ensures exact { Gives (λ r. record { table = r.0; arrivals = r.1 }) result
-        (run_input_of input.now) }
-    ensures fits { IfOk result (λ r. FitsTable r.0 r.1) }
-{
-    let (config, trace) = read_parts(alloc, input)?;
-    let arrivals = read_arrivals(alloc, &config, trace)?;
-    Ok((config, arrivals))
-}
-
-/// What is written of what a run ends with, in memory. Its fault is `Memory`.
-pub(crate) fn run_text(
-    alloc: Global,
-    answer: RunAnswer,
-    config: &Config,
-    arrivals: &Arrivals,
-    end: &RunEnd,
-) -> Result<Vec<u8>, RunFault>
-    requires legal { IsLegal config.now end.now.history }
-    ensures text { IfOk result (λ text. text.items ≡ run_text answer
-        (record { table = config.now; arrivals = arrivals.now }) (outcome_of end.now)) }
-    ensures kind { IfErr result (λ fault. fault ≡ RunFault.Memory) }
-{
-    config.limits();
-    legal_is_orderly();
-    let mut text = Vec::new(alloc);
-    let written = match answer {
-        RunAnswer::History => write_history(end.history.as_slice(), &mut text),
-        RunAnswer::Summary => write_summary(
-            arrivals.passes.as_slice().len(),
-            arrivals.turns.as_slice().len(),
-            end.journals.as_slice(),
-            end.left.as_slice(),
-            &mut text,
-        ),
-        RunAnswer::Report => write_report(config, end.history.as_slice(), &mut text),
-    };
-    match written {
-        Ok(()) => Ok(text),
-        // A list in memory refuses nothing but memory.
-        Err(_) => Err(RunFault::Memory),
     }
 }

@@ -10,9 +10,11 @@ ghost use Rattle.cal_engine.specs.Running.{run_input_of, FailedInThreads, IsText
 ghost use Rattle.cal_engine.specs.Running.{RunsInThreads, TellsRun};
 
 use crate::fault::RunFault;
+use crate::input::parts::run_input;
 use crate::input::read_input;
 use crate::jobs::answer::write_answer;
-use crate::jobs::running::{RunAnswer, run_input, run_text};
+use crate::jobs::run_text::run_text;
+use crate::jobs::running::RunAnswer;
 use cal_machine::Config;
 use cal_run::{RunEnd, SimFault};
 use cal_threads::{FreeGate, simulation_end};

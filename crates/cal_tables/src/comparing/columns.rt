@@ -19,7 +19,7 @@ fn column_of(alloc: Global, table: &Config, trace: &[u8]) -> Result<RunNumbers, 
 }
 
 /// The table at a place.
-fn table_at(tables: &[Config], place: usize) -> &Config
+pub(crate) fn table_at(tables: &[Config], place: usize) -> &Config
     requires { place < length tables.now }
     ensures { slice_get tables.now place ≡ Some result.now }
 {

@@ -1,4 +1,4 @@
-use Rattle.std.proofs.Common.{◌≡◌, ◌<◌, ◌^◌, [], ◌∷◌, ◌++◌, Err, length, arith, rules}
+use Rattle.std.proofs.Common.{◌≡◌, ◌<◌, ◌+◌, ◌^◌, [], ◌∷◌, ◌++◌, Err, length, arith, rules}
 use Rattle.cal_trace.specs.History.{history_of}
 use Rattle.cal_trace.specs.History.Reading.{extent_of}
 use Rattle.cal_trace.specs.Rows.{rows_of}
@@ -7,32 +7,32 @@ use Rattle.cal_engine.specs.declared.fault.RunFault.TheVariants as fault
 use Rattle.cal_engine.proofs.Audited.{refused_history, audited}
 use Rattle.cal_engine.proofs.jobs.auditing.audit_rows.Goals as goal
 
-pub loop-auditor-init : goal.loop-auditor-init
-loop-auditor-init c = record {
+pub loop-audit-init : goal.loop-audit-init
+loop-audit-init c = record {
   ready = c.requires;
-  of = c.in_ok-auditor.ensures.of;
-  auditing = λ trace has. record { given = []; has = has; audits = c.in_ok-auditor.ensures.audits };
+  of = c.in_ok-audit.ensures.of;
+  auditing = λ trace has. record { given = []; has = has; takes = c.in_ok-audit.ensures.takes };
 }
 
-pub loop-auditor-preserved : goal.loop-auditor-preserved
-loop-auditor-preserved c = record {
+pub loop-audit-preserved : goal.loop-audit-preserved
+loop-audit-preserved c = record {
   ready = rw c.in-Some.is at c.in_ok-entry.ensures.ready;
-  of = c.next-in-Some.ensures.of;
+  of = c.in_ok-take.ensures.of;
   auditing = λ trace start.
       let extent = extent_of c.args.config.now in
-      let before = c.loop-auditor.invariant.auditing trace start in
-      let few : length before.given < 2 ^ 64 = omega (arith, few_given extent trace before.given c.loop-auditor.rows before.has) in
+      let before = c.loop-audit.invariant.auditing trace start in
+      let few : length before.given + 1 < 2 ^ 64 = omega (arith, few_given extent trace before.given c.loop-audit.rows before.has) in
       record {
         given = before.given ++ c.in-Some.entry ∷ [];
         has = rw c.in-Some.is at (c.in_ok-entry.ensures.gives extent trace before.given before.has);
-        audits = c.next-in-Some.ensures.audits before.given few before.audits;
+        takes = c.in_ok-take.ensures.takes before.given few before.takes;
       };
 }
 
 pub returns-in_err-entry-clause-audits : goal.returns-in_err-entry-clause-audits
 returns-in_err-entry-clause-audits c = λ trace start.
     let extent = extent_of c.args.config.now in
-    let before = c.loop-auditor.invariant.auditing trace start in
+    let before = c.loop-audit.invariant.auditing trace start in
     let same : c.from_residual-in_err-entry.result ≡ Err (fault.Trace c.in_err-entry.field-0.0) = search rules in
     rw same (refused_history c.args.config.now (history_of extent (rows_of trace)) c.in_err-entry.field-0.0
     (c.in_err-entry.ensures.gives extent trace before.given before.has))
@@ -40,6 +40,6 @@ returns-in_err-entry-clause-audits c = λ trace start.
 pub returns-clause-audits : goal.returns-clause-audits
 returns-clause-audits c = λ trace start.
     let table = c.args.config.now in
-    let before = c.loop-auditor.invariant.auditing trace start in
+    let before = c.loop-audit.invariant.auditing trace start in
     let gives = rw c.in_default.is at (c.in_ok-entry.ensures.gives (extent_of table) trace before.given before.has) in
-    audited table (history_of (extent_of table) (rows_of trace)) before.given c.loop-auditor.auditor gives before.audits
+    audited table (history_of (extent_of table) (rows_of trace)) before.given c.loop-audit.audit gives before.takes

@@ -4,12 +4,12 @@ use Rattle.cal_trace.specs.History.Reading.{extent_of, HasGiven, IsOpen, rows_le
 use Rattle.cal_engine.proofs.Audited.{IsAuditing}
 use Rattle.cal_engine.proofs.jobs.auditing.audit_rows.Given as goal
 
-abbrev pub invariant-loop-auditor : goal.invariant-loop-auditor
-invariant-loop-auditor l = record {
+abbrev pub invariant-loop-audit : goal.invariant-loop-audit
+invariant-loop-audit l = record {
   ready : IsOpen l.rows;
-  of : IsAuditorOf l.config l.auditor;
-  auditing : (trace : List ℕ) → HasGiven (extent_of l.config) trace [] l.initial.rows → IsAuditing l.config trace l.rows l.auditor;
+  of : IsAuditorOf l.config l.audit.auditor;
+  auditing : (trace : List ℕ) → HasGiven (extent_of l.config) trace [] l.initial.rows → IsAuditing l.config trace l.rows l.audit;
 }
 
-abbrev pub decreases-loop-auditor : goal.decreases-loop-auditor
-decreases-loop-auditor l = rows_left l.rows
+abbrev pub decreases-loop-audit : goal.decreases-loop-audit
+decreases-loop-audit l = rows_left l.rows

@@ -1,16 +1,19 @@
 use Rattle.std.proofs.Common.{◌≡◌, ◌++◌, ◌∷◌, [], List, length, length-append, ap, sym, subst, arith}
+use Rattle.cal_machine.specs.Table.{Table}
+use Rattle.cal_tables.specs.Compared.{IsColumn}
 use Rattle.cal_tables.specs.declared.measuring.RunNumbers.{RunNumbers}
-use Rattle.cal_tables.proofs.Columns.{AreOfTables, one_column_more}
+use Rattle.cal_tables.proofs.Columns.{EachIsOf, one_more}
 use Rattle.cal_tables.proofs.comparing.columns.columns_of.Goals as goal
 
 pub loop-place-preserved : goal.loop-place-preserved
 loop-place-preserved c =
+    let Is : Table → RunNumbers → Type 0 = λ table column. IsColumn table c.args.trace.now column in
     let before : List RunNumbers = c.loop-place.columns.items in
     let now : RunNumbers = c.in_ok-column.column in
     let more : c.push.new.self.items ≡ before ++ now ∷ [] = c.in_ok-push.ensures.items in
     let many : length before ≡ c.loop-place.place = c.loop-place.invariant.many in
     record {
       many = let e = ap (λ (l : List RunNumbers). length l) more in omega (arith, e, many, length-append before (now ∷ []));
-      each = subst (λ (l : List RunNumbers). AreOfTables c.args.tables.now c.args.trace.now l) (sym more)
-          (one_column_more c.args.tables.now c.args.trace.now before c.loop-place.place _ now many c.table_at.ensures c.in_ok-column.ensures c.loop-place.invariant.each);
+      each = subst (λ (l : List RunNumbers). EachIsOf Is c.args.tables.now l) (sym more)
+          (one_more Is c.args.tables.now before c.loop-place.place _ now many c.table_at.ensures c.in_ok-column.ensures c.loop-place.invariant.each);
     }

@@ -1,0 +1,74 @@
+//! What is written of a run, in memory.
+
+ghost use Rattle.std.specs.Prelude.{◌≡◌, length, IfOk, IfErr};
+ghost use Rattle.cal_policy.specs.Pass.{IsLegal};
+ghost use Rattle.cal_run.specs.Outcome.{outcome_of};
+ghost use Rattle.cal_trace.specs.Report.Summary.{summary_text};
+ghost use Rattle.cal_engine.specs.Running.{run_text};
+
+use crate::fault::RunFault;
+use crate::jobs::running::RunAnswer;
+use cal_machine::Config;
+use cal_policy::legal_is_orderly;
+use cal_run::{RunEnd, ThreadsEnd};
+use cal_trace::{Arrivals, write_history, write_report, write_summary};
+use std::alloc::Global;
+
+/// What is written of what a run ends with, in memory. Its fault is `Memory`.
+pub(crate) fn run_text(
+    alloc: Global,
+    answer: RunAnswer,
+    config: &Config,
+    arrivals: &Arrivals,
+    end: &RunEnd,
+) -> Result<Vec<u8>, RunFault>
+    requires legal { IsLegal config.now end.now.history }
+    ensures text { IfOk result (λ text. text.items ≡ run_text answer
+        (record { table = config.now; arrivals = arrivals.now }) (outcome_of end.now)) }
+    ensures kind { IfErr result (λ fault. fault ≡ RunFault.Memory) }
+{
+    config.limits();
+    legal_is_orderly();
+    let mut text = Vec::new(alloc);
+    let written = match answer {
+        RunAnswer::History => write_history(end.history.as_slice(), &mut text),
+        RunAnswer::Summary => write_summary(
+            arrivals.passes.as_slice().len(),
+            arrivals.turns.as_slice().len(),
+            end.journals.as_slice(),
+            end.left.as_slice(),
+            &mut text,
+        ),
+        RunAnswer::Report => write_report(config, end.history.as_slice(), &mut text),
+    };
+    match written {
+        Ok(()) => Ok(text),
+        // A list in memory refuses nothing but memory.
+        Err(_) => Err(RunFault::Memory),
+    }
+}
+
+/// The summary of what the kernel threads of a run end with, in memory. Its fault is `Memory`.
+pub(crate) fn threads_summary(
+    alloc: Global,
+    arrivals: &Arrivals,
+    end: &ThreadsEnd,
+) -> Result<Vec<u8>, RunFault>
+    ensures text { IfOk result (λ text. text.items ≡ summary_text
+        (length arrivals.now.passes) (length arrivals.now.turns) end.now.journals end.now.left) }
+    ensures kind { IfErr result (λ fault. fault ≡ RunFault.Memory) }
+{
+    let mut text = Vec::new(alloc);
+    let written = write_summary(
+        arrivals.passes.as_slice().len(),
+        arrivals.turns.as_slice().len(),
+        end.journals.as_slice(),
+        end.left.as_slice(),
+        &mut text,
+    );
+    match written {
+        Ok(()) => Ok(text),
+        // A list in memory refuses nothing but memory.
+        Err(_) => Err(RunFault::Memory),
+    }
+}

@@ -1,0 +1,10 @@
+use Rattle.std.proofs.Common.{◌≡◌, length}
+use Rattle.cal_tables.specs.Courses.{IsCourse}
+use Rattle.cal_tables.proofs.Columns.{EachIsOf}
+use Rattle.cal_tables.proofs.courses.courses_on.Given as goal
+
+abbrev pub invariant-loop-place : goal.invariant-loop-place
+invariant-loop-place l = record {
+  many : length l.runs.items ≡ l.place;
+  each : EachIsOf (λ table run. IsCourse table l.trace run) l.tables l.runs.items;
+}
