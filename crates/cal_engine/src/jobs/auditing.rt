@@ -155,21 +155,31 @@ impl OpenAudit {
     }
 
     /// The report of a legal history, and the line `legal`. The fault is `Memory`.
-    fn end_legal(mut self, config: &Config) -> Result<Vec<u8>, RunFault>
+    fn end_legal(self, config: &Config) -> Result<Vec<u8>, RunFault>
         requires { IsAuditorOf config.now self.auditor }
         ensures text { (h : List PassEntry) → HasTaken config.now h self → IsLegal config.now h →
             IfOk result (λ text. text.items ≡ report_text config.now h ++ codes "legal\n") }
+        ensures kind { IfErr result (λ fault. fault ≡ RunFault.Memory) }
+    {
+        let mut text = self.end_report(config)?;
+        text.extend_from_slice(b"legal\n")?;
+        Ok(text)
+    }
+
+    /// The report of a legal history. The fault is `Memory`.
+    fn end_report(mut self, config: &Config) -> Result<Vec<u8>, RunFault>
+        requires { IsAuditorOf config.now self.auditor }
+        ensures text { (h : List PassEntry) → HasTaken config.now h self → IsLegal config.now h →
+            IfOk result (λ text. text.items ≡ report_text config.now h) }
         ensures kind { IfErr result (λ fault. fault ≡ RunFault.Memory) }
     {
         match self
             .report
             .write_end(config, self.auditor.board(), &mut self.text)
         {
-            Ok(()) => {}
-            Err(_) => return Err(RunFault::Memory),
+            Ok(()) => Ok(self.text),
+            Err(_) => Err(RunFault::Memory),
         }
-        self.text.extend_from_slice(b"legal\n")?;
-        Ok(self.text)
     }
 }
 
