@@ -162,14 +162,15 @@ fn courses_on(
     tables: &[Config],
     trace: &[u8],
 ) -> Result<Vec<RunCourse>, ComparisonFault>
-    ensures { IfOk result (λ runs. AreCourses tables.now trace.now runs.items) }
+    ensures { IfOk result (λ courses.
+        AreCourses tables.now trace.now courses.items) }
 {
-    let mut runs = Vec::new(alloc);
+    let mut courses = Vec::new(alloc);
     for place in 0..tables.len() {
-        let run = placed_course(alloc, table_at(tables, place), place, trace)?;
-        runs.push(run)?;
+        let course = placed_course(alloc, table_at(tables, place), place, trace)?;
+        courses.push(course)?;
     }
-    Ok(runs)
+    Ok(courses)
 }
 
 /// The tables of an input, each ended by a separator line, and what each one's run on the arrivals

@@ -5,6 +5,6 @@ use Rattle.cal_tables.proofs.courses.courses_on.Given as goal
 
 abbrev pub invariant-loop-place : goal.invariant-loop-place
 invariant-loop-place l = record {
-  many : length l.runs.items ≡ l.place;
-  each : EachIsOf (λ table run. IsCourse table l.trace run) l.tables l.runs.items;
+  many : length l.courses.items ≡ l.place;
+  each : EachIsOf (λ table course. IsCourse table l.trace course) l.tables l.courses.items;
 }
