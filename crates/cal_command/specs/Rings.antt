@@ -1,10 +1,11 @@
 -- What a contract sees of the two ends of a ring.
-use Rattle.std.specs.Prelude.{ℕ, ◌^◌, ◌<◌, List, length}
+use Rattle.std.specs.Prelude.{ℕ, ◌<◌, List, length}
 use denote.RawPtr.{Ptr}
 use Rattle.rtrb.specs.Shared.{Names}
 use Rattle.rtrb.specs.declared.producer.Producer.{Producer}
 use Rattle.rtrb.specs.declared.consumer.Consumer.{Consumer}
 use Rattle.cal_machine.specs.declared.command.Command.{Command}
+use Rattle.cal_command.specs.declared.rule.TheConstants.{MOST_COMMANDS}
 
 -- which ring it is: both ends of a ring name the same one
 pub record RingId : Type 0 where
@@ -27,10 +28,10 @@ pub record SenderView : Type 0 where
   pub sent : List Command
   pub free : ℕ
 
--- room for one more command is known: a place is known to be free, and fewer than 2^62 commands
+-- room for one more command is known: a place is known to be free, and fewer than MOST_COMMANDS
 -- were sent
 abbrev pub HasRoom : SenderView → Type 0
-HasRoom s = (0 < s.free) × (length s.sent < 2 ^ 62)
+HasRoom s = (0 < s.free) × (length s.sent < MOST_COMMANDS)
 
 -- the taking end: every command taken so far, oldest first
 pub record TakerView : Type 0 where

@@ -14,5 +14,6 @@ mod taker;
 
 pub use cal_machine::Command;
 pub use ring::{RingEnd, close_ring, open_ring};
+pub use rule::MOST_COMMANDS;
 pub use sender::Sender;
 pub use taker::Taker;

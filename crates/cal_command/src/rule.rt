@@ -2,13 +2,19 @@
 use cal_machine::Command;
 use rtrb::Protocol;
 
-/// The rule of every ring: a Run's core is below 128, and fewer than 2^62 commands came before.
+/// The most commands that a ring carries in all: after that many it has no room any more, so no
+/// count wraps.
+pub const MOST_COMMANDS: u64 = 1 << 62;
+
+/// The rule of every ring: a Run's core is below `MOST_CORES`, and fewer than `MOST_COMMANDS` came
+/// before.
 #[derive(Clone, Copy)]
 pub struct Sendable;
 
 impl Protocol<Command> for Sendable {
-    ghost use Rattle.std.specs.Prelude.{◌^◌, ◌<◌, length};
+    ghost use Rattle.std.specs.Prelude.{◌<◌, length};
+    ghost use Rattle.cal_command.specs.declared.rule.TheConstants.{MOST_COMMANDS};
     ghost use Rattle.cal_command.specs.Commands.{IsSendable};
 
-    ghost allows = { λ before command. IsSendable command × (length before < 2 ^ 62) };
+    ghost allows = { λ before command. IsSendable command × (length before < MOST_COMMANDS) };
 }

@@ -1,17 +1,13 @@
 //! The end of a ring that sends.
-ghost use Rattle.std.specs.Prelude.{◌≡◌, ◌+◌, ◌^◌, ◌≤◌, ◌↔◌, false, [], ◌∷◌, ◌++◌, length, IsTrue};
+ghost use Rattle.std.specs.Prelude.{◌≡◌, ◌+◌, ◌≤◌, ◌↔◌, false, [], ◌∷◌, ◌++◌, length, IsTrue};
 ghost use Rattle.cal_command.specs.Commands.{IsSendable};
 ghost use Rattle.cal_command.specs.Rings.{HasRoom};
 
-use crate::rule::Sendable;
+use crate::rule::{MOST_COMMANDS, Sendable};
 use cal_machine::Command;
 use rtrb::Producer;
 use std::alloc::Global;
 use std::marker::Model;
-
-/// How many commands a ring carries in all, 2^62: after that many it has no room any more, so no
-/// count wraps.
-pub(crate) const MOST: u64 = 1 << 62;
 
 /// The scheduler's end of a ring. A contract sees which ring it is, all commands sent so far, and
 /// how many places are known to be free.
@@ -22,7 +18,8 @@ pub struct Sender {
 }
 
 impl Model for Sender {
-    ghost use Rattle.std.specs.Prelude.{◌≡◌, ◌^◌, ◌≤◌, length};
+    ghost use Rattle.std.specs.Prelude.{◌≡◌, ◌≤◌, length};
+    ghost use Rattle.cal_command.specs.declared.rule.TheConstants.{MOST_COMMANDS};
     ghost use Rattle.cal_command.specs.Rings.{SenderView, ring_of_producer};
     ghost use Rattle.rtrb.specs.Ring.{sent, known_free};
 
@@ -34,26 +31,26 @@ impl Model for Sender {
       free = known_free s.producer;
     } };
 
-    ghost invariant = { λ s. (s.count ≡ length (sent s.producer)) × (s.count ≤ 2 ^ 62) };
+    ghost invariant = { λ s. (s.count ≡ length (sent s.producer)) × (s.count ≤ MOST_COMMANDS) };
 }
 
 impl Sender {
-    /// Whether a place is free, and fewer than 2^62 commands were sent. If so, it stays so up to
+    /// Whether a place is free, and fewer than `MOST_COMMANDS` were sent. If so, it stays so up to
     /// the next `send`. That a ring with a free place answers true is no promise beside a taker,
     /// but where the place is known to be free.
     pub fn room(&mut self) -> bool
         ensures same { (self.new.ring ≡ self.old.ring) × (self.new.sent ≡ self.old.sent) }
         ensures known { IsTrue result ↔ HasRoom self.new }
         ensures kept { self.old.free ≤ self.new.free }
-        ensures spent { 2 ^ 62 ≤ length self.old.sent → result ≡ false }
+        ensures spent { MOST_COMMANDS ≤ length self.old.sent → result ≡ false }
     {
-        if self.count >= MOST {
+        if self.count >= MOST_COMMANDS {
             return false;
         }
         !self.producer.is_full()
     }
 
-    /// Sends a command, for which room is to be known; a Run's core is to be below 128. It cannot
+    /// Sends a command, for which room is to be known; a Run's core is to be below `MOST_CORES`. It cannot
     /// fail.
     pub fn send(&mut self, command: Command)
         requires room { HasRoom self.old }

@@ -8,7 +8,7 @@ use Rattle.cal_policy.specs.declared.history.action.Action.{Action}
 use Rattle.cal_policy.specs.declared.history.entry.PassEntry.{PassEntry}
 use Rattle.cal_policy.specs.History.{actions_of, holder_of, is_banned}
 use Rattle.cal_policy.specs.Board.Counts.{is_held, held_by, cap_of}
-use Rattle.cal_policy.specs.Tasks.{is_latency_critical}
+use Rattle.cal_machine.specs.TableTasks.{is_latency_critical}
 use Rattle.cal_policy.specs.Pass.Bans.{NoPairBanned}
 use Rattle.cal_policy.specs.Setting.{setting_of, so_far}
 use Rattle.cal_policy.proofs.PassLemmas.Apart.{apart_push}

@@ -8,7 +8,7 @@ use Rattle.cal_policy.specs.Setting.{Setting}
 use Rattle.cal_guard.specs.Permitted.{IsPermitted, ArePermitted}
 use Rattle.cal_guard.specs.Refusals.{MayEndWith}
 use Rattle.cal_guard.specs.Guarded.{GroupsMakeAPass}
-use Rattle.cal_lists.proofs.Places.{slice_get_parts}
+use Rattle.cal_machine.proofs.Places.{slice_get_parts}
 
 -- what stands behind a list stands there when the list comes before it
 get_behind : {X : Type 0} (xs ys : List X) (n i : ℕ) → n ≡ length xs + i → slice_get (xs ++ ys) n ≡ slice_get ys i

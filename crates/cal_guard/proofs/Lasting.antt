@@ -10,7 +10,7 @@ use Rattle.cal_laws.specs.Bans.{NoneHeld}
 use Rattle.cal_guard.specs.Permitted.{NoneOverCap, IsPermittedPass}
 use Rattle.cal_guard.specs.Histories.{DoingNothingIsPermitted, PermittedGoesOn}
 use Rattle.cal_guard.proofs.Emptying.{mended}
-use Rattle.cal_lists.proofs.Places.{slice_get_parts}
+use Rattle.cal_machine.proofs.Places.{slice_get_parts}
 
 pub nothing : DoingNothingIsPermitted
 nothing table history input permitted =

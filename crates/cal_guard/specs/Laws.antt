@@ -3,7 +3,7 @@
 use Rattle.std.specs.Prelude.{◌≡◌, ◌≢◌, ℕ, ◌+◌, ◌<◌, ◌≤◌, true}
 use Rattle.std.specs.Prelude.{false, List, length, take, Some, ◌⊎◌}
 use Rattle.cal_machine.specs.Table.{Table}
-use Rattle.cal_policy.specs.Tasks.{owner_of, is_latency_critical}
+use Rattle.cal_machine.specs.TableTasks.{owner_of, is_latency_critical}
 use Rattle.cal_policy.specs.Pass.Bans.{NoPairBanned}
 use Rattle.cal_policy.specs.declared.history.action.Action.{Action}
 use Rattle.cal_policy.specs.declared.history.action.Action.TheVariants.{Free, Revoke, Grant}

@@ -6,7 +6,7 @@ mod looks;
 ghost use Rattle.std.specs.Prelude.{◌≡◌, ℕ, ◌<◌, ◌++◌, ◌↔◌, [], List, length};
 ghost use Rattle.std.specs.Prelude.{IsOk, IfOk, IfErr, OnErr, IsTrue};
 ghost use Rattle.cal_machine.specs.declared.machine.TheConstants.{MOST_CORES};
-ghost use Rattle.cal_policy.specs.Tasks.{threads_of_table};
+ghost use Rattle.cal_machine.specs.TableTasks.{threads_of_table};
 ghost use Rattle.cal_policy.specs.declared.history.action.Action.{Action};
 ghost use Rattle.cal_policy.specs.declared.history.entry.PassEntry.{PassEntry};
 ghost use Rattle.cal_policy.specs.Board.Counts as counts;

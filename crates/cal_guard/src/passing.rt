@@ -9,7 +9,7 @@ ghost use Rattle.cal_machine.specs.declared.numbering.TheConstants.{MOST_THREADS
 ghost use Rattle.cal_policy.specs.declared.history.action.Action.{Action};
 ghost use Rattle.cal_policy.specs.declared.history.entry.PassEntry.{PassEntry};
 ghost use Rattle.cal_policy.specs.declared.history.input.Input.{Input};
-ghost use Rattle.cal_policy.specs.Tasks.{threads_of_table};
+ghost use Rattle.cal_machine.specs.TableTasks.{threads_of_table};
 ghost use Rattle.cal_policy.specs.Pass.Choice.{lowest_below};
 ghost use Rattle.cal_policy.specs.History.{actions_of, looks_of, holder_of};
 ghost use Rattle.cal_policy.specs.Setting.{Setting, setting, so_far};
@@ -23,8 +23,8 @@ ghost use Rattle.cal_guard.specs.Passing.{IsSetOfSent, IsInside};
 use crate::refusal::{Refused, Why};
 use cal_machine::{Config, CoreSet};
 use cal_policy::state::{
-    Board, Holder, cap_of, held_by, holds_for, is_banned, is_fit, is_held, is_latency_critical,
-    is_left, is_over, survey_of,
+    Board, Holder, cap_of, held_by, holds_for, is_banned, is_fit, is_held, is_left, is_over,
+    survey_of,
 };
 use cal_policy::{Action, Input, MOST_ACTIONS, Seen};
 
@@ -97,7 +97,7 @@ fn wrong_to_book(config: &Config, board: &Board, task: usize) -> Option<Why>
 {
     config.limits();
     let booked = survey_of(config, board).booked[task];
-    let below_cap = is_latency_critical(config, task) || booked < cap_of(config, board, task);
+    let below_cap = config.is_latency_critical(task) || booked < cap_of(config, board, task);
     unless(booked < config.task(task).limit, Why::AtLimit).or(unless(below_cap, Why::AtCap))
 }
 
@@ -224,7 +224,7 @@ fn is_left_over(config: &Config, board: &Board, task: usize, revoked: Option<u8>
     ensures { (x : List Action) → Agrees board.now x →
         result ≡ refusals.is_left_over config.now x revoked task }
 {
-    !is_latency_critical(config, task)
+    !config.is_latency_critical(task)
         && cap_of(config, board, task) < held_by(config, board, task)
         && !is_from(config, board, task, revoked)
 }

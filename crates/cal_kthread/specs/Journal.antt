@@ -7,6 +7,7 @@ use Rattle.cal_machine.specs.declared.command.Command.TheVariants.{Run, Park}
 use Rattle.cal_machine.specs.declared.request.Request.{Request}
 use Rattle.cal_signal.specs.declared.record.Record.{Record}
 use Rattle.cal_signal.specs.Pages.{IsPage, page_of}
+use Rattle.cal_signal.specs.Records.{running_word}
 use Rattle.cal_kthread.specs.declared.journal.entry.Entry.{Entry}
 use Rattle.cal_kthread.specs.declared.journal.entry.Entry.TheVariants.{Arrived, Took, Served}
 use Rattle.cal_kthread.specs.declared.journal.entry.Entry.TheVariants.{Yielded, Published}
@@ -70,11 +71,6 @@ served_in _ = None
 
 abbrev pub served_of : List Entry → List ℕ
 served_of = filter_map served_in
-
--- the word of a record that shows a core
-abbrev pub running_word : Option ℕ → ℕ
-running_word None = 0
-running_word (Some core) = core + 1
 
 -- An entry may stand after these ones: a Took has the number one above those taken; a Yielded
 -- stands only on a core; a Published has the number one above those published, and shows the state.

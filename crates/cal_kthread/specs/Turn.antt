@@ -18,7 +18,9 @@ use Rattle.cal_kthread.specs.declared.journal.entry.Entry.TheVariants.{Served, Y
 use Rattle.cal_kthread.specs.declared.kernel_thread.TheConstants.{MOST_ENTRIES, TURN_ENTRIES}
 use Rattle.cal_kthread.specs.declared.queue.waiting.Waiting.{Waiting}
 use Rattle.cal_kthread.specs.declared.turn.victims.Victim.{Victim}
-use Rattle.cal_kthread.specs.Journal.{core_after, running_word}
+use Rattle.cal_kthread.specs.Journal.{core_after}
+use Rattle.cal_signal.specs.Records.{running_word}
+use Rattle.cal_signal.specs.declared.record.TheConstants.{MOST_MISSES}
 use Rattle.cal_kthread.specs.Queue.{QueueView}
 use Rattle.cal_kthread.specs.Turn.Thread.{ThreadView, KernelView}
 
@@ -107,10 +109,7 @@ provided now answer theft t =
     then begins now (next_of t.front answer) theft (without_next answer t) else (t, None)
 
 -- The current request loses one of its work, and its misses are added to the thread's count, which
--- stops at 2^56. A request with no work left is served. A thread that found none gives up its core.
-abbrev pub most_misses : ℕ
-most_misses = 2 ^ 56
-
+-- stops at MOST_MISSES. A request with no work left is served. A thread that found none gives up its core.
 abbrev pub current_worked : Current → Option Current
 current_worked current = if nat_le current.remaining 1 then None
     else Some (record current { remaining = current.remaining - 1 })
@@ -125,7 +124,7 @@ worked_on (Some core) None t = (record t { core = None }, Some Yielded)
 worked_on (Some core) (Some current) t = (
   record t {
     current = current_worked current;
-    misses = min (t.misses + current.waiting.request.misses) most_misses;
+    misses = min (t.misses + current.waiting.request.misses) MOST_MISSES;
   },
   served current,
 )

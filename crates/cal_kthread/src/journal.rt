@@ -3,7 +3,7 @@
 pub mod entry;
 
 use crate::journal::entry::Entry;
-use cal_lists::Listed;
+use cal_machine::Listed;
 
 /// What a kernel thread did, in order.
 pub type Journal = Listed<Entry>;

@@ -3,7 +3,7 @@ use Rattle.std.proofs.Common.{◌≡◌, ℕ, zero, suc, ltb, max, List, [], ◌
 use Rattle.std.specs.Option.{option_or, unwrap_or}
 use Rattle.std.proofs.Math.Nat.{max-zero}
 use Rattle.cal_signal.specs.declared.record.Record.{Record}
-use Rattle.cal_policy.specs.Tasks.{thread_of, limit_of}
+use Rattle.cal_machine.specs.TableTasks.{thread_of, limit_of}
 use Rattle.cal_policy.specs.declared.history.look.Seen.{Seen}
 use Rattle.cal_policy.specs.Pass.Choice.{greatest_below}
 use Rattle.cal_policy.specs.History.Lists.{last_after}

@@ -1,7 +1,7 @@
 -- Why each cap of a best-effort task is set. (After Caladan's bandwidth controller; the exact rule
 -- is own.)
 use Rattle.std.specs.Prelude.{◌≡◌, ℕ, ◌+◌, ◌<◌, ◌≤◌, ◌⊎◌, false, List, length, Some}
-use Rattle.cal_policy.specs.Tasks.{limit_of, is_latency_critical}
+use Rattle.cal_machine.specs.TableTasks.{limit_of, is_latency_critical}
 use Rattle.cal_policy.specs.declared.history.action.Action.{Action}
 use Rattle.cal_policy.specs.declared.history.action.Action.TheVariants.{Cap}
 use Rattle.cal_policy.specs.Board.Counts.{held_by, cap_of}

@@ -2,7 +2,7 @@
 -- from a task for nothing.)
 use Rattle.std.specs.Prelude.{◌≡◌, ℕ, ◌-◌, ◌<◌, ◌≤◌, true, false, List, [], ◌∷◌, ◌++◌, length, Some}
 use Rattle.cal_machine.specs.Machine.{sibling_of}
-use Rattle.cal_policy.specs.Tasks.{owner_of, limit_of, guaranteed_of, is_latency_critical}
+use Rattle.cal_machine.specs.TableTasks.{owner_of, limit_of, guaranteed_of, is_latency_critical}
 use Rattle.cal_policy.specs.declared.history.action.Action.{Action}
 use Rattle.cal_policy.specs.declared.history.action.Action.TheVariants.{Ban, Cap, Revoke}
 use Rattle.cal_policy.specs.declared.history.action.Cause.{Cause}

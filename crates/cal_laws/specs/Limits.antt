@@ -2,7 +2,7 @@
 use Rattle.std.specs.Prelude.{◌≡◌, ℕ, ◌+◌, ◌<◌, ◌≤◌, ◌⊎◌, true, false}
 use Rattle.std.specs.Prelude.{List, [], ◌∷◌, ◌++◌, length, Some}
 use Rattle.cal_machine.specs.Table.{Table}
-use Rattle.cal_policy.specs.Tasks.{owner_of, limit_of, guaranteed_of, is_latency_critical}
+use Rattle.cal_machine.specs.TableTasks.{owner_of, limit_of, guaranteed_of, is_latency_critical}
 use Rattle.cal_policy.specs.declared.history.action.Action.{Action}
 use Rattle.cal_policy.specs.declared.history.action.Action.TheVariants.{Revoke, Cap, Grant}
 use Rattle.cal_policy.specs.declared.history.action.Cause.{Cause}

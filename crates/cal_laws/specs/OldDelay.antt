@@ -2,7 +2,7 @@
 use Rattle.std.specs.Prelude.{◌≡◌, ℕ, ◌-◌, ◌&&◌, nat_lt, List, []}
 use Rattle.std.specs.Prelude.{◌∷◌, ◌++◌, All, Some, if◌then◌else◌}
 use Rattle.cal_signal.specs.declared.record.Record.{Record}
-use Rattle.cal_policy.specs.Tasks.{thread_of, limit_of}
+use Rattle.cal_machine.specs.TableTasks.{thread_of, limit_of}
 use Rattle.cal_policy.specs.declared.history.look.Seen.{Seen}
 use Rattle.cal_policy.specs.Pass.Choice.{greatest_below}
 use Rattle.cal_policy.specs.History.{looks_of}

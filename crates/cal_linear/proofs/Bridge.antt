@@ -32,7 +32,7 @@ use Rattle.cal_linear.proofs.Along.{adds_to, took_next, journal_along, published
 use Rattle.cal_world.specs.Watches.{watch_in, watches_in}
 use Rattle.cal_linear.proofs.LegalAlong.{IsAllowedAlong, AllowedAfter, IsLegalAlong, MayBePublished}
 use Rattle.std.specs.Prelude.{IsSome}
-use Rattle.cal_policy.specs.Tasks.{threads_of_table}
+use Rattle.cal_machine.specs.TableTasks.{threads_of_table}
 use Rattle.cal_world.specs.declared.illegal.Illegal.{Illegal}
 use Rattle.cal_world.specs.declared.illegal.Illegal.TheVariants.{NoThread, NothingSent, NotOn, NotItsState, NoSuchPlace, OutOfTurn, NotThePass}
 use Rattle.cal_world.specs.Projections.{is_take_by, is_publish_by, takes_in, publishes_in, next_command, took, entries_for, journal_in}

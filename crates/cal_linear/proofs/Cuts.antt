@@ -8,7 +8,7 @@ use Rattle.cal_kthread.specs.declared.journal.entry.Entry.{Entry}
 use Rattle.cal_kthread.specs.declared.journal.entry.Entry.TheVariants.{Arrived, Took, Stole, Served, Yielded, Published}
 use Rattle.cal_kthread.specs.Journal.{state_after, record_in, records_of, command_in, commands_of}
 use Rattle.cal_kthread.specs.Journal.Entries.{up_to, past, still_after}
-use Rattle.cal_lists.proofs.Places.{slice_get_front}
+use Rattle.cal_machine.proofs.Places.{slice_get_front}
 
 -- the front and what is left of it are the whole
 pub cut_whole : (n : ℕ) (xs : List Entry) → up_to n xs ++ past n xs ≡ xs

@@ -4,10 +4,11 @@ use Rattle.cal_machine.specs.Table.{Table}
 use Rattle.cal_signal.specs.declared.record.Record.{Record}
 use Rattle.cal_signal.specs.Pages.{last_published}
 use Rattle.cal_signal.specs.Records.{MayFollow}
-use Rattle.cal_policy.specs.Tasks.{threads_of_table}
+use Rattle.cal_machine.specs.TableTasks.{threads_of_table}
 use Rattle.cal_policy.specs.History.{actions_of, sent_to}
 use Rattle.cal_policy.specs.Pass.{IsPass}
-use Rattle.cal_kthread.specs.Journal.{State, state_after, running_word}
+use Rattle.cal_kthread.specs.Journal.{State, state_after}
+use Rattle.cal_signal.specs.Records.{running_word}
 use Rattle.cal_world.specs.declared.event.Event.{Event}
 use Rattle.cal_world.specs.declared.event.Event.TheVariants.{Take, Yield, Publish, Read, Skip, Decide, Watch}
 use Rattle.cal_world.specs.Projections.{history_in}

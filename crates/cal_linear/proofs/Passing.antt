@@ -12,7 +12,7 @@ use Rattle.cal_machine.specs.declared.command.Command.{Command}
 use Rattle.cal_policy.specs.declared.history.look.Seen.{Seen}
 use Rattle.cal_policy.specs.declared.history.action.Action.{Action}
 use Rattle.cal_policy.specs.declared.history.entry.PassEntry.{PassEntry}
-use Rattle.cal_policy.specs.Tasks.{threads_of_table}
+use Rattle.cal_machine.specs.TableTasks.{threads_of_table}
 use Rattle.cal_policy.specs.History.Lists.{each_after}
 use Rattle.cal_policy.specs.History.{actions_of, commands_to, sends, sent_to}
 use Rattle.cal_policy.specs.Pass.{IsPass}
@@ -34,7 +34,7 @@ use Rattle.cal_linear.proofs.Standing.{MayAllHappen, HasFirst, split, journal_ma
 use Rattle.cal_linear.proofs.Listing.{list_on}
 use Rattle.cal_linear.proofs.Looking.{HasCome, IsSound, looks_on}
 use Rattle.cal_linear.proofs.Fitting.{AreShown, pass_fits, shown_after}
-use Rattle.cal_lists.proofs.Places.{slice_get_front, slice_get_seam}
+use Rattle.cal_machine.proofs.Places.{slice_get_front, slice_get_seam}
 use Rattle.cal_policy.proofs.ListLemmas.OneMore.{each_after_append}
 
 -- a pass, with its looks before it

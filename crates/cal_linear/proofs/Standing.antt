@@ -15,7 +15,7 @@ use Rattle.cal_linear.proofs.LegalAlong.{MayBePublished}
 use Rattle.cal_kthread.proofs.JournalLemmas.Parts.{taken-all}
 use Rattle.cal_linear.proofs.Cuts.{taken_more}
 use Rattle.cal_linear.proofs.Lists.{last_from_push}
-use Rattle.cal_lists.proofs.Places.{slice_get_seam}
+use Rattle.cal_machine.proofs.Places.{slice_get_seam}
 
 -- after these entries of its thread, of which these commands were sent to it
 abbrev pub MayHappen : List Command → List Entry → Entry → Type 0

@@ -13,7 +13,7 @@ use Rattle.cal_signal.specs.declared.look.Look.TheVariants as found
 use Rattle.cal_signal.specs.Pages.{last_from, FitsFrom}
 use Rattle.cal_signal.specs.Rounds.{found_at, found_by}
 use Rattle.cal_policy.specs.declared.history.entry.PassEntry.{PassEntry}
-use Rattle.cal_policy.specs.Tasks.{threads_of_table}
+use Rattle.cal_machine.specs.TableTasks.{threads_of_table}
 use Rattle.cal_kthread.specs.declared.journal.entry.Entry.{Entry}
 use Rattle.cal_kthread.specs.Journal.{records_of}
 use Rattle.cal_kthread.proofs.JournalLemmas.OneEntryMore.{filter_map-push}

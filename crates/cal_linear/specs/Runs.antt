@@ -8,7 +8,7 @@ use Rattle.cal_signal.specs.Rounds.{found_at}
 use Rattle.cal_policy.specs.declared.history.look.Seen.{Seen}
 use Rattle.cal_policy.specs.declared.history.look.Seen.TheVariants.{Whole}
 use Rattle.cal_policy.specs.declared.history.entry.PassEntry.{PassEntry}
-use Rattle.cal_policy.specs.Tasks.{threads_of_table}
+use Rattle.cal_machine.specs.TableTasks.{threads_of_table}
 use Rattle.cal_policy.specs.History.{actions_of, commands_to}
 use Rattle.cal_policy.specs.Pass.{IsLegal}
 use Rattle.cal_kthread.specs.declared.journal.entry.Entry.{Entry}

@@ -1,6 +1,9 @@
 pub mod Accepted
 pub mod Bits
+pub mod Booleans
 pub mod Keys
+pub mod Last
+pub mod Places
 pub mod Siblings
 pub mod TaskLists
 pub mod Text

@@ -5,6 +5,9 @@ pub mod Limits
 pub mod Machine
 pub mod Numbering
 pub mod Outcome
+pub mod Past
 pub mod Reading
 pub mod Table
+pub mod TableTasks
 pub mod Tasks
+pub mod ThreadSet

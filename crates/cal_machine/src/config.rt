@@ -4,6 +4,7 @@ ghost use Rattle.std.specs.Prelude.{◌≡◌, ◌+◌, ◌<◌, ◌≤◌, ℕ,
 ghost use Rattle.cal_machine.specs.Machine.{IsMachine};
 ghost use Rattle.cal_machine.specs.Tasks.{task_at, threads_in, first_thread, task_of};
 ghost use Rattle.cal_machine.specs.Table.{IsTask, IsTable};
+ghost use Rattle.cal_machine.specs.TableTasks.{is_latency_critical};
 ghost use Rattle.cal_machine.specs.Outcome.{Gives};
 ghost use Rattle.cal_machine.specs.Reading.{table_in};
 
@@ -11,7 +12,7 @@ use crate::fault::ConfigFault;
 use crate::machine::Machine;
 use crate::numbering::{MOST_THREADS, firsts_of, owners_of, threads_in};
 use crate::table::read;
-use crate::task::Task;
+use crate::task::{Kind, Task};
 use crate::task_table::MOST_TASKS;
 use std::alloc::{AllocError, Global};
 use std::marker::Model;
@@ -143,6 +144,17 @@ impl Config {
         ensures within { IsTask result }
     {
         self.tasks[t]
+    }
+
+    /// Whether the task of this number is latency-critical; else it is best-effort.
+    pub fn is_latency_critical(&self, t: usize) -> bool
+        requires { t < length self.now.tasks }
+        ensures { result ≡ is_latency_critical self.now t }
+    {
+        match self.tasks[t].kind {
+            Kind::LatencyCritical => true,
+            Kind::BestEffort => false,
+        }
     }
 
     /// The task of a kernel thread.

@@ -82,6 +82,6 @@ impl CoreSet {
         if self.bits == 0 {
             return None;
         }
-        Some(127 - self.bits.leading_zeros() as u8)
+        Some((MOST_CORES - 1) as u8 - self.bits.leading_zeros() as u8)
     }
 }

@@ -5,8 +5,16 @@ ghost use Rattle.cal_machine.specs.Machine.{IsMachine, sibling_of};
 
 use std::marker::Model;
 
-/// The most cores of a machine.
+/// The most cores of a machine. A set of cores has a bit of a `u128` for each, and a core and the
+/// number of cores are each a `u8`: so this is tied to both.
 pub const MOST_CORES: usize = 128;
+
+const _: () = prove!(MOST_CORES == u128::BITS as usize);
+
+const _: () = prove!(MOST_CORES <= u8::MAX as usize);
+
+/// The most pairs of sibling cores.
+pub const MOST_PAIRS: usize = MOST_CORES / 2;
 
 /// A machine: cores `0 .. n-1`, where `n` is even, 2 to 128. The scheduler's own core is not
 /// counted.

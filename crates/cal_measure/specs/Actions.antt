@@ -6,7 +6,7 @@ use Rattle.cal_machine.specs.Table.{Table}
 use Rattle.cal_policy.specs.Board.Counts.{is_held_for}
 use Rattle.cal_policy.specs.History.{ban_of, holder_of}
 use Rattle.cal_policy.specs.History.Lists.{each_of}
-use Rattle.cal_policy.specs.Tasks.{owner_of}
+use Rattle.cal_machine.specs.TableTasks.{owner_of}
 use Rattle.cal_policy.specs.declared.board.bans.BannedFor.{BannedFor}
 use Rattle.cal_policy.specs.declared.history.action.Action.{Action}
 use Rattle.cal_policy.specs.declared.history.action.Action.TheVariants.{Free, Unban, Ban}

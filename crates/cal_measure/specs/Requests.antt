@@ -6,7 +6,7 @@ use Rattle.std.specs.List.{count_by}
 use Rattle.cal_machine.specs.Table.{Table}
 use Rattle.cal_machine.specs.declared.request.Request.{Request}
 use Rattle.cal_kthread.specs.declared.journal.entry.Entry.{Entry}
-use Rattle.cal_policy.specs.Tasks.{limit_of, owner_of, thread_of}
+use Rattle.cal_machine.specs.TableTasks.{limit_of, owner_of, thread_of}
 use Rattle.cal_trace.specs.declared.arrivals.Arrival.{Arrival}
 use Rattle.cal_trace.specs.declared.arrivals.Arrivals.{Arrivals}
 use Rattle.cal_measure.specs.Clocks.{arrived_at, last_clock}

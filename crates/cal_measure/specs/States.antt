@@ -8,7 +8,7 @@ use Rattle.cal_policy.specs.History.{holder_of, is_banned}
 use Rattle.cal_policy.specs.Pass.Choice.{count_below, greatest_below}
 use Rattle.cal_policy.specs.Pass.Grants.{is_congested, record_delay}
 use Rattle.cal_policy.specs.Setting.{setting_of}
-use Rattle.cal_policy.specs.Tasks.{limit_of, thread_of}
+use Rattle.cal_machine.specs.TableTasks.{limit_of, thread_of}
 use Rattle.cal_policy.specs.declared.board.holders.Holder.{Holder}
 use Rattle.cal_policy.specs.declared.board.holders.Holder.TheVariants as holders
 use Rattle.cal_policy.specs.declared.history.action.Action.{Action}

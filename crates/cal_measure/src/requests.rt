@@ -4,7 +4,7 @@ ghost use Rattle.std.specs.Prelude.{◌≡◌, ◌<◌, ◌++◌, ◌==◌, ℕ,
 ghost use Rattle.std.specs.Prelude.{slice_index_or};
 ghost use Rattle.std.specs.List.{count_by};
 ghost use Rattle.std.specs.List.{All};
-ghost use Rattle.cal_policy.specs.Tasks.{owner_of, threads_of_table};
+ghost use Rattle.cal_machine.specs.TableTasks.{owner_of, threads_of_table};
 ghost use Rattle.cal_trace.specs.Arrivals.FitsTable.{FitsTable};
 ghost use Rattle.cal_trace.specs.declared.arrivals.Arrival.{Arrival};
 ghost use Rattle.cal_measure.specs.Clocks.{AreClocksOf};

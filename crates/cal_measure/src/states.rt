@@ -9,7 +9,7 @@ ghost use Rattle.cal_machine.specs.declared.numbering.TheConstants.{MOST_THREADS
 ghost use Rattle.cal_policy.specs.Board.{Agrees, IsReady, KeepingAgrees, NamesTable};
 ghost use Rattle.cal_policy.specs.History.Looks.{kept_by};
 ghost use Rattle.cal_policy.specs.History.{holder_of, is_banned};
-ghost use Rattle.cal_policy.specs.Tasks.{delay_of};
+ghost use Rattle.cal_machine.specs.TableTasks.{delay_of};
 ghost use Rattle.cal_policy.specs.Pass.Grants as grants;
 ghost use Rattle.cal_policy.specs.declared.history.action.Action.{Action};
 ghost use Rattle.cal_policy.specs.declared.history.entry.PassEntry.{PassEntry};

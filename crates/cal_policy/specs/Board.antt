@@ -6,7 +6,6 @@ pub mod Losing
 pub mod News
 pub mod OpenCores
 pub mod Survey
-pub mod ThreadSet
 pub mod Unshown
 use Rattle.std.specs.Prelude.{◌≡◌, ℕ, ◌<◌, ◌≤◌, ◌^◌, List, min, Option, Some, None}
 use Rattle.std.specs.Prelude.{slice_index, slice_index_or, option_map, [], ◌∷◌, ◌++◌, length}
@@ -17,7 +16,7 @@ use Rattle.cal_machine.specs.CoreSet.{has}
 use Rattle.cal_machine.specs.declared.machine.TheConstants.{MOST_CORES}
 use Rattle.cal_machine.specs.declared.numbering.TheConstants.{MOST_THREADS}
 use Rattle.cal_machine.specs.declared.task_table.TheConstants.{MOST_TASKS}
-use Rattle.cal_policy.specs.Tasks.{threads_of_table}
+use Rattle.cal_machine.specs.TableTasks.{threads_of_table}
 use Rattle.cal_policy.specs.declared.history.action.Action.{Action}
 use Rattle.cal_policy.specs.declared.history.action.Action.TheVariants.{Free, Unban, Ban}
 use Rattle.cal_policy.specs.declared.history.action.Action.TheVariants.{Revoke, Cap, Grant}

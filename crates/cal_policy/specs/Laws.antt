@@ -20,7 +20,7 @@ use Rattle.cal_policy.specs.Pass.Steady.{IsSteady, IsSound}
 use Rattle.cal_machine.specs.Table.{Table, IsTable}
 use Rattle.cal_policy.specs.declared.history.entry.PassEntry.{PassEntry}
 use Rattle.cal_policy.specs.declared.pass.choice.Candidate.{Candidate}
-use Rattle.cal_policy.specs.Tasks.{limit_of, thread_of}
+use Rattle.cal_machine.specs.TableTasks.{limit_of, thread_of}
 use Rattle.cal_policy.specs.Setting.{Setting, setting_of, so_far}
 use Rattle.cal_policy.specs.Pass.Bans.{NoPairBanned}
 use Rattle.cal_policy.specs.Pass.Bandwidth.{victim_rank, victim_of}

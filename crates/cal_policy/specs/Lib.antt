@@ -1,6 +1,5 @@
 pub mod History
 pub mod Pass
-pub mod Tasks
 pub mod Board
 pub mod Judgement
 pub mod Setting

@@ -9,7 +9,6 @@ pub mod open_cores;
 pub mod records;
 pub mod replay;
 pub mod survey;
-pub mod thread_set;
 pub mod unshown;
 
 ghost use Rattle.std.specs.Prelude.{◌≡◌, ◌≤◌, ◌++◌, ◌∷◌, [], List, length};
@@ -30,11 +29,10 @@ use crate::board::holders::{Holding, core_changed_by};
 use crate::board::open_cores::OpenCores;
 use crate::board::records::Keeping;
 use crate::board::survey::Survey;
-use crate::board::thread_set::ThreadSet;
 use crate::board::unshown::note_changed;
 use crate::history::action::Action;
 use crate::history::look::Seen;
-use cal_machine::{Config, CoreSet};
+use cal_machine::{Config, CoreSet, ThreadSet};
 
 /// The state that the actions and looks so far leave. It has no Model; see `Agrees` and
 /// `KeepingAgrees` (specs/Board.antt) for what each field means.
@@ -44,13 +42,13 @@ pub struct Board {
     pub holding: Holding,
     /// How many cores tasks and threads have.
     pub survey: Survey,
-    /// Which cores are free, taken, left or banned.
+    /// Which cores are free, taken or banned.
     pub sets: CoreSets,
     /// Which cores grants and bans go over.
     pub open_cores: OpenCores,
     /// For whom each core is banned.
     pub bans: Bans,
-    /// How many cores a best-effort task may hold.
+    /// The cap of each task: how many cores a best-effort one may book.
     pub caps: Caps,
     /// The records that are kept.
     pub keeping: Keeping,

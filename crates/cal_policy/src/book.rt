@@ -4,7 +4,7 @@ ghost use Rattle.std.specs.Prelude.{◌≡◌, ℕ, ◌<◌, ◌++◌, ◌∷◌
 ghost use Rattle.std.specs.Prelude.{length, take, slice_get, IfOk, IsTrue};
 ghost use Rattle.cal_machine.specs.Table.{Table, IsTable};
 ghost use Rattle.cal_machine.specs.declared.machine.TheConstants.{MOST_CORES};
-ghost use Rattle.cal_policy.specs.Tasks.{threads_of_table};
+ghost use Rattle.cal_machine.specs.TableTasks.{threads_of_table};
 ghost use Rattle.cal_policy.specs.declared.judgement.open_input.FoundLook.{FoundLook};
 ghost use Rattle.cal_policy.specs.declared.history.entry.PassEntry.{PassEntry};
 ghost use Rattle.cal_policy.specs.Board.Counts as counts;

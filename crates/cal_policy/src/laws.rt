@@ -68,7 +68,7 @@ pub fn legal_is_apart()
     ensures { LegalIsApart }
 {}
 
-/// Each pass of a legal history has at most 338 actions.
+/// Each pass of a legal history has at most `MOST_ACTIONS`.
 pub fn legal_is_short()
     ensures { LegalIsShort }
 {}

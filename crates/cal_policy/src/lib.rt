@@ -13,7 +13,6 @@ mod judgement;
 mod laws;
 mod pass;
 pub mod state;
-mod tasks;
 mod verdict;
 
 pub use auditor::Auditor;

@@ -1,6 +1,6 @@
 //! A list is made of a vector, and gives its members and the vector back.
 
-use cal_lists::Listed;
+use cal_machine::Listed;
 use std::alloc::{AllocError, Global};
 use std::process::Abort;
 

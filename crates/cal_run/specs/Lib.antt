@@ -3,3 +3,4 @@ pub mod Parts
 pub mod Rounds
 pub mod Outcome
 pub mod Closing
+pub mod Limits

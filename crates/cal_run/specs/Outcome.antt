@@ -6,7 +6,7 @@ use Rattle.std.specs.Prelude.{◌≡◌, ◌<◌, ℕ, [], length, map, min}
 use Rattle.cal_machine.specs.Table.{Table}
 use Rattle.cal_signal.specs.Pages.{FitsPage}
 use Rattle.cal_policy.specs.declared.history.entry.PassEntry.{PassEntry}
-use Rattle.cal_policy.specs.Tasks.{threads_of_table}
+use Rattle.cal_machine.specs.TableTasks.{threads_of_table}
 use Rattle.cal_policy.specs.History.{actions_of, commands_to}
 use Rattle.cal_policy.specs.History.Found.{looks_at}
 use Rattle.cal_kthread.specs.End.Account.{IsAccounted}
@@ -21,16 +21,13 @@ use Rattle.cal_trace.specs.declared.arrivals.Arrivals.{Arrivals}
 use Rattle.cal_trace.specs.declared.arrivals.GivenPass.{GivenPass}
 use Rattle.cal_run.specs.Workers.Given.{IsGiven, turns_given}
 use Rattle.cal_run.specs.declared.outcome.Outcome.{Outcome}
+use Rattle.cal_run.specs.declared.parts.opening.TheConstants.{MOST_ROUNDS}
 use Rattle.cal_run.specs.declared.outcome.RunEnd.{RunEnd}
 use Rattle.cal_run.specs.declared.outcome.ThreadsEnd.{ThreadsEnd}
 
 -- the clock and the bandwidth figure of a pass that was made
 abbrev pub figures_of : PassEntry → GivenPass
 figures_of entry = record { now = entry.input.now; bandwidth = entry.input.bandwidth }
-
--- the most rounds that a watch makes
-abbrev pub most_rounds : ℕ
-most_rounds = 1024
 
 -- An id that was given is in exactly one place: one thread served its request, once, or one thread
 -- has it left. An id that was not given is nowhere.
@@ -51,8 +48,8 @@ pub record IsRun (table : Table) (arrivals : Arrivals) (outcome : Outcome) : Typ
       AreTurns (turns_given arrivals.requests arrivals.turns k) [] (journal_at outcome.journals k)
   -- each journal is one that a kernel thread can keep
   pub kept : (k : ℕ) → IsJournal (journal_at outcome.journals k)
-  -- as many watched rounds as passes, 1,024 at most
-  pub rounds : length outcome.watched ≡ min (length arrivals.passes) most_rounds
+  -- as many watched rounds as passes, MOST_ROUNDS at most
+  pub rounds : length outcome.watched ≡ min (length arrivals.passes) MOST_ROUNDS
   -- what the passes found of a thread, refused looks too, fits the page of its journal
   pub looks : (k : ℕ) → FitsPage (page_at outcome.journals k) (looks_at outcome.history k)
   -- each round has one look at each thread, and what all of them found of a thread fits its page

@@ -5,12 +5,13 @@ use Rattle.atomic_table.specs.Seated.{TableId}
 use Rattle.cal_machine.specs.Table.{Table}
 use Rattle.cal_command.specs.Rings.{RingId, SenderView}
 use Rattle.cal_signal.specs.Ends.{ObserverView}
-use Rattle.cal_policy.specs.Tasks.{threads_of_table}
+use Rattle.cal_machine.specs.TableTasks.{threads_of_table}
 use Rattle.cal_sched.specs.Scheduler.{HaveSeenNothing, SchedulerView}
 use Rattle.cal_sched.specs.Watching.{WatchView}
 use Rattle.cal_kthread.specs.Team.{IsTeam}
 use Rattle.cal_trace.specs.declared.arrivals.Arrivals.{Arrivals}
-use Rattle.cal_run.specs.Outcome.{figures_of, most_rounds}
+use Rattle.cal_run.specs.Outcome.{figures_of}
+use Rattle.cal_run.specs.declared.parts.opening.TheConstants.{MOST_ROUNDS}
 use Rattle.cal_run.specs.Workers.{HaveMade, Seat, pages_of_seats, rings_of_seats, seats_of}
 use Rattle.cal_run.specs.declared.parts.BareParts.{BareParts}
 use Rattle.cal_run.specs.declared.parts.Parts.{Parts}
@@ -60,7 +61,7 @@ HasPassed arrivals p scheduler = map figures_of scheduler.history ≡ take p arr
 
 -- how many rounds the watch of a run makes
 abbrev pub rounds_of : Arrivals → ℕ
-rounds_of arrivals = min (length arrivals.passes) most_rounds
+rounds_of arrivals = min (length arrivals.passes) MOST_ROUNDS
 
 -- the parts of a run on these arrivals, of which the first p passes, the first j turns of each
 -- thread and r rounds are made

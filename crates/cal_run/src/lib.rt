@@ -23,7 +23,7 @@ pub use outcome::given_once::given_stand_once;
 pub use outcome::headline::headline_of_runs;
 pub use outcome::{Outcome, RunEnd, ThreadsEnd};
 pub use parts::Parts;
-pub use parts::opening::open_parts;
+pub use parts::opening::{MOST_ROUNDS, open_parts};
 pub use rounds::passes::pass_given;
 pub use rounds::watch::round_given;
 pub use workers::turn_each;

@@ -4,7 +4,7 @@ pub mod given_once;
 pub mod headline;
 
 use cal_kthread::{Journal, RequestList};
-use cal_lists::Listed;
+use cal_machine::Listed;
 use cal_policy::PassEntry;
 use cal_signal::Round;
 use cal_world::Event;

@@ -26,12 +26,12 @@ use Rattle.cal_policy.specs.Judgement.Judging.{judged, is_foreign, IsFitLook, Is
 use Rattle.cal_policy.specs.History.Lists.{last_after}
 use Rattle.cal_policy.specs.History.Found.{looks_at}
 use Rattle.cal_policy.specs.History.Looks.{last_shown, look_of, shown_at, shown_by}
-use Rattle.cal_policy.specs.Tasks.{threads_of_table}
+use Rattle.cal_machine.specs.TableTasks.{threads_of_table}
 use Rattle.cal_policy.proofs.JudgementLemmas.OpenInput.{length-judged_looks}
 use Rattle.cal_policy.proofs.ListLemmas.OneMore.{unwrap_or_or}
 use Rattle.cal_sched.specs.Looking.{HasLooked}
-use Rattle.cal_lists.proofs.Places.{slice_get_at}
-use Rattle.cal_lists.proofs.Last.{some_same}
+use Rattle.cal_machine.proofs.Places.{slice_get_at}
+use Rattle.cal_machine.proofs.Last.{some_same}
 use Rattle.cal_policy.proofs.JudgementLemmas.Judged.{look_of-judged}
 
 -- one of the three judgements of a whole look

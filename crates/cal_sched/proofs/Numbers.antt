@@ -15,7 +15,7 @@ use Rattle.cal_laws.specs.Exclusion.{HoldersAreOfTheirLastRun, IsByLastRun, WasR
 use Rattle.cal_laws.specs.OneEach.{ThreadsAreSentOneCommand}
 use Rattle.cal_laws.specs.Point.{Point, IsPoint}
 use Rattle.cal_laws.proofs.PointLemmas.EachAction.{actions_more}
-use Rattle.cal_lists.proofs.Places.{slice_get_at}
+use Rattle.cal_machine.proofs.Places.{slice_get_at}
 
 module _ (table : Table) (history : List PassEntry) (ok : IsTable table) (legal : IsLegal table history) where
   -- the end of a pass

@@ -24,7 +24,7 @@ use Rattle.cal_sched.specs.Passing.{HasAsked, HaveFound, HaveSent, pass_on}
 use Rattle.cal_sched.specs.Scheduler.{SchedulerView, IsKept}
 use Rattle.cal_sched.specs.Sending.{MaySend}
 use Rattle.cal_sched.proofs.Fitting.{found_is_input, found_in, looks_at-append}
-use Rattle.cal_lists.proofs.Places.{slice_get_at}
+use Rattle.cal_machine.proofs.Places.{slice_get_at}
 
 module _ (s : SchedulerView) (now bandwidth : ℕ) (looked : List ObserverView) (asked : List SenderView) (found : List FoundLook) where
   -- the input of the pass, and the pass itself

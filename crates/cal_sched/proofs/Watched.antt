@@ -10,8 +10,8 @@ use Rattle.cal_signal.specs.Rounds.{found_at, found_by}
 use Rattle.cal_signal.specs.Ends.{ObserverView}
 use Rattle.cal_sched.specs.Looking.{HasLooked, HaveLooked}
 use Rattle.cal_sched.specs.Watching.{HaveWatched}
-use Rattle.cal_lists.proofs.Places.{slice_get_at}
-use Rattle.cal_lists.proofs.Last.{some_same, last_or_before}
+use Rattle.cal_machine.proofs.Places.{slice_get_at}
+use Rattle.cal_machine.proofs.Last.{some_same, last_or_before}
 
 -- one round more gives each page's looks one look more
 found_at-append : (k : ℕ) (rounds : List (List Look)) (round : List Look) (look : Look) → slice_get round k ≡ Some look

@@ -8,7 +8,7 @@ use Rattle.cal_policy.specs.declared.history.entry.PassEntry.{PassEntry}
 use Rattle.cal_policy.specs.Book.{AgreesWith}
 use Rattle.cal_policy.specs.History.{actions_of, commands_to}
 use Rattle.cal_policy.specs.Pass.{IsLegal}
-use Rattle.cal_policy.specs.Tasks.{threads_of_table}
+use Rattle.cal_machine.specs.TableTasks.{threads_of_table}
 
 -- The history is legal, the book agrees with it, and the last of its passes was sent nothing of
 -- yet: each ring has the commands of the passes before, and room is known on each where the pass

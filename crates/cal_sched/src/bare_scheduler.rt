@@ -3,7 +3,7 @@
 ghost use Rattle.std.specs.Prelude.{◌≡◌, ◌<◌, ◌≤◌, ◌↔◌, [], ◌∷◌, ◌++◌, Err, length, IfOk, IfErr};
 ghost use Rattle.cal_policy.specs.Board.Counts as counts;
 ghost use Rattle.cal_policy.specs.History.{actions_of, holder_of};
-ghost use Rattle.cal_policy.specs.Tasks.{threads_of_table};
+ghost use Rattle.cal_machine.specs.TableTasks.{threads_of_table};
 ghost use Rattle.cal_policy.specs.declared.history.entry.TheConstants.{MOST_PASSES};
 ghost use Rattle.cal_sched.specs.declared.fault.PassFault.TheVariants.{HistoryFull};
 ghost use Rattle.cal_sched.specs.Passing.{IsPassed};
@@ -14,8 +14,7 @@ use crate::finding::find_each;
 use crate::sending::send_commands;
 use cal_command::Sender;
 use cal_laws::{holders_are_of_their_last_run, threads_are_sent_one_command};
-use cal_machine::Config;
-use cal_past::Past;
+use cal_machine::{Config, Past};
 use cal_policy::{Actions, Book, Holder, MOST_PASSES, OpenInput, PassEntry};
 use cal_signal::Observer;
 use std::alloc::{AllocError, Global};

@@ -5,7 +5,7 @@ ghost use Rattle.cal_policy.specs.declared.judgement.open_input.FoundLook.{Found
 ghost use Rattle.cal_policy.specs.declared.history.entry.PassEntry.{PassEntry};
 ghost use Rattle.cal_policy.specs.Book.{AgreesWith};
 ghost use Rattle.cal_policy.specs.Judgement.OpenInput.{IsOfFound};
-ghost use Rattle.cal_policy.specs.Tasks.{threads_of_table};
+ghost use Rattle.cal_machine.specs.TableTasks.{threads_of_table};
 ghost use Rattle.cal_sched.specs.Passing.{HaveFound};
 
 use cal_command::Sender;

@@ -3,7 +3,7 @@
 ghost use Rattle.std.specs.Prelude.{◌≡◌, ◌<◌, ◌≤◌, ◌↔◌, [], Err, length, IfOk, IfErr};
 ghost use Rattle.cal_policy.specs.Board.Counts as counts;
 ghost use Rattle.cal_policy.specs.History.{actions_of, holder_of};
-ghost use Rattle.cal_policy.specs.Tasks.{threads_of_table};
+ghost use Rattle.cal_machine.specs.TableTasks.{threads_of_table};
 ghost use Rattle.cal_policy.specs.declared.history.entry.TheConstants.{MOST_PASSES};
 ghost use Rattle.cal_sched.specs.declared.fault.PassFault.TheVariants.{HistoryFull};
 ghost use Rattle.cal_sched.specs.Passing.{IsPassed};

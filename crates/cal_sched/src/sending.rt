@@ -6,8 +6,7 @@ ghost use Rattle.cal_sched.specs.Sending.{MaySend};
 
 use cal_command::Sender;
 use cal_laws::{commands_go_where_is_room, threads_are_sent_one_command};
-use cal_machine::Config;
-use cal_past::Past;
+use cal_machine::{Config, Past};
 use cal_policy::{Book, PassEntry};
 
 /// Sends the commands of this pass, one action after the other, each on its thread's ring. The past

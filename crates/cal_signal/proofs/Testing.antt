@@ -1,7 +1,9 @@
 -- The tests of records and looks say what the rules say.
 use Rattle.std.proofs.Common.{◌≡◌, ◌<◌, ◌^◌, ◌%◌, ◌==◌, ◌&&◌, ◌||◌, nat_lt, nat_le, ℕ, Bool, true, false, inl, inr, ◌⊎◌, refl, arith}
 use Rattle.std.proofs.lemmas.Bool.{and_parts, and_from, ltb-true, leb-true, le-leb, lt-ltb, eq-eqb, ne_eqb}
+use Rattle.cal_machine.specs.declared.machine.TheConstants.{MOST_CORES}
 use Rattle.cal_signal.specs.declared.record.Record.{Record}
+use Rattle.cal_signal.specs.declared.record.TheConstants.{MOST_MISSES}
 use Rattle.cal_signal.specs.declared.shown.Shown.{Shown}
 use Rattle.cal_signal.specs.Records.{IsLater, IsShaped}
 use Rattle.cal_signal.specs.Looks.{IsBusyPair}
@@ -17,11 +19,11 @@ equal a b e = grind arith
 
 pub shaped_holds : (rec : Record) → is_shaped rec ≡ true → IsShaped rec
 shaped_holds rec e =
-    let p = and_parts (nat_le rec.running 128) (nat_le rec.misses (2 ^ 56)) e in
-    (leb-true rec.running 128 p.0, leb-true rec.misses (2 ^ 56) p.1)
+    let p = and_parts (nat_le rec.running MOST_CORES) (nat_le rec.misses MOST_MISSES) e in
+    (leb-true rec.running MOST_CORES p.0, leb-true rec.misses MOST_MISSES p.1)
 
 pub shaped_test : (rec : Record) → IsShaped rec → is_shaped rec ≡ true
-shaped_test rec h = and_from (nat_le rec.running 128) (nat_le rec.misses (2 ^ 56)) (le-leb rec.running 128 h.0) (le-leb rec.misses (2 ^ 56) h.1)
+shaped_test rec h = and_from (nat_le rec.running MOST_CORES) (nat_le rec.misses MOST_MISSES) (le-leb rec.running MOST_CORES h.0) (le-leb rec.misses MOST_MISSES h.1)
 
 later_holds : (a b : Record) → is_later a b ≡ true → IsLater a b
 later_holds a b e =

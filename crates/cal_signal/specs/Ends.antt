@@ -1,9 +1,10 @@
 -- What a contract sees of the ends of a page, and what the fields of each end keep.
-use Rattle.std.specs.Prelude.{◌≡◌, ℕ, ◌+◌, ◌*◌, ◌%◌, ◌^◌, ◌<◌, ◌≤◌}
+use Rattle.std.specs.Prelude.{◌≡◌, ℕ, ◌+◌, ◌*◌, ◌%◌, ◌<◌, ◌≤◌}
 use Rattle.std.specs.Prelude.{true, false, List, [], length, take}
 use Rattle.atomic_table.specs.Seated.{TableId}
 use Rattle.atomic_table.specs.declared.shared.Seat.{Seat}
 use Rattle.cal_signal.specs.declared.view.View.{View}
+use Rattle.cal_signal.specs.declared.publisher.TheConstants.{LAST_PLACE}
 use Rattle.cal_signal.specs.declared.record.Record.{Record}
 use Rattle.cal_signal.specs.Records.{words_of, MayFollow}
 use Rattle.cal_signal.specs.Pages.{last_published, floor_of}
@@ -59,7 +60,7 @@ pub record IsPublisher (s : PageSeat) (z : TableId) (place : ℕ) (last : Record
   pub stored : s.me.0.stored ≡ []
   pub placed : place ≡ length s.me.0.published
   pub ends : last ≡ last_published s.me.0.published
-  pub bound : place < 2 ^ 62
+  pub bound : place ≤ LAST_PLACE
 
 -- the same while the next record is being written
 pub record IsOpen (s : PageSeat) (z : TableId) (place : ℕ) (pending : Record)
@@ -70,7 +71,7 @@ pub record IsOpen (s : PageSeat) (z : TableId) (place : ℕ) (pending : Record)
   pub some_left : count ≤ 9
   pub stored : s.me.0.stored ≡ take count (words_of pending)
   pub placed : place ≡ length s.me.0.published
-  pub bound : place + 1 < 2 ^ 62
+  pub bound : place + 1 ≤ LAST_PLACE
   pub follows : MayFollow (last_published s.me.0.published) pending
 
 -- its seat has an observer's part

@@ -10,3 +10,4 @@ pub mod Steps
 pub mod Ends
 pub mod Faults
 pub mod Found
+pub mod Limits

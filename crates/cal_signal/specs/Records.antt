@@ -1,15 +1,27 @@
 -- Which records there may be, which may follow which, and the words that a record is kept as.
-use Rattle.std.specs.Prelude.{ℕ, ◌≤◌, ◌^◌, List, [], ◌∷◌, slice_index}
+use Rattle.std.specs.Prelude.{ℕ, ◌+◌, ◌≤◌, ◌==◌, Bool, List, [], ◌∷◌, slice_index}
+use Rattle.std.specs.Prelude.{Option, Some, None}
+use Rattle.cal_machine.specs.declared.machine.TheConstants.{MOST_CORES}
 use Rattle.cal_signal.specs.declared.record.Record.{Record}
+use Rattle.cal_signal.specs.declared.record.TheConstants.{MOST_MISSES}
 
 -- b may stand after a: none of these three words falls
 abbrev pub IsLater : Record → Record → Type 0
 IsLater a b = (a.taken ≤ b.taken) × (a.misses ≤ b.misses) × (a.stamp ≤ b.stamp)
 
--- running names no core above the last of 128, and 16 counts of misses have a sum: these are
--- MOST_CORES and MOST_LIMIT of cal_machine, on which this crate does not depend
+-- running names no core above the last that a machine has, and the misses of all threads of a task
+-- have a sum
 abbrev pub IsShaped : Record → Type 0
-IsShaped a = (a.running ≤ 128) × (a.misses ≤ 2 ^ 56)
+IsShaped a = (a.running ≤ MOST_CORES) × (a.misses ≤ MOST_MISSES)
+
+-- the word that shows a thread on a core, or on none
+abbrev pub running_word : Option ℕ → ℕ
+running_word None = 0
+running_word (Some core) = core + 1
+
+-- the record shows its thread on core c
+abbrev pub shows_on : Record → ℕ → Bool
+shows_on rec c = rec.running == c + 1
 
 -- b may stand on a page just after a
 abbrev pub MayFollow : Record → Record → Type 0

@@ -1,12 +1,14 @@
 -- The rules of records and looks once more as tests, for definitions that compute by them. The
 -- public function of each rule says that it is both.
-use Rattle.std.specs.Prelude.{◌==◌, ◌&&◌, ◌||◌, ◌%◌, ◌^◌, nat_le, nat_lt, ℕ, Bool}
+use Rattle.std.specs.Prelude.{◌==◌, ◌&&◌, ◌||◌, ◌%◌, nat_le, nat_lt, ℕ, Bool}
+use Rattle.cal_machine.specs.declared.machine.TheConstants.{MOST_CORES}
 use Rattle.cal_signal.specs.declared.record.Record.{Record}
+use Rattle.cal_signal.specs.declared.record.TheConstants.{MOST_MISSES}
 use Rattle.cal_signal.specs.declared.shown.Shown.{Shown}
 
 -- `IsShaped`
 abbrev pub is_shaped : Record → Bool
-is_shaped rec = nat_le rec.running 128 && nat_le rec.misses (2 ^ 56)
+is_shaped rec = nat_le rec.running MOST_CORES && nat_le rec.misses MOST_MISSES
 
 -- `IsLater`
 abbrev pub is_later : Record → Record → Bool

@@ -11,7 +11,7 @@ pub enum PublishFault {
     /// Its core number or its count of misses is too great.
     #[error("the record has not the right shape")]
     BadShape = 2,
-    /// The last place, 2^62 - 1, is taken. It cannot occur in fewer publications.
+    /// The last place, `LAST_PLACE`, is taken. It cannot occur in fewer publications.
     #[error("the page has no place left")]
     Exhausted = 3,
 }

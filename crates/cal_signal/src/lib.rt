@@ -33,6 +33,6 @@ pub use page::{
     PageEnd, WatchEnd, close_page, close_watched, look_open, open_page, open_watched, read_back,
 };
 pub use publication::OpenPage;
-pub use publisher::Publisher;
-pub use record::{Record, later, shaped};
+pub use publisher::{LAST_PLACE, Publisher};
+pub use record::{MOST_MISSES, Record, later, running_word, shaped};
 pub use shown::{Shown, may_follow};

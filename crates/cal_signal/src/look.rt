@@ -4,7 +4,7 @@ ghost use Rattle.cal_signal.specs.Looks.{IsBusyPair};
 ghost use Rattle.cal_signal.specs.Tests.{is_busy_pair};
 
 use crate::record::Record;
-use cal_lists::Listed;
+use cal_machine::Listed;
 
 /// What one look at a page found.
 #[derive(Clone, Copy, Debug, PartialEq, Eq)]

@@ -11,8 +11,8 @@ use crate::words::{store_words, words};
 use std::marker::Model;
 use std::sync::Arc;
 
-/// The greatest place on a page.
-const LAST_PLACE: u64 = (1 << 62) - 1;
+/// The greatest place on a page: a page carries no more records, so no version wraps.
+pub const LAST_PLACE: u64 = (1 << 62) - 1;
 
 /// The end of a page that publishes. A page has one, which may be moved to a thread of its own.
 ///
@@ -69,7 +69,7 @@ impl Publisher {
     ///
     /// A refused record leaves the page unchanged: `Backwards` where it isn't later than the last
     /// record, else `BadShape` where it isn't shaped, else `Exhausted` where the last place is
-    /// 2^62 - 1.
+    /// `LAST_PLACE`.
     pub fn publish(&mut self, rec: Record) -> Result<u64, PublishFault>
         ensures page { self.new.page ≡ self.old.page }
         ensures published { MatchResult result

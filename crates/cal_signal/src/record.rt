@@ -1,7 +1,14 @@
 //! The record that a kernel thread publishes.
 ghost use Rattle.std.specs.Prelude.{◌≡◌, ◌↔◌, IsTrue};
-ghost use Rattle.cal_signal.specs.Records.{IsLater, IsShaped, record_of};
+ghost use Rattle.cal_signal.specs.Records as records;
+ghost use Rattle.cal_signal.specs.Records.{IsLater, IsShaped, record_of, shows_on};
 ghost use Rattle.cal_signal.specs.Tests.{is_later, is_shaped};
+
+use cal_machine::MOST_CORES;
+
+/// The most cache misses that a record may count, so that those of all threads of a task have a
+/// sum.
+pub const MOST_MISSES: u64 = 1 << 56;
 
 /// What a kernel thread shows of itself, nine words in this order.
 ///
@@ -58,6 +65,23 @@ impl Record {
             since: words[8],
         }
     }
+
+    /// Whether it shows its thread on this core.
+    pub fn shows(&self, core: u8) -> bool
+        ensures { result ≡ shows_on self.now core }
+    {
+        self.running == running_word(Some(core))
+    }
+}
+
+/// The word that shows a thread on this core, or on none.
+pub fn running_word(core: Option<u8>) -> u64
+    ensures { result ≡ records.running_word core }
+{
+    match core {
+        Some(core) => u64::from(core) + 1,
+        None => 0,
+    }
 }
 
 /// Whether `next` may stand after `last`: its `taken`, `misses` and `stamp` are not below those of
@@ -69,11 +93,11 @@ pub fn later(last: &Record, next: &Record) -> bool
     last.taken <= next.taken && last.misses <= next.misses && last.stamp <= next.stamp
 }
 
-/// Whether the record has the right shape: `running` is at most 128 and `misses` at most 2^56. The
-/// other words may be any numbers.
+/// Whether the record has the right shape: `running` is at most `MOST_CORES` and `misses` at most
+/// `MOST_MISSES`. The other words may be any numbers.
 pub fn shaped(rec: &Record) -> bool
     ensures rule { IsTrue result ↔ IsShaped rec.now }
     ensures test { result ≡ is_shaped rec.now }
 {
-    rec.running <= 128 && rec.misses <= 1 << 56
+    rec.running <= MOST_CORES as u64 && rec.misses <= MOST_MISSES
 }

@@ -4,7 +4,7 @@ use Rattle.std.specs.List.{Contains}
 use Rattle.std.proofs.lemmas.Bool.Decides.{eqb_tells}
 use Rattle.std.proofs.lemmas.List.{append-nil}
 use Rattle.std.proofs.lemmas.List.Elements.{Contains-append_left, Contains-append_right, Contains-append_cases, Contains-push, Contains-push_cases}
-use Rattle.cal_lists.proofs.Last.{some_same}
+use Rattle.cal_machine.proofs.Last.{some_same}
 use Rattle.cal_policy.proofs.ListLemmas.OneMore.{each_of_append}
 use Rattle.cal_policy.specs.History.Lists.{each_after}
 use Rattle.cal_policy.specs.declared.history.action.Action.{Action}

@@ -1,6 +1,6 @@
 -- What stands beside tables, made one by one.
 use Rattle.std.proofs.Common.{◌≡◌, ◌++◌, ◌∷◌, [], ℕ, List, Some, slice_get, length, sym, ◌∙◌, subst, ⊎_elim}
-use Rattle.cal_lists.proofs.Last.{last_or_before, some_same}
+use Rattle.cal_machine.proofs.Last.{last_or_before, some_same}
 use Rattle.cal_machine.specs.Table.{Table}
 
 -- each is of the table at its place

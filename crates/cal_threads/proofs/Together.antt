@@ -8,7 +8,7 @@ use Rattle.cal_trace.specs.declared.arrivals.Arrivals.{Arrivals}
 use Rattle.cal_run.specs.Parts.{AreOfOneTeam, AreParts, SchedulerSeat, WatchSeat, rounds_of, scheduler_seat_of, watch_seat_of}
 use Rattle.cal_run.specs.Workers.{HaveMade, Seat, seat_of, seats_of}
 use Rattle.cal_run.specs.declared.workers.worker.Worker.{Worker}
-use Rattle.cal_policy.specs.Tasks.{threads_of_table}
+use Rattle.cal_machine.specs.TableTasks.{threads_of_table}
 use Rattle.cal_run.specs.declared.parts.Parts.{Parts}
 use Rattle.cal_threads.specs.Promises.{HasMadePasses, HasMadeRounds}
 

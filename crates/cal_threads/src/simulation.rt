@@ -10,10 +10,11 @@ ghost use Rattle.cal_linear.specs.Runs.{AreFirst, AreWatched, page_at};
 ghost use Rattle.cal_linear.specs.Steps.{journal_at};
 ghost use Rattle.cal_policy.specs.History.{actions_of, commands_to};
 ghost use Rattle.cal_policy.specs.History.Found.{looks_at};
-ghost use Rattle.cal_policy.specs.Tasks.{threads_of_table};
+ghost use Rattle.cal_machine.specs.TableTasks.{threads_of_table};
 ghost use Rattle.cal_run.specs.Workers.Given.{turns_given};
 ghost use Rattle.cal_run.specs.Outcome.Headline.{Headline};
-ghost use Rattle.cal_run.specs.Outcome.{EachStandsOnce, IsRun, IsRunEnd, figures_of, most_rounds};
+ghost use Rattle.cal_run.specs.Outcome.{EachStandsOnce, IsRun, IsRunEnd, figures_of};
+ghost use Rattle.cal_run.specs.declared.parts.opening.TheConstants.{MOST_ROUNDS};
 ghost use Rattle.cal_run.specs.Outcome.{outcome_of};
 ghost use Rattle.cal_run.specs.declared.fault.SimFault.TheVariants.{Gate as GateFault};
 ghost use Rattle.cal_signal.specs.Pages.{FitsPage};
@@ -59,7 +60,7 @@ pub fn simulate<R: Threads + Wait + Sync, G: Gate + Sync>(
     ensures kept { IfOk result (λ outcome. (k : ℕ) →
         IsJournal (journal_at outcome.journals k)) }
     ensures rounds { IfOk result (λ outcome.
-        length outcome.watched ≡ min (length arrivals.now.passes) most_rounds) }
+        length outcome.watched ≡ min (length arrivals.now.passes) MOST_ROUNDS) }
     ensures looks { IfOk result (λ outcome. (k : ℕ) →
         FitsPage (page_at outcome.journals k) (looks_at outcome.history k)) }
     ensures watched { IfOk result (λ outcome.

@@ -3,8 +3,7 @@
 pub mod file;
 pub mod reading;
 
-use cal_lists::Listed;
-use cal_machine::Request;
+use cal_machine::{Listed, Request};
 
 /// A pass that is to be made: its clock and its bandwidth figure.
 #[derive(Clone, Copy, Debug, PartialEq, Eq)]

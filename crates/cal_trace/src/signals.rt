@@ -3,7 +3,7 @@
 pub mod file;
 pub mod reading;
 
-use cal_lists::Listed;
+use cal_machine::Listed;
 use cal_policy::FoundLook;
 
 /// The looks of one pass, one for each thread, in thread order.

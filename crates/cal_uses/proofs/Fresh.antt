@@ -3,7 +3,7 @@ use Rattle.std.proofs.Common.{◌≡◌, ◌++◌, ◌∷◌, [], List, inl, inr
 use Rattle.cal_signal.specs.Ends.{ObserverView}
 use Rattle.cal_command.specs.Rings.{SenderView}
 use Rattle.cal_sched.specs.Scheduler.{HaveSeenNothing, HaveSentNothing}
-use Rattle.cal_lists.proofs.Last.{last_or_before}
+use Rattle.cal_machine.proofs.Last.{last_or_before}
 
 pub one_more_unseen : (observers : List ObserverView) (one : ObserverView) → HaveSeenNothing observers → one.looks ≡ [] →
     HaveSeenNothing (observers ++ one ∷ [])

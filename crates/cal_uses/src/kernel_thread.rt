@@ -1,7 +1,7 @@
 //! What a runtime's kernel thread does at its ends of its page and its ring.
 
 use cal_command::{Command, Taker};
-use cal_signal::{PublishFault, Publisher, Record};
+use cal_signal::{PublishFault, Publisher, Record, running_word};
 
 /// A kernel thread with one request at a time.
 #[derive(Drop)]
@@ -50,7 +50,7 @@ impl KernelThread {
         let (_, last) = self.publisher.last();
         let told = match command {
             Command::Run(core) => Record {
-                running: core as u64 + 1,
+                running: running_word(Some(core)),
                 queued: 0,
                 oldest: 0,
                 started: now,

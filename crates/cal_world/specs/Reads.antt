@@ -9,7 +9,7 @@ use Rattle.cal_policy.specs.declared.history.entry.PassEntry.{PassEntry}
 use Rattle.cal_policy.specs.Judgement.Judging.{judged}
 use Rattle.cal_policy.specs.Pass.{pass_of}
 use Rattle.cal_policy.specs.Setting.{setting_of}
-use Rattle.cal_policy.specs.Tasks.{threads_of_table}
+use Rattle.cal_machine.specs.TableTasks.{threads_of_table}
 use Rattle.cal_guard.specs.Permitted.{ArePermitted}
 use Rattle.cal_world.specs.declared.event.Event.{Event}
 use Rattle.cal_world.specs.declared.event.Event.TheVariants.{Skip, Decide}

@@ -9,7 +9,7 @@ use Rattle.cal_policy.specs.History.{holder_of, commands_to, is_banned}
 use Rattle.cal_policy.specs.Board.{placement_of}
 use Rattle.cal_policy.specs.Board.Counts.{booked_by}
 use Rattle.cal_policy.specs.Pass.{IsLegal}
-use Rattle.cal_policy.specs.Tasks.{limit_of}
+use Rattle.cal_machine.specs.TableTasks.{limit_of}
 use Rattle.cal_kthread.specs.Journal.{commands_of, IsJournal}
 use Rattle.cal_laws.specs.Bans.{NoneHeld}
 use Rattle.cal_laws.specs.Cause.{HasCause}

@@ -14,8 +14,8 @@ use Rattle.cal_policy.specs.declared.history.look.Seen.{Seen}
 use Rattle.cal_policy.specs.declared.history.look.Seen.TheVariants.{Whole}
 use Rattle.cal_policy.specs.History.{sent_to}
 use Rattle.cal_policy.specs.Pass.{IsPass}
-use Rattle.cal_policy.specs.Tasks.{threads_of_table}
-use Rattle.cal_kthread.specs.Journal.{running_word}
+use Rattle.cal_machine.specs.TableTasks.{threads_of_table}
+use Rattle.cal_signal.specs.Records.{running_word}
 use Rattle.cal_world.specs.declared.event.Event.{Event}
 use Rattle.cal_world.specs.declared.event.Event.TheVariants.{Take, Yield, Publish}
 use Rattle.cal_world.specs.declared.event.Event.TheVariants.{Read, Skip, Decide, Watch}

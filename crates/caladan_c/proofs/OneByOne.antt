@@ -5,7 +5,7 @@ use Rattle.std.specs.Option.{is_some}
 use Rattle.std.proofs.lemmas.List.{map-append, length-map, take_more, take_all, length-take-le}
 use Rattle.std.proofs.lemmas.Bool.Decides.{eqb_tells}
 use Rattle.std.proofs.lemmas.Option.{get_or_from_slice_get}
-use Rattle.cal_lists.proofs.Places.{slice_get_at}
+use Rattle.cal_machine.proofs.Places.{slice_get_at}
 use Rattle.cal_machine.specs.Table.{Table}
 use Rattle.cal_policy.specs.declared.history.entry.PassEntry.{PassEntry}
 use Rattle.cal_policy.specs.declared.judgement.look_fault.LookFault.{LookFault}

@@ -18,7 +18,7 @@ use Rattle.cal_policy.specs.Judgement.Gone.{shown_when_gone, IsKeptOfGone}
 use Rattle.cal_policy.specs.Judgement.OneByOne.{sent_as_u64}
 use Rattle.cal_policy.specs.Pass.{pass_of}
 use Rattle.cal_policy.specs.Setting.{setting}
-use Rattle.cal_policy.specs.Tasks.{threads_of_table, owner_of}
+use Rattle.cal_machine.specs.TableTasks.{threads_of_table, owner_of}
 use Rattle.cal_guard.specs.Permitted.{ArePermitted}
 use Rattle.caladan_c.specs.declared.found.Found.{Found}
 use Rattle.caladan_c.specs.declared.told.facts.MachineFacts.{MachineFacts}

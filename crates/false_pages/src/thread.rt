@@ -3,7 +3,7 @@
 use crate::broken::{Plan, STEPS};
 use cal_command::{Command, Taker};
 use cal_policy::Seen;
-use cal_signal::{OpenPage, Publisher, Record};
+use cal_signal::{OpenPage, Publisher, Record, running_word};
 
 /// A page between two publications, or in the midst of one.
 #[derive(Drop)]
@@ -173,7 +173,7 @@ fn after_command(before: Record, taken: u64, command: Command, now: u64) -> Reco
     match command {
         Command::Run(core) => Record {
             taken,
-            running: core as u64 + 1,
+            running: running_word(Some(core)),
             started: now,
             queued: 0,
             ..before

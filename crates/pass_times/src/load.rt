@@ -3,7 +3,7 @@
 
 use crate::random::Random;
 use cal_command::{Command, Taker};
-use cal_signal::{Publisher, Record};
+use cal_signal::{Publisher, Record, running_word};
 
 /// How often what happens: one in so many, 0 is never.
 #[derive(Clone, Copy)]
@@ -50,7 +50,7 @@ fn after_command(before: Record, taken: u64, command: Command, now: u64) -> Reco
     rec.taken = taken;
     match command {
         Command::Run(core) => {
-            rec.running = core as u64 + 1;
+            rec.running = running_word(Some(core));
             rec.started = now;
             rec.queued = 0;
             rec.oldest = 0;

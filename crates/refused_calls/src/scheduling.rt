@@ -1,7 +1,7 @@
 //! A scheduler and a watch over the kernel threads of a table.
 
 ghost use Rattle.std.specs.Prelude.{◌≡◌, length};
-ghost use Rattle.cal_policy.specs.Tasks.{threads_of_table};
+ghost use Rattle.cal_machine.specs.TableTasks.{threads_of_table};
 ghost use Rattle.cal_sched.specs.Scheduler.{HaveSeenNothing, HaveSentNothing};
 
 use crate::attempt::{Fault, answer, begin, end, tell, wrong};

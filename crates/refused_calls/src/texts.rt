@@ -1,7 +1,7 @@
 //! What is written of answers.
 
 use crate::attempt::wrong;
-use cal_lists::Listed;
+use cal_machine::Listed;
 use cal_policy::PassEntry;
 use cal_run::Outcome;
 use cal_trace::write_history;

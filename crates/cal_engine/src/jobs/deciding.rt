@@ -6,7 +6,7 @@ ghost use Rattle.cal_machine.specs.Tasks.{threads_in};
 ghost use Rattle.cal_policy.specs.Book.{AgreesWith, IsBookOf};
 ghost use Rattle.cal_policy.specs.Judgement.Judging.{IsInput};
 ghost use Rattle.cal_policy.specs.Pass.{IsLegal};
-ghost use Rattle.cal_policy.specs.Tasks.{threads_of_table};
+ghost use Rattle.cal_machine.specs.TableTasks.{threads_of_table};
 ghost use Rattle.cal_policy.specs.declared.history.entry.PassEntry.{PassEntry};
 ghost use Rattle.cal_trace.specs.Report.{report_text};
 ghost use Rattle.cal_trace.specs.Rows.{rows_of};

@@ -14,7 +14,9 @@ use Rattle.cal_kthread.specs.declared.journal.entry.Entry.TheVariants.{Arrived, 
 use Rattle.cal_kthread.specs.declared.turn.victims.Victim.{Victim}
 use Rattle.cal_kthread.specs.declared.queue.waiting.Waiting.{Waiting}
 use Rattle.cal_kthread.specs.Turn.Agreement.{Agrees, HasServed, state_of, held, had_weight}
-use Rattle.cal_kthread.specs.Journal.{State, MayStand, changed_by, record_in, records_of, command_in, arrival_in, served_in, served_of, core_after, running_word}
+use Rattle.cal_kthread.specs.Journal.{State, MayStand, changed_by, record_in, records_of, command_in, arrival_in, served_in, served_of, core_after}
+use Rattle.cal_signal.specs.Records.{running_word}
+use Rattle.cal_signal.specs.declared.record.TheConstants.{MOST_MISSES}
 use Rattle.cal_kthread.specs.Queue.Rule.{weigh}
 use Rattle.cal_kthread.specs.Queue.{QueueView}
 use Rattle.cal_kthread.specs.Turn.Thread.{ThreadView}
@@ -145,7 +147,7 @@ module _ (j : List Entry) (now : ℕ) (publisher : PublisherView) (taker : Taker
   works-at None current front a = a
   works-at (Some core) None front a = let t = thread (Some core) None front in let u : ThreadView = record t { core = None } in
       apart j Yielded t u a (ap (λ (s : State). is_some s.core) a.state) refl refl refl refl refl refl refl (unserving j Yielded u refl (kept j t u (λ h. refl) a.served))
-  works-at (Some core) (Some current) front a = worked-so core current front (min (misses + current.waiting.request.misses) turn.most_misses) (nat_le current.remaining 1) a
+  works-at (Some core) (Some current) front a = worked-so core current front (min (misses + current.waiting.request.misses) MOST_MISSES) (nat_le current.remaining 1) a
 
   fronts-at : (core : Option ℕ) (current : Option Current) (front answer : Option Waiting) → Agrees j (thread core current front) → Agrees j (turn.fronted answer (thread core current front))
   fronts-at core current (Some next) answer a = a

@@ -1,16 +1,18 @@
 -- The record of a turn is never refused.
 use Rattle.std.proofs.Common.{◌≡◌, ℕ, ◌-◌, ◌<◌, ◌≤◌, ◌^◌, Option, Some, None, IfSome, List, [], ◌∷◌, ◌++◌, length, refl, arith}
+use Rattle.cal_machine.specs.declared.machine.TheConstants.{MOST_CORES}
 use Rattle.cal_signal.specs.declared.record.Record.{Record}
 use Rattle.cal_signal.specs.declared.fault.PublishFault.{PublishFault}
 use Rattle.cal_signal.specs.declared.fault.PublishFault.TheVariants.{Backwards, BadShape, Exhausted}
 use Rattle.cal_signal.specs.Faults.{IsRefusal}
 use Rattle.cal_signal.specs.Pages.{last_published, last_from}
 use Rattle.cal_signal.specs.Records.{MayFollow}
-use Rattle.cal_kthread.specs.Journal.{running_word}
+use Rattle.cal_signal.specs.Records.{running_word}
+use Rattle.cal_signal.specs.declared.publisher.TheConstants.{LAST_PLACE}
 use Rattle.cal_kthread.specs.Turn.Thread.{ThreadView, IsThread}
 use Rattle.cal_kthread.specs.Turn.{shown}
 
-running_bound : (core : Option ℕ) → IfSome core (λ c. c < 128) → running_word core ≤ 128
+running_bound : (core : Option ℕ) → IfSome core (λ c. c < MOST_CORES) → running_word core ≤ MOST_CORES
 running_bound None within = omega arith
 running_bound (Some c) within = omega arith
 
@@ -20,7 +22,7 @@ follows now t count is later = let n = is.taken in let a = is.shown_taken in let
     ((omega arith, b, later), (r, is.limit))
 
 -- what may be published is not refused
-pub not_refused : (published : List Record) (rec : Record) (fault : PublishFault) → MayFollow (last_published published) rec → length published < 2 ^ 62 - 1 → IsRefusal published rec fault → ⊥
+pub not_refused : (published : List Record) (rec : Record) (fault : PublishFault) → MayFollow (last_published published) rec → length published < LAST_PLACE → IsRefusal published rec fault → ⊥
 not_refused published rec Backwards may room refusal = refusal may.0
 not_refused published rec BadShape may room refusal = refusal.1 may.1
 not_refused published rec Exhausted may room refusal = let e = refusal.2 in omega arith

@@ -1,9 +1,10 @@
 -- What a contract sees of a kernel thread.
-use Rattle.std.specs.Prelude.{◌≡◌, ℕ, ◌<◌, ◌≤◌, ◌^◌, Option, None, IfSome, List, [], length}
+use Rattle.std.specs.Prelude.{◌≡◌, ℕ, ◌<◌, ◌≤◌, Option, None, IfSome, List, [], length}
 use Rattle.cal_command.specs.Rings.{TakerView}
 use Rattle.cal_signal.specs.Ends.{PublisherView}
 use Rattle.cal_signal.specs.Pages.{last_published}
 use Rattle.cal_signal.specs.declared.record.Record.{Record}
+use Rattle.cal_signal.specs.declared.record.TheConstants.{MOST_MISSES}
 use Rattle.cal_machine.specs.declared.command.Command.{Command}
 use Rattle.cal_machine.specs.declared.machine.TheConstants.{MOST_CORES}
 use Rattle.cal_kthread.specs.Queue.Rule.{queue_shares}
@@ -31,12 +32,12 @@ pub record KernelView : Type 0 where
   pub thread : ThreadView
 
 -- what its fields keep: the count is that of the commands taken, a core is below MOST_CORES, the
--- misses stop at 2^56, and the last record has no more commands and misses than these
+-- misses stop at MOST_MISSES, and the last record has no more commands and misses than these
 pub record IsThread (count : ℕ) (commands : List Command) (core : Option ℕ) (misses : ℕ)
     (published : List Record) : Type 0 where
   pub taken : count ≡ length commands
   pub number : IfSome core (λ c. c < MOST_CORES)
-  pub limit : misses ≤ 2 ^ 56
+  pub limit : misses ≤ MOST_MISSES
   pub shown_taken : (last_published published).taken ≤ count
   pub shown_misses : (last_published published).misses ≤ misses
 

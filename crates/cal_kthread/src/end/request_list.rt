@@ -1,7 +1,6 @@
 //! The requests that a thread had left.
 
-use cal_lists::Listed;
-use cal_machine::Request;
+use cal_machine::{Listed, Request};
 
 /// The requests that a thread had left at its end, in the order in which it handed them out.
 pub type RequestList = Listed<Request>;

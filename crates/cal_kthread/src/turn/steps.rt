@@ -1,12 +1,14 @@
 //! The five steps of a turn, the third in two parts. Each answers what it puts into the journal, if
 //! it puts anything there.
-ghost use Rattle.std.specs.Prelude.{◌≡◌, ℕ, ◌+◌, ◌-◌, ◌<◌, ◌≤◌, ◌^◌, min, Option};
+ghost use Rattle.std.specs.Prelude.{◌≡◌, ℕ, ◌+◌, ◌<◌, ◌≤◌, min, Option};
 ghost use Rattle.std.specs.Prelude.{Some, None, length, IfSome, MatchResult};
 ghost use Rattle.cal_machine.specs.declared.command.Command.{Command};
 ghost use Rattle.cal_signal.specs.Pages.{last_published};
 ghost use Rattle.cal_signal.specs.Records.{MayFollow};
+ghost use Rattle.cal_signal.specs.declared.publisher.TheConstants.{LAST_PLACE};
+ghost use Rattle.cal_signal.specs.declared.record.TheConstants.{MOST_MISSES};
 ghost use Rattle.cal_kthread.specs.declared.queue.waiting.Waiting.{Waiting};
-ghost use Rattle.cal_kthread.specs.Journal.{core_after as core_of, running_word as word_of};
+ghost use Rattle.cal_kthread.specs.Journal.{core_after as core_of};
 ghost use Rattle.cal_kthread.specs.Turn as turn;
 
 use crate::journal::entry::Entry;
@@ -17,11 +19,8 @@ use crate::turn::thread::Thread;
 use crate::turn::victims::steal_first;
 use cal_command::Command;
 use cal_machine::Request;
-use cal_signal::Record;
+use cal_signal::{MOST_MISSES, Record, running_word};
 use std::alloc::AllocError;
-
-/// A thread's count of misses stops here.
-const MOST_MISSES: u64 = 1 << 56;
 
 impl Thread {
     /// 1. The request, if there is one, goes to the back of the thread's own queue. An error is
@@ -130,7 +129,7 @@ impl Thread {
     /// 5. The record is published.
     pub(crate) fn publish(&mut self, now: u64) -> Entry
         requires later { (last_published self.old.publisher.published).stamp ≤ now }
-        requires room { length self.old.publisher.published < 2 ^ 62 - 1 }
+        requires room { length self.old.publisher.published < LAST_PLACE }
         ensures shown { (self.new, result) ≡ turn.published now self.old }
         ensures follows { MayFollow (last_published self.old.publisher.published)
             (turn.shown now self.old) }
@@ -196,9 +195,9 @@ fn begin(now: u64, waiting: Waiting) -> Current
     }
 }
 
-/// The thread's misses and the request's, up to 2^56.
+/// The thread's misses and the request's, up to `MOST_MISSES`.
 fn misses_after(misses: u64, more: u64) -> u64
-    ensures { result ≡ min (misses + more) turn.most_misses }
+    ensures { result ≡ min (misses + more) MOST_MISSES }
 {
     misses.saturating_add(more).min(MOST_MISSES)
 }
@@ -226,16 +225,6 @@ fn served(current: Current) -> Option<Entry>
         });
     }
     None
-}
-
-/// The word of a record that shows a core: 0 for none, else one above its number.
-fn running_word(core: Option<u8>) -> u64
-    ensures { result ≡ word_of core }
-{
-    match core {
-        Some(core) => core as u64 + 1,
-        None => 0,
-    }
 }
 
 /// 1 where there is a request, else 0.

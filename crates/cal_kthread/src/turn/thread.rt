@@ -28,7 +28,7 @@ pub(crate) struct Thread {
     pub(crate) current: Option<Current>,
     /// The request that comes next.
     pub(crate) front: Option<Waiting>,
-    /// Cache misses so far, at most 2^56.
+    /// Cache misses so far, at most `MOST_MISSES`.
     pub(crate) misses: u64,
 }
 

@@ -4,7 +4,7 @@ use Rattle.std.proofs.lemmas.Bool.{ltb-true, eqb-true, eqb-false, and_parts, not
 use Rattle.std.proofs.lemmas.Option.{cond_some}
 use Rattle.cal_signal.specs.declared.record.Record.{Record}
 use Rattle.cal_machine.specs.Machine.{sibling_of}
-use Rattle.cal_policy.specs.Tasks.{owner_of, request_of, is_latency_critical}
+use Rattle.cal_machine.specs.TableTasks.{owner_of, request_of, is_latency_critical}
 use Rattle.cal_policy.specs.declared.history.action.Action.{Action}
 use Rattle.cal_policy.specs.declared.history.action.Action.TheVariants.{Ban}
 use Rattle.cal_policy.specs.declared.board.holders.Placement as placements
@@ -19,7 +19,7 @@ use Rattle.cal_policy.specs.Pass.Made as made
 use Rattle.cal_laws.specs.Bans.{IsOverWithRoom, MayBeEmpty, IsDue}
 use Rattle.cal_laws.specs.Cause.{IsForBan}
 use Rattle.cal_laws.proofs.ExclusionLemmas.SameHolders.{SameHolders, holders_after, held_same}
-use Rattle.cal_lists.proofs.Booleans.{some_then}
+use Rattle.cal_machine.proofs.Booleans.{some_then}
 
 -- what a record shows that runs too long
 record ShowsTooLong (now : ℕ) (rec : Record) (c limit : ℕ) : Type 0 where

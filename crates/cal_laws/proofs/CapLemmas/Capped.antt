@@ -8,7 +8,7 @@ use Rattle.std.proofs.lemmas.List.{append-nil}
 use Rattle.std.proofs.lemmas.Option.{slice_get_cases, slice_get_within}
 use Rattle.cal_machine.specs.Laws.{ThreadsAreOfTheirTask}
 use Rattle.cal_machine.specs.Table.{Table, IsTable}
-use Rattle.cal_policy.specs.Tasks.{owner_of, is_latency_critical}
+use Rattle.cal_machine.specs.TableTasks.{owner_of, is_latency_critical}
 use Rattle.cal_policy.specs.declared.history.action.Action.{Action}
 use Rattle.cal_policy.specs.declared.history.action.Action.TheVariants.{Free, Unban, Ban, Revoke, Cap, Grant}
 use Rattle.cal_policy.specs.declared.history.action.Cause.TheVariants as causes

@@ -2,7 +2,7 @@
 use Rattle.std.proofs.Common.{◌≡◌, ℕ, ◌<◌, ◌⊎◌, true, not, ltb, List, length, sym, subst, arith, inl, inr}
 use Rattle.std.proofs.lemmas.Bool.{ltb-true, ltb-false, lt-ltb, and_parts, and_from, not-true, not_from_false}
 use Rattle.cal_machine.specs.Table.{IsTable}
-use Rattle.cal_policy.specs.Tasks.{limit_of, is_latency_critical}
+use Rattle.cal_machine.specs.TableTasks.{limit_of, is_latency_critical}
 use Rattle.cal_policy.specs.declared.history.action.Action.{Action}
 use Rattle.cal_policy.specs.Board.Counts.{cap_of}
 use Rattle.cal_policy.specs.Setting.{Setting, so_far}

@@ -3,7 +3,7 @@ use Rattle.std.proofs.Common.{◌≡◌, ℕ, ◌+◌, ◌<◌, ◌≤◌, Bool,
 use Rattle.std.specs.Option.{unwrap_or, option_or}
 use Rattle.std.proofs.lemmas.Bool.Decides.{nat_tests}
 use Rattle.cal_machine.specs.Table.{Table}
-use Rattle.cal_policy.specs.Tasks.{owner_of, limit_of}
+use Rattle.cal_machine.specs.TableTasks.{owner_of, limit_of}
 use Rattle.cal_policy.specs.declared.history.action.Action.{Action}
 use Rattle.cal_policy.specs.declared.history.action.Action.TheVariants.{Free, Revoke, Grant}
 use Rattle.cal_policy.specs.declared.history.action.Cause.{Cause}
@@ -14,7 +14,7 @@ use Rattle.cal_policy.specs.History.{holder_of, left_by, last_placement, placed,
 use Rattle.cal_policy.specs.Board.Counts.{is_held_for, is_booked_for, held_by, cap_of}
 use Rattle.cal_policy.specs.Laws.{ActionIsOneMore}
 use Rattle.cal_laws.proofs.ListLemmas.Counted.{count_less}
-use Rattle.cal_lists.proofs.Booleans.{unwrap_if}
+use Rattle.cal_machine.proofs.Booleans.{unwrap_if}
 use Rattle.cal_policy.proofs.ListLemmas.Counted.{count_le_one, count_le}
 use Rattle.cal_policy.proofs.PassLemmas.Steady.{granted_holder}
 

@@ -5,7 +5,7 @@ use Rattle.std.specs.Option.{is_some}
 use Rattle.std.proofs.lemmas.Bool.{ltb-true, eqb-true, eq-eqb, and_parts, and_from, cond-true, cases_lt, not-true, not_from_false}
 use Rattle.std.proofs.lemmas.Option.{MatchOption-at_some, cond_some}
 use Rattle.cal_machine.specs.Table.{IsTable}
-use Rattle.cal_policy.specs.Tasks.{owner_of, guaranteed_of, is_latency_critical}
+use Rattle.cal_machine.specs.TableTasks.{owner_of, guaranteed_of, is_latency_critical}
 use Rattle.cal_policy.specs.declared.history.action.Action.{Action}
 use Rattle.cal_policy.specs.declared.history.action.Action.TheVariants.{Cap}
 use Rattle.cal_policy.specs.declared.pass.choice.Candidate as chosen

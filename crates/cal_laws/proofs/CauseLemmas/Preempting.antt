@@ -1,7 +1,7 @@
 -- Why a core is taken for a task, in words of its own.
 use Rattle.std.proofs.Common.{ℕ, nat_lt, List, sym, subst}
 use Rattle.std.proofs.lemmas.Bool.{ltb-true, and_parts}
-use Rattle.cal_policy.specs.Tasks.{limit_of}
+use Rattle.cal_machine.specs.TableTasks.{limit_of}
 use Rattle.cal_policy.specs.declared.history.action.Action.{Action}
 use Rattle.cal_policy.specs.Board.Counts.{booked_by}
 use Rattle.cal_policy.specs.Setting.{Setting, so_far}

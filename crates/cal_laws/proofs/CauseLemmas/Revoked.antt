@@ -12,7 +12,7 @@ use Rattle.cal_machine.specs.Machine.{sibling_of}
 use Rattle.cal_machine.specs.declared.task.Task.{Task}
 use Rattle.cal_machine.specs.declared.task.Kind.{Kind}
 use Rattle.cal_machine.specs.declared.task.Kind.TheVariants.{LatencyCritical, BestEffort}
-use Rattle.cal_policy.specs.Tasks.{owner_of, guaranteed_of, is_latency_critical, is_critical_kind}
+use Rattle.cal_machine.specs.TableTasks.{owner_of, guaranteed_of, is_latency_critical, is_critical_kind}
 use Rattle.cal_policy.specs.declared.history.action.Action.{Action}
 use Rattle.cal_policy.specs.declared.history.action.Action.TheVariants.{Ban, Revoke, Cap}
 use Rattle.cal_policy.specs.declared.history.action.Cause.{Cause}
@@ -34,7 +34,7 @@ use Rattle.cal_laws.proofs.ListLemmas.Below.{highest_is}
 use Rattle.cal_laws.proofs.ChoiceLemmas.Chosen.{least_class}
 use Rattle.cal_laws.proofs.ListLemmas.Counted.{count_some}
 use Rattle.cal_laws.proofs.ExclusionLemmas.SameHolders.{held_same}
-use Rattle.cal_lists.proofs.Booleans.{some_then}
+use Rattle.cal_machine.proofs.Booleans.{some_then}
 use Rattle.cal_policy.proofs.PassLemmas.RevokedStay.{held_by_one}
 
 -- the core is held by a thread whose ring has room, and its task holds more than it is guaranteed

@@ -3,7 +3,7 @@ use Rattle.std.proofs.Common.{◌≡◌, ℕ, ◌<◌, true, ◌&&◌, nat_lt, e
 use Rattle.std.proofs.lemmas.Bool.{ltb-true, eqb-true, eq-eqb, and_parts, and_from, cond-true, cases_lt}
 use Rattle.std.proofs.lemmas.Option.{MatchOption-at_some, cond_some}
 use Rattle.cal_machine.specs.Laws.{ThreadsAreOfTheirTask}
-use Rattle.cal_policy.specs.Tasks.{limit_of, thread_of, owner_of}
+use Rattle.cal_machine.specs.TableTasks.{limit_of, thread_of, owner_of}
 use Rattle.cal_policy.specs.declared.history.action.Action.{Action}
 use Rattle.cal_policy.specs.declared.pass.choice.Candidate.{Candidate}
 use Rattle.cal_policy.specs.Board.Counts.{cores_of_thread}

@@ -4,7 +4,7 @@ use Rattle.std.proofs.lemmas.Bool.{ltb-true, lt-ltb, eqb-true, eqb-false, eq-eqb
 use Rattle.std.proofs.lemmas.Option.{cond_some, same_Some}
 use Rattle.cal_machine.specs.Machine.{sibling_of}
 use Rattle.cal_machine.specs.Table.{Table}
-use Rattle.cal_policy.specs.Tasks.{owner_of, guaranteed_of, is_latency_critical}
+use Rattle.cal_machine.specs.TableTasks.{owner_of, guaranteed_of, is_latency_critical}
 use Rattle.cal_policy.specs.declared.history.action.Action.{Action}
 use Rattle.cal_policy.specs.declared.history.action.Cause.TheVariants as causes
 use Rattle.cal_policy.specs.declared.board.holders.Placement as placements
@@ -17,7 +17,7 @@ use Rattle.cal_policy.specs.Setting.{Setting, so_far, has_room}
 use Rattle.cal_policy.specs.Pass.Grants.{leaves_for, none_leaves_for, is_granted_in, is_thread_for, idle_class, burst_class, may_preempt, class_by, class_of}
 use Rattle.cal_laws.specs.Choice.{IsIdle, IsHeldBy, WentLastTo, MayBeTaken, Lends, IsBurst, IsOfClass}
 use Rattle.cal_laws.proofs.ListLemmas.Counted.{count_none}
-use Rattle.cal_lists.proofs.Booleans.{some_then}
+use Rattle.cal_machine.proofs.Booleans.{some_then}
 
 else_some : {X : Type 0} (b : Bool) (o : Option X) (y : X) → cond b None o ≡ Some y → (b ≡ false) × (o ≡ Some y)
 else_some true o y e = cc

@@ -3,7 +3,7 @@ use Rattle.std.proofs.Common.{◌≡◌, ℕ, ◌<◌, Bool, true, false, ◌&&�
 use Rattle.std.proofs.lemmas.Bool.{and_parts, ltb-true, eqb-true}
 use Rattle.cal_machine.specs.Table.{Table}
 use Rattle.cal_machine.specs.Laws.{ThreadsAreOfTheirTask}
-use Rattle.cal_policy.specs.Tasks.{owner_of, limit_of, threads_of_table, is_latency_critical}
+use Rattle.cal_machine.specs.TableTasks.{owner_of, limit_of, threads_of_table, is_latency_critical}
 use Rattle.cal_policy.specs.declared.history.action.Action.{Action}
 use Rattle.cal_policy.specs.declared.history.action.Action.TheVariants.{Grant}
 use Rattle.cal_policy.specs.declared.board.holders.Placement as placements

@@ -26,7 +26,7 @@ use Rattle.cal_laws.proofs.PointLemmas.EachAction.{always, after_passes}
 use Rattle.cal_laws.proofs.ListLemmas.Counted.{count_none}
 use Rattle.cal_laws.proofs.CauseLemmas.Revoked.{TakesHeld, takes_held}
 use Rattle.cal_laws.proofs.ChoiceLemmas.Granted.{gives_free}
-use Rattle.cal_lists.proofs.Booleans.{unwrap_if}
+use Rattle.cal_machine.proofs.Booleans.{unwrap_if}
 use Rattle.cal_policy.proofs.PassLemmas.Steady.{free_place}
 
 -- threads have one core each, by their last Run

@@ -21,8 +21,8 @@ use Rattle.cal_laws.specs.Runs.{IsRunOf, IsThereBy, WasLeft, RunsStand}
 use Rattle.cal_laws.proofs.ChoiceLemmas.Granted.{gives_free}
 use Rattle.cal_laws.proofs.KeptLemmas.OnCore.{IsShownOff, IsFreed, stays}
 use Rattle.cal_laws.proofs.PointLemmas.EachAction.{always, after_passes}
-use Rattle.cal_lists.proofs.Booleans.{unwrap_if}
-use Rattle.cal_lists.proofs.Places.{slice_get_parts}
+use Rattle.cal_machine.proofs.Booleans.{unwrap_if}
+use Rattle.cal_machine.proofs.Places.{slice_get_parts}
 
 -- the action is safe, and it is the next one at a point of the history where the setting and the
 -- actions of the pass are these

@@ -28,7 +28,7 @@ use Rattle.cal_laws.specs.Kept.{IsOnItsCore}
 use Rattle.cal_laws.proofs.ChoiceLemmas.Granted.{gives_free, free_nobody}
 use Rattle.cal_laws.proofs.PointLemmas.EachAction.{actions_more, within_pass}
 use Rattle.cal_laws.proofs.KeptLemmas.Truth.{fresh, looks_more}
-use Rattle.cal_lists.proofs.Booleans.{unwrap_if}
+use Rattle.cal_machine.proofs.Booleans.{unwrap_if}
 
 -- the kept record of a core's thread has taken the Run that put it there, and shows it on no core
 pub record IsShownOff (s : Setting) (p : placements.Placement) : Type 0 where

@@ -37,7 +37,7 @@ use Rattle.cal_laws.proofs.ChoiceLemmas.Granted.{gives_free, free_nobody}
 use Rattle.cal_laws.proofs.PointLemmas.EachAction.{take_next, legal_safe, safe_point}
 use Rattle.cal_laws.proofs.CauseLemmas.Revoked.{takes_held, preempted_before_pass}
 use Rattle.cal_laws.proofs.OneEachLemmas.Turns.{Below, IsInTurn, pass_in_turn}
-use Rattle.cal_lists.proofs.Booleans.{unwrap_if}
+use Rattle.cal_machine.proofs.Booleans.{unwrap_if}
 use Rattle.cal_policy.proofs.ListLemmas.EachAfter.{each_at}
 
 -- the thread was sent its command of this pass, by one of the actions acts: it is on a core, which

@@ -8,7 +8,7 @@ use Rattle.cal_policy.specs.declared.history.action.Action.{Action}
 use Rattle.cal_policy.specs.declared.history.action.Action.TheVariants.{Revoke}
 use Rattle.cal_policy.specs.declared.history.action.Cause.TheVariants as causes
 use Rattle.cal_policy.specs.declared.history.entry.PassEntry.{PassEntry}
-use Rattle.cal_policy.specs.Tasks.{is_latency_critical}
+use Rattle.cal_machine.specs.TableTasks.{is_latency_critical}
 use Rattle.cal_policy.specs.Pass.Choice.{count_below}
 use Rattle.cal_policy.specs.Board.Counts.{held_by, cap_of}
 use Rattle.cal_policy.specs.History.{actions_of}

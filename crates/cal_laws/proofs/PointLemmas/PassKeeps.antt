@@ -1,7 +1,7 @@
 -- What each action of the parts of a pass keeps up, the pass keeps up.
 use Rattle.std.proofs.Common.{◌≡◌, ℕ, ◌+◌, ◌-◌, ◌<◌, zero, suc, Bool, true, false, cond, ◌&&◌, nat_lt, List, [], ◌∷◌, ◌++◌, length, Option, Some, None, refl, sym, arith, append_assoc, subst}
 use Rattle.std.proofs.lemmas.List.{append-nil}
-use Rattle.cal_policy.specs.Tasks.{thread_of, is_latency_critical}
+use Rattle.cal_machine.specs.TableTasks.{thread_of, is_latency_critical}
 use Rattle.cal_policy.specs.declared.history.action.Action.{Action}
 use Rattle.cal_policy.specs.declared.history.action.Action.TheVariants.{Revoke, Cap, Grant}
 use Rattle.cal_policy.specs.declared.history.action.Cause.{Cause}

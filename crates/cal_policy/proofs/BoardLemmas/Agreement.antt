@@ -14,7 +14,7 @@ use Rattle.cal_policy.specs.Board.{HoldingAgrees, kept_number, kept_placement, k
 use Rattle.cal_policy.proofs.ListLemmas.OneMore.{set_says, or_if, map_if}
 use Rattle.cal_policy.proofs.BoardLemmas.CommandNumbers.{kept_more}
 use Rattle.cal_policy.proofs.HistoryLemmas.OneMore.{holder_push, last_placement_push, sent_push, last_thread_placement}
-use Rattle.cal_lists.proofs.Booleans.{unwrap_if}
+use Rattle.cal_machine.proofs.Booleans.{unwrap_if}
 
 pub Holding_free : (h : Holding) (x : List Action) (core : ℕ) → length h.holders ≡ 128 → core < 128 → HoldingAgrees h x →
     HoldingAgrees (record { granted = h.granted; holders = set h.holders core holders.Free; sent = h.sent }) (x ++ Free core ∷ [])

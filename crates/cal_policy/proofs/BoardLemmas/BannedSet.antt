@@ -9,7 +9,7 @@ use Rattle.cal_policy.specs.History.{ban_of}
 use Rattle.cal_policy.specs.Board.CoreSets.{IsSetOfBanned}
 use Rattle.cal_policy.proofs.ListLemmas.OneMore.{map_if}
 use Rattle.cal_policy.proofs.HistoryLemmas.OneMore.{ban_push}
-use Rattle.cal_lists.proofs.Booleans.{unwrap_if}
+use Rattle.cal_machine.proofs.Booleans.{unwrap_if}
 use Rattle.cal_policy.proofs.HistoryLemmas.FreshCores.{or_cond, turned}
 
 -- an action that names no ban

@@ -9,7 +9,7 @@ use Rattle.cal_policy.specs.History.{ban_of, last_cap}
 use Rattle.cal_policy.specs.Board.{BansAgree, CapsAgree}
 use Rattle.cal_policy.proofs.ListLemmas.OneMore.{set_says, or_if}
 use Rattle.cal_policy.proofs.HistoryLemmas.OneMore.{ban_push, last_cap_push}
-use Rattle.cal_lists.proofs.Booleans.{unwrap_if}
+use Rattle.cal_machine.proofs.Booleans.{unwrap_if}
 
 pub Bans_ban : (b : Bans) (x : List Action) (core thread started : ℕ) → length b.bans ≡ 128 → core < 128 → BansAgree b x →
     BansAgree (record { bans = set b.bans core (Some (record { thread = thread; started = started })) }) (x ++ Ban core thread started ∷ [])

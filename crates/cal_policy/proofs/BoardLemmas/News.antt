@@ -2,12 +2,12 @@
 use Rattle.std.proofs.Common.{◌≡◌, ℕ, ◌<◌, ◌≤◌, Bool, true, false, not, List, length, Option, refl, ap, sym, ◌∙◌, arith, ⊎_elim}
 use Rattle.std.specs.Option.{option_and_then, unwrap_or}
 use Rattle.std.proofs.lemmas.Bool.{cases_lt}
-use Rattle.cal_lists.proofs.Places.{slice_get_at}
+use Rattle.cal_machine.proofs.Places.{slice_get_at}
 use Rattle.cal_policy.specs.declared.history.look.Seen.{Seen}
 use Rattle.cal_policy.specs.declared.board.records.Keeping.{Keeping}
-use Rattle.cal_policy.specs.declared.board.thread_set.ThreadSet.{ThreadSet}
+use Rattle.cal_machine.specs.declared.thread_set.ThreadSet.{ThreadSet}
 use Rattle.cal_policy.specs.History.Looks.{record_to_keep, shown_by, to_keep_at, shown_at}
-use Rattle.cal_policy.specs.Board.ThreadSet.{has_thread}
+use Rattle.cal_machine.specs.ThreadSet.{has_thread}
 use Rattle.cal_policy.specs.Board.KeepingSets.{FitShown, kept_in, shown_in}
 use Rattle.cal_policy.specs.Board.News.{HasNews, IsAsKept}
 use Rattle.cal_policy.specs.declared.history.look.Seen.TheVariants.{Whole}

@@ -12,7 +12,7 @@ use Rattle.cal_policy.specs.declared.board.holders.Holder.{Holder}
 use Rattle.cal_policy.specs.declared.board.holders.Holder.TheVariants.{Free, Held, Leaving}
 use Rattle.cal_policy.specs.declared.pass.choice.Candidate.{Candidate}
 use Rattle.cal_policy.specs.declared.board.Board.{Board}
-use Rattle.cal_policy.specs.Tasks.{owner_of, guaranteed_of, is_latency_critical}
+use Rattle.cal_machine.specs.TableTasks.{owner_of, guaranteed_of, is_latency_critical}
 use Rattle.cal_policy.specs.History.{holder_of, last_thread, is_banned}
 use Rattle.cal_policy.specs.Board.Counts.{is_free, is_held_for, is_over, booked_by}
 use Rattle.cal_policy.specs.Pass.Choice.{best_below, better}

@@ -2,13 +2,13 @@
 use Rattle.std.proofs.Common.{◌≡◌, ℕ, ◌+◌, ◌<◌, ◌≤◌, ◌⊎◌, inl, inr, Bool, true, false, ◌&&◌, List, [], ◌∷◌, ◌++◌, length, Some, slice_get, IsTrue, refl, ap, sym, subst, ◌∙◌, arith, ⊎_elim, length-append}
 use Rattle.std.proofs.lemmas.Bool.{cases_lt}
 use Rattle.std.proofs.lemmas.Option.{slice_get_within}
-use Rattle.cal_lists.proofs.Places.{slice_get_front, slice_get_seam}
+use Rattle.cal_machine.proofs.Places.{slice_get_front, slice_get_seam}
 use Rattle.cal_signal.specs.declared.shown.Shown.{Shown}
 use Rattle.cal_policy.specs.declared.history.look.Seen.{Seen}
 use Rattle.cal_policy.specs.declared.board.records.Keeping.{Keeping}
 use Rattle.cal_policy.specs.declared.judgement.weighing.Weighed.{Weighed}
 use Rattle.cal_policy.specs.Board.{KeepingAgrees}
-use Rattle.cal_policy.specs.Board.ThreadSet.{has_thread}
+use Rattle.cal_machine.specs.ThreadSet.{has_thread}
 use Rattle.cal_policy.specs.Board.KeepingSets.{FitShown, FitAfter, shown_in}
 use Rattle.cal_policy.specs.Board.News.{IsAsKept, HasNews}
 use Rattle.cal_policy.specs.History.Looks.{last_shown}

@@ -8,7 +8,7 @@ use Rattle.cal_policy.specs.Board.Counts.{is_held_for}
 use Rattle.cal_policy.specs.Board.{holder_in}
 use Rattle.cal_policy.specs.Board.Losing.{HoldsCore}
 use Rattle.cal_policy.specs.declared.history.action.Action.{Action}
-use Rattle.cal_policy.specs.Tasks.{is_latency_critical}
+use Rattle.cal_machine.specs.TableTasks.{is_latency_critical}
 use Rattle.cal_policy.specs.Pass.Choice.{sum_below, highest_below, lowest_below, first_or}
 use Rattle.cal_policy.specs.Setting.{Setting}
 use Rattle.cal_policy.specs.Pass.Bandwidth.{is_number, is_capped, core_to_lose, task_misses, victim_rank, victim_of, cut_of, rise_of, bandwidth_after}

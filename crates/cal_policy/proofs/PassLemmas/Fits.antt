@@ -5,7 +5,7 @@ use Rattle.std.proofs.lemmas.Bool.Decides.{nat_tests}
 use Rattle.cal_machine.specs.Table.{Table, IsTable}
 use Rattle.cal_signal.specs.declared.record.Record.{Record}
 use Rattle.cal_machine.specs.Machine.{sibling_of}
-use Rattle.cal_policy.specs.Tasks.{owner_of, thread_of, threads_of_table, limit_of, is_latency_critical, guaranteed_of}
+use Rattle.cal_machine.specs.TableTasks.{owner_of, thread_of, threads_of_table, limit_of, is_latency_critical, guaranteed_of}
 use Rattle.cal_policy.specs.declared.history.action.Action.{Action}
 use Rattle.cal_policy.specs.declared.history.action.Action.TheVariants.{Free, Unban, Ban, Revoke, Cap, Grant}
 use Rattle.cal_policy.specs.declared.history.action.Cause.{Cause}
@@ -32,7 +32,7 @@ use Rattle.cal_policy.proofs.HistoryLemmas.OneMore.{holder_push}
 use Rattle.cal_policy.proofs.PassLemmas.Steady.{Shrinks_ban, Shrinks_unban, Shrinks_cap, Shrinks_free, Shrinks_revoke, Steady_shrinks, Steady_grant}
 use Rattle.cal_machine.proofs.Siblings.{pairs}
 use Rattle.cal_machine.proofs.ThreadNumbers.{task_there, next_le}
-use Rattle.cal_lists.proofs.Booleans.{both_true, some_then}
+use Rattle.cal_machine.proofs.Booleans.{both_true, some_then}
 
 -- the actions so far, with one more
 pub so_far_push : (s : Setting) (acts : List Action) (a : Action) → so_far s (acts ++ a ∷ []) ≡ so_far s acts ++ a ∷ []

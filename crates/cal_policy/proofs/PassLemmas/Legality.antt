@@ -3,8 +3,8 @@ use Rattle.std.proofs.Common.{◌≡◌, ℕ, ◌<◌, ◌≤◌, Bool, true, fa
 use Rattle.std.proofs.lemmas.List.{length-take-le, get_or-take, take-take, take-append-le, take_all}
 use Rattle.std.proofs.lemmas.Option.{slice_get_within, slice_get_read, get_or_from_slice_get}
 use Rattle.std.proofs.Math.Seq.{take-append_seam}
-use Rattle.cal_lists.proofs.Places.{slice_get_at}
-use Rattle.cal_lists.proofs.Last.{some_same, slice_get-last, slice_get-other, last_or_before}
+use Rattle.cal_machine.proofs.Places.{slice_get_at}
+use Rattle.cal_machine.proofs.Last.{some_same, slice_get-last, slice_get-other, last_or_before}
 use Rattle.cal_machine.specs.Table.{Table}
 use Rattle.cal_policy.specs.declared.history.entry.PassEntry.{PassEntry}
 use Rattle.cal_policy.specs.Pass.{IsPass, IsLegal}

@@ -19,7 +19,7 @@ use Rattle.cal_policy.specs.History.{actions_of, holder_of, ban_of}
 use Rattle.cal_policy.specs.History.Lists.{in_turn, in_pair}
 use Rattle.cal_policy.specs.Pass.{pass_of, IsLegal}
 use Rattle.cal_policy.specs.Setting.{Setting, setting_of, so_far, kept_now}
-use Rattle.cal_policy.specs.Tasks.{is_latency_critical, thread_of}
+use Rattle.cal_machine.specs.TableTasks.{is_latency_critical, thread_of}
 use Rattle.cal_policy.proofs.PassLemmas.Apart.{orderly_apart, frees_apart}
 use Rattle.cal_policy.proofs.PassLemmas.LegalOrderly.{legal_orderly}
 use Rattle.cal_policy.proofs.PassLemmas.Legality.{legal_upto}

@@ -8,7 +8,7 @@ use Rattle.cal_policy.specs.declared.history.action.Action.{Action}
 use Rattle.cal_policy.specs.declared.board.holders.Holder.{Holder}
 use Rattle.cal_policy.specs.declared.board.holders.Holder.TheVariants.{Free, Held, Leaving}
 use Rattle.cal_policy.specs.declared.board.Board.{Board}
-use Rattle.cal_policy.specs.Tasks.{owner_of, threads_of_table}
+use Rattle.cal_machine.specs.TableTasks.{owner_of, threads_of_table}
 use Rattle.cal_policy.specs.History.{holder_of}
 use Rattle.cal_policy.specs.Board.Counts.{is_free, is_held_for, held_by}
 use Rattle.cal_policy.specs.Pass.Choice.{best_below}

@@ -1,7 +1,7 @@
 -- Each action of a pass is made at its own place.
 use Rattle.std.proofs.Common.{◌≡◌, ℕ, ◌<◌, Bool, true, false, ◌&&◌, nat_lt, List, [], ◌∷◌, ◌++◌, length, Option, Some, None, inl, inr, refl, if◌then◌else◌}
 use Rattle.cal_machine.specs.Machine.{sibling_of}
-use Rattle.cal_policy.specs.Tasks.{is_latency_critical, thread_of}
+use Rattle.cal_machine.specs.TableTasks.{is_latency_critical, thread_of}
 use Rattle.cal_policy.specs.declared.history.action.Action.{Action}
 use Rattle.cal_policy.specs.declared.history.action.Action.TheVariants.{Free, Unban, Ban, Revoke, Grant}
 use Rattle.cal_policy.specs.declared.history.action.Cause.TheVariants as causes
@@ -18,7 +18,7 @@ use Rattle.cal_policy.specs.Pass.Grants.{is_congested, may_book, thread_choice, 
 use Rattle.cal_policy.specs.Pass.{pass_of}
 use Rattle.cal_policy.specs.Pass.Made.{EachAfter, IsMade, IsCut, IsChosen}
 use Rattle.cal_policy.proofs.ListLemmas.EachAfter.{each_append, each_in_turn}
-use Rattle.cal_lists.proofs.Booleans.{both_true}
+use Rattle.cal_machine.proofs.Booleans.{both_true}
 
 -- what holds of all members where the test holds holds of all where nothing stands otherwise
 each_if : {X : Type 0} (P : List X → X → Type 0) (before : List X) (b : Bool) (xs : List X) → (b ≡ true → EachAfter P before xs) → EachAfter P before (if b then xs else [])

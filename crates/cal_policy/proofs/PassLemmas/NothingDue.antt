@@ -5,7 +5,7 @@ use Rattle.cal_machine.specs.Table.{Table}
 use Rattle.std.proofs.lemmas.List.{append-nil}
 use Rattle.std.specs.Option.{IfSome, is_some}
 use Rattle.cal_machine.proofs.ThreadNumbers.{task_in}
-use Rattle.cal_policy.specs.Tasks.{owner_of, threads_of_table}
+use Rattle.cal_machine.specs.TableTasks.{owner_of, threads_of_table}
 use Rattle.cal_policy.specs.Setting.{has_room}
 use Rattle.cal_policy.proofs.BoardLemmas.StateKept.{held_kept}
 use Rattle.cal_policy.proofs.PassLemmas.Pairs.{beside_lower, beside_upper}
@@ -29,11 +29,11 @@ use Rattle.cal_policy.specs.Board.OpenCores.{is_alone_by}
 use Rattle.cal_policy.specs.Pass.ToBan.{NoneOver, cores_to_ban}
 use Rattle.cal_policy.specs.Board.CoreSets.{Sorts}
 use Rattle.cal_policy.specs.Board.KeepingSets.{KeepsSets, kept_in, shows_waiting}
-use Rattle.cal_policy.specs.Board.ThreadSet.{has_thread}
+use Rattle.cal_machine.specs.ThreadSet.{has_thread}
 use Rattle.cal_policy.specs.Board.Unshown.{IsShownOn}
 use Rattle.cal_policy.specs.Pass.Grants.{record_delay, thread_delay, waited}
 use Rattle.cal_machine.specs.Tasks.{first_thread}
-use Rattle.cal_policy.specs.Tasks.{thread_of}
+use Rattle.cal_machine.specs.TableTasks.{thread_of}
 use Rattle.cal_policy.specs.Pass.Choice.{greatest_below}
 use Rattle.cal_policy.proofs.BoardLemmas.TwoSets.{in_taken}
 use Rattle.cal_policy.proofs.ListLemmas.OneNumberMore.{greatest_past}

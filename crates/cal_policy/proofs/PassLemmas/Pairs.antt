@@ -17,7 +17,7 @@ use Rattle.cal_policy.specs.Setting.{Setting, so_far, kept_now}
 use Rattle.cal_policy.specs.Pass.Bans.{NoPairBanned, still_shows, unban_at, unban_for, ban_for, ban_due, bans_at}
 use Rattle.cal_policy.proofs.HistoryLemmas.OneMore.{ban_push}
 use Rattle.cal_policy.proofs.PassLemmas.PartSoFar.{in_turn_more}
-use Rattle.cal_lists.proofs.Booleans.{unwrap_if}
+use Rattle.cal_machine.proofs.Booleans.{unwrap_if}
 
 -- two by two is one by one
 pub in_turn_pairs : {X : Type 0} (f : List X → ℕ → List X) (before : List X) (n : ℕ) →

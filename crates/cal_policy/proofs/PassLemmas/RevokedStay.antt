@@ -6,7 +6,7 @@ use Rattle.std.proofs.lemmas.List.{append-nil}
 use Rattle.std.proofs.lemmas.Bool.Decides.{nat_tests}
 use Rattle.cal_machine.specs.Machine.{sibling_of}
 use Rattle.cal_machine.specs.Table.{Table}
-use Rattle.cal_policy.specs.Tasks.{is_latency_critical, thread_of, threads_of_table}
+use Rattle.cal_machine.specs.TableTasks.{is_latency_critical, thread_of, threads_of_table}
 use Rattle.cal_policy.specs.declared.history.action.Action.{Action}
 use Rattle.cal_policy.specs.declared.history.action.Action.TheVariants.{Free, Unban, Ban, Revoke, Cap, Grant}
 use Rattle.cal_policy.specs.declared.history.action.Cause.{Cause}
@@ -32,7 +32,7 @@ use Rattle.cal_policy.specs.Judgement.Orderly.{fits_state}
 use Rattle.cal_policy.specs.Pass.Steady.{IsSound}
 use Rattle.cal_policy.proofs.PassLemmas.Fits.{so_far_push}
 use Rattle.cal_policy.proofs.HistoryLemmas.OneMore.{holder_push, last_placement_push}
-use Rattle.cal_lists.proofs.Booleans.{both_true}
+use Rattle.cal_machine.proofs.Booleans.{both_true}
 
 -- each action is so
 abbrev pub Every : (Action → Type 0) → List Action → Type 0

@@ -3,7 +3,7 @@ use Rattle.std.proofs.Common.{◌≡◌, ℕ, ◌<◌, ◌≤◌, ◌⊎◌, Boo
 use Rattle.std.proofs.lemmas.Bool.{cases_eq}
 use Rattle.std.proofs.lemmas.Bool.Decides.{nat_tests}
 use Rattle.cal_machine.specs.Table.{Table}
-use Rattle.cal_policy.specs.Tasks.{owner_of, threads_of_table, limit_of}
+use Rattle.cal_machine.specs.TableTasks.{owner_of, threads_of_table, limit_of}
 use Rattle.cal_policy.specs.declared.history.action.Action.{Action}
 use Rattle.cal_policy.specs.declared.history.action.Action.TheVariants.{Free, Unban, Ban, Revoke, Cap, Grant}
 use Rattle.cal_policy.specs.declared.history.action.Cause.{Cause}
@@ -18,7 +18,7 @@ use Rattle.cal_policy.specs.Pass.Steady.{IsSteady}
 use Rattle.cal_policy.proofs.ListLemmas.Counted.{count_le, count_le_one}
 use Rattle.cal_policy.proofs.HistoryLemmas.OneMore.{holder_push, last_placement_push}
 use Rattle.cal_policy.proofs.ListLemmas.OneMore.{or_if}
-use Rattle.cal_lists.proofs.Booleans.{unwrap_if}
+use Rattle.cal_machine.proofs.Booleans.{unwrap_if}
 
 -- a placement is one of a task's
 abbrev pub is_place_of : Table → ℕ → Option placements.Placement → Bool

@@ -10,7 +10,7 @@ use Rattle.cal_policy.specs.declared.board.records.Keeping.{Keeping}
 use Rattle.cal_policy.specs.declared.history.look.Seen.{Seen}
 use Rattle.cal_policy.specs.History.Looks.{last_shown}
 use Rattle.cal_policy.specs.Judgement.Judging.{IsFitLook}
-use Rattle.cal_policy.specs.Board.ThreadSet.{has_thread}
+use Rattle.cal_machine.specs.ThreadSet.{has_thread}
 
 -- the kept record of thread k
 abbrev pub kept_in : Keeping → ℕ → Record

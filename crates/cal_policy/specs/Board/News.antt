@@ -2,11 +2,11 @@
 use Rattle.std.specs.Prelude.{◌≡◌, ℕ, false, List, Some, slice_get}
 use Rattle.std.specs.Option.{unwrap_or}
 use Rattle.cal_policy.specs.declared.board.records.Keeping.{Keeping}
-use Rattle.cal_policy.specs.declared.board.thread_set.ThreadSet.{ThreadSet}
+use Rattle.cal_machine.specs.declared.thread_set.ThreadSet.{ThreadSet}
 use Rattle.cal_policy.specs.declared.history.look.Seen.{Seen}
 use Rattle.cal_policy.specs.History.Looks.{record_to_keep, shown_by}
 use Rattle.cal_policy.specs.Judgement.Judging.{IsFitLook}
-use Rattle.cal_policy.specs.Board.ThreadSet.{has_thread}
+use Rattle.cal_machine.specs.ThreadSet.{has_thread}
 use Rattle.cal_policy.specs.Board.KeepingSets.{kept_in, shown_in}
 
 -- what is kept of thread k, and what it showed last, stays as it is where this look is taken

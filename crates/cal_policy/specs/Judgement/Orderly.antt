@@ -3,7 +3,7 @@
 use Rattle.std.specs.Prelude.{◌≡◌, ℕ, ◌&&◌, Bool, true, not, nat_le, nat_lt, List}
 use Rattle.std.specs.Prelude.{◌++◌, length, take, Some, slice_get, IsTrue, ◌==◌}
 use Rattle.cal_machine.specs.Table.{Table}
-use Rattle.cal_policy.specs.Tasks.{threads_of_table, limit_of}
+use Rattle.cal_machine.specs.TableTasks.{threads_of_table, limit_of}
 use Rattle.cal_machine.specs.Machine.{sibling_of}
 use Rattle.cal_policy.specs.declared.history.action.Action.{Action}
 use Rattle.cal_policy.specs.declared.history.action.Action.TheVariants.{Free, Unban, Ban}

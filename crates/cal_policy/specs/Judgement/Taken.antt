@@ -8,7 +8,7 @@ use Rattle.cal_signal.specs.declared.shown.Shown.{Shown}
 use Rattle.cal_policy.specs.declared.history.action.Action.{Action}
 use Rattle.cal_policy.specs.declared.history.entry.PassEntry.{PassEntry}
 use Rattle.cal_policy.specs.declared.judgement.open_input.FoundLook.{FoundLook}
-use Rattle.cal_policy.specs.Tasks.{threads_of_table}
+use Rattle.cal_machine.specs.TableTasks.{threads_of_table}
 use Rattle.cal_policy.specs.History.{actions_of, looks_of}
 use Rattle.cal_policy.specs.History.Looks.{kept_by, last_shown}
 use Rattle.cal_policy.specs.Judgement.Judging.{judged, IsFitLook, IsInput}

@@ -3,7 +3,8 @@
 use Rattle.std.specs.Prelude.{◌≡◌, ℕ, ◌+◌, ◌-◌, ◌==◌, ◌&&◌, Bool, true, false, not}
 use Rattle.std.specs.Prelude.{nat_lt, List, [], ◌∷◌, Option, Some, None, if◌then◌else◌}
 use Rattle.cal_signal.specs.declared.record.Record.{Record}
-use Rattle.cal_policy.specs.Tasks.{owner_of, is_latency_critical, request_of}
+use Rattle.cal_signal.specs.Records.{shows_on}
+use Rattle.cal_machine.specs.TableTasks.{owner_of, is_latency_critical, request_of}
 use Rattle.cal_machine.specs.Machine.{sibling_of}
 use Rattle.cal_policy.specs.declared.history.action.Action.{Action}
 use Rattle.cal_policy.specs.declared.history.action.Action.TheVariants.{Unban, Ban, Revoke}
@@ -22,7 +23,7 @@ pub record NoPairBanned (x : List Action) : Type 0 where
 
 -- a record still shows its thread on core c, at work at the request begun at `started`
 abbrev pub still_shows : Record → ℕ → ℕ → Bool
-still_shows rec c started = (rec.running == c + 1) && (rec.started == started)
+still_shows rec c started = shows_on rec c && (rec.started == started)
 
 -- a ban on core c ends, unless its thread's kept record still shows the sibling and the same start
 abbrev pub unban_for : Setting → ℕ → Option BannedFor → List Action
@@ -40,7 +41,7 @@ unbans s acts = in_turn (unban_at s) acts s.table.cores
 -- a record shows its thread on core c, at a request begun more than `limit` ticks ago
 abbrev pub runs_too_long : ℕ → Record → ℕ → ℕ → Bool
 runs_too_long now rec c limit =
-    (rec.running == c + 1) && not (rec.started == 0) && nat_lt rec.started now
+    shows_on rec c && not (rec.started == 0) && nat_lt rec.started now
     && nat_lt limit (now - rec.started)
 
 -- a core that may be emptied: free, being left, or held by a thread whose ring has room and whose

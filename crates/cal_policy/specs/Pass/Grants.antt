@@ -6,8 +6,8 @@ use Rattle.std.specs.Prelude.{List, [], ◌∷◌, length, Option, Some, None, i
 use Rattle.std.specs.Option.{is_some}
 use Rattle.cal_signal.specs.declared.record.Record.{Record}
 use Rattle.cal_machine.specs.Table.{Table}
-use Rattle.cal_policy.specs.Tasks.{owner_of, thread_of, limit_of, guaranteed_of}
-use Rattle.cal_policy.specs.Tasks.{delay_of, is_latency_critical}
+use Rattle.cal_machine.specs.TableTasks.{owner_of, thread_of, limit_of, guaranteed_of}
+use Rattle.cal_machine.specs.TableTasks.{delay_of, is_latency_critical}
 use Rattle.cal_machine.specs.Machine.{sibling_of}
 use Rattle.cal_policy.specs.declared.history.action.Action.{Action}
 use Rattle.cal_policy.specs.declared.history.action.Action.TheVariants.{Revoke, Grant}

@@ -3,7 +3,7 @@
 use Rattle.std.specs.Prelude.{◌≡◌, ℕ, ◌+◌, ◌-◌, ◌<◌, true, false, nat_lt}
 use Rattle.std.specs.Prelude.{List, [], ◌∷◌, ◌++◌, length, Some, ◌⊎◌}
 use Rattle.cal_machine.specs.Machine.{sibling_of}
-use Rattle.cal_policy.specs.Tasks.{thread_of}
+use Rattle.cal_machine.specs.TableTasks.{thread_of}
 use Rattle.cal_policy.specs.declared.history.action.Action.{Action}
 use Rattle.cal_policy.specs.declared.history.action.Action.TheVariants.{Free, Unban, Ban}
 use Rattle.cal_policy.specs.declared.history.action.Action.TheVariants.{Revoke, Cap, Grant}

@@ -1,7 +1,7 @@
 -- What holds after the actions so far at every point of a legal history.
 use Rattle.std.specs.Prelude.{◌≡◌, ℕ, ◌<◌, ◌≤◌, true, List, length, Some}
 use Rattle.cal_machine.specs.Table.{Table}
-use Rattle.cal_policy.specs.Tasks.{threads_of_table, limit_of}
+use Rattle.cal_machine.specs.TableTasks.{threads_of_table, limit_of}
 use Rattle.cal_policy.specs.declared.history.action.Action.{Action}
 use Rattle.cal_policy.specs.declared.board.holders.Placement as placements
 use Rattle.cal_policy.specs.History.{holder_of, last_placement}

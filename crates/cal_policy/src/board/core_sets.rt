@@ -17,7 +17,7 @@ use crate::board::holders::{Holder, Placement};
 use crate::history::action::Action;
 use cal_machine::{Config, CoreSet, MOST_CORES};
 
-/// Which cores are free, taken or banned, of all 128 that a table can have.
+/// Which cores are free, taken or banned, of all `MOST_CORES` that a table can have.
 #[derive(Drop)]
 pub struct CoreSets {
     /// The cores that nobody has.

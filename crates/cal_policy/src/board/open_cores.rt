@@ -17,7 +17,7 @@ use crate::board::holders::Holding;
 use crate::history::action::Action;
 use cal_machine::{Config, CoreSet};
 
-/// The cores that a grant or a ban may come to, as far as holders and bans go, of all 128 that a
+/// The cores that a grant or a ban may come to, as far as holders and bans go, of all `MOST_CORES` that a
 /// table can have.
 #[derive(Drop)]
 pub struct OpenCores {

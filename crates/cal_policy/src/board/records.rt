@@ -17,10 +17,9 @@ ghost use Rattle.cal_policy.specs.declared.board.holders.Holder.{Holder};
 ghost use Rattle.cal_policy.specs.Judgement.Judging.{IsFitLook};
 ghost use Rattle.cal_policy.specs.declared.history.look.Seen.TheVariants.{Whole};
 
-use crate::board::thread_set::ThreadSet;
 use crate::board::unshown::note_left;
 use crate::history::look::Seen;
-use cal_machine::{CoreSet, MOST_THREADS};
+use cal_machine::{CoreSet, MOST_THREADS, ThreadSet};
 use cal_signal::{Record, Shown};
 
 /// The records of each thread that the looks so far have given.

@@ -5,7 +5,7 @@ ghost use Rattle.std.specs.Option.{IfSome};
 ghost use Rattle.cal_machine.specs.Table.{IsTable};
 ghost use Rattle.cal_machine.specs.declared.task_table.TheConstants.{MOST_TASKS};
 ghost use Rattle.cal_machine.specs.declared.numbering.TheConstants.{MOST_THREADS};
-ghost use Rattle.cal_policy.specs.Tasks.{threads_of_table};
+ghost use Rattle.cal_machine.specs.TableTasks.{threads_of_table};
 ghost use Rattle.cal_policy.specs.declared.history.action.Action.{Action};
 ghost use Rattle.cal_policy.specs.History.{holder_of};
 ghost use Rattle.cal_policy.specs.Pass.Grants.{leaves_for};

@@ -16,6 +16,7 @@ ghost use Rattle.cal_policy.specs.Setting.{Setting};
 use crate::board::Board;
 use crate::board::holders::Holder;
 use cal_machine::{CoreSet, MOST_CORES};
+use cal_signal::running_word;
 
 /// Notes the core that the record kept of a thread showed, where the next one does not. `last` and
 /// `next` are the core's number plus one, 0 for none.
@@ -57,7 +58,7 @@ impl Board {
         requires { thread < MOST_THREADS }
         ensures { IsTrue result → (kept_in self.now.keeping thread).running ≡ core + 1 }
     {
-        self.keeping.running(thread as usize) == u64::from(core) + 1
+        self.keeping.running(thread as usize) == running_word(Some(core))
     }
 
     /// Whether nobody has the core, or the kept record of the thread that has it shows it.

@@ -4,13 +4,13 @@ ghost use Rattle.std.specs.Prelude.{◌≡◌, ◌<◌, ◌++◌, ◌∷◌, [],
 ghost use Rattle.cal_policy.specs.declared.history.action_list.TheConstants.{MOST_ACTIONS};
 
 use crate::history::action::Action;
-use cal_lists::Listed;
+use cal_machine::{Listed, MOST_CORES, MOST_PAIRS, MOST_TASKS};
 use std::alloc::{AllocError, Global};
 use std::marker::Model;
 
-/// The most actions that a pass can have: 128 frees, 64 unbans, 64 bans and as many revocations for
-/// them, 2 for bandwidth and 16 grants or preemptions.
-pub const MOST_ACTIONS: usize = 338;
+/// The most actions that a pass can have: a Free of each core, an Unban of each pair, a Ban of each
+/// pair and as many revocations for them, two for bandwidth, and one for each task.
+pub const MOST_ACTIONS: usize = MOST_CORES + MOST_PAIRS + 2 * MOST_PAIRS + 2 + MOST_TASKS;
 
 /// The actions of a pass that was made, in the order in which it made them.
 pub type ActionList = Listed<Action>;
@@ -35,7 +35,7 @@ impl Model for Actions {
 }
 
 impl Actions {
-    /// An empty list with room for 338 actions. Fails only when out of memory.
+    /// An empty list with room for `MOST_ACTIONS`. Fails only when out of memory.
     pub fn reserved(alloc: Global) -> Result<Actions, AllocError>
         ensures { IfOk result (λ actions. actions ≡ []) }
     {

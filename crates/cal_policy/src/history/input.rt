@@ -1,7 +1,7 @@
 //! What a pass is given.
 
 use crate::history::look::SeenList;
-use cal_lists::Listed;
+use cal_machine::Listed;
 
 /// For each thread, in thread order, whether its command ring had room.
 pub type Rooms = Listed<bool>;

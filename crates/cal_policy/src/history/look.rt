@@ -1,6 +1,6 @@
 //! Looks as a pass takes them: with the scheduler's judgement of what they showed.
 
-use cal_lists::Listed;
+use cal_machine::Listed;
 use cal_signal::Record;
 
 /// What a look at a thread's page came to, once it was judged by the commands sent so far.

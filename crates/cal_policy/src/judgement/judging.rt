@@ -11,7 +11,7 @@ ghost use Rattle.cal_signal.specs.Shown.{IsFitShown};
 ghost use Rattle.cal_policy.specs.History.{actions_of, looks_of};
 ghost use Rattle.cal_policy.specs.History.Looks.{last_shown, look_of};
 ghost use Rattle.cal_policy.specs.Judgement.Orderly.{IsOrderly};
-ghost use Rattle.cal_policy.specs.Tasks.{threads_of_table};
+ghost use Rattle.cal_machine.specs.TableTasks.{threads_of_table};
 ghost use Rattle.cal_policy.specs.Judgement.Judging.{is_acknowledged_by, is_foreign, judged};
 ghost use Rattle.cal_policy.specs.Judgement.Judging.{IsFitLook, AreFitLooks, IsInput};
 ghost use Rattle.cal_policy.specs.Board.{HasSizes, HoldingAgrees, KeepingAgrees, Agrees};

@@ -5,7 +5,7 @@
 pub enum LookFault {
     /// A busy look whose two versions are no busy pair.
     NoPair,
-    /// A record whose `running` is above 128 or whose `misses` are above 2^56.
+    /// A record whose `running` is above `MOST_CORES` or whose `misses` are above `MOST_MISSES`.
     Misshapen,
     /// The record's place is lower than that of the last one shown.
     PlaceFell,

@@ -9,19 +9,18 @@ ghost use Rattle.cal_policy.specs.declared.history.look.Seen.{Seen};
 ghost use Rattle.cal_policy.specs.declared.judgement.open_input.FoundLook.{FoundLook};
 ghost use Rattle.cal_policy.specs.Board.{HasSizes};
 ghost use Rattle.cal_policy.specs.Board.KeepingSets.{KeepsSets};
-ghost use Rattle.cal_policy.specs.Board.ThreadSet.{has_thread};
+ghost use Rattle.cal_machine.specs.ThreadSet.{has_thread};
 ghost use Rattle.cal_policy.specs.Book.{AgreesWith};
 ghost use Rattle.cal_policy.specs.Judgement.Judging.{IsInput};
 ghost use Rattle.cal_policy.specs.Judgement.OpenInput.{judged_input};
 ghost use Rattle.cal_policy.specs.Judgement.Weighing.{IsWeighed, IsWeighedBy};
 
 use crate::board::records::Keeping;
-use crate::board::thread_set::ThreadSet;
 use crate::book::Book;
 use crate::history::input::Input;
 use crate::history::look::Seen;
 use crate::judgement::judging::is_fit_look;
-use cal_machine::Config;
+use cal_machine::{Config, ThreadSet};
 
 /// What was seen of the looks so far of a pass: whether all fit what was shown of their threads
 /// before, and which may tell what is not kept yet.

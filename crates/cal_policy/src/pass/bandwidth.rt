@@ -27,7 +27,6 @@ use crate::history::input::Input;
 use crate::pass::Pass;
 use crate::pass::choice::{Candidate, greater};
 use crate::pass::coupled::{Coupled, make_both, neither};
-use crate::tasks::is_latency_critical;
 use cal_machine::{Config, MOST_TASKS};
 
 fn no_cores() -> [Option<u8>; MOST_TASKS]
@@ -128,7 +127,7 @@ impl Pass<'_> {
             slice_index_or highest.now task None ≡ rules.core_to_lose s (so_far s acts) task →
             result ≡ rules.victim_rank s (so_far s acts) task }
     {
-        if is_latency_critical(self.config, task) {
+        if self.config.is_latency_critical(task) {
             return None;
         }
         match highest[task] {
@@ -206,7 +205,7 @@ impl Pass<'_> {
         ensures names { IfSome result (NamesTable self.now.config.now) }
     {
         let cap = cap_of(self.config, self.board, task);
-        if is_latency_critical(self.config, task) || cap >= self.config.task(task).limit {
+        if self.config.is_latency_critical(task) || cap >= self.config.task(task).limit {
             None
         } else {
             Some(Action::Cap {

@@ -7,7 +7,7 @@ ghost use Rattle.cal_machine.specs.Table.{IsTable};
 ghost use Rattle.cal_machine.specs.CoreSet.{has};
 ghost use Rattle.cal_policy.specs.declared.history.action_list.TheConstants.{MOST_ACTIONS};
 ghost use Rattle.cal_machine.specs.declared.machine.TheConstants.{MOST_CORES};
-ghost use Rattle.cal_policy.specs.Tasks.{threads_of_table};
+ghost use Rattle.cal_machine.specs.TableTasks.{threads_of_table};
 ghost use Rattle.cal_policy.specs.declared.history.action.Action.{Action};
 ghost use Rattle.cal_policy.specs.declared.history.action.Action.TheVariants.{Revoke};
 ghost use Rattle.cal_policy.specs.declared.history.action.Cause.TheVariants as causes;
@@ -31,7 +31,6 @@ use crate::history::action_list::Actions;
 use crate::history::input::Input;
 use crate::pass::Pass;
 use crate::pass::coupled::{Coupled, make_both, neither};
-use crate::tasks::is_latency_critical;
 use cal_machine::Config;
 use cal_signal::Record;
 
@@ -39,10 +38,7 @@ use cal_signal::Record;
 fn runs_too_long(clock: u64, rec: &Record, core: u8, limit: u64) -> bool
     ensures { result ≡ rules.runs_too_long clock rec.now core limit }
 {
-    rec.running == u64::from(core) + 1
-        && rec.started != 0
-        && rec.started < clock
-        && limit < clock - rec.started
+    rec.shows(core) && rec.started != 0 && rec.started < clock && limit < clock - rec.started
 }
 
 impl Pass<'_> {
@@ -61,7 +57,7 @@ impl Pass<'_> {
                 let task = self.config.task_of(placement.thread as usize);
                 let rec = &self.board.keeping.kept[placement.thread as usize];
                 let limit = self.config.task(task).request;
-                if is_latency_critical(self.config, task)
+                if self.config.is_latency_critical(task)
                     && runs_too_long(self.input.now, rec, core, limit)
                 {
                     Some(placement.thread)

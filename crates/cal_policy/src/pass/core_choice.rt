@@ -6,8 +6,8 @@ ghost use Rattle.std.specs.Option.{IfSome, is_some, option_map};
 ghost use Rattle.cal_machine.specs.Machine.{sibling_of};
 ghost use Rattle.cal_policy.specs.declared.history.action.Action.{Action};
 ghost use Rattle.cal_policy.specs.declared.history.entry.PassEntry.{PassEntry};
-ghost use Rattle.cal_policy.specs.Tasks as tasks;
-ghost use Rattle.cal_policy.specs.Tasks.{threads_of_table};
+ghost use Rattle.cal_machine.specs.TableTasks as tasks;
+ghost use Rattle.cal_machine.specs.TableTasks.{threads_of_table};
 ghost use Rattle.cal_policy.specs.Setting.{so_far, has_room};
 ghost use Rattle.cal_policy.specs.History.{holder_of, last_thread, is_banned};
 ghost use Rattle.cal_policy.specs.Pass.Grants as grants;
@@ -24,7 +24,6 @@ use crate::board::holders::{Holder, Placement};
 use crate::board::survey::survey_of;
 use crate::pass::Pass;
 use crate::pass::choice::{Candidate, lesser};
-use crate::tasks::is_latency_critical;
 use cal_machine::{Config, CoreSet};
 
 /// The class of a core that is free and not banned: 1 beside a core that the task holds, 2 last
@@ -79,7 +78,7 @@ impl Pass<'_> {
             result ≡ grants.burst_class self.now.config.now x task other }
         ensures few { IfSome result (λ class. class ≤ 5) }
     {
-        if !is_latency_critical(self.config, other) {
+        if !self.config.is_latency_critical(other) {
             return Some(4);
         }
         let survey = survey_of(self.config, self.board);
@@ -103,7 +102,7 @@ impl Pass<'_> {
             result ≡ (tasks.is_latency_critical self.now.config.now task
             && none_leaves_for s (so_far s acts) task) }
     {
-        let is_critical = is_latency_critical(self.config, task);
+        let is_critical = self.config.is_latency_critical(task);
         let awaits_none = survey_of(self.config, self.board).awaited[task] == 0;
         is_critical && awaits_none
     }

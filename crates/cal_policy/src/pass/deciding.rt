@@ -14,7 +14,6 @@ ghost use Rattle.cal_policy.specs.Board.KeepingSets.{FitAfter, KeepsSets};
 ghost use Rattle.cal_policy.specs.Board.News.{HasNews};
 
 use crate::board::Board;
-use crate::board::thread_set::ThreadSet;
 use crate::history::action_list::Actions;
 use crate::history::input::Input;
 use crate::pass::bandwidth::keep_bandwidth;
@@ -22,7 +21,7 @@ use crate::pass::bans::ban_siblings;
 use crate::pass::frees::free_left;
 use crate::pass::grants::{best_effort_grants, critical_grants};
 use crate::pass::unbans::end_bans;
-use cal_machine::Config;
+use cal_machine::{Config, ThreadSet};
 
 /// Begins a pass with the looks of its input, which fit those before.
 fn begin(board: &mut Board, input: &Input)

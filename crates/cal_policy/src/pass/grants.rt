@@ -7,8 +7,8 @@ ghost use Rattle.cal_policy.specs.declared.history.action_list.TheConstants.{MOS
 ghost use Rattle.cal_machine.specs.declared.task_table.TheConstants.{MOST_TASKS};
 ghost use Rattle.cal_policy.specs.declared.history.action.Action.{Action};
 ghost use Rattle.cal_policy.specs.declared.history.entry.PassEntry.{PassEntry};
-ghost use Rattle.cal_policy.specs.Tasks as tasks;
-ghost use Rattle.cal_policy.specs.Tasks.{limit_of};
+ghost use Rattle.cal_machine.specs.TableTasks as tasks;
+ghost use Rattle.cal_machine.specs.TableTasks.{limit_of};
 ghost use Rattle.cal_policy.specs.Setting.{setting, so_far};
 ghost use Rattle.cal_policy.specs.Pass.Grants as rules;
 ghost use Rattle.cal_policy.specs.Pass.Grants.{grant_of, grant_at, grant_critical_at};
@@ -25,7 +25,6 @@ use crate::history::input::Input;
 use crate::pass::Pass;
 use crate::pass::appending::make;
 use crate::pass::choice::Candidate;
-use crate::tasks::is_latency_critical;
 use cal_machine::Config;
 
 impl Pass<'_> {
@@ -38,7 +37,7 @@ impl Pass<'_> {
             let s = setting_in self.now h in result ≡ rules.may_book s (so_far s acts) task }
     {
         let booked = survey_of(self.config, self.board).booked[task];
-        let below_cap = is_latency_critical(self.config, task)
+        let below_cap = self.config.is_latency_critical(task)
             || booked < cap_of(self.config, self.board, task);
         booked < self.config.task(task).limit && below_cap
     }
@@ -108,7 +107,7 @@ fn grant_critical(config: &Config, input: &Input, board: &mut Board, out: &mut A
     ensures length { length out.new
         ≤ length out.old + (if tasks.is_latency_critical config.now task then 1 else 0) }
 {
-    if is_latency_critical(config, task) {
+    if config.is_latency_critical(task) {
         let pass = Pass {
             config,
             input,
@@ -139,7 +138,7 @@ fn grant_best_effort(
     ensures length { length out.new
         ≤ length out.old + (if not (tasks.is_latency_critical config.now task) then 1 else 0) }
 {
-    if !is_latency_critical(config, task) {
+    if !config.is_latency_critical(task) {
         let pass = Pass {
             config,
             input,

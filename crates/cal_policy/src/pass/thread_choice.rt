@@ -4,7 +4,7 @@ ghost use Rattle.std.specs.Prelude.{◌≡◌, ◌<◌, List, length};
 ghost use Rattle.std.specs.Option.{IfSome};
 ghost use Rattle.cal_policy.specs.declared.history.action.Action.{Action};
 ghost use Rattle.cal_policy.specs.declared.history.entry.PassEntry.{PassEntry};
-ghost use Rattle.cal_policy.specs.Tasks.{threads_of_table, limit_of};
+ghost use Rattle.cal_machine.specs.TableTasks.{threads_of_table, limit_of};
 ghost use Rattle.cal_policy.specs.Setting.{so_far};
 ghost use Rattle.cal_policy.specs.Pass.Grants as grants;
 ghost use Rattle.cal_policy.specs.Pass.AtHand.{IsAtHand, StandsIn, setting_in};

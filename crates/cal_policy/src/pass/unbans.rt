@@ -2,6 +2,7 @@
 
 ghost use Rattle.std.specs.Prelude.{◌≡◌, ◌*◌, ◌+◌, ◌<◌, ◌≤◌, ◌++◌, List, length, option_to_list};
 ghost use Rattle.std.specs.Option.{IfSome};
+ghost use Rattle.cal_machine.specs.declared.machine.TheConstants.{MOST_PAIRS};
 ghost use Rattle.cal_policy.specs.declared.history.action_list.TheConstants.{MOST_ACTIONS};
 ghost use Rattle.cal_policy.specs.declared.history.action.Action.{Action};
 ghost use Rattle.cal_policy.specs.declared.history.entry.PassEntry.{PassEntry};
@@ -25,7 +26,7 @@ use cal_signal::Record;
 fn shows_still(rec: &Record, core: u8, started: u64) -> bool
     ensures { result ≡ still_shows rec.now core started }
 {
-    rec.running == u64::from(core) + 1 && rec.started == started
+    rec.shows(core) && rec.started == started
 }
 
 impl Pass<'_> {
@@ -68,12 +69,12 @@ impl Pass<'_> {
 /// banned cores are gone over upwards, pair by pair, and a pair gives at most one action.
 pub fn end_bans(config: &Config, input: &Input, board: &mut Board, out: &mut Actions)
     requires of_table { IsOfTable config.now input.now board.old }
-    requires room { length out.old + 64 ≤ MOST_ACTIONS }
+    requires room { length out.old + MOST_PAIRS ≤ MOST_ACTIONS }
     ensures acts { (h : List PassEntry) → let s = setting config.now h input.entry.now in
         NoPairBanned (so_far s out.old) → Stands board.old s out.old →
         (out.new ≡ out.old ++ unbans s out.old) × Stands board.new s out.new }
     ensures ready { IsReady config.now board.new }
-    ensures length { length out.new ≤ length out.old + 64 }
+    ensures length { length out.new ≤ length out.old + MOST_PAIRS }
 {
     let mut next = 0;
     while let Some(core) = next_core(config, &board.sets.banned, 2 * next) {

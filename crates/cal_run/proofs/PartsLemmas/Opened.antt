@@ -7,7 +7,7 @@ use Rattle.cal_kthread.specs.Team.Opening.{AreOpened}
 use Rattle.cal_kthread.specs.Team.{IsTeam, Place, place_of}
 use Rattle.cal_kthread.specs.Turn.Thread.{KernelView}
 use Rattle.cal_machine.specs.Table.{Table}
-use Rattle.cal_policy.specs.Tasks.{threads_of_table}
+use Rattle.cal_machine.specs.TableTasks.{threads_of_table}
 use Rattle.cal_sched.specs.Scheduler.{HaveSeenNothing, HaveSentNothing, SchedulerView}
 use Rattle.cal_sched.specs.Watching.{WatchView, new_watch}
 use Rattle.cal_signal.specs.Ends.{ObserverView}
@@ -17,7 +17,7 @@ use Rattle.cal_run.specs.Parts.{AreParts, rounds_of}
 use Rattle.cal_run.specs.Workers.{HasMade, HaveMade, HaveMadeNoTurn, MadeNoTurn, Seat, seat_of, seats_of}
 use Rattle.cal_run.specs.declared.parts.Parts.{Parts}
 use Rattle.cal_run.specs.declared.workers.worker.Worker.{Worker}
-use Rattle.cal_lists.proofs.Places.{slice_get_seam}
+use Rattle.cal_machine.proofs.Places.{slice_get_seam}
 use Rattle.cal_run.proofs.Members.{both_get}
 use Rattle.cal_run.proofs.WorkersLemmas.Turns.{one_more}
 

@@ -11,7 +11,7 @@ use Rattle.cal_signal.specs.Ends.{ObserverView}
 use Rattle.cal_trace.specs.declared.arrivals.GivenPass.{GivenPass}
 use Rattle.cal_run.specs.Outcome.{figures_of}
 use Rattle.cal_run.specs.Parts.{scheduler_seat_of}
-use Rattle.cal_lists.proofs.Places.{slice_get_at}
+use Rattle.cal_machine.proofs.Places.{slice_get_at}
 use Rattle.cal_run.proofs.Members.{same_of_each}
 use Rattle.cal_run.proofs.WorkersLemmas.Given.{take_next}
 

@@ -6,7 +6,7 @@ use Rattle.std.proofs.lemmas.Option.{slice_get_within}
 use Rattle.cal_sched.specs.Watching.{IsRoundMore, WatchView}
 use Rattle.cal_signal.specs.Ends.{ObserverView}
 use Rattle.cal_run.specs.Parts.{watch_seat_of}
-use Rattle.cal_lists.proofs.Places.{slice_get_at}
+use Rattle.cal_machine.proofs.Places.{slice_get_at}
 use Rattle.cal_run.proofs.Members.{same_of_each}
 
 -- one round more, where one was left to make

@@ -4,7 +4,7 @@ use Rattle.std.specs.List.{slice_get}
 use Rattle.std.proofs.Math.ListN.{set}
 use Rattle.std.proofs.lemmas.Bool.{cases_lt}
 use Rattle.std.proofs.lemmas.Option.{slice_get_within}
-use Rattle.cal_lists.proofs.Last.{last_or_before}
+use Rattle.cal_machine.proofs.Last.{last_or_before}
 use Rattle.cal_trace.specs.declared.arrivals.Arrivals.{Arrivals}
 use Rattle.cal_run.specs.Workers.{HasMade, HaveMade, seat_of, seats_of}
 use Rattle.cal_run.specs.declared.workers.worker.Worker.{Worker}

@@ -1,7 +1,7 @@
 -- Each id that is given stands in one place.
 use Rattle.std.specs.Prelude.{◌≡◌, ◌<◌, ℕ, [], length}
 use Rattle.cal_machine.specs.Table.{Table}
-use Rattle.cal_policy.specs.Tasks.{threads_of_table}
+use Rattle.cal_machine.specs.TableTasks.{threads_of_table}
 use Rattle.cal_kthread.specs.End.Account.{IsAccounted}
 use Rattle.cal_kthread.specs.Turn.Turns.{AreTurns}
 use Rattle.cal_linear.specs.Steps.{journal_at}

@@ -17,11 +17,11 @@ use cal_sched::{Scheduler, Watch};
 use cal_trace::Arrivals;
 use std::alloc::{AllocError, Global};
 
-/// The most rounds that a watch makes.
-const MOST_ROUNDS: usize = 1024;
+/// The most rounds that the watch of a run makes.
+pub const MOST_ROUNDS: usize = 1024;
 
 /// The parts of a run on these arrivals: a scheduler, a worker for each kernel thread of the table,
-/// and a watch for as many rounds as passes, 1,024 at most. None of them did anything yet. Fails
+/// and a watch for as many rounds as passes, `MOST_ROUNDS` at most. None of them did anything yet. Fails
 /// only when out of memory.
 pub fn open_parts(alloc: Global, config: &Config, arrivals: &Arrivals) -> Result<Parts, SimFault>
     requires fits { FitsTable config.now arrivals.now }

@@ -4,7 +4,7 @@ use Rattle.std.proofs.lemmas.Bool.{and_parts, ltb-true, leb-true}
 use Rattle.cal_machine.specs.Machine.{sibling_of}
 use Rattle.cal_machine.specs.Table.{Table, IsTable}
 use Rattle.cal_machine.specs.Tasks.{no_task}
-use Rattle.cal_policy.specs.Tasks.{owner_of, is_latency_critical, guaranteed_of, limit_of, threads_of_table}
+use Rattle.cal_machine.specs.TableTasks.{owner_of, is_latency_critical, guaranteed_of, limit_of, threads_of_table}
 use Rattle.cal_policy.specs.Board.Counts.{is_free, is_held, is_held_for, booked_by, cores_of_thread, is_over}
 use Rattle.cal_policy.specs.Pass.Grants.{class_by, class_of, choice_of, is_thread_for, may_preempt}
 use Rattle.cal_policy.specs.History.{holder_of, last_thread, is_banned}

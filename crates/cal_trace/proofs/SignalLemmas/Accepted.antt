@@ -12,7 +12,7 @@ use Rattle.cal_signal.specs.Looks.{IsBusyPair}
 use Rattle.cal_signal.specs.Records.{IsShaped}
 use Rattle.cal_signal.specs.Tests.{is_shaped, is_busy_pair}
 use Rattle.cal_signal.proofs.Testing.{shaped_holds, follows_holds, pair_holds}
-use Rattle.cal_lists.proofs.Last.{last_or_before, slice_get-last}
+use Rattle.cal_machine.proofs.Last.{last_or_before, slice_get-last}
 use Rattle.cal_trace.proofs.SignalLemmas.LastShown.{shown-push}
 use Rattle.cal_trace.specs.Rows.SoFar.{SoFar, at_start, passes_of, add_pass, add_end, whole, is_full, next_thread}
 use Rattle.cal_trace.specs.Signals.{shown_in, last_shown, with_look, add_look, look_row, following, as_look, look_of_whole, look_of_busy, take_look, take_form, take_row, form_of, signals_of, looks_in, begun}

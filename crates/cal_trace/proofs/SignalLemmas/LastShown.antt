@@ -7,7 +7,7 @@ use Rattle.cal_signal.specs.Shown.{nothing_shown}
 use Rattle.cal_signal.specs.declared.shown.Shown.{Shown}
 use Rattle.cal_policy.specs.History.Lists.{last_of}
 use Rattle.cal_policy.proofs.ListLemmas.OneMore.{last_of_push, unwrap_or_or}
-use Rattle.cal_lists.proofs.Last.{slice_get-last, slice_get-other}
+use Rattle.cal_machine.proofs.Last.{slice_get-last, slice_get-other}
 use Rattle.std.proofs.lemmas.Bool.Decides.{eqb_tells}
 use Rattle.std.proofs.lemmas.Bool.{ltb-true}
 use Rattle.cal_trace.specs.Rows.SoFar.{SoFar, passes_of, with_more, next_thread}

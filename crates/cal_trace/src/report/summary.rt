@@ -8,8 +8,7 @@ ghost use Rattle.cal_trace.specs.Report.Summary.{thread_line, thread_lines};
 
 use crate::write_fault::WriteFault;
 use cal_kthread::{Entry, Journal};
-use cal_lists::Listed;
-use cal_machine::Request;
+use cal_machine::{Listed, Request};
 use std::io;
 use std::io::Write;
 

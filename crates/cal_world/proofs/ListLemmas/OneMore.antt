@@ -7,7 +7,7 @@ use Rattle.std.proofs.lemmas.List.{take-append-le, get_or-set_same, get_or-set_o
 use Rattle.std.proofs.lemmas.Option.{slice_get_cases, slice_get-get_or, slice_get_within, get_or_from_slice_get}
 use Rattle.std.proofs.Math.Seq.{take-append_seam}
 use Rattle.cal_laws.proofs.PointLemmas.EachAction.{take_next}
-use Rattle.cal_lists.proofs.Places.{slice_get_parts, slice_get_seam}
+use Rattle.cal_machine.proofs.Places.{slice_get_parts, slice_get_seam}
 
 -- what a list has at a place it has there when more comes after it
 pub slice_get_left : {X : Type 0} (xs ys : List X) (i : ℕ) (z : X) → slice_get xs i ≡ Some z → slice_get (xs ++ ys) i ≡ Some z

@@ -13,7 +13,8 @@ use Rattle.cal_signal.specs.declared.record.Record.{Record}
 use Rattle.cal_signal.specs.Records.{zero_record}
 use Rattle.cal_signal.specs.Pages.{page_of}
 use Rattle.cal_kthread.specs.declared.journal.entry.Entry.TheVariants.{Took, Yielded}
-use Rattle.cal_kthread.specs.Journal.{State, first_state, core_after, changed_by, running_word}
+use Rattle.cal_kthread.specs.Journal.{State, first_state, core_after, changed_by}
+use Rattle.cal_signal.specs.Records.{running_word}
 use Rattle.cal_world.specs.Threads.{run_number}
 use Rattle.cal_world.proofs.ListLemmas.OneMore.{slice_get_left, get_or_push}
 use Rattle.cal_laws.proofs.PointLemmas.EachAction.{take_next}

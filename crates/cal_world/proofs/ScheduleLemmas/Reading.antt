@@ -50,7 +50,7 @@ use Rattle.cal_world.proofs.ScheduleLemmas.Floors.{Grows, grows, published_more}
 use Rattle.cal_world.proofs.ScheduleLemmas.Moves.{history_same, history_more, looks_on}
 use Rattle.cal_world.proofs.ScheduleLemmas.Walk.{by_run}
 use Rattle.cal_world.proofs.ScheduleLemmas.Invariant.{Holds, unleft_in, holds_first, holds_more}
-use Rattle.cal_lists.proofs.Places.{slice_get_parts}
+use Rattle.cal_machine.proofs.Places.{slice_get_parts}
 use Rattle.cal_policy.proofs.HistoryLemmas.OneMore.{shown_push}
 
 -- what was published is in order

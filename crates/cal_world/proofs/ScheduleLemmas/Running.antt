@@ -13,7 +13,7 @@ use Rattle.cal_policy.specs.Board.Counts.{is_booked_for}
 use Rattle.cal_policy.specs.Pass.Frees.{has_left}
 use Rattle.cal_policy.specs.declared.history.entry.PassEntry.{PassEntry}
 use Rattle.cal_guard.specs.Permitted.{IsPermittedHistory}
-use Rattle.cal_policy.specs.Tasks.{owner_of, threads_of_table}
+use Rattle.cal_machine.specs.TableTasks.{owner_of, threads_of_table}
 use Rattle.cal_guard.specs.Histories.{PermittedIsSteady}
 use Rattle.cal_policy.specs.Pass.Steady.{IsSteady}
 use Rattle.cal_kthread.specs.Journal.{commands_of}

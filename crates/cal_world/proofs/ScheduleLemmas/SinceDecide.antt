@@ -18,7 +18,7 @@ use Rattle.cal_world.specs.declared.event.Event.TheVariants.{Take, Yield, Publis
 use Rattle.cal_world.specs.Looks.{decided_at, since_decide, record_at, look_made, looks_since}
 use Rattle.cal_world.specs.Threads.{place_read, read_floor}
 use Rattle.cal_world.specs.World.{KeepsNone, IsInTurn}
-use Rattle.cal_lists.proofs.Places.{slice_get_parts}
+use Rattle.cal_machine.proofs.Places.{slice_get_parts}
 
 -- the last Decide is within the list
 within_one : (before : List Event) (event : Event) → unwrap_or (decided_at before event) 0 ≤ length before + 1

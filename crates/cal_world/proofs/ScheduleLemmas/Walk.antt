@@ -28,8 +28,8 @@ use Rattle.cal_policy.specs.Laws.{ActionIsOneMore}
 use Rattle.cal_guard.specs.Histories.{PermittedIsSafe}
 use Rattle.cal_laws.proofs.ChoiceLemmas.Granted.{gives_free, free_nobody}
 use Rattle.cal_world.proofs.ListLemmas.OneMore.{of_each_part}
-use Rattle.cal_lists.proofs.Booleans.{unwrap_if}
-use Rattle.cal_lists.proofs.Places.{slice_get_parts, slice_get_seam}
+use Rattle.cal_machine.proofs.Booleans.{unwrap_if}
+use Rattle.cal_machine.proofs.Places.{slice_get_parts, slice_get_seam}
 use Rattle.cal_laws.proofs.ExclusionLemmas.Standing.{one_sent}
 
 -- the placement of thread k by the command at this place among those sent to it

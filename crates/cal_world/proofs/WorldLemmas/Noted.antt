@@ -23,7 +23,7 @@ use Rattle.cal_world.proofs.ListLemmas.OneMore.{slice_get_set_same, slice_get_se
 use Rattle.cal_world.proofs.ScheduleLemmas.Journals as standings
 use Rattle.cal_world.proofs.ScheduleLemmas.Moves.{standing_in, journal_same, takes_same, nothing_more, takes_one, yields_one, publishes_one}
 use Rattle.cal_world.proofs.ScheduleLemmas.SinceDecide.{floor_same, floor_here}
-use Rattle.cal_lists.proofs.Places.{slice_get_parts}
+use Rattle.cal_machine.proofs.Places.{slice_get_parts}
 
 same : (k : ℕ) → eqb k k ≡ true
 same k = grind (arith, nat_tests)

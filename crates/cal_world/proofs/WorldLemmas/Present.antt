@@ -11,7 +11,7 @@ use Rattle.cal_world.specs.Projections.{entry_in, history_in, actions_in}
 use Rattle.cal_world.specs.Looks.{looks_since, look_made}
 use Rattle.cal_world.specs.World.Sending.{AreSent, AreGranted}
 use Rattle.cal_world.specs.World.Standing.{StandingsAreOf, PagesAreOf}
-use Rattle.cal_policy.specs.Tasks.{threads_of_table}
+use Rattle.cal_machine.specs.TableTasks.{threads_of_table}
 use Rattle.cal_world.specs.declared.illegal.Illegal.TheVariants.{NoThread}
 use Rattle.cal_world.specs.World.{IsAllowed}
 use Rattle.cal_world.specs.World.Present.{IsPresent, KeepsThread, KeepsThreadOf}

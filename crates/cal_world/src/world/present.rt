@@ -3,7 +3,7 @@
 ghost use Rattle.std.specs.Prelude.{◌≡◌, ◌<◌, ◌++◌, ◌∷◌, [], List, IfOk};
 ghost use Rattle.std.specs.Prelude.{OnOk, OnErr, length};
 ghost use Rattle.cal_machine.specs.Table.{Table, IsTable};
-ghost use Rattle.cal_policy.specs.Tasks.{threads_of_table};
+ghost use Rattle.cal_machine.specs.TableTasks.{threads_of_table};
 ghost use Rattle.cal_world.specs.declared.event.Event.{Event};
 ghost use Rattle.cal_world.specs.declared.event.Event.TheVariants.{Take, Yield, Publish};
 ghost use Rattle.cal_world.specs.declared.event.Event.TheVariants.{Read, Decide, Watch};

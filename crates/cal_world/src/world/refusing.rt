@@ -2,13 +2,12 @@
 
 ghost use Rattle.std.specs.Prelude.{◌≡◌, ℕ, ◌<◌, ◌↔◌, List, IsTrue, IfOk, length, slice_get};
 ghost use Rattle.cal_machine.specs.Table.{Table};
-ghost use Rattle.cal_policy.specs.Tasks.{threads_of_table};
+ghost use Rattle.cal_machine.specs.TableTasks.{threads_of_table};
 ghost use Rattle.cal_policy.specs.Pass.{IsPass, IsLegal};
 ghost use Rattle.cal_policy.specs.History.{commands_to};
 ghost use Rattle.cal_world.specs.Projections.{history_in, actions_in};
 ghost use Rattle.cal_signal.specs.Pages as pages;
 ghost use Rattle.cal_world.specs.Threads.{state_in, published_by, page_in};
-ghost use Rattle.cal_kthread.specs.Journal.{running_word};
 ghost use Rattle.cal_world.specs.declared.event.Event.{Event};
 ghost use Rattle.cal_world.specs.declared.event.Event.TheVariants.{Take, Yield, Publish};
 ghost use Rattle.cal_world.specs.declared.event.Event.TheVariants.{Read, Skip, Decide, Watch};
@@ -24,6 +23,7 @@ use crate::world::standing::Standing;
 use cal_command::Command;
 use cal_machine::Config;
 use cal_policy::{Actions, PassEntry, Record, Seen, is_pass, later, legal_is_orderly, shaped};
+use cal_signal::running_word;
 use std::alloc::{AllocError, Global};
 
 /// Whether the event's thread is one of the table's.
@@ -67,16 +67,6 @@ fn refusal_of_yield(standing: &Standing) -> Option<Illegal>
     }
 }
 
-/// The word of a record that shows this core.
-fn word_of(core: Option<u8>) -> u64
-    ensures { result ≡ running_word core }
-{
-    match core {
-        Some(core) => u64::from(core) + 1,
-        None => 0,
-    }
-}
-
 /// Of a Publish by a thread of the table, after this last record on its page.
 fn refusal_of_publish(standing: &Standing, last: &Record, rec: &Record) -> Option<Illegal>
     ensures { (table : Table) (before : List Event) (k : ℕ) → k < threads_of_table table →
@@ -84,7 +74,7 @@ fn refusal_of_publish(standing: &Standing, last: &Record, rec: &Record) -> Optio
         IsRefusal table before (Publish k rec.now) result }
 {
     if rec.taken == standing.taken as u64
-        && rec.running == word_of(standing.core)
+        && rec.running == running_word(standing.core)
         && later(last, rec)
         && shaped(rec)
     {

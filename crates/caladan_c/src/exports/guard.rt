@@ -12,7 +12,7 @@ ghost use Rattle.cal_machine.specs.Reading.{table_in};
 ghost use Rattle.cal_policy.specs.Board.{kept_holder};
 ghost use Rattle.cal_policy.specs.History.{actions_of, holder_of};
 ghost use Rattle.cal_policy.specs.Judgement.Judging.{IsInput};
-ghost use Rattle.cal_policy.specs.Tasks.{threads_of_table};
+ghost use Rattle.cal_machine.specs.TableTasks.{threads_of_table};
 ghost use Rattle.cal_policy.specs.declared.history.entry.PassEntry.{PassEntry};
 ghost use Rattle.caladan_c.specs.Found.{input_of, input_given};
 ghost use Rattle.caladan_c.specs.Gated.{GuardsAfter, SaysGate, WentThrough, WasStopped};

@@ -7,7 +7,7 @@ ghost use Rattle.cal_guard.specs.Guarded.{Keeps};
 ghost use Rattle.cal_policy.specs.declared.history.entry.PassEntry.{PassEntry};
 ghost use Rattle.cal_policy.specs.Board.{HasSizes};
 ghost use Rattle.cal_policy.specs.Judgement.OneByOne.{fault_of, taken_found};
-ghost use Rattle.cal_policy.specs.Tasks.{threads_of_table};
+ghost use Rattle.cal_machine.specs.TableTasks.{threads_of_table};
 ghost use Rattle.caladan_c.specs.Found.{look_in, found_of};
 ghost use Rattle.caladan_c.specs.Gated.{GuardsAfter, WentThrough, WasStopped};
 ghost use Rattle.caladan_c.specs.OneByOne.{input_given_each, AreSaid, IsFirstUnfit, AllFit};

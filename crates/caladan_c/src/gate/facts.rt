@@ -3,7 +3,7 @@
 ghost use Rattle.std.specs.Prelude.{◌≡◌, ◌<◌, List, length, nat_lt};
 ghost use Rattle.std.specs.Option.{is_some, IfSome};
 ghost use Rattle.cal_policy.specs.declared.history.entry.PassEntry.{PassEntry};
-ghost use Rattle.cal_policy.specs.Tasks.{threads_of_table};
+ghost use Rattle.cal_machine.specs.TableTasks.{threads_of_table};
 ghost use Rattle.cal_policy.specs.Judgement.Gone.{can_be_gone};
 ghost use Rattle.caladan_c.specs.Facts.{machine_of, row_of, state_of, IsGuardedLookOfGone};
 ghost use Rattle.caladan_c.specs.Gated.{GuardsAfter};

@@ -6,7 +6,7 @@ ghost use Rattle.std.specs.Option.{is_some, IfSome};
 ghost use Rattle.cal_policy.specs.declared.history.entry.PassEntry.{PassEntry};
 ghost use Rattle.cal_policy.specs.Board.{HasSizes};
 ghost use Rattle.cal_policy.specs.Book.{AgreesWith};
-ghost use Rattle.cal_policy.specs.Tasks.{threads_of_table};
+ghost use Rattle.cal_machine.specs.TableTasks.{threads_of_table};
 ghost use Rattle.cal_policy.specs.Judgement.OneByOne.{fault_of};
 ghost use Rattle.caladan_c.specs.Found.{look_in};
 ghost use Rattle.caladan_c.specs.OneByOne.{input_given_each, AreSaid, IsFirstUnfit, AllFit};

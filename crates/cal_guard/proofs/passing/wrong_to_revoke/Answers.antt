@@ -1,7 +1,7 @@
 -- The core is held, and of its thread and that thread's task all is as the actions say.
 use Rattle.std.proofs.Common.{◌≡◌, ◌<◌, List, refl, ap, sym, ◌∙◌, arith}
 use Rattle.std.specs.Option.{option_or}
-use Rattle.cal_policy.specs.Tasks.{owner_of}
+use Rattle.cal_machine.specs.TableTasks.{owner_of}
 use Rattle.cal_policy.specs.declared.history.action.Action.{Action}
 use Rattle.cal_policy.specs.declared.board.holders.Placement.{Placement}
 use Rattle.cal_policy.specs.declared.board.holders.Holder.{Holder}

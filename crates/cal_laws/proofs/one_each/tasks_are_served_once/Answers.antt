@@ -1,6 +1,6 @@
 use Rattle.std.proofs.Common.{◌≡◌, ℕ, ◌+◌, ◌*◌, Some, ap, arith}
 use Rattle.cal_machine.specs.Table.{Table}
-use Rattle.cal_policy.specs.Tasks.{owner_of}
+use Rattle.cal_machine.specs.TableTasks.{owner_of}
 use Rattle.cal_policy.specs.declared.history.action.Action.{Action}
 use Rattle.cal_policy.specs.declared.history.action.Action.TheVariants.{Free, Unban, Ban, Revoke, Cap, Grant}
 use Rattle.cal_policy.specs.declared.history.action.Cause.TheVariants as causes

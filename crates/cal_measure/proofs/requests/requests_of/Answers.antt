@@ -2,7 +2,7 @@ use Rattle.std.proofs.Common.{◌≡◌, ◌∙◌, ℕ, List, length, map, ap, 
 use Rattle.std.proofs.lemmas.Option.{slice_get-get_or}
 use Rattle.cal_machine.specs.declared.request.Request.{Request}
 use Rattle.cal_trace.specs.declared.arrivals.Arrival.{Arrival}
-use Rattle.cal_policy.specs.Tasks.{threads_of_table}
+use Rattle.cal_machine.specs.TableTasks.{threads_of_table}
 use Rattle.cal_measure.specs.Clocks.{last_clock}
 use Rattle.cal_measure.specs.Requests.{given_to, left_of_task, response_of, so_far_of, wait_of}
 use Rattle.cal_measure.specs.Spread.{IsSpread}

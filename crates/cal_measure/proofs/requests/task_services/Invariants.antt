@@ -1,5 +1,5 @@
 use Rattle.std.proofs.Common.{◌≡◌}
-use Rattle.cal_policy.specs.Tasks.{thread_of}
+use Rattle.cal_machine.specs.TableTasks.{thread_of}
 use Rattle.cal_measure.specs.Requests.{joined_below, services_at}
 use Rattle.cal_measure.proofs.requests.task_services.Given as goal
 

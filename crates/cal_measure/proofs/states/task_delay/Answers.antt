@@ -1,5 +1,5 @@
 use Rattle.std.proofs.Common.{◌+◌, ◌∙◌, ℕ, ap, arith}
-use Rattle.cal_policy.specs.Tasks.{thread_of}
+use Rattle.cal_machine.specs.TableTasks.{thread_of}
 use Rattle.cal_policy.specs.History.Looks.{kept_by}
 use Rattle.cal_policy.specs.Pass.Choice.{greatest_below}
 use Rattle.cal_policy.specs.Pass.Grants.{record_delay}

@@ -3,7 +3,7 @@ use Rattle.cal_policy.specs.Board.{KeepingAgrees}
 use Rattle.cal_policy.specs.History.Looks.{kept_by}
 use Rattle.cal_policy.specs.Pass.Choice.{greatest_below}
 use Rattle.cal_policy.specs.Pass.Grants.{record_delay}
-use Rattle.cal_policy.specs.Tasks.{thread_of}
+use Rattle.cal_machine.specs.TableTasks.{thread_of}
 use Rattle.cal_policy.specs.declared.history.look.Seen.{Seen}
 use Rattle.cal_measure.proofs.states.task_delay.Given as goal
 

@@ -5,7 +5,7 @@ use Rattle.std.proofs.lemmas.List.MinMax.{IsStrictWeakOrder-by_number, IsStrictW
 use Rattle.cal_policy.specs.declared.pass.choice.Candidate.{Candidate}
 use Rattle.cal_policy.specs.declared.history.action.Action.{Action}
 use Rattle.cal_policy.specs.Setting.{Setting}
-use Rattle.cal_policy.specs.Tasks.{limit_of, thread_of}
+use Rattle.cal_machine.specs.TableTasks.{limit_of, thread_of}
 use Rattle.cal_policy.specs.Pass.Grants.{thread_rank, thread_choice}
 use Rattle.cal_policy.specs.Laws.{HasWaitedLongest}
 use Rattle.cal_policy.proofs.PassLemmas.Best.{BestOrNone, best_is_best}

@@ -2,14 +2,14 @@ use Rattle.std.proofs.Common.{◌≡◌, ◌+◌, ◌<◌, ◌≤◌, [], ◌∷
 use Rattle.std.proofs.lemmas.Option.{slice_get_read}
 use Rattle.cal_signal.specs.Ends.{ObserverView}
 use Rattle.cal_command.specs.Rings.{SenderView}
-use Rattle.cal_policy.specs.Tasks.{threads_of_table}
+use Rattle.cal_machine.specs.TableTasks.{threads_of_table}
 use Rattle.cal_policy.specs.declared.judgement.open_input.FoundLook.{FoundLook}
 use Rattle.cal_sched.specs.Looking.{HasLooked}
 use Rattle.cal_sched.specs.Passing.{HasAsked}
 use Rattle.cal_sched.proofs.Below.{Below-none, Below-more}
 use Rattle.cal_sched.proofs.Found.{Looks, Asks, FoundBelow, FoundBelow-all}
 use Rattle.cal_sched.proofs.finding.find_each.Goals as goal
-use Rattle.cal_lists.proofs.Last.{some_same}
+use Rattle.cal_machine.proofs.Last.{some_same}
 
 pub loop-k-init : goal.loop-k-init
 loop-k-init c = record {

@@ -6,7 +6,7 @@ use Rattle.cal_policy.specs.declared.history.action.Action.TheVariants.{Free}
 use Rattle.cal_policy.specs.declared.history.entry.PassEntry.{PassEntry}
 use Rattle.cal_policy.specs.Book.{IsSentBy}
 use Rattle.cal_policy.specs.History.{actions_of}
-use Rattle.cal_policy.specs.Tasks.{threads_of_table}
+use Rattle.cal_machine.specs.TableTasks.{threads_of_table}
 use Rattle.cal_sched.proofs.Sent.{SentBelow-none, SentBelow-silent, SentBelow-more, SentBelow-all, of_last, room_known, sendable}
 use Rattle.cal_sched.proofs.sending.send_commands.Goals as goal
 use Rattle.cal_sched.proofs.sending.send_commands.Goals.{in-Some, in_default}

@@ -1,5 +1,5 @@
 use Rattle.std.proofs.Common.{◌≡◌, ◌++◌, ◌∷◌, [], ℕ, List, Some, slice_get, length, length-append, ap, subst, sym, ⊎_elim, arith}
-use Rattle.cal_lists.proofs.Last.{last_or_before}
+use Rattle.cal_machine.proofs.Last.{last_or_before}
 use Rattle.cal_run.specs.Outcome.{outcome_of}
 use Rattle.cal_tables.specs.Courses.{IsTaskCourse}
 use Rattle.cal_tables.specs.declared.courses.TaskCourse.{TaskCourse}

@@ -1,5 +1,5 @@
 use Rattle.std.proofs.Common.{◌≡◌, ◌++◌, ◌∷◌, [], ℕ, List, Some, slice_get, length, length-append, ap, subst, sym, ⊎_elim, arith}
-use Rattle.cal_lists.proofs.Last.{last_or_before}
+use Rattle.cal_machine.proofs.Last.{last_or_before}
 use Rattle.cal_measure.specs.Requests.{AreRequestsOf}
 use Rattle.cal_measure.specs.declared.requests.TaskRequests.{TaskRequests}
 use Rattle.cal_tables.proofs.measuring.numbers_of.Goals as goal

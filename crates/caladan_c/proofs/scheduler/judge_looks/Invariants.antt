@@ -1,7 +1,7 @@
 use Rattle.std.proofs.Common.{◌≡◌, List, length, take, map}
 use Rattle.cal_policy.specs.Book.{AgreesWith}
 use Rattle.cal_policy.specs.Judgement.OpenInput.{IsOfFound}
-use Rattle.cal_policy.specs.Tasks.{threads_of_table}
+use Rattle.cal_machine.specs.TableTasks.{threads_of_table}
 use Rattle.cal_policy.specs.declared.history.entry.PassEntry.{PassEntry}
 use Rattle.caladan_c.specs.Found.{found_of}
 use Rattle.caladan_c.proofs.scheduler.judge_looks.Given as goal

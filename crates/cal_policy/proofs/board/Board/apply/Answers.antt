@@ -2,7 +2,7 @@
 use Rattle.std.proofs.Common.{◌∙◌, ap, subst, arith}
 use Rattle.cal_machine.specs.CoreSet.{has}
 use Rattle.std.specs.Option.{IfSome}
-use Rattle.cal_policy.specs.Tasks.{threads_of_table}
+use Rattle.cal_machine.specs.TableTasks.{threads_of_table}
 use Rattle.cal_policy.specs.declared.board.holders.Holder.{Holder}
 use Rattle.cal_policy.specs.Board.{holder_in}
 use Rattle.cal_policy.specs.Board.Survey.{CountsOneMore}

@@ -1,6 +1,6 @@
 -- Before any action every core is free.
 use Rattle.std.proofs.Common.{subst, sym}
-use Rattle.cal_policy.specs.Tasks.{threads_of_table}
+use Rattle.cal_machine.specs.TableTasks.{threads_of_table}
 use Rattle.cal_policy.specs.declared.board.holders.Holder.{Holder}
 use Rattle.cal_policy.specs.Board.{holder_in}
 use Rattle.cal_policy.specs.Board.CoreSets.{IsSorted}

@@ -1,7 +1,7 @@
 use Rattle.std.proofs.Common.{◌≡◌, List, length, take}
 use Rattle.cal_policy.specs.Book.{AgreesWith}
 use Rattle.cal_policy.specs.Judgement.OpenInput.{IsOfFound}
-use Rattle.cal_policy.specs.Tasks.{threads_of_table}
+use Rattle.cal_machine.specs.TableTasks.{threads_of_table}
 use Rattle.cal_policy.specs.declared.history.entry.PassEntry.{PassEntry}
 use Rattle.cal_policy.proofs.book.Book.input.Given as goal
 

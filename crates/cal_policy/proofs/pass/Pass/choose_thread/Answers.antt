@@ -1,7 +1,7 @@
 use Rattle.std.proofs.Common.{◌≡◌, ◌+◌, nat_lt, ap, ◌∙◌, arith}
 use Rattle.cal_machine.specs.declared.task.Task.{Task}
 use Rattle.cal_policy.specs.Setting.{so_far}
-use Rattle.cal_policy.specs.Tasks.{thread_of, limit_of}
+use Rattle.cal_machine.specs.TableTasks.{thread_of, limit_of}
 use Rattle.cal_policy.specs.Pass.Choice.{best_below}
 use Rattle.cal_policy.specs.Pass.Grants.{thread_rank}
 use Rattle.cal_policy.proofs.ListLemmas.OneNumberMore.{best_more}

@@ -3,7 +3,7 @@ use Rattle.std.specs.Option.{IfSome}
 use Rattle.cal_policy.specs.declared.history.action.Action.{Action}
 use Rattle.cal_policy.specs.declared.history.entry.PassEntry.{PassEntry}
 use Rattle.cal_policy.specs.Setting.{so_far}
-use Rattle.cal_policy.specs.Tasks.{thread_of}
+use Rattle.cal_machine.specs.TableTasks.{thread_of}
 use Rattle.cal_policy.specs.Pass.Choice.{best_below}
 use Rattle.cal_policy.specs.Pass.Grants.{thread_rank}
 use Rattle.cal_policy.specs.Pass.AtHand.{StandsIn, setting_in}

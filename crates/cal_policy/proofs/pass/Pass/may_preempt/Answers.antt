@@ -1,6 +1,6 @@
 -- One may be revoked at all by the first and the last test of the rule.
 use Rattle.std.proofs.Common.{◌≡◌, ◌<◌, ◌&&◌, not, true, false, get_or, ap, sym, ◌∙◌, arith}
-use Rattle.cal_policy.specs.Tasks.{is_latency_critical}
+use Rattle.cal_machine.specs.TableTasks.{is_latency_critical}
 use Rattle.cal_policy.specs.Setting.{so_far, has_room}
 use Rattle.cal_policy.specs.Pass.Grants.{is_granted_in, none_leaves_for}
 use Rattle.cal_policy.specs.Pass.AtHand.{setting_in}

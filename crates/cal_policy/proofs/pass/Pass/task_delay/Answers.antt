@@ -2,7 +2,7 @@
 use Rattle.std.proofs.Common.{◌≡◌, ◌+◌, ◌-◌, ◌≤◌, ℕ, ap, sym, ◌∙◌, arith}
 use Rattle.cal_machine.specs.Tasks.{first_thread}
 use Rattle.cal_policy.specs.Pass.AtHand.{setting_in}
-use Rattle.cal_policy.specs.Tasks.{thread_of}
+use Rattle.cal_machine.specs.TableTasks.{thread_of}
 use Rattle.cal_policy.specs.Pass.Choice.{greatest_below}
 use Rattle.cal_policy.specs.Pass.Grants.{thread_delay}
 use Rattle.cal_policy.proofs.ListLemmas.OneNumberMore.{greatest_more}

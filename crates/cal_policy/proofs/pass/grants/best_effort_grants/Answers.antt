@@ -1,7 +1,7 @@
 -- Each best-effort task gives what is due.
 use Rattle.std.proofs.Common.{◌≡◌, ℕ, ◌+◌, ◌≤◌, Bool, length, not, arith}
 use Rattle.cal_policy.specs.Setting.{setting}
-use Rattle.cal_policy.specs.Tasks.{is_latency_critical}
+use Rattle.cal_machine.specs.TableTasks.{is_latency_critical}
 use Rattle.cal_policy.specs.Pass.Choice.{count_below}
 use Rattle.cal_policy.specs.Pass.Grants.{grant_best_effort_at}
 use Rattle.cal_policy.proofs.ListLemmas.OneNumberMore.{count_more, count_within}

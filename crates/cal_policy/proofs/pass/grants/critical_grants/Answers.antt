@@ -1,7 +1,7 @@
 -- Each latency-critical task gives what is due.
 use Rattle.std.proofs.Common.{◌≡◌, ◌+◌, ◌≤◌, length, arith}
 use Rattle.cal_policy.specs.Setting.{setting}
-use Rattle.cal_policy.specs.Tasks.{is_latency_critical}
+use Rattle.cal_machine.specs.TableTasks.{is_latency_critical}
 use Rattle.cal_policy.specs.Pass.Choice.{count_below}
 use Rattle.cal_policy.specs.Pass.Grants.{grant_critical_at}
 use Rattle.cal_policy.proofs.ListLemmas.OneNumberMore.{count_more, count_at_most, count_within, count_both}

@@ -2,7 +2,7 @@ use Rattle.std.proofs.Common.{◌+◌, ◌≤◌, List, length}
 use Rattle.cal_policy.specs.declared.history.entry.PassEntry.{PassEntry}
 use Rattle.cal_policy.specs.Setting.{setting}
 use Rattle.cal_policy.specs.Pass.Choice.{count_below}
-use Rattle.cal_policy.specs.Tasks.{is_latency_critical}
+use Rattle.cal_machine.specs.TableTasks.{is_latency_critical}
 use Rattle.cal_policy.specs.Pass.Grants.{grant_critical_at}
 use Rattle.cal_policy.specs.Board.{Stands, IsReady}
 use Rattle.cal_policy.proofs.PassLemmas.PartSoFar.{Reached}

@@ -1,4 +1,4 @@
-use Rattle.cal_policy.specs.Tasks.{threads_of_table}
+use Rattle.cal_machine.specs.TableTasks.{threads_of_table}
 use Rattle.cal_run.proofs.OutcomeLemmas.GivenOnce.{arrived_once, never_arrived}
 use Rattle.cal_run.proofs.outcome.given_once.given_stand_once.Goals as goal
 

@@ -1,5 +1,5 @@
 use Rattle.std.proofs.Common.{◌≤◌, sym, ap, ◌∙◌, arith}
-use Rattle.cal_policy.specs.Tasks.{threads_of_table}
+use Rattle.cal_machine.specs.TableTasks.{threads_of_table}
 use Rattle.cal_world.specs.Threads.{running_on}
 use Rattle.cal_world.specs.World.{Past}
 use Rattle.cal_world.proofs.ScheduleLemmas.Nobody.{nobody_runs}

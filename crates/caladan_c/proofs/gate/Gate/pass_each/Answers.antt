@@ -4,7 +4,7 @@ use Rattle.cal_policy.specs.declared.history.action.Action.{Action}
 use Rattle.cal_policy.specs.declared.history.entry.PassEntry.{PassEntry}
 use Rattle.cal_policy.specs.declared.history.input.Input.{Input}
 use Rattle.cal_policy.specs.Judgement.Judging.{IsInput}
-use Rattle.cal_policy.specs.Tasks.{threads_of_table}
+use Rattle.cal_machine.specs.TableTasks.{threads_of_table}
 use Rattle.caladan_c.specs.Found.{found_of}
 use Rattle.caladan_c.specs.Gated.{Gated, GuardsAfter, WentThrough, WasStopped}
 use Rattle.caladan_c.specs.OneByOne.{input_of_each}

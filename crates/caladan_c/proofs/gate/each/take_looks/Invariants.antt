@@ -2,7 +2,7 @@ use Rattle.std.proofs.Common.{◌≡◌, ℕ, ◌<◌, ◌≤◌, List, Some, le
 use Rattle.std.specs.Vec.{vec_capacity}
 use Rattle.cal_guard.specs.Guarded.{Keeps}
 use Rattle.cal_policy.specs.Judgement.OneByOne.{fault_of}
-use Rattle.cal_policy.specs.Tasks.{threads_of_table}
+use Rattle.cal_machine.specs.TableTasks.{threads_of_table}
 use Rattle.cal_policy.specs.declared.history.entry.PassEntry.{PassEntry}
 use Rattle.caladan_c.specs.Found.{look_in}
 use Rattle.caladan_c.specs.OneByOne.{IsTakenOf, said_of}

@@ -1,7 +1,7 @@
 use Rattle.std.proofs.Common.{◌≡◌, ℕ, ◌<◌, List, Some, length, take, slice_get}
 use Rattle.cal_policy.specs.Book.{AgreesWith}
 use Rattle.cal_policy.specs.Judgement.OneByOne.{fault_of}
-use Rattle.cal_policy.specs.Tasks.{threads_of_table}
+use Rattle.cal_machine.specs.TableTasks.{threads_of_table}
 use Rattle.cal_policy.specs.declared.history.entry.PassEntry.{PassEntry}
 use Rattle.caladan_c.specs.Found.{look_in}
 use Rattle.caladan_c.specs.OneByOne.{IsTakenOf, said_of}

@@ -1,7 +1,7 @@
 -- What is said of a set of threads.
 use Rattle.std.specs.Prelude.{ℕ, Bool}
 use Rattle.cal_machine.specs.CoreSet.{has}
-use Rattle.cal_policy.specs.declared.board.thread_set.ThreadSet.{ThreadSet}
+use Rattle.cal_machine.specs.declared.thread_set.ThreadSet.{ThreadSet}
 
 -- whether the set has thread k
 abbrev pub has_thread : ThreadSet → ℕ → Bool

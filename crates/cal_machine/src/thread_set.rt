@@ -3,9 +3,14 @@
 ghost use Rattle.std.specs.Prelude.{◌≡◌, ◌<◌, ◌≤◌, ◌==◌, ◌||◌, ◌&&◌, not, ℕ, true, false};
 ghost use Rattle.std.specs.Option.{IfSome, IfNone};
 ghost use Rattle.cal_machine.specs.declared.numbering.TheConstants.{MOST_THREADS};
-ghost use Rattle.cal_policy.specs.Board.ThreadSet.{has_thread};
+ghost use Rattle.cal_machine.specs.ThreadSet.{has_thread};
 
-use cal_machine::CoreSet;
+use crate::core_set::CoreSet;
+use crate::machine::MOST_CORES;
+use crate::numbering::MOST_THREADS;
+
+// A set of threads is kept as a set of cores of the same numbers.
+const _: () = prove!(MOST_THREADS <= MOST_CORES);
 
 /// A set of kernel threads, each below `MOST_THREADS`. Contracts see it by its members:
 /// `has_thread set k`.

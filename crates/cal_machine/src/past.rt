@@ -29,7 +29,7 @@ impl<T> Model for Past<T> {
 
     ghost coded = { coded_list T.code };
 
-    ghost use Rattle.cal_past.specs.Past.{members};
+    ghost use Rattle.cal_machine.specs.Past.{members};
 
     ghost view = { λ p. members p.last.value };
 

@@ -1,3 +1,0 @@
-pub mod Last
-pub mod Booleans
-pub mod Places
