@@ -5,3 +5,4 @@ pub mod action_list;
 pub mod entry;
 pub mod input;
 pub mod look;
+pub mod sending;
