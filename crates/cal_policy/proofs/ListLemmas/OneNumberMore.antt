@@ -15,7 +15,7 @@ pub best_more : (beats : ℕ → ℕ → Bool) (f : ℕ → Option ℕ) (n : ℕ
 best_more beats f n best rank e g = rw (add-one n, e, g) refl
 
 -- no more pass than there are
-one_at_most : (b : Bool) → cond b 1 0 ≤ 1
+pub one_at_most : (b : Bool) → cond b 1 0 ≤ 1
 one_at_most true = omega arith
 one_at_most false = omega arith
 
