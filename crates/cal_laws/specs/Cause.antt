@@ -6,6 +6,7 @@ use Rattle.cal_machine.specs.TableTasks.{owner_of, limit_of, guaranteed_of, is_l
 use Rattle.cal_policy.specs.declared.history.action.Action.{Action}
 use Rattle.cal_policy.specs.declared.history.action.Action.TheVariants.{Ban, Cap, Revoke}
 use Rattle.cal_policy.specs.declared.history.action.Cause.{Cause}
+use Rattle.cal_policy.specs.declared.history.core_class.CoreClass.{CoreClass}
 use Rattle.cal_policy.specs.declared.history.action.Cause.TheVariants as causes
 use Rattle.cal_policy.specs.declared.board.holders.Placement as placements
 use Rattle.cal_policy.specs.declared.board.holders.Holder.TheVariants as holders
@@ -60,7 +61,7 @@ pub record IsForTask (s : Setting) (acts : List Action) (core t : ℕ) : Type 0 
   pub own : t < length s.table.tasks
   pub congested : is_congested s t ≡ true
   pub below_limit : booked_by s.table (so_far s acts) t < limit_of s.table t
-  pub class : ℕ
+  pub class : CoreClass
   pub least : IsLeastPossible s acts t class core
   pub burst : IsBurst s acts t class core
 

@@ -18,6 +18,8 @@ use Rattle.cal_policy.specs.declared.history.action.Action.TheVariants.{Ban, Rev
 use Rattle.cal_policy.specs.declared.history.action.Cause.{Cause}
 use Rattle.cal_policy.specs.declared.history.action.Cause.TheVariants as causes
 use Rattle.cal_policy.specs.declared.pass.choice.Candidate.{Candidate}
+use Rattle.cal_policy.specs.declared.history.core_class.CoreClass.{CoreClass}
+use Rattle.cal_policy.specs.declared.history.core_class.CoreClass.TheVariants as classes
 use Rattle.cal_policy.specs.declared.board.holders.Placement as placements
 use Rattle.cal_policy.specs.declared.board.holders.Holder.{Holder}
 use Rattle.cal_policy.specs.declared.board.holders.Holder.TheVariants as holders
@@ -121,12 +123,12 @@ held_for_owner table t h p e is =
     let same : eqb (owner_of table p.thread) t ≡ true = ap (is_held_for table t) (sym e) ∙ is in grind (arith, nat_tests)
 
 -- the victim is a best-effort task
-victim_best_effort : (s : Setting) (x : List Action) (o : Option Candidate) (victim : Candidate) → o ≡ Some victim →
+victim_best_effort : (s : Setting) (x : List Action) (o : Option (Candidate ℕ)) (victim : Candidate ℕ) → o ≡ Some victim →
     MatchOption o ((t : ℕ) → t < length s.table.tasks → victim_rank s x t ≡ None) (HasMostMisses s x) → is_latency_critical s.table victim.number ≡ false
 victim_best_effort s x None victim e most = cc
 victim_best_effort s x (Some v) victim e most =
     let same : v ≡ victim = cc in
-    let P : Candidate → Type 0 = λ v. is_latency_critical s.table v.number ≡ false in
+    let P : Candidate ℕ → Type 0 = λ v. is_latency_critical s.table v.number ≡ false in
     let may = some_then _ (Some (task_misses s v.number)) v.rank most.may_be in
     subst P same (not-true _ (and_parts _ _ may.0).0)
 
@@ -148,19 +150,19 @@ for_bandwidth more most s acts core ok m takes =
     }
 
 -- a core with a class for which it may be revoked is of a best-effort task or of one that is over
-burst_over : (table : Table) (x : List Action) (t other class : ℕ) → burst_class table x t other ≡ Some class →
+burst_over : (table : Table) (x : List Action) (t other : ℕ) (class : CoreClass) → burst_class table x t other ≡ Some class →
     (is_latency_critical table other ≡ false) ⊎ (is_over table x other ≡ true)
 burst_over table x t other class e = choose (is_latency_critical table other) refl e
   where
     choose : (critical : Bool) → is_latency_critical table other ≡ critical →
-        cond (not critical) (Some 4) (cond (nat_lt (booked_by table x t) (guaranteed_of table t) && not (eqb other t) && is_over table x other) (Some 5) None) ≡ Some class →
+        cond (not critical) (Some classes.BestEffortBurstable) (cond (nat_lt (booked_by table x t) (guaranteed_of table t) && not (eqb other t) && is_over table x other) (Some classes.LatencyCriticalBurstable) None) ≡ Some class →
         (is_latency_critical table other ≡ false) ⊎ (is_over table x other ≡ true)
     choose false is e = inl is
     choose true is e = inr (and_parts (nat_lt (booked_by table x t) (guaranteed_of table t) && not (eqb other t)) (is_over table x other)
-        (some_then (nat_lt (booked_by table x t) (guaranteed_of table t) && not (eqb other t) && is_over table x other) (Some 5) class e).0).1
+        (some_then (nat_lt (booked_by table x t) (guaranteed_of table t) && not (eqb other t) && is_over table x other) (Some classes.LatencyCriticalBurstable) class e).0).1
 
 -- what stands where a core is revoked for a task
-pub record IsForTask (s : Setting) (acts : List Action) (core t : ℕ) (loser : placements.Placement) (class : ℕ) : Type 0 where
+pub record IsForTask (s : Setting) (acts : List Action) (core t : ℕ) (loser : placements.Placement) (class : CoreClass) : Type 0 where
   pub room : has_room s loser.thread ≡ true
   pub fresh : is_granted_in acts core ≡ false
   pub burst : burst_class s.table (so_far s acts) t (owner_of s.table loser.thread) ≡ Some class

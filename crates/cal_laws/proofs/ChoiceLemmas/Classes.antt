@@ -6,6 +6,9 @@ use Rattle.cal_machine.specs.Machine.{sibling_of}
 use Rattle.cal_machine.specs.Table.{Table}
 use Rattle.cal_machine.specs.TableTasks.{owner_of, guaranteed_of, is_latency_critical}
 use Rattle.cal_policy.specs.declared.history.action.Action.{Action}
+use Rattle.cal_policy.specs.declared.history.core_class.CoreClass.{CoreClass}
+use Rattle.cal_policy.specs.declared.history.core_class.CoreClass.TheVariants as classes
+use Rattle.cal_policy.specs.History.CoreClasses.{class_number, is_idle}
 use Rattle.cal_policy.specs.declared.history.action.Cause.TheVariants as causes
 use Rattle.cal_policy.specs.declared.board.holders.Placement as placements
 use Rattle.cal_policy.specs.declared.board.holders.Holder.{Holder}
@@ -40,16 +43,16 @@ last_test : (table : Table) (x : List Action) (t c : ℕ) → WentLastTo table x
 last_test table x t c h = ap (is_thread_for table t) h.last ∙ eq-eqb (owner_of table h.thread) t h.task
 
 -- an idle core by the two tests
-idle_by : (s : Setting) (acts : List Action) (t class core : ℕ) → IsIdle (so_far s acts) core → (a b : Bool) →
+idle_by : (s : Setting) (acts : List Action) (t : ℕ) (class : CoreClass) (core : ℕ) → IsIdle (so_far s acts) core → (a b : Bool) →
     is_held_for s.table t (holder_of (so_far s acts) (sibling_of core)) ≡ a → is_thread_for s.table t (last_thread (so_far s acts) core) ≡ b →
-    cond a 1 (cond b 2 3) ≡ class → IsOfClass s acts t class core
+    cond a classes.Sibling (cond b classes.RecentlyUsed classes.OtherIdle) ≡ class → IsOfClass s acts t class core
 idle_by s acts t class core idle true b e f is =
     let x = so_far s acts in
-    inl (record { number = sym is; idle = idle; beside = held_for s.table x t (sibling_of core) (holder_of x (sibling_of core)) refl e })
+    inl (record { is = sym is; idle = idle; beside = held_for s.table x t (sibling_of core) (holder_of x (sibling_of core)) refl e })
 idle_by s acts t class core idle false true e f is =
     let x = so_far s acts in
     inr (inl (record {
-      number = sym is;
+      is = sym is;
       idle = idle;
       not_beside = λ h. both_ways _ e (held_test s.table x t (sibling_of core) h);
       last = last_for s.table x t core (last_thread x core) refl f;
@@ -57,7 +60,7 @@ idle_by s acts t class core idle false true e f is =
 idle_by s acts t class core idle false false e f is =
     let x = so_far s acts in
     inr (inr (inl (record {
-      number = sym is;
+      is = sym is;
       idle = idle;
       not_beside = λ h. both_ways _ e (held_test s.table x t (sibling_of core) h);
       not_last = λ h. both_ways _ f (last_test s.table x t core h);
@@ -121,21 +124,21 @@ lends_from s x t other h =
     and_from _ _ (and_from _ _ (lt-ltb (booked_by s.table x t) (guaranteed_of s.table t) h.short) (not_from_false (eqb other t) (ne_eqb other t h.another)))
     (lt-ltb (guaranteed_of s.table other) (held_by s.table x other) h.over)
 
-burst_by : (s : Setting) (acts : List Action) (t class core : ℕ) (m : MayBeTaken s acts t core) → (b : Bool) → is_latency_critical s.table (owner_of s.table m.placement.thread) ≡ b →
-    cond (not b) (Some 4) (cond (nat_lt (booked_by s.table (so_far s acts) t) (guaranteed_of s.table t) && not (eqb (owner_of s.table m.placement.thread) t)
-    && is_over s.table (so_far s acts) (owner_of s.table m.placement.thread)) (Some 5) None) ≡ Some class → IsBurst s acts t class core
+burst_by : (s : Setting) (acts : List Action) (t : ℕ) (class : CoreClass) (core : ℕ) (m : MayBeTaken s acts t core) → (b : Bool) → is_latency_critical s.table (owner_of s.table m.placement.thread) ≡ b →
+    cond (not b) (Some classes.BestEffortBurstable) (cond (nat_lt (booked_by s.table (so_far s acts) t) (guaranteed_of s.table t) && not (eqb (owner_of s.table m.placement.thread) t)
+    && is_over s.table (so_far s acts) (owner_of s.table m.placement.thread)) (Some classes.LatencyCriticalBurstable) None) ≡ Some class → IsBurst s acts t class core
 burst_by s acts t class core m true e f =
-    let parts = cond_some _ 5 class f in
+    let parts = cond_some _ classes.LatencyCriticalBurstable class f in
     record { taken = m; lender = inr (sym parts.1, lends_by s (so_far s acts) t (owner_of s.table m.placement.thread) e parts.0) }
-burst_by s acts t class core m false e f = record { taken = m; lender = inl (sym (same_Some 4 class f), e) }
+burst_by s acts t class core m false e f = record { taken = m; lender = inl (sym (same_Some classes.BestEffortBurstable class f), e) }
 
-of_class : (s : Setting) (acts : List Action) (t class core : ℕ) (h : Holder) → holder_of (so_far s acts) core ≡ h → class_by s acts t core h ≡ Some class →
+of_class : (s : Setting) (acts : List Action) (t : ℕ) (class : CoreClass) (core : ℕ) (h : Holder) → holder_of (so_far s acts) core ≡ h → class_by s acts t core h ≡ Some class →
     IsOfClass s acts t class core
 unfolding taken_by
 of_class s acts t class core (holders.Leaving p cause) e f = cc
 of_class s acts t class core holders.Free e f =
     let x = so_far s acts in
-    let idle : ℕ = idle_class s.table t (holder_of x (sibling_of core)) (last_thread x core) in
+    let idle : CoreClass = idle_class s.table t (holder_of x (sibling_of core)) (last_thread x core) in
     let parts = else_some (is_banned x core) (Some idle) class f in
     idle_by s acts t class core (record { free = e; not_banned = parts.0 })
     (is_held_for s.table t (holder_of x (sibling_of core))) (is_thread_for s.table t (last_thread x core)) refl refl (same_Some idle class parts.1)
@@ -145,56 +148,55 @@ of_class s acts t class core (holders.Held p) e f =
     inr (inr (inr (burst_by s acts t class core (taken_by s acts t core p e parts.0) (is_latency_critical s.table other) refl parts.1)))
 
 -- the class of an idle core
-class_of_idle : (s : Setting) (acts : List Action) (t core class : ℕ) → IsIdle (so_far s acts) core →
+class_of_idle : (s : Setting) (acts : List Action) (t core : ℕ) (class : CoreClass) → IsIdle (so_far s acts) core →
     idle_class s.table t (holder_of (so_far s acts) (sibling_of core)) (last_thread (so_far s acts) core) ≡ class → class_of s acts t core ≡ Some class
 class_of_idle s acts t core class idle e =
     ap (class_by s acts t core) idle.free ∙ cond-false (is_banned (so_far s acts) core) None _ idle.not_banned ∙ ap (λ n. Some n) e
 
 -- the class of a core that may be taken
-class_of_taken : (s : Setting) (acts : List Action) (t class core : ℕ) (m : MayBeTaken s acts t core) →
+class_of_taken : (s : Setting) (acts : List Action) (t : ℕ) (class : CoreClass) (core : ℕ) (m : MayBeTaken s acts t core) →
     burst_class s.table (so_far s acts) t (owner_of s.table m.placement.thread) ≡ Some class → class_of s acts t core ≡ Some class
 class_of_taken s acts t class core m e = ap (class_by s acts t core) m.held ∙ cond-true (may_preempt s acts t core (holders.Held m.placement)) _ None (taken_test s acts t core m) ∙ e
 
-class_of_burst : (s : Setting) (acts : List Action) (t class core : ℕ) (m : MayBeTaken s acts t core) →
-    ((class ≡ 4) × (is_latency_critical s.table (owner_of s.table m.placement.thread) ≡ false)) ⊎ ((class ≡ 5) × Lends s (so_far s acts) t (owner_of s.table m.placement.thread)) →
+class_of_burst : (s : Setting) (acts : List Action) (t : ℕ) (class : CoreClass) (core : ℕ) (m : MayBeTaken s acts t core) →
+    ((class ≡ classes.BestEffortBurstable) × (is_latency_critical s.table (owner_of s.table m.placement.thread) ≡ false)) ⊎ ((class ≡ classes.LatencyCriticalBurstable) × Lends s (so_far s acts) t (owner_of s.table m.placement.thread)) →
     class_of s acts t core ≡ Some class
 class_of_burst s acts t class core m (inl four) =
     class_of_taken s acts t class core m
-    (cond-true (not (is_latency_critical s.table (owner_of s.table m.placement.thread))) (Some 4) _ (not_from_false _ four.1) ∙ ap (λ n. Some n) (sym four.0))
+    (cond-true (not (is_latency_critical s.table (owner_of s.table m.placement.thread))) (Some classes.BestEffortBurstable) _ (not_from_false _ four.1) ∙ ap (λ n. Some n) (sym four.0))
 class_of_burst s acts t class core m (inr five) =
     class_of_taken s acts t class core m
-    (cond-false (not (is_latency_critical s.table (owner_of s.table m.placement.thread))) (Some 4) _ (not_from_true _ five.1.critical)
-    ∙ cond-true _ (Some 5) None (lends_from s (so_far s acts) t (owner_of s.table m.placement.thread) five.1) ∙ ap (λ n. Some n) (sym five.0))
+    (cond-false (not (is_latency_critical s.table (owner_of s.table m.placement.thread))) (Some classes.BestEffortBurstable) _ (not_from_true _ five.1.critical)
+    ∙ cond-true _ (Some classes.LatencyCriticalBurstable) None (lends_from s (so_far s acts) t (owner_of s.table m.placement.thread) five.1) ∙ ap (λ n. Some n) (sym five.0))
 
-pub class_from : (s : Setting) (acts : List Action) (t class core : ℕ) → IsOfClass s acts t class core → class_of s acts t core ≡ Some class
+pub class_from : (s : Setting) (acts : List Action) (t : ℕ) (class : CoreClass) (core : ℕ) → IsOfClass s acts t class core → class_of s acts t core ≡ Some class
 class_from s acts t class core (inl h) =
-    class_of_idle s acts t core class h.idle (cond-true _ 1 _ (held_test s.table (so_far s acts) t (sibling_of core) h.beside) ∙ sym h.number)
+    class_of_idle s acts t core class h.idle (cond-true _ classes.Sibling _ (held_test s.table (so_far s acts) t (sibling_of core) h.beside) ∙ sym h.is)
 class_from s acts t class core (inr (inl h)) =
     let x = so_far s acts in
     class_of_idle s acts t core class h.idle
-    (cond-false _ 1 _ (false_from_ne_true (is_held_for s.table t (holder_of x (sibling_of core))) (λ e. h.not_beside (held_for s.table x t (sibling_of core) (holder_of x (sibling_of core)) refl e)))
-    ∙ cond-true _ 2 3 (last_test s.table x t core h.last) ∙ sym h.number)
+    (cond-false _ classes.Sibling _ (false_from_ne_true (is_held_for s.table t (holder_of x (sibling_of core))) (λ e. h.not_beside (held_for s.table x t (sibling_of core) (holder_of x (sibling_of core)) refl e)))
+    ∙ cond-true _ classes.RecentlyUsed classes.OtherIdle (last_test s.table x t core h.last) ∙ sym h.is)
 class_from s acts t class core (inr (inr (inl h))) =
     let x = so_far s acts in
     class_of_idle s acts t core class h.idle
-    (cond-false _ 1 _ (false_from_ne_true (is_held_for s.table t (holder_of x (sibling_of core))) (λ e. h.not_beside (held_for s.table x t (sibling_of core) (holder_of x (sibling_of core)) refl e)))
-    ∙ cond-false _ 2 3 (false_from_ne_true (is_thread_for s.table t (last_thread x core)) (λ e. h.not_last (last_for s.table x t core (last_thread x core) refl e))) ∙ sym h.number)
+    (cond-false _ classes.Sibling _ (false_from_ne_true (is_held_for s.table t (holder_of x (sibling_of core))) (λ e. h.not_beside (held_for s.table x t (sibling_of core) (holder_of x (sibling_of core)) refl e)))
+    ∙ cond-false _ classes.RecentlyUsed classes.OtherIdle (false_from_ne_true (is_thread_for s.table t (last_thread x core)) (λ e. h.not_last (last_for s.table x t core (last_thread x core) refl e))) ∙ sym h.is)
 class_from s acts t class core (inr (inr (inr h))) = class_of_burst s acts t class core h.taken h.lender
 
-pub of_its_class : (s : Setting) (acts : List Action) (t class core : ℕ) → class_of s acts t core ≡ Some class → IsOfClass s acts t class core
+pub of_its_class : (s : Setting) (acts : List Action) (t : ℕ) (class : CoreClass) (core : ℕ) → class_of s acts t core ≡ Some class → IsOfClass s acts t class core
 of_its_class s acts t class core e = of_class s acts t class core (holder_of (so_far s acts) core) refl e
 
--- a class below 4 is that of a core that is not banned, one from 4 on that of a core that may be
--- taken
-pub idle_unbanned : (s : Setting) (acts : List Action) (t class core : ℕ) → IsOfClass s acts t class core → nat_lt class 4 ≡ true → is_banned (so_far s acts) core ≡ false
-idle_unbanned s acts t class core (inl h) low = h.idle.not_banned
-idle_unbanned s acts t class core (inr (inl h)) low = h.idle.not_banned
-idle_unbanned s acts t class core (inr (inr (inl h))) low = h.idle.not_banned
-idle_unbanned s acts t class core (inr (inr (inr h))) low =
-    let less = ltb-true class 4 low in absurd (⊎_elim (λ four. let is = four.0 in omega arith) (λ five. let is = five.0 in omega arith) h.lender)
+-- an idle class is that of a core that is not banned, another that of a core that may be taken
+pub idle_unbanned : (s : Setting) (acts : List Action) (t : ℕ) (class : CoreClass) (core : ℕ) → IsOfClass s acts t class core → is_idle class ≡ true → is_banned (so_far s acts) core ≡ false
+idle_unbanned s acts t class core (inl h) idle = h.idle.not_banned
+idle_unbanned s acts t class core (inr (inl h)) idle = h.idle.not_banned
+idle_unbanned s acts t class core (inr (inr (inl h))) idle = h.idle.not_banned
+idle_unbanned s acts t class core (inr (inr (inr h))) idle =
+    absurd (⊎_elim (λ best. both_ways _ (ap is_idle best.0) idle) (λ over. both_ways _ (ap is_idle over.0) idle) h.lender)
 
-pub burst_taken : (s : Setting) (acts : List Action) (t class core : ℕ) → IsOfClass s acts t class core → nat_lt class 4 ≡ false → IsBurst s acts t class core
-burst_taken s acts t class core (inl h) high = let no : nat_lt class 4 ≡ true = ap (λ n. nat_lt n 4) h.number in cc
-burst_taken s acts t class core (inr (inl h)) high = let no : nat_lt class 4 ≡ true = ap (λ n. nat_lt n 4) h.number in cc
-burst_taken s acts t class core (inr (inr (inl h))) high = let no : nat_lt class 4 ≡ true = ap (λ n. nat_lt n 4) h.number in cc
-burst_taken s acts t class core (inr (inr (inr h))) high = h
+pub burst_taken : (s : Setting) (acts : List Action) (t : ℕ) (class : CoreClass) (core : ℕ) → IsOfClass s acts t class core → is_idle class ≡ false → IsBurst s acts t class core
+burst_taken s acts t class core (inl h) held = let no : is_idle class ≡ true = ap is_idle h.is in cc
+burst_taken s acts t class core (inr (inl h)) held = let no : is_idle class ≡ true = ap is_idle h.is in cc
+burst_taken s acts t class core (inr (inr (inl h))) held = let no : is_idle class ≡ true = ap is_idle h.is in cc
+burst_taken s acts t class core (inr (inr (inr h))) held = h

@@ -5,6 +5,8 @@ use Rattle.std.specs.Option.{IfSome, is_some}
 use Rattle.cal_machine.specs.Table.{Table}
 use Rattle.cal_machine.proofs.ThreadNumbers.{task_in}
 use Rattle.cal_policy.specs.declared.history.action.Action.{Action}
+use Rattle.cal_policy.specs.declared.history.core_class.CoreClass.{CoreClass}
+use Rattle.cal_policy.specs.History.CoreClasses.{comes_before}
 use Rattle.cal_policy.specs.declared.board.holders.Holder.{Holder}
 use Rattle.cal_policy.specs.declared.board.holders.Holder.TheVariants.{Free, Held, Leaving}
 use Rattle.cal_policy.specs.declared.board.Board.{Board}
@@ -29,12 +31,12 @@ same_number n = grind (arith, nat_tests)
 some_below : (n : ℕ) → 1 ≤ n → nat_lt 0 n ≡ true
 some_below n le = grind (arith, nat_tests)
 
-none_there : (a : Bool) (class : Option ℕ) → (a && is_some class) ≡ false → a ≡ true → class ≡ None
+none_there : (a : Bool) (class : Option CoreClass) → (a && is_some class) ≡ false → a ≡ true → class ≡ None
 none_there a None e f = refl
 none_there false (Some k) e f = cc
 none_there true (Some k) e f = cc
 
-either : (b : Bool) (class : Option ℕ) → cond b class class ≡ class
+either : (b : Bool) (class : Option CoreClass) → cond b class class ≡ class
 either true class = refl
 either false class = refl
 
@@ -55,8 +57,8 @@ none_by s acts t core (Held p) there e =
 none_by s acts t core (Leaving p cause) there e = refl
 
 pub none_lost : (b : Board) (s : Setting) (acts : List Action) (t : ℕ) → s.table.cores ≤ 128 → Stands b s acts → IsReady s.table b →
-    NoneMayLose s.table (so_far s acts) t → best_below nat_lt (class_among b.sets.taken s acts t) s.table.cores ≡ None
-none_lost b s acts t few st ready none = best_none nat_lt (class_among b.sets.taken s acts t) s.table.cores
+    NoneMayLose s.table (so_far s acts) t → best_below comes_before (class_among b.sets.taken s acts t) s.table.cores ≡ None
+none_lost b s acts t few st ready none = best_none comes_before (class_among b.sets.taken s acts t) s.table.cores
     (λ core lt.
     let low : core < 128 = omega (arith, lt, few) in
     let holder = holder_of (so_far s acts) core in

@@ -5,9 +5,11 @@ use Rattle.std.specs.Option.{option_or}
 use Rattle.cal_policy.specs.declared.history.action.Action.{Action}
 use Rattle.cal_policy.specs.declared.history.entry.PassEntry.{PassEntry}
 use Rattle.cal_policy.specs.declared.pass.choice.Candidate.{Candidate}
+use Rattle.cal_policy.specs.declared.history.core_class.CoreClass.{CoreClass}
 use Rattle.cal_policy.specs.declared.pass.Pass.{Pass}
 use Rattle.cal_policy.specs.Setting.{so_far}
 use Rattle.cal_policy.specs.Pass.Choice.{best_below}
+use Rattle.cal_policy.specs.History.CoreClasses.{comes_before}
 use Rattle.cal_policy.specs.Pass.Among.{class_among}
 use Rattle.cal_policy.specs.Pass.AtHand.{IsAtHand, StandsIn, setting_in}
 use Rattle.cal_policy.specs.Pass.Grants.{choice_of}
@@ -15,13 +17,13 @@ use Rattle.cal_policy.proofs.BoardLemmas.TwoSets.{choice_joins, idle_choice, non
 use Rattle.cal_policy.proofs.PassLemmas.Losing.{none_lost}
 use Rattle.cal_policy.proofs.pass.Pass.choose_core.Goals as goal
 
-joined : (pass : Pass) (h : List PassEntry) (acts : List Action) (task : ℕ) (free : Option Candidate) →
+joined : (pass : Pass) (h : List PassEntry) (acts : List Action) (task : ℕ) (free : Option (Candidate CoreClass)) →
     IsAtHand pass → StandsIn pass h acts →
-    free ≡ best_below nat_lt (class_among pass.board.now.open_cores.idle (setting_in pass h) acts task) pass.config.now.cores →
+    free ≡ best_below comes_before (class_among pass.board.now.open_cores.idle (setting_in pass h) acts task) pass.config.now.cores →
     choice_of (setting_in pass h) acts task
-    ≡ option_or free (best_below nat_lt (class_among pass.board.now.sets.taken (setting_in pass h) acts task) pass.config.now.cores)
+    ≡ option_or free (best_below comes_before (class_among pass.board.now.sets.taken (setting_in pass h) acts task) pass.config.now.cores)
 joined pass h acts task free p st e =
-    let taken = best_below nat_lt (class_among pass.board.now.sets.taken (setting_in pass h) acts task) pass.config.now.cores in
+    let taken = best_below comes_before (class_among pass.board.now.sets.taken (setting_in pass h) acts task) pass.config.now.cores in
     choice_joins pass.board.now (setting_in pass h) acts task pass.config.now.cores p.accepted.machine.most st p.ready.sets
     ∙ ap (λ o. option_or o taken)
     (sym (e ∙ idle_choice pass.board.now (setting_in pass h) acts task pass.config.now.cores p.accepted.machine.most st p.ready.sets p.ready.opens))
