@@ -115,7 +115,7 @@ pub fn threads_are_sent_one_command()
     last_thread_is_placed();
 }
 
-/// A pass has at most 338 actions.
+/// A pass has at most `MOST_ACTIONS` actions.
 pub fn passes_are_short()
     ensures { PassesAreShort }
 {}

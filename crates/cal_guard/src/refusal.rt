@@ -5,7 +5,7 @@ use thiserror::Error;
 /// Why an action is not permitted at its place, or why a pass may not end where it does.
 #[derive(Clone, Copy, Debug, PartialEq, Eq, Error)]
 pub enum Why {
-    /// The pass has 338 actions already.
+    /// The pass has `MOST_ACTIONS` actions already.
     #[error("a pass has at most 338 actions")]
     TooMany,
     /// The action names no core, thread or task of the table, or does not fit the state: a Free of

@@ -52,7 +52,7 @@ pub fn threads_are_sent_one_command()
     threads_are_of_their_task();
 }
 
-/// A pass has at most 338 actions.
+/// A pass has at most `MOST_ACTIONS` actions.
 pub fn passes_are_short()
     ensures { PassesAreShort }
 {

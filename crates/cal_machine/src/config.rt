@@ -128,7 +128,7 @@ impl Config {
         self.tasks.len()
     }
 
-    /// How many kernel threads there are in all, 1 to 128.
+    /// How many kernel threads there are in all, 1 to `MOST_THREADS`.
     pub fn threads(&self) -> usize
         ensures count { result ≡ threads_in self.now.tasks }
         ensures some { 1 ≤ result }

@@ -30,7 +30,7 @@ pub enum ConfigFault {
     /// The tasks are guaranteed more cores than there are.
     #[error("more cores are guaranteed than there are")]
     GuaranteesExceedCores = 7,
-    /// The limits add up to more than 128 kernel threads.
+    /// The limits add up to more than `MOST_THREADS` kernel threads.
     #[error("the tasks have too many kernel threads")]
     TooManyThreads = 8,
     /// Memory was refused. It may come at any place, and only there.

@@ -16,7 +16,7 @@ const _: () = prove!(MOST_CORES <= u8::MAX as usize);
 /// The most pairs of sibling cores.
 pub const MOST_PAIRS: usize = MOST_CORES / 2;
 
-/// A machine: cores `0 .. n-1`, where `n` is even, 2 to 128. The scheduler's own core is not
+/// A machine: cores `0 .. n-1`, where `n` is even, 2 to `MOST_CORES`. The scheduler's own core is not
 /// counted.
 ///
 /// Contracts see it as its number of cores.
@@ -39,7 +39,7 @@ impl Model for Machine {
 }
 
 impl Machine {
-    /// A machine of so many cores: `None` unless the number is even and 2 to 128.
+    /// A machine of so many cores: `None` unless the number is even and 2 to `MOST_CORES`.
     pub fn new(cores: u8) -> Option<Machine>
         ensures { SomeIff result (IsMachine cores) cores }
     {

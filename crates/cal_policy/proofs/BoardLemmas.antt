@@ -6,7 +6,6 @@ pub mod BansKept
 pub mod CommandNumbers
 pub mod FitLooks
 pub mod Holders
-pub mod News
 pub mod OpenCores
 pub mod Replayed
 pub mod Sorted

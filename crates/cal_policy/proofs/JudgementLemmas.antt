@@ -3,4 +3,3 @@ pub mod Gone
 pub mod Judged
 pub mod OneByOne
 pub mod OpenInput
-pub mod Weighing

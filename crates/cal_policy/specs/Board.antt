@@ -3,7 +3,6 @@ pub mod CoreSets
 pub mod Counts
 pub mod KeepingSets
 pub mod Losing
-pub mod News
 pub mod OpenCores
 pub mod Survey
 pub mod Unshown

@@ -5,4 +5,3 @@ pub mod OneByOne
 pub mod OpenInput
 pub mod Orderly
 pub mod Taken
-pub mod Weighing

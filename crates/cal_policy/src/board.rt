@@ -20,7 +20,6 @@ ghost use Rattle.cal_machine.specs.Table.{Table, IsTable};
 ghost use Rattle.cal_policy.specs.Board.{Agrees, IsReady, HasGranted, KeepingAgrees};
 ghost use Rattle.cal_policy.specs.Board.{KeepsBefore, NamesCores, NamesTable};
 ghost use Rattle.cal_policy.specs.Board.KeepingSets.{FitAfter, KeepsSets};
-ghost use Rattle.cal_policy.specs.Board.News.{HasNews};
 
 use crate::board::bans::Bans;
 use crate::board::caps::Caps;
@@ -32,7 +31,7 @@ use crate::board::survey::Survey;
 use crate::board::unshown::note_changed;
 use crate::history::action::Action;
 use crate::history::look::Seen;
-use cal_machine::{Config, CoreSet, ThreadSet};
+use cal_machine::{Config, CoreSet};
 
 /// The state that the actions and looks so far leave. It has no Model; see `Agrees` and
 /// `KeepingAgrees` (specs/Board.antt) for what each field means.
@@ -197,21 +196,5 @@ impl Board {
     {
         self.fresh = CoreSet::empty();
         self.keeping.look_fit(seen, &mut self.unshown);
-    }
-    /// The same, where only the looks at the threads of a set may tell what is not kept yet.
-    pub fn begin_news(&mut self, seen: &[Seen], news: &ThreadSet)
-        requires looks { length seen.now ≤ MOST_THREADS }
-        requires sets { KeepsSets self.old.keeping }
-        requires news { HasNews self.old.keeping seen.now news.now }
-        ensures agrees { (x : List Action) → Agrees self.old x → Agrees self.new x }
-        ensures fresh { HasGranted self.new.fresh [] }
-        ensures ready { (table : Table) → IsReady table self.old → IsReady table self.new }
-        ensures keeping { (looks : List (List Seen)) → KeepingAgrees self.old.keeping looks →
-            FitAfter looks seen.now → KeepingAgrees self.new.keeping (looks ++ seen.now ∷ []) }
-        ensures before { (looks : List (List Seen)) → KeepingAgrees self.old.keeping looks →
-            KeepsBefore self.new.keeping looks }
-    {
-        self.fresh = CoreSet::empty();
-        self.keeping.look_news(seen, news, &mut self.unshown);
     }
 }

@@ -11,7 +11,6 @@ ghost use Rattle.cal_policy.specs.Board.Counts as counts;
 ghost use Rattle.cal_policy.specs.History.{actions_of, holder_of, looks_of};
 ghost use Rattle.cal_policy.specs.Judgement.OpenInput.{judged_input};
 ghost use Rattle.cal_policy.specs.Judgement.Judging.{judged, IsInput};
-ghost use Rattle.cal_policy.specs.Judgement.Weighing.{IsWeighedBy};
 ghost use Rattle.cal_policy.specs.Setting.{setting};
 ghost use Rattle.cal_policy.specs.Pass.{pass_of, IsLegal};
 ghost use Rattle.cal_policy.specs.Board.{HasSizes, KeepsBefore, kept_holder};
@@ -25,8 +24,7 @@ use crate::history::input::Input;
 use crate::history::look::Seen;
 use crate::judgement::judging;
 use crate::judgement::open_input::{FoundLook, OpenInput};
-use crate::judgement::weighing::Weighed;
-use crate::pass::deciding::{decide, decide_news};
+use crate::pass::deciding::decide;
 use cal_machine::{Command, Config};
 use cal_signal::Look;
 use std::alloc::{AllocError, Global};
@@ -201,33 +199,5 @@ impl Book {
     {
         config.limits();
         decide(config, input, &mut self.board, out);
-    }
-
-    /// `step` on an input whose looks were weighed by this book as it stands. Only those that may
-    /// tell what is not kept yet are gone over.
-    pub fn step_weighed(
-        &mut self,
-        config: &Config,
-        input: &Input,
-        weighed: &Weighed,
-        out: &mut Actions,
-    )
-        requires of { IsBookOf config.now self.old }
-        requires sizes { HasSizes config.now input.now }
-        requires weighed { IsWeighedBy self.old input.now.seen weighed.now }
-        requires empty { out.old ≡ [] }
-        ensures acts { (h : List PassEntry) → IsLegal config.now h → AgreesWith self.old h →
-            IsInput config.now h input.entry.now →
-            out.new ≡ pass_of (setting config.now h input.entry.now) }
-        ensures agrees { (h : List PassEntry) → IsLegal config.now h → AgreesWith self.old h →
-            IsInput config.now h input.entry.now →
-            AgreesWith self.new (h ++ record { input = input.entry.now; actions = out.new } ∷ []) }
-        ensures before { (h : List PassEntry) → IsLegal config.now h → AgreesWith self.old h →
-            IsInput config.now h input.entry.now →
-            KeepsBefore self.new.board.value.keeping (looks_of h) }
-        ensures of { IsBookOf config.now self.new }
-    {
-        config.limits();
-        decide_news(config, input, weighed.news(), &mut self.board, out);
     }
 }

@@ -7,4 +7,3 @@ pub mod look_laws;
 pub mod one_by_one;
 pub mod open_input;
 pub mod orderly;
-pub mod weighing;

@@ -34,7 +34,6 @@ pub use judgement::look_laws::{
 pub use judgement::one_by_one::taken_of;
 pub use judgement::open_input::{FoundLook, OpenInput};
 pub use judgement::orderly::orderly;
-pub use judgement::weighing::Weighed;
 pub use laws::{
     action_is_one_more, chosen_has_waited_longest, chosen_is_of_least_class, commands_begin_alike,
     commands_follow, judged_is_of_its_look, last_thread_is_placed, legal_is_apart,

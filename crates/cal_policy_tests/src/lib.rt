@@ -1,4 +1,4 @@
-//! The tests of the crates below the scheduler, from cal_lists to cal_trace: what no clause of
+//! The tests of the crates below the scheduler, from cal_machine to cal_trace: what no clause of
 //! theirs says, that calls succeed, and rows that were worked out by hand. They are in one crate at
 //! the top of these, since a crate that has tests is proved a second time with them.
 //!

@@ -1,4 +1,3 @@
-pub mod Limits
 pub mod Looking
 pub mod Spares
 pub mod Watching

@@ -1,7 +1,7 @@
 //! What the looks so far have shown.
 
 ghost use Rattle.std.specs.Prelude.{◌≡◌, ℕ, ◌<◌, ◌≤◌, ◌==◌, ◌++◌, ◌∷◌, [], List, length};
-ghost use Rattle.std.specs.Prelude.{replicate, slice_index, if◌then◌else◌, IsTrue, false};
+ghost use Rattle.std.specs.Prelude.{replicate, slice_index, if◌then◌else◌, IsTrue};
 ghost use Rattle.std.specs.Option.{unwrap_or};
 ghost use Rattle.cal_machine.specs.declared.numbering.TheConstants.{MOST_THREADS};
 ghost use Rattle.cal_policy.specs.declared.history.look.Seen.{Seen};
@@ -11,7 +11,6 @@ ghost use Rattle.cal_policy.specs.History.Looks.{record_to_keep, shown_by};
 ghost use Rattle.cal_policy.specs.Board.{KeepingAgrees, KeepsBefore};
 ghost use Rattle.cal_policy.specs.Board.KeepingSets.{KeepsSets, kept_in, shown_in, shows_waiting};
 ghost use Rattle.cal_policy.specs.Board.KeepingSets.{FitAfter};
-ghost use Rattle.cal_policy.specs.Board.News.{HasNews, IsAsKept};
 ghost use Rattle.cal_policy.specs.Board.Unshown.{Shows};
 ghost use Rattle.cal_policy.specs.declared.board.holders.Holder.{Holder};
 ghost use Rattle.cal_policy.specs.Judgement.Judging.{IsFitLook};
@@ -184,20 +183,6 @@ impl Keeping {
         self.settled.has(k) && self.shown[k].number == number
     }
 
-    /// Whether a look, where it fits, may tell of thread `k` what is not kept yet.
-    pub fn is_news(&self, k: usize, look: &Seen) -> bool
-        requires thread { k < MOST_THREADS }
-        requires sets { KeepsSets self.now }
-        ensures { result ≡ false → IsFitLook (shown_in self.now k) look.now →
-            IsAsKept self.now k look.now }
-    {
-        match look {
-            Seen::Busy { .. } => false,
-            Seen::Whole { number, .. } => !self.is_as_kept(k, *number),
-            Seen::Ahead { .. } | Seen::Foreign { .. } => true,
-        }
-    }
-
     /// Takes one look, at thread `k`.
     fn take(&mut self, k: usize, look: Seen, unshown: &mut CoreSet)
         requires thread { k < MOST_THREADS }
@@ -275,27 +260,6 @@ impl Keeping {
         self.settle();
         for (k, look) in seen.iter().enumerate() {
             self.take_fit(k, look, unshown);
-        }
-    }
-    /// Takes the looks of one more pass, which fit those before. Only those at the threads of a set
-    /// are gone over, since the others change nothing.
-    pub fn look_news(&mut self, seen: &[Seen], news: &ThreadSet, unshown: &mut CoreSet)
-        requires looks { length seen.now ≤ MOST_THREADS }
-        requires sets { KeepsSets self.old }
-        requires news { HasNews self.old seen.now news.now }
-        ensures agrees { (looks : List (List Seen)) → KeepingAgrees self.old looks →
-            FitAfter looks seen.now → KeepingAgrees self.new (looks ++ seen.now ∷ []) }
-        ensures before { (looks : List (List Seen)) → KeepingAgrees self.old looks →
-            KeepsBefore self.new looks }
-        ensures sets { KeepsSets self.new }
-        ensures shows { (holder : ℕ → Holder) → Shows holder (kept_in self.old) unshown.old →
-            Shows holder (kept_in self.new) unshown.new }
-    {
-        self.settle();
-        let mut first = 0;
-        while let Some(k) = news.next(first, seen.len()) {
-            self.take(k, seen[k], unshown);
-            first = k + 1;
         }
     }
 }

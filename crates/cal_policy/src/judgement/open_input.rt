@@ -6,14 +6,12 @@ ghost use Rattle.cal_machine.specs.TableTasks.{threads_of_table};
 ghost use Rattle.cal_policy.specs.declared.history.entry.PassEntry.{PassEntry};
 ghost use Rattle.cal_policy.specs.declared.judgement.open_input.FoundLook.{FoundLook};
 ghost use Rattle.cal_policy.specs.Board.{HasSizes};
-ghost use Rattle.cal_policy.specs.Book.{AgreesWith, IsBookOf};
+ghost use Rattle.cal_policy.specs.Book.{AgreesWith};
 ghost use Rattle.cal_policy.specs.Judgement.OpenInput.{judged_input, IsOfFound};
-ghost use Rattle.cal_policy.specs.Judgement.Weighing.{IsWeighedBy};
 
 use crate::book::Book;
 use crate::history::input::{Input, Rooms};
 use crate::history::look::{Seen, SeenList};
-use crate::judgement::weighing::Weighed;
 use cal_machine::Config;
 use cal_signal::Look;
 use std::alloc::{AllocError, Global};
@@ -111,34 +109,6 @@ impl OpenInput {
             IsOfFound config.now h (looks ++ found ∷ []) self.new }
     {
         let seen = book.judge(config, self.seen.len(), found.look);
-        self.seen.push_reserved(seen);
-        self.rooms.push_reserved(found.room);
-    }
-
-    /// The same, and the look is weighed: whether it fits, and whether it may tell what the book
-    /// does not keep yet.
-    pub fn look_weighed(
-        &mut self,
-        config: &Config,
-        book: &Book,
-        found: FoundLook,
-        weighed: &mut Weighed,
-    )
-        requires of { IsBookOf config.now book.now }
-        requires table { self.old.threads ≡ threads_of_table config.now }
-        requires next { length self.old.seen < self.old.threads }
-        ensures threads { self.new.threads ≡ self.old.threads }
-        ensures one { length self.new.seen ≡ length self.old.seen + 1 }
-        ensures found { (h : List PassEntry) (looks : List FoundLook) → AgreesWith book.now h →
-            IsOfFound config.now h looks self.old →
-            IsOfFound config.now h (looks ++ found ∷ []) self.new }
-        ensures weighed { IsWeighedBy book.now self.old.seen weighed.old →
-            IsWeighedBy book.now self.new.seen weighed.new }
-    {
-        config.limits();
-        let k = self.seen.len();
-        let seen = book.judge(config, k, found.look);
-        weighed.add(book, k, &seen);
         self.seen.push_reserved(seen);
         self.rooms.push_reserved(found.room);
     }

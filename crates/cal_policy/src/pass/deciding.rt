@@ -11,7 +11,6 @@ ghost use Rattle.cal_policy.specs.Pass.{pass_of};
 ghost use Rattle.cal_policy.specs.Board.{Agrees, KeepingAgrees, Stands};
 ghost use Rattle.cal_policy.specs.Board.{IsReady, IsOfTable, AgreesAfter, HasSizes};
 ghost use Rattle.cal_policy.specs.Board.KeepingSets.{FitAfter, KeepsSets};
-ghost use Rattle.cal_policy.specs.Board.News.{HasNews};
 
 use crate::board::Board;
 use crate::history::action_list::Actions;
@@ -21,7 +20,7 @@ use crate::pass::bans::ban_siblings;
 use crate::pass::frees::free_left;
 use crate::pass::grants::{best_effort_grants, critical_grants};
 use crate::pass::unbans::end_bans;
-use cal_machine::{Config, ThreadSet};
+use cal_machine::Config;
 
 /// Begins a pass with the looks of its input, which fit those before.
 fn begin(board: &mut Board, input: &Input)
@@ -33,19 +32,6 @@ fn begin(board: &mut Board, input: &Input)
     ensures ready { (table : Table) → IsReady table board.old → IsReady table board.new }
 {
     board.begin_fit(input.seen.as_slice());
-}
-
-/// The same, where only the looks at the threads of a set may tell what is not kept yet.
-fn begin_news(board: &mut Board, input: &Input, news: &ThreadSet)
-    requires looks { length input.now.seen ≤ MOST_THREADS }
-    requires sets { KeepsSets board.old.keeping }
-    requires news { HasNews board.old.keeping input.now.seen news.now }
-    ensures stands { (table : Table) (h : List PassEntry) → Agrees board.old (actions_of h) →
-        KeepingAgrees board.old.keeping (looks_of h) → FitAfter (looks_of h) input.entry.now.seen →
-        Stands board.new (setting table h input.entry.now) [] }
-    ensures ready { (table : Table) → IsReady table board.old → IsReady table board.new }
-{
-    board.begin_news(input.seen.as_slice(), news);
 }
 
 /// Makes the parts of a pass, each after the one before.
@@ -82,29 +68,5 @@ pub fn decide(config: &Config, input: &Input, board: &mut Board, out: &mut Actio
 {
     config.limits();
     begin(board, input);
-    make_parts(config, input, board, out);
-}
-
-/// The same, where only the looks at the threads of a set may tell what is not kept yet.
-pub fn decide_news(
-    config: &Config,
-    input: &Input,
-    news: &ThreadSet,
-    board: &mut Board,
-    out: &mut Actions,
-)
-    requires ready { IsReady config.now board.old }
-    requires sizes { HasSizes config.now input.now }
-    requires news { HasNews board.old.keeping input.now.seen news.now }
-    requires empty { out.old ≡ [] }
-    ensures acts { (h : List PassEntry) → NoPairBanned (actions_of h) →
-        Agrees board.old (actions_of h) → KeepingAgrees board.old.keeping (looks_of h) →
-        FitAfter (looks_of h) input.entry.now.seen →
-        (out.new ≡ pass_of (setting config.now h input.entry.now))
-        × AgreesAfter board.new h (record { input = input.entry.now; actions = out.new }) }
-    ensures ready { IsReady config.now board.new }
-{
-    config.limits();
-    begin_news(board, input, news);
     make_parts(config, input, board, out);
 }

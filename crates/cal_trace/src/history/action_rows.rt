@@ -38,9 +38,9 @@ pub(crate) enum ActionForm {
 /// How many cores, threads and tasks a table has: what a row names is below.
 #[derive(Clone, Copy)]
 pub(crate) struct Extent {
-    /// How many cores, 2 to 128.
+    /// How many cores, 2 to `MOST_CORES`.
     pub cores: u8,
-    /// How many kernel threads, 1 to 128.
+    /// How many kernel threads, 1 to `MOST_THREADS`.
     pub threads: u8,
     /// How many tasks, 1 to 16.
     pub tasks: u8,
