@@ -77,9 +77,9 @@ pub record IsOther (s : Setting) (x : List Action) (t : ℕ) (class : CoreClass)
   pub not_beside : ¬ IsHeldBy s.table x t (sibling_of core)
   pub not_last : ¬ WentLastTo s.table x t core
 
--- a core that may be taken for task t: t is latency-critical and no core is being left for it; the
--- core is held by a thread whose ring has room, and was not granted in this pass
-pub record MayBeTaken (s : Setting) (acts : List Action) (t core : ℕ) : Type 0 where
+-- a core that may be preempted for task t: t is latency-critical and no core is being left for it;
+-- the core is held by a thread whose ring has room, and was not granted in this pass
+pub record MayBePreempted (s : Setting) (acts : List Action) (t core : ℕ) : Type 0 where
   pub critical : is_latency_critical s.table t ≡ true
   pub none_leaves : (c : ℕ) (left : placements.Placement) → c < s.table.cores →
       holder_of (so_far s acts) c ≢ holders.Leaving left (causes.Preempt t)
@@ -88,29 +88,30 @@ pub record MayBeTaken (s : Setting) (acts : List Action) (t core : ℕ) : Type 0
   pub room : has_room s placement.thread ≡ true
   pub not_granted : is_granted_in acts core ≡ false
 
--- another latency-critical task lends task t a core: it holds more than it is guaranteed, and t has
--- booked less than it is
-pub record Lends (s : Setting) (x : List Action) (t other : ℕ) : Type 0 where
+-- another latency-critical task may be preempted for task t: it holds more than it is guaranteed,
+-- and t has booked less than it is
+pub record CriticalMayBePreempted (s : Setting) (x : List Action) (t other : ℕ) : Type 0 where
   pub critical : is_latency_critical s.table other ≡ true
   pub another : other ≢ t
   pub over : guaranteed_of s.table other < held_by s.table x other
   pub short : booked_by s.table x t < guaranteed_of s.table t
 
--- a core of a best-effort task, or one that a latency-critical task lends
-pub record IsBurst (s : Setting) (acts : List Action) (t : ℕ) (class : CoreClass)
+-- a core that may be preempted, of a best-effort task or of a latency-critical one that may be
+pub record IsPreemptible (s : Setting) (acts : List Action) (t : ℕ) (class : CoreClass)
     (core : ℕ) : Type 0 where
-  pub taken : MayBeTaken s acts t core
-  pub lender : ((class ≡ classes.BestEffortBurstable)
-      × (is_latency_critical s.table (owner_of s.table taken.placement.thread) ≡ false))
+  pub core_may : MayBePreempted s acts t core
+  pub holder : ((class ≡ classes.BestEffortBurstable)
+      × (is_latency_critical s.table (owner_of s.table core_may.placement.thread) ≡ false))
       ⊎ ((class ≡ classes.LatencyCriticalBurstable)
-      × Lends s (so_far s acts) t (owner_of s.table taken.placement.thread))
+      × CriticalMayBePreempted s (so_far s acts) t
+      (owner_of s.table core_may.placement.thread))
 
 -- the core is of this class for task t
 abbrev pub IsOfClass : Setting → List Action → ℕ → CoreClass → ℕ → Type 0
 IsOfClass s acts t class core =
     IsSibling s (so_far s acts) t class core
     ⊎ (IsRecent s (so_far s acts) t class core
-    ⊎ (IsOther s (so_far s acts) t class core ⊎ IsBurst s acts t class core))
+    ⊎ (IsOther s (so_far s acts) t class core ⊎ IsPreemptible s acts t class core))
 
 -- what the pass takes for the class of a core is the class that it is of
 abbrev pub ClassesAreTold : Type 0
@@ -164,7 +165,7 @@ pub record HasThread (s : Setting) (x : List Action) (t : ℕ) : Type 0 where
   pub own : number < limit_of s.table t
   pub candidate : IsFreeWithRoom s x (thread_of s.table t number)
 
--- where a core is taken for a task, the task has a thread to run on it
+-- where a core is preempted for a task, the task has a thread to run on it
 abbrev pub PreemptionsHaveThread : Type 0
 PreemptionsHaveThread = (here : Point) → IsPoint here → (core t : ℕ) →
     next_at here ≡ Some (Revoke core (causes.Preempt t)) →

@@ -20,7 +20,7 @@ use Rattle.cal_policy.specs.History.{holder_of, last_thread, is_banned}
 use Rattle.cal_policy.specs.Board.Counts.{is_free, is_held_for, is_over, booked_by}
 use Rattle.cal_policy.specs.Pass.Choice.{best_below, better}
 use Rattle.cal_policy.specs.Setting.{Setting, so_far, is_held_with_room}
-use Rattle.cal_policy.specs.Pass.Grants.{class_of, class_by, burst_class, may_preempt, none_leaves_for, is_granted_in, is_thread_for}
+use Rattle.cal_policy.specs.Pass.Grants.{class_of, class_by, preempt_class, may_preempt, none_leaves_for, is_granted_in, is_thread_for}
 use Rattle.cal_policy.specs.Pass.Among.{class_among}
 use Rattle.cal_policy.specs.Board.{Stands, holder_in}
 use Rattle.cal_policy.specs.Board.CoreSets.{Sorts}
@@ -150,8 +150,8 @@ where_it_may : (b : Bool) (o : Option CoreClass) → High o → High (cond b o N
 where_it_may true o h = h
 where_it_may false o h = tt
 
-burst_high : (table : Table) (x : List Action) (t other : ℕ) → High (burst_class table x t other)
-burst_high table x t other = of_held (not (is_latency_critical table other))
+preempt_high : (table : Table) (x : List Action) (t other : ℕ) → High (preempt_class table x t other)
+preempt_high table x t other = of_held (not (is_latency_critical table other))
     (nat_lt (booked_by table x t) (guaranteed_of table t) && not (eqb other t) && is_over table x other)
 
 split_by : (s : Setting) (acts : List Action) (t c : ℕ) (h : Holder) →
@@ -165,8 +165,8 @@ split_by s acts t c Free = inl (
 split_by s acts t c (Held p) = inr (
   refl,
   refl,
-  where_it_may (may_preempt s acts t c (Held p)) (burst_class s.table (so_far s acts) t (owner_of s.table p.thread))
-      (burst_high s.table (so_far s acts) t (owner_of s.table p.thread)),
+  where_it_may (may_preempt s acts t c (Held p)) (preempt_class s.table (so_far s acts) t (owner_of s.table p.thread))
+      (preempt_high s.table (so_far s acts) t (owner_of s.table p.thread)),
 )
 split_by s acts t c (Leaving p cause) = inl (refl, refl, tt)
 
@@ -236,7 +236,7 @@ parts_fail true true true d e = e
 none_by : (s : Setting) (acts : List Action) (t c : ℕ) (h : Holder) → (is_latency_critical s.table t && none_leaves_for s (so_far s acts) t) ≡ false →
     cond (not (is_free h)) (class_by s acts t c h) None ≡ None
 none_by s acts t c Free e = refl
-none_by s acts t c (Held p) e = ap (λ b. cond b (burst_class s.table (so_far s acts) t (owner_of s.table p.thread)) None)
+none_by s acts t c (Held p) e = ap (λ b. cond b (preempt_class s.table (so_far s acts) t (owner_of s.table p.thread)) None)
     (parts_fail (is_latency_critical s.table t) (is_held_with_room s (Held p)) (not (is_granted_in acts c)) (none_leaves_for s (so_far s acts) t) e)
 none_by s acts t c (Leaving p cause) e = refl
 

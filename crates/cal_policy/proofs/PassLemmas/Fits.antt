@@ -24,7 +24,7 @@ use Rattle.cal_policy.specs.Setting.{Setting, so_far, kept_now, has_room, is_hel
 use Rattle.cal_policy.specs.Pass.Frees.{shows_left}
 use Rattle.cal_policy.specs.Pass.Bans.{too_long_on, may_ban_beside, may_be_emptied, ban_due}
 use Rattle.cal_policy.specs.Pass.Bandwidth.{can_lose, victim_rank, is_capped}
-use Rattle.cal_policy.specs.Pass.Grants.{class_of, class_by, idle_class, burst_class, may_preempt, is_thread_for, choice_of, thread_choice, thread_rank, thread_delay}
+use Rattle.cal_policy.specs.Pass.Grants.{class_of, class_by, idle_class, preempt_class, may_preempt, is_thread_for, choice_of, thread_choice, thread_rank, thread_delay}
 use Rattle.cal_policy.specs.Judgement.Orderly.{fits_state, names_table}
 use Rattle.cal_policy.specs.Board.{placement_of}
 use Rattle.cal_policy.specs.Pass.Made.{IsMade, IsFreed, IsUnbanned, IsBanned, IsRevokedForBan, IsPreempted, IsCapCut, IsCapRise, IsGranted, IsCut}
@@ -144,8 +144,8 @@ idle_low table t beside last = choose (is_held_for table t beside) (is_thread_fo
     choose false true = refl
     choose false false = refl
 
-burst_high : (table : Table) (x : List Action) (t other : ℕ) (r : CoreClass) → burst_class table x t other ≡ Some r → is_idle r ≡ false
-burst_high table x t other r e = choose (not (is_latency_critical table other)) (nat_lt (booked_by table x t) (guaranteed_of table t) && not (eqb other t) && is_over table x other) e
+preempt_high : (table : Table) (x : List Action) (t other : ℕ) (r : CoreClass) → preempt_class table x t other ≡ Some r → is_idle r ≡ false
+preempt_high table x t other r e = choose (not (is_latency_critical table other)) (nat_lt (booked_by table x t) (guaranteed_of table t) && not (eqb other t) && is_over table x other) e
   where
     at : (n : CoreClass) → is_idle n ≡ false → Some n ≡ Some r → is_idle r ≡ false
     at n f e = let same : n ≡ r = cc in let P : CoreClass → Type 0 = λ m. is_idle m ≡ false in subst P same f
@@ -158,8 +158,8 @@ burst_high table x t other r e = choose (not (is_latency_critical table other)) 
 pub class_free : (s : Setting) (acts : List Action) (t c : ℕ) (r : CoreClass) (h : Holder) → class_by s acts t c h ≡ Some r → is_idle r ≡ true → is_free h ≡ true
 class_free s acts t c r holders.Free e low = refl
 class_free s acts t c r (holders.Held p) e low =
-    let there = some_then (may_preempt s acts t c (holders.Held p)) (burst_class s.table (so_far s acts) t (owner_of s.table p.thread)) r e in
-    let high = burst_high s.table (so_far s acts) t (owner_of s.table p.thread) r there.1 in cc
+    let there = some_then (may_preempt s acts t c (holders.Held p)) (preempt_class s.table (so_far s acts) t (owner_of s.table p.thread)) r e in
+    let high = preempt_high s.table (so_far s acts) t (owner_of s.table p.thread) r there.1 in cc
 class_free s acts t c r (holders.Leaving p cause) e low = cc
 
 pub class_held : (s : Setting) (acts : List Action) (t c : ℕ) (r : CoreClass) (h : Holder) → class_by s acts t c h ≡ Some r → is_idle r ≡ false → is_held h ≡ true

@@ -72,12 +72,12 @@ impl Pass<'_> {
     /// The class of a core that another task holds, as far as that task goes: `BestEffortBurstable`
     /// of a best-effort one, `LatencyCriticalBurstable` of a latency-critical one that is over,
     /// where the task has booked less than it is guaranteed.
-    fn burst_class(&self, task: usize, other: usize) -> Option<CoreClass>
+    fn preempt_class(&self, task: usize, other: usize) -> Option<CoreClass>
         requires at_hand { IsAtHand self.now }
         requires task { task < length self.now.config.now.tasks }
         requires other { other < length self.now.config.now.tasks }
         ensures { (x : List Action) → Agrees self.now.board.now x →
-            result ≡ grants.burst_class self.now.config.now x task other }
+            result ≡ grants.preempt_class self.now.config.now x task other }
     {
         if !self.config.is_latency_critical(other) {
             return Some(CoreClass::BestEffortBurstable);
@@ -92,9 +92,9 @@ impl Pass<'_> {
         }
     }
 
-    /// Whether a core may be revoked for the task at all: it is latency-critical, and no core is
+    /// Whether a core may be preempted for the task at all: it is latency-critical, and no core is
     /// being left for it.
-    fn may_have_revoked(&self, task: usize) -> bool
+    fn may_preempt_any(&self, task: usize) -> bool
         requires at_hand { IsAtHand self.now }
         requires task { task < length self.now.config.now.tasks }
         ensures { (h : List PassEntry) (acts : List Action) →
@@ -108,7 +108,7 @@ impl Pass<'_> {
         is_critical && awaits_none
     }
 
-    /// Whether a core that `thread` holds may be revoked for the task: one may be at all, the
+    /// Whether a core that `thread` holds may be preempted for the task: one may be at all, the
     /// thread's ring has room, and the core was not granted in this pass.
     fn may_preempt(&self, task: usize, core: u8, thread: u8) -> bool
         requires at_hand { IsAtHand self.now }
@@ -120,7 +120,7 @@ impl Pass<'_> {
             result ≡ (tasks.is_latency_critical self.now.config.now task && has_room s thread
             && not (is_granted_in acts core) && none_leaves_for s (so_far s acts) task) }
     {
-        if !self.may_have_revoked(task) {
+        if !self.may_preempt_any(task) {
             return false;
         }
         let has_room = self.input.rooms.as_slice()[thread as usize];
@@ -141,7 +141,7 @@ impl Pass<'_> {
             Holder::Free => self.free_class(task, core),
             Holder::Held(placement) => {
                 if self.may_preempt(task, core, placement.thread) {
-                    self.burst_class(task, self.config.task_of(placement.thread as usize))
+                    self.preempt_class(task, self.config.task_of(placement.thread as usize))
                 } else {
                     None
                 }
@@ -171,31 +171,31 @@ impl Pass<'_> {
         best
     }
 
-    /// Whether the other task may lose a core to this one: it holds one, and what it holds has a
-    /// class for this one.
-    fn may_lose(&self, task: usize, other: usize) -> bool
+    /// Whether the other task may be preempted for this one: it holds a core, and what it holds has
+    /// a class for this one.
+    fn may_be_preempted(&self, task: usize, other: usize) -> bool
         requires at_hand { IsAtHand self.now }
         requires task { task < length self.now.config.now.tasks }
         requires other { other < length self.now.config.now.tasks }
         ensures { (x : List Action) → Agrees self.now.board.now x →
             result ≡ (nat_lt 0 (held_by self.now.config.now x other)
-            && is_some (grants.burst_class self.now.config.now x task other)) }
+            && is_some (grants.preempt_class self.now.config.now x task other)) }
     {
-        let class = self.burst_class(task, other);
+        let class = self.preempt_class(task, other);
         survey_of(self.config, self.board).held[other] > 0 && class.is_some()
     }
 
-    /// Whether some task may lose a core to this one.
-    fn some_may_lose(&self, task: usize) -> bool
+    /// Whether some task may be preempted for this one.
+    fn some_may_be_preempted(&self, task: usize) -> bool
         requires at_hand { IsAtHand self.now }
         requires task { task < length self.now.config.now.tasks }
         ensures none { result ≡ false → (x : List Action) → Agrees self.now.board.now x →
             (other : ℕ) → other < length self.now.config.now.tasks →
             (nat_lt 0 (held_by self.now.config.now x other)
-            && is_some (grants.burst_class self.now.config.now x task other)) ≡ false }
+            && is_some (grants.preempt_class self.now.config.now x task other)) ≡ false }
     {
         for other in 0..self.config.tasks() {
-            if self.may_lose(task, other) {
+            if self.may_be_preempted(task, other) {
                 return true;
             }
         }
@@ -204,7 +204,7 @@ impl Pass<'_> {
 
     /// The core of the least class for the task, of those with that class the lowest. A free core
     /// that is not banned is of a lesser class than any that is held, so those that are taken are
-    /// gone over only where there is none, and some task may lose one.
+    /// gone over only where there is none, and some task may be preempted.
     pub fn choose_core(&self, task: usize) -> Option<Candidate<CoreClass>>
         requires at_hand { IsAtHand self.now }
         requires task { task < length self.now.config.now.tasks }
@@ -215,10 +215,10 @@ impl Pass<'_> {
         if let Some(idle) = self.choose_among(task, &self.board.open_cores.idle) {
             return Some(idle);
         }
-        if !self.may_have_revoked(task) {
+        if !self.may_preempt_any(task) {
             return None;
         }
-        if !self.some_may_lose(task) {
+        if !self.some_may_be_preempted(task) {
             return None;
         }
         self.choose_among(task, &self.board.sets.taken)

@@ -14,7 +14,7 @@ use Rattle.cal_policy.specs.Pass.Among.{class_among}
 use Rattle.cal_policy.specs.Pass.AtHand.{IsAtHand, StandsIn, setting_in}
 use Rattle.cal_policy.specs.Pass.Grants.{choice_of}
 use Rattle.cal_policy.proofs.BoardLemmas.TwoSets.{choice_joins, idle_choice, none_taken}
-use Rattle.cal_policy.proofs.PassLemmas.Losing.{none_lost}
+use Rattle.cal_policy.proofs.PassLemmas.Preempting.{none_preempted}
 use Rattle.cal_policy.proofs.pass.Pass.choose_core.Goals as goal
 
 joined : (pass : Pass) (h : List PassEntry) (acts : List Action) (task : ℕ) (free : Option (Candidate CoreClass)) →
@@ -32,19 +32,19 @@ pub returns-in-Some-clause-choice : goal.returns-in-Some-clause-choice
 returns-in-Some-clause-choice c = λ h acts s.
     sym (joined c.args.self.now h acts c.args.task _ c.requires.at_hand s (c.in-Some.ensures.choice h acts s))
 
-pub returns-then-not-may_have_revoked-clause-choice : goal.returns-then-not-may_have_revoked-clause-choice
-returns-then-not-may_have_revoked-clause-choice c = λ h acts s.
+pub returns-then-not-may_preempt_any-clause-choice : goal.returns-then-not-may_preempt_any-clause-choice
+returns-then-not-may_preempt_any-clause-choice c = λ h acts s.
     let p = c.requires.at_hand in
     sym (joined c.args.self.now h acts c.args.task _ p s (c.in_default.ensures.choice h acts s)
     ∙ none_taken c.args.self.now.board.now (setting_in c.args.self.now h) acts c.args.task _ p.accepted.machine.most s p.ready.sets
-    (sym (c.if-not-may_have_revoked.ensures h acts s.agrees)))
+    (sym (c.if-not-may_preempt_any.ensures h acts s.agrees)))
 
-pub returns-then-not-some_may_lose-clause-choice : goal.returns-then-not-some_may_lose-clause-choice
-returns-then-not-some_may_lose-clause-choice c = λ h acts s.
+pub returns-then-not-some_may_be_preempted-clause-choice : goal.returns-then-not-some_may_be_preempted-clause-choice
+returns-then-not-some_may_be_preempted-clause-choice c = λ h acts s.
     let p = c.requires.at_hand in
     let at = setting_in c.args.self.now h in
     sym (joined c.args.self.now h acts c.args.task _ p s (c.in_default.ensures.choice h acts s)
-    ∙ none_lost c.args.self.now.board.now at acts c.args.task p.accepted.machine.most s p.ready (c.if-not-some_may_lose.ensures.none refl (so_far at acts) s.agrees))
+    ∙ none_preempted c.args.self.now.board.now at acts c.args.task p.accepted.machine.most s p.ready (c.if-not-some_may_be_preempted.ensures.none refl (so_far at acts) s.agrees))
 
 pub returns-clause-choice : goal.returns-clause-choice
 returns-clause-choice c = λ h acts s.
