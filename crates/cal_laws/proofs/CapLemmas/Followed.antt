@@ -18,7 +18,8 @@ use Rattle.cal_policy.specs.Setting.{Setting, so_far, kept_now}
 use Rattle.cal_policy.specs.Pass.Frees.{shows_left, free_at}
 use Rattle.cal_policy.specs.Pass.Bans.{still_shows, unban_for, unban_at, ban_due, ban_for, bans_at}
 use Rattle.cal_policy.specs.Pass.Bandwidth.{victim_of, core_to_lose, cut_at, cut_of, rise_of, is_capped, bandwidth_part}
-use Rattle.cal_policy.specs.Pass.Grants.{is_congested, may_book, thread_choice, choice_of, grant_of, grant_at, grant_critical_at, grant_best_effort_at}
+use Rattle.cal_machine.specs.declared.task.Kind.TheVariants as kinds
+use Rattle.cal_policy.specs.Pass.Grants.{is_congested, may_book, thread_choice, choice_of, grant_of, grant_at, grant_of_kind_at}
 use Rattle.cal_policy.specs.Pass.{pass_of}
 
 -- a revocation for bandwidth comes first
@@ -102,9 +103,9 @@ pass_followed s =
     let unbanned = then_followed s _ _ freed (in_turn_followed s (unban_at s) _ s.table.cores (λ acts c. unban_followed s c (ban_of (so_far s acts) c))) in
     let banned = then_followed s _ _ unbanned (in_turn_followed s (bans_at s) _ s.table.cores (λ acts c. ban_followed s (so_far s acts) c (ban_due s (so_far s acts) c))) in
     let bounded = then_followed s _ _ banned (bandwidth_followed s _) in
-    let critical = then_followed s _ _ bounded (in_turn_followed s (grant_critical_at s) _ (length s.table.tasks)
+    let critical = then_followed s _ _ bounded (in_turn_followed s (grant_of_kind_at kinds.LatencyCritical s) _ (length s.table.tasks)
     (λ acts t. if_followed s (is_latency_critical s.table t) (grant_at s acts t) [] (λ e. grant_followed s acts t) (λ e. tt))) in
-    then_followed s _ _ critical (in_turn_followed s (grant_best_effort_at s) _ (length s.table.tasks)
+    then_followed s _ _ critical (in_turn_followed s (grant_of_kind_at kinds.BestEffort s) _ (length s.table.tasks)
     (λ acts t. if_followed s (is_latency_critical s.table t) [] (grant_at s acts t) (λ e. tt) (λ e. grant_followed s acts t)))
 
 -- after the cut of a cap comes its revocation, by place

@@ -17,7 +17,8 @@ use Rattle.cal_policy.specs.Setting.{Setting, so_far}
 use Rattle.cal_policy.specs.Pass.Frees.{frees}
 use Rattle.cal_policy.specs.Pass.Bans.{unbans, bans_at, bans}
 use Rattle.cal_policy.specs.Pass.Bandwidth.{core_to_lose, victim_of, cut_at, cut_of, rise_of, is_capped, bandwidth_part}
-use Rattle.cal_policy.specs.Pass.Grants.{is_congested, may_book, thread_choice, choice_of, grant_of, grant_at, grant_critical_at, grant_best_effort_at, critical_grants, best_effort_grants}
+use Rattle.cal_machine.specs.declared.task.Kind.TheVariants as kinds
+use Rattle.cal_policy.specs.Pass.Grants.{is_congested, may_book, thread_choice, choice_of, grant_of, grant_at, grant_of_kind_at, grants_of_kind}
 use Rattle.cal_policy.specs.Pass.{pass_of}
 use Rattle.cal_policy.specs.Laws.{ChosenIsOfLeastClass}
 use Rattle.cal_laws.proofs.ChoiceLemmas.Chosen.{least_class}
@@ -97,16 +98,16 @@ module _ (s : Setting) (Q : List Action → Type 0) (kept : IsKept s Q) where
 
   -- from the end of the second part to the end of the pass
   rest_keeps : ChosenIsOfLeastClass → (acts : List Action) → Q acts →
-      Q (let banned = acts ++ bans s acts in let bounded = banned ++ bandwidth_part s banned in let granted = bounded ++ critical_grants s bounded in granted ++ best_effort_grants s granted)
+      Q (let banned = acts ++ bans s acts in let bounded = banned ++ bandwidth_part s banned in let granted = bounded ++ grants_of_kind kinds.LatencyCritical s bounded in granted ++ grants_of_kind kinds.BestEffort s granted)
   rest_keeps law acts h =
       let banned : List Action = acts ++ bans s acts in
       let bounded : List Action = banned ++ bandwidth_part s banned in
-      let granted : List Action = bounded ++ critical_grants s bounded in
+      let granted : List Action = bounded ++ grants_of_kind kinds.LatencyCritical s bounded in
       let q1 : Q banned = in_turn_keeps Q (bans_at s) acts s.table.cores kept.ban h in
       let q2 : Q bounded = bandwidth_keeps banned q1 in
-      let q3 : Q granted = in_turn_keeps Q (grant_critical_at s) bounded (length s.table.tasks)
+      let q3 : Q granted = in_turn_keeps Q (grant_of_kind_at kinds.LatencyCritical s) bounded (length s.table.tasks)
       (λ now t lt q. grant_by now (is_latency_critical s.table t) (grant_at s now t) (grant_keeps law now t q) q) q2 in
-      in_turn_keeps Q (grant_best_effort_at s) granted (length s.table.tasks)
+      in_turn_keeps Q (grant_of_kind_at kinds.BestEffort s) granted (length s.table.tasks)
       (λ now t lt q. grant_unless now (is_latency_critical s.table t) (grant_at s now t) (grant_keeps law now t q) q) q3
 
 -- the actions of the first two parts

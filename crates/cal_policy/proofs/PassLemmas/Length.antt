@@ -16,7 +16,8 @@ use Rattle.cal_policy.specs.Pass.Bans.{NoPairBanned, still_shows, unban_for, unb
 use Rattle.cal_policy.specs.Pass.Choice.{lowest_below}
 use Rattle.cal_policy.specs.Board.Counts.{is_held}
 use Rattle.cal_policy.specs.Pass.Frees.{shows_left, free_at, frees}
-use Rattle.cal_policy.specs.Pass.Grants.{is_congested, may_book, thread_choice, choice_of, grant_of, grant_at, grant_critical_at, grant_best_effort_at, critical_grants, best_effort_grants}
+use Rattle.cal_machine.specs.declared.task.Kind.TheVariants as kinds
+use Rattle.cal_policy.specs.Pass.Grants.{is_congested, may_book, thread_choice, choice_of, grant_of, grant_at, grant_of_kind_at, grants_of_kind}
 use Rattle.cal_policy.specs.History.{actions_of, holder_of, ban_of}
 use Rattle.cal_policy.specs.History.Lists.{in_turn, in_pair}
 use Rattle.cal_policy.specs.Pass.{pass_of, IsLegal}
@@ -140,13 +141,13 @@ one_kind : (critical : Bool) (l m : List Action) → length l ≤ 1 → length m
 one_kind true l m h g = omega arith
 one_kind false l m h g = omega arith
 
-grants_most : (s : Setting) (a b : List Action) (n : ℕ) → length (in_turn (grant_critical_at s) a n) + length (in_turn (grant_best_effort_at s) b n) ≤ n
+grants_most : (s : Setting) (a b : List Action) (n : ℕ) → length (in_turn (grant_of_kind_at kinds.LatencyCritical s) a n) + length (in_turn (grant_of_kind_at kinds.BestEffort s) b n) ≤ n
 grants_most s a b zero = omega arith
 grants_most s a b (suc n) =
-    let x = in_turn (grant_critical_at s) a n in
-    let y = in_turn (grant_best_effort_at s) b n in
+    let x = in_turn (grant_of_kind_at kinds.LatencyCritical s) a n in
+    let y = in_turn (grant_of_kind_at kinds.BestEffort s) b n in
     let one = one_kind (is_latency_critical s.table n) (grant_at s (a ++ x) n) (grant_at s (b ++ y) n) (grant_one s (a ++ x) n) (grant_one s (b ++ y) n) in
-    omega (arith, grants_most s a b n, length-append x (grant_critical_at s (a ++ x) n), length-append y (grant_best_effort_at s (b ++ y) n))
+    omega (arith, grants_most s a b n, length-append x (grant_of_kind_at kinds.LatencyCritical s (a ++ x) n), length-append y (grant_of_kind_at kinds.BestEffort s (b ++ y) n))
 
 -- a pass
 pass_most : (s : Setting) → IsTable s.table → NoPairBanned (actions_of s.history) → length (pass_of s) ≤ 338
@@ -159,7 +160,7 @@ pass_most s ok apart =
     let unbanned = freed ++ unbans s freed in
     let banned = unbanned ++ bans s unbanned in
     let bounded = banned ++ bandwidth_part s banned in
-    let granted = bounded ++ critical_grants s bounded in
+    let granted = bounded ++ grants_of_kind kinds.LatencyCritical s bounded in
     let start : NoPairBanned (so_far s []) = subst NoPairBanned (sym (append-nil (actions_of s.history))) apart in
     omega (
       arith,
@@ -171,8 +172,8 @@ pass_most s ok apart =
       length-append freed (unbans s freed),
       length-append unbanned (bans s unbanned),
       length-append banned (bandwidth_part s banned),
-      length-append bounded (critical_grants s bounded),
-      length-append granted (best_effort_grants s granted),
+      length-append bounded (grants_of_kind kinds.LatencyCritical s bounded),
+      length-append granted (grants_of_kind kinds.BestEffort s granted),
     )
 
 -- a pass of a legal history has at most 338 actions

@@ -16,7 +16,8 @@ use Rattle.cal_policy.specs.Setting.{Setting, so_far, kept_now}
 use Rattle.cal_policy.specs.Pass.Frees.{shows_left, free_at, frees}
 use Rattle.cal_policy.specs.Pass.Bans.{still_shows, unban_for, unban_at, unbans, ban_due, ban_for, bans_at, bans}
 use Rattle.cal_policy.specs.Pass.Bandwidth.{victim_of, core_to_lose, cut_at, cut_of, rise_of, is_capped, bandwidth_part}
-use Rattle.cal_policy.specs.Pass.Grants.{is_congested, may_book, thread_choice, choice_of, grant_of, grant_at, grant_critical_at, grant_best_effort_at, critical_grants, best_effort_grants}
+use Rattle.cal_machine.specs.declared.task.Kind.TheVariants as kinds
+use Rattle.cal_policy.specs.Pass.Grants.{is_congested, may_book, thread_choice, choice_of, grant_of, grant_at, grant_of_kind_at, grants_of_kind}
 use Rattle.cal_policy.specs.Pass.{pass_of}
 use Rattle.cal_policy.specs.Pass.Made.{EachAfter, IsMade, IsCut, IsChosen}
 use Rattle.cal_policy.proofs.ListLemmas.EachAfter.{each_append, each_in_turn}
@@ -98,12 +99,12 @@ grant_made s acts t lt = each_if (IsMade s) acts (is_congested s t && may_book s
     (λ e. let both = both_true (is_congested s t) (may_book s (so_far s acts) t) e in
     grant_of_made s acts t lt both.0 both.1 (thread_choice s (so_far s acts) t) (choice_of s acts t) refl refl)
 
-pub critical_grants_made : (s : Setting) (acts : List Action) → EachAfter (IsMade s) acts (critical_grants s acts)
-critical_grants_made s acts = each_in_turn (IsMade s) (grant_critical_at s) acts (length s.table.tasks) (λ now t lt.
+pub critical_grants_made : (s : Setting) (acts : List Action) → EachAfter (IsMade s) acts (grants_of_kind kinds.LatencyCritical s acts)
+critical_grants_made s acts = each_in_turn (IsMade s) (grant_of_kind_at kinds.LatencyCritical s) acts (length s.table.tasks) (λ now t lt.
     each_if (IsMade s) now (is_latency_critical s.table t) (grant_at s now t) (λ e. grant_made s now t lt))
 
-pub best_effort_grants_made : (s : Setting) (acts : List Action) → EachAfter (IsMade s) acts (best_effort_grants s acts)
-best_effort_grants_made s acts = each_in_turn (IsMade s) (grant_best_effort_at s) acts (length s.table.tasks) (λ now t lt.
+pub best_effort_grants_made : (s : Setting) (acts : List Action) → EachAfter (IsMade s) acts (grants_of_kind kinds.BestEffort s acts)
+best_effort_grants_made s acts = each_in_turn (IsMade s) (grant_of_kind_at kinds.BestEffort s) acts (length s.table.tasks) (λ now t lt.
     each_unless (IsMade s) now (is_latency_critical s.table t) (grant_at s now t) (λ e. grant_made s now t lt))
 
 then_made : (s : Setting) (acts more : List Action) → EachAfter (IsMade s) [] acts → EachAfter (IsMade s) acts more → EachAfter (IsMade s) [] (acts ++ more)

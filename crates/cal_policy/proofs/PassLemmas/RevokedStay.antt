@@ -26,7 +26,8 @@ use Rattle.cal_policy.specs.Setting.{Setting, so_far, kept_now}
 use Rattle.cal_policy.specs.Pass.Frees.{shows_left, free_at, frees}
 use Rattle.cal_policy.specs.Pass.Bans.{still_shows, unban_for, unban_at, unbans, ban_due, ban_for, bans_at, bans}
 use Rattle.cal_policy.specs.Pass.Bandwidth.{victim_of, core_to_lose, cut_at, cut_of, rise_of, is_capped, bandwidth_part}
-use Rattle.cal_policy.specs.Pass.Grants.{is_congested, may_book, thread_choice, choice_of, grant_of, grant_at, grant_critical_at, grant_best_effort_at, critical_grants, best_effort_grants}
+use Rattle.cal_machine.specs.declared.task.Kind.TheVariants as kinds
+use Rattle.cal_policy.specs.Pass.Grants.{is_congested, may_book, thread_choice, choice_of, grant_of, grant_at, grant_of_kind_at, grants_of_kind}
 use Rattle.cal_policy.specs.Pass.{pass_of}
 use Rattle.cal_policy.specs.Board.{placement_of}
 use Rattle.cal_policy.specs.Pass.Made.{EachAfter}
@@ -168,12 +169,12 @@ grant_none s acts t =
     let x = so_far s acts in
     every_if FreesNone (is_congested s t && may_book s x t) (grant_of s t (thread_choice s x t) (choice_of s acts t)) [] (chosen_none s t (thread_choice s x t) (choice_of s acts t)) tt
 
-critical_none : (s : Setting) (acts : List Action) → Every FreesNone (critical_grants s acts)
-critical_none s acts = every_in_turn FreesNone (grant_critical_at s) acts (length s.table.tasks) (λ now t.
+critical_none : (s : Setting) (acts : List Action) → Every FreesNone (grants_of_kind kinds.LatencyCritical s acts)
+critical_none s acts = every_in_turn FreesNone (grant_of_kind_at kinds.LatencyCritical s) acts (length s.table.tasks) (λ now t.
     every_if FreesNone (is_latency_critical s.table t) (grant_at s now t) [] (grant_none s now t) tt)
 
-best_effort_none : (s : Setting) (acts : List Action) → Every FreesNone (best_effort_grants s acts)
-best_effort_none s acts = every_in_turn FreesNone (grant_best_effort_at s) acts (length s.table.tasks) (λ now t.
+best_effort_none : (s : Setting) (acts : List Action) → Every FreesNone (grants_of_kind kinds.BestEffort s acts)
+best_effort_none s acts = every_in_turn FreesNone (grant_of_kind_at kinds.BestEffort s) acts (length s.table.tasks) (λ now t.
     every_if FreesNone (is_latency_critical s.table t) [] (grant_at s now t) tt (grant_none s now t))
 
 -- a pass frees cores first

@@ -5,6 +5,8 @@ use Rattle.std.specs.Prelude.{ℕ, ◌-◌, ◌==◌, ◌&&◌, ◌||◌, Bool, 
 use Rattle.std.specs.Prelude.{List, [], ◌∷◌, length, Option, Some, None, if◌then◌else◌}
 use Rattle.std.specs.Option.{is_some}
 use Rattle.cal_signal.specs.declared.record.Record.{Record}
+use Rattle.cal_machine.specs.declared.task.Kind.{Kind}
+use Rattle.cal_machine.specs.declared.task.Kind.TheVariants as kinds
 use Rattle.cal_machine.specs.Table.{Table}
 use Rattle.cal_machine.specs.TableTasks.{owner_of, thread_of, limit_of, guaranteed_of}
 use Rattle.cal_machine.specs.TableTasks.{delay_of, is_latency_critical}
@@ -147,21 +149,22 @@ grant_at s acts t =
     then grant_of s t (thread_choice s (so_far s acts) t) (choice_of s acts t)
     else []
 
--- the same, of a latency-critical task alone, or of a best-effort one alone
-abbrev pub grant_critical_at : Setting → List Action → ℕ → List Action
-grant_critical_at s acts t = if is_latency_critical s.table t then grant_at s acts t else []
+-- the same, of a task of this kind alone
+abbrev pub grant_of_kind_at : Kind → Setting → List Action → ℕ → List Action
+grant_of_kind_at kinds.LatencyCritical s acts t =
+    if is_latency_critical s.table t then grant_at s acts t else []
+grant_of_kind_at kinds.BestEffort s acts t =
+    if is_latency_critical s.table t then [] else grant_at s acts t
 
-abbrev pub grant_best_effort_at : Setting → List Action → ℕ → List Action
-grant_best_effort_at s acts t = if is_latency_critical s.table t then [] else grant_at s acts t
+-- the tasks of this kind by number
+abbrev pub grants_of_kind : Kind → Setting → List Action → List Action
+grants_of_kind kind s acts = in_turn (grant_of_kind_at kind s) acts (length s.table.tasks)
 
--- the latency-critical tasks by number
-abbrev pub critical_grants : Setting → List Action → List Action
-critical_grants s acts = in_turn (grant_critical_at s) acts (length s.table.tasks)
+-- task t is of this kind
+abbrev pub is_of_kind : Kind → Table → ℕ → Bool
+is_of_kind kinds.LatencyCritical table t = is_latency_critical table t
+is_of_kind kinds.BestEffort table t = not (is_latency_critical table t)
 
--- the best-effort tasks by number
-abbrev pub best_effort_grants : Setting → List Action → List Action
-best_effort_grants s acts = in_turn (grant_best_effort_at s) acts (length s.table.tasks)
-
--- how many best-effort tasks there are: so many actions their grants have at most
-abbrev pub best_effort_tasks : Table → ℕ
-best_effort_tasks table = count_below (λ t. not (is_latency_critical table t)) (length table.tasks)
+-- how many tasks of this kind there are: so many actions their grants have at most
+abbrev pub tasks_of_kind : Kind → Table → ℕ
+tasks_of_kind kind table = count_below (is_of_kind kind table) (length table.tasks)
