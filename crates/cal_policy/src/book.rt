@@ -16,12 +16,13 @@ ghost use Rattle.cal_policy.specs.Pass.{pass_of, IsLegal};
 ghost use Rattle.cal_policy.specs.Board.{HasSizes, KeepsBefore, kept_holder};
 ghost use Rattle.cal_policy.specs.Book.{AgreesWith, IsBookOf, IsSentBy};
 
-use crate::board::holders::Holder;
+use crate::board::holders::{Holder, core_changed_by};
 use crate::board::{Board, counts};
 use crate::history::action::Action;
 use crate::history::action_list::Actions;
 use crate::history::input::Input;
 use crate::history::look::Seen;
+use crate::history::sending::command_for;
 use crate::judgement::judging;
 use crate::judgement::open_input::{FoundLook, OpenInput};
 use crate::pass::deciding::decide;
@@ -168,15 +169,8 @@ impl Book {
             (i : ℕ) → slice_get entry.actions i ≡ Some action →
             IsSentBy table (actions_of h ++ take i entry.actions) action result }
     {
-        match action {
-            Action::Grant { core, thread, .. } => Some((thread, Command::Run(core))),
-            Action::Revoke { core, .. } => {
-                let granted = self.board.holding.grant_of(core)?;
-                Some((granted.thread, Command::Park))
-            }
-            Action::Free { .. } | Action::Unban { .. } | Action::Ban { .. } | Action::Cap { .. } =>
-                None,
-        }
+        let core = core_changed_by(action);
+        command_for(action, self.board.holding.thread_granted(core))
     }
 
     /// Appends the actions of the next pass, on an input that fits, to an empty list, and takes the
