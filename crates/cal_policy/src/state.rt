@@ -11,4 +11,5 @@ pub use crate::judgement::book_looks::{gone_by, sent_by};
 pub use crate::judgement::judging::{fits, judged_by, looks_fit};
 pub use crate::judgement::one_by_one::{fault_by, misfit_by};
 pub use crate::judgement::orderly::{is_banned, is_fit, is_held};
+pub use crate::pass::delays::record_delay;
 pub use crate::pass::frees::is_left;
