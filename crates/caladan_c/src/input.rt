@@ -62,21 +62,21 @@ pub fn judge_looks(
 }
 
 /// Takes the look at thread `k`, which is the next one, by itself, and tells what was judged of it.
-fn take_look(open: &mut OpenInput, config: &Config, board: &Board, k: usize, one: &Found) -> u8
-    requires table { open.old.threads ≡ threads_of_table config.now }
-    requires next { length open.old.seen < open.old.threads }
-    requires place { length open.old.seen ≡ k }
-    ensures threads { open.new.threads ≡ open.old.threads }
-    ensures one { length open.new.seen ≡ k + 1 }
+fn take_look(input: &mut OpenInput, config: &Config, board: &Board, k: usize, one: &Found) -> u8
+    requires table { input.old.threads ≡ threads_of_table config.now }
+    requires next { length input.old.seen < input.old.threads }
+    requires place { length input.old.seen ≡ k }
+    ensures threads { input.new.threads ≡ input.old.threads }
+    ensures one { length input.new.seen ≡ k + 1 }
     ensures taken { (h : List PassEntry) (looks : List Found) → IsStateAfter board.now h →
-        length looks ≡ k → IsTakenOf config.now h looks open.old →
-        IsTakenOf config.now h (looks ++ one.now ∷ []) open.new }
+        length looks ≡ k → IsTakenOf config.now h looks input.old →
+        IsTakenOf config.now h (looks ++ one.now ∷ []) input.new }
     ensures said { (h : List PassEntry) → IsStateAfter board.now h →
         result ≡ said_of (fault_of config.now.cores h k (look_in one.now)) (look_in one.now) }
 {
     let found = found_look(one);
     let fault = board.fault_of(config, k, found.look);
-    open.look(config, board, taken_of(found, fault));
+    input.look(config, board, taken_of(found, fault));
     tell_look(found.look, fault)
 }
 
