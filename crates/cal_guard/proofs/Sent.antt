@@ -18,6 +18,7 @@ use Rattle.cal_policy.proofs.HistoryLemmas.OneMore.{sent_push, sent_grows, last_
 use Rattle.cal_guard.specs.Refusals.{was_sent, is_core}
 use Rattle.cal_guard.specs.Passing.{IsSetOfSent}
 use Rattle.cal_policy.proofs.BoardLemmas.AsKept.{thread_as_kept}
+use Rattle.cal_policy.proofs.HistoryLemmas.FreshCores.{eqb_swap}
 
 lt_sum : (b x n : ℕ) → b ≤ x → ltb b (x + n) ≡ (ltb b x || ltb 0 n)
 lt_sum b x n le = grind (arith, nat_tests)
@@ -59,9 +60,6 @@ to_revoked x core cause o e k =
     let last : last_thread x core ≡ option_map (λ (p : placements.Placement). p.thread) o =
     last_thread_placement x core ∙ sym (thread_as_kept (last_placement x core)) ∙ ap (λ o. option_map (λ (p : placements.Placement). p.thread) o) (sym e) in
     ap (λ o. ltb 0 (length (command_to k o Park))) last ∙ to_last (option_map (λ (p : placements.Placement). p.thread) o) k
-
-eqb_swap : (a b : ℕ) → eqb a b ≡ eqb b a
-eqb_swap a b = grind (arith, nat_tests)
 
 pub inserted : (set new : ThreadSet) (thread : ℕ) → ((c : ℕ) → has_thread new c ≡ (eqb c thread || has_thread set c)) → (k : ℕ) → k < 128 → has_thread new k ≡ (is_core k (Some thread) || has_thread set k)
 inserted set new thread is k lt = is k ∙ ap (λ b. b || has_thread set k) (eqb_swap k thread)

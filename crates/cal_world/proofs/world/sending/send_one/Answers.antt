@@ -2,8 +2,7 @@ use Rattle.std.proofs.Common.{◌≡◌, Some, length, refl, sym, ap, ◌∙◌,
 use Rattle.std.specs.List.{slice_get}
 use Rattle.std.proofs.lemmas.Option.{slice_get_read}
 use Rattle.cal_policy.specs.Board.{core_changed}
-use Rattle.cal_policy.specs.History.{addressed_to, last_thread}
-use Rattle.cal_policy.specs.declared.history.action.Action.{Action}
+use Rattle.cal_policy.specs.History.{addressed_to}
 use Rattle.cal_world.proofs.WorldLemmas.Sent.{sent_one, sent_past, sent_none, room_one}
 use Rattle.cal_world.proofs.world.sending.send_one.Goals as goal
 
