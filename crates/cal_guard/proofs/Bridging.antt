@@ -26,11 +26,12 @@ use Rattle.cal_laws.specs.Cause.{RevocationsHaveCause}
 use Rattle.cal_laws.specs.Limits.{GrantsKeepToCaps, RevocationsLeaveGuarantees, TasksKeepToCaps}
 use Rattle.cal_laws.specs.OneEach.{CommandsGoWhereIsRoom, ThreadsAreSentOneCommand, PassesAreShort}
 use Rattle.cal_laws.proofs.ExclusionLemmas.Excluded.{last_loser}
-use Rattle.cal_laws.proofs.PointLemmas.EachAction.{take_next, actions_more, sound_at}
+use Rattle.cal_laws.proofs.PointLemmas.EachAction.{actions_more, sound_at}
 use Rattle.cal_guard.specs.Permitted.{MayBeSent, MayBeMade, IsPermitted, core_revoked}
 use Rattle.cal_guard.specs.Histories.{LegalIsPermitted}
 use Rattle.cal_guard.specs.Causes.{IsForItsCause, LegalIsRight}
 use Rattle.cal_policy.proofs.HistoryLemmas.OneMore.{sent_push, sent_grows}
+use Rattle.cal_machine.proofs.Last.{take_next}
 
 -- the laws that are cited
 pub record Safety : Type 0 where
@@ -45,10 +46,6 @@ pub record Safety : Type 0 where
   pub emptied : BannedAreEmptiedAtOnce
   pub empty : BannedAreEmptyAfterPasses
   pub capped : TasksKeepToCaps
-
--- the point after the next action
-next_point : Point → Point
-next_point here = record { table = here.table; history = here.history; pass = here.pass; entry = here.entry; made = here.made + 1 }
 
 is_next : (here : Point) → IsPoint here → (a : Action) → next_at here ≡ Some a → IsPoint (record { table = here.table; history = here.history; pass = here.pass; entry = here.entry; made = here.made + 1 })
 is_next here is a e = record { table = is.table; legal = is.legal; entry = is.entry; made = (let lt = slice_get_within here.entry.actions here.made a e in omega (arith, lt)) }

@@ -11,7 +11,7 @@ use Rattle.cal_policy.specs.Board.Counts.{is_held, held_by, cap_of}
 use Rattle.cal_machine.specs.TableTasks.{is_latency_critical}
 use Rattle.cal_policy.specs.Pass.Bans.{NoPairBanned}
 use Rattle.cal_policy.specs.Setting.{setting_of, so_far}
-use Rattle.cal_policy.proofs.PassLemmas.Apart.{apart_push}
+use Rattle.cal_policy.proofs.PassLemmas.Apart.{apart_push, none_banned}
 use Rattle.cal_laws.specs.Bans.{NoneHeld}
 use Rattle.cal_laws.specs.Point.{Point, setting_at, made_at, actions_at}
 use Rattle.cal_laws.proofs.PointLemmas.EachAction.{actions_more, after_passes}
@@ -77,15 +77,12 @@ lowered_next here is t best = ⊎_elim
     (λ within. inl within)
     (cases_lt (cap_of here.table (actions_at here) t) (held_by here.table (actions_at here) t))
 
-apart_first : NoPairBanned []
-apart_first = record { apart = λ c b. let no : false ≡ true = b in cc }
-
 apart_more : (table : Table) (before : List PassEntry) (entry : PassEntry) (acts : List Action) (a : Action) → IsPermitted (setting_of table before entry) acts a →
     NoPairBanned (so_far (setting_of table before entry) acts) → NoPairBanned (so_far (setting_of table before entry) acts ++ a ∷ [])
 apart_more table before entry acts a p was = apart_push table (so_far (setting_of table before entry) acts) a p.fits was
 
 pub apart_at : (here : Point) → IsPermittedPoint here → NoPairBanned (actions_at here)
-apart_at here is = at_point here is NoPairBanned apart_first (apart_more here.table)
+apart_at here is = at_point here is NoPairBanned none_banned (apart_more here.table)
 
 pub apart_after : (table : Table) (history : List PassEntry) → IsPermittedHistory table history → (p : ℕ) → p ≤ length history → NoPairBanned (actions_of (take p history))
-apart_after table history permitted = after_passes IsPermitted table history (each_permitted table history permitted) NoPairBanned apart_first (apart_more table)
+apart_after table history permitted = after_passes IsPermitted table history (each_permitted table history permitted) NoPairBanned none_banned (apart_more table)

@@ -3,7 +3,7 @@
 use Rattle.std.proofs.Common.{◌≡◌, ℕ, ◌+◌, ◌<◌, ◌≤◌, ◌^◌, ◌-◌, ◌==◌, ◌&&◌, nat_lt, nat_le, zero, suc, Bool, true, false, cond, List, [], ◌∷◌, length, take, Option, Some, None, slice_get, refl, sym, ap, subst, ◌∙◌, arith, length-append}
 use mathlib.Core.Bool.{true≢false}
 use Rattle.std.specs.Option.{option_map, option_and_then, unwrap_or, is_some}
-use Rattle.std.proofs.lemmas.Bool.{and_parts, leb-true, le-leb}
+use Rattle.std.proofs.lemmas.Bool.{and_parts, leb-true, le-leb, le-ltb}
 use Rattle.std.proofs.lemmas.Bool.Decides.{nat_tests}
 use Rattle.std.proofs.lemmas.List.{append-nil}
 use Rattle.std.proofs.lemmas.Option.{slice_get-map}
@@ -21,7 +21,7 @@ use Rattle.cal_policy.specs.declared.board.holders.Holder.{Holder}
 use Rattle.cal_policy.specs.declared.board.holders.Holder.TheVariants as holders
 use Rattle.cal_policy.specs.declared.board.holders.Placement as placements
 use Rattle.cal_policy.specs.declared.history.look.Seen.{Seen}
-use Rattle.cal_policy.specs.declared.history.look.Seen.TheVariants.{Whole, Busy, Ahead, Foreign}
+use Rattle.cal_policy.specs.declared.history.look.Seen.TheVariants.{Whole}
 use Rattle.cal_policy.specs.declared.history.entry.PassEntry.{PassEntry}
 use Rattle.cal_policy.specs.declared.history.input.Input.{Input}
 use Rattle.cal_policy.specs.Board.{placement_of}
@@ -29,14 +29,14 @@ use Rattle.cal_policy.specs.Board.Counts.{is_free, is_held, held_by, cap_of}
 use Rattle.cal_policy.specs.History.Lists.{last_of}
 use Rattle.cal_policy.specs.History.{actions_of, looks_of, sent_to, holder_of, is_banned}
 use Rattle.cal_policy.specs.History.Looks.{last_shown, shown_at, shown_by}
-use Rattle.cal_policy.specs.Judgement.Judging.{judged, IsFitLook}
+use Rattle.cal_policy.specs.Judgement.Judging.{judged}
 use Rattle.cal_policy.specs.Judgement.Gone.{shown_when_gone}
 use Rattle.cal_policy.specs.Judgement.Orderly.{IsOrderly, fits_state}
 use Rattle.cal_policy.specs.Laws.{ActionIsOneMore}
 use Rattle.cal_policy.specs.Pass.Frees.{has_left, shows_left}
 use Rattle.cal_policy.specs.Setting.{setting, so_far, kept_now}
 use Rattle.cal_policy.proofs.HistoryLemmas.OneMore.{kept_push, holder_push, ban_push}
-use Rattle.cal_policy.proofs.JudgementLemmas.Gone.{last_of_all}
+use Rattle.cal_policy.proofs.JudgementLemmas.Gone.{last_of_all, shown_shaped}
 use Rattle.cal_policy.proofs.JudgementLemmas.OneByOne.{only_faults_are_refused}
 use Rattle.cal_laws.proofs.CapLemmas.Held.{held_freed, cap_same}
 use Rattle.cal_laws.specs.Exclusion.{IsByLastRun}
@@ -45,13 +45,6 @@ use Rattle.cal_guard.specs.Histories.{PermittedIsOrderly}
 use Rattle.cal_guard.specs.Laws.{PermittedIsSafeBetween}
 use Rattle.cal_guard.specs.Permitted.{IsPermitted, IsPermittedHistory, LeavesNothing}
 use Rattle.cal_guard.proofs.Emptying.{mended}
-
--- what a look that fits shows has the right shape
-shaped : (last : Shown) (seen : Seen) (shown : Shown) → IsFitLook last seen → shown_by seen ≡ Some shown → IsShaped shown.rec
-shaped last (Whole number rec) shown fit e = subst (λ (s : Shown). IsShaped s.rec) (ap (λ o. unwrap_or o shown) e) fit.0
-shaped last (Busy first second) shown fit e = cc
-shaped last (Ahead number rec) shown fit e = subst (λ (s : Shown). IsShaped s.rec) (ap (λ o. unwrap_or o shown) e) fit.0
-shaped last (Foreign number rec) shown fit e = subst (λ (s : Shown). IsShaped s.rec) (ap (λ o. unwrap_or o shown) e) fit.0
 
 -- the looks of a pass of an orderly history
 shaped_in : (table : Table) (h : List PassEntry) (k i : ℕ) (s : Shown) → IsOrderly table h → (o : Option PassEntry) → slice_get h i ≡ o → (seen : List Seen) →
@@ -67,7 +60,7 @@ shaped_in table h k i s orderly (Some entry) at seen is e = one (slice_get entry
 
     one : (o : Option Seen) → slice_get entry.input.seen k ≡ o → IsShaped s.rec
     one (Some look) here =
-        shaped (last_shown (looks_of (take i h)) k) look s ((orderly.entries i entry at).looks.fit k look here) (sym (ap (λ o. option_and_then shown_by o) here) ∙ shows)
+        shown_shaped (last_shown (looks_of (take i h)) k) look s ((orderly.entries i entry at).looks.fit k look here) (sym (ap (λ o. option_and_then shown_by o) here) ∙ shows)
     one None here = let none : None ≡ Some s = sym (ap (λ (o : Option Seen). option_and_then shown_by o) here) ∙ shows in cc
 
 last_is_shaped : (table : Table) (h : List PassEntry) (k : ℕ) → IsOrderly table h → IsShaped (last_shown (looks_of h) k).rec
@@ -77,9 +70,6 @@ last_is_shaped table h k orderly = go (last_of (λ before seen. shown_at seen k)
     go None is = rw is (omega arith, omega arith)
     go (Some shown) is = rw is (last_of_all (λ (s : Shown). IsShaped s.rec) (λ before seen. shown_at seen k) (looks_of h)
         (λ i seen s at e. shaped_in table h k i s orderly (slice_get h i) refl seen (sym (slice_get-map (λ (entry : PassEntry). entry.input.seen) h i) ∙ at) e) shown is)
-
-not_ahead : (sent : ℕ) → nat_lt sent sent ≡ false
-not_ahead sent = grind (arith, nat_tests)
 
 pub gone_kept : PermittedIsOrderly → PermittedGoneIsKept
 gone_kept orderly table h k permitted can =
@@ -93,7 +83,7 @@ gone_kept orderly table h k permitted can =
       (omega arith, shape.1),
       record { not_below = omega arith; same = λ e. absurd (omega (arith, e)); later = λ lt. (taken, omega arith, omega arith) },
     ) in
-    let is : judged table.cores (actions_of h) k (found.Whole shown.number shown.rec) ≡ Whole shown.number shown.rec = rw (not_ahead sent) refl in
+    let is : judged table.cores (actions_of h) k (found.Whole shown.number shown.rec) ≡ Whole shown.number shown.rec = rw (le-ltb sent sent (omega arith)) refl in
     record {
       taken = (only_faults_are_refused table.cores h k (found.Whole shown.number shown.rec)).1 (rw is fits, rw is refl);
       kept = is;

@@ -1,7 +1,7 @@
 -- Nothing is wrong with an action exactly where it is permitted.
 use Rattle.std.proofs.Common.{◌≡◌, ℕ, ◌<◌, zero, suc, Bool, true, false, ◌&&◌, ◌||◌, not, eqb, ltb, nat_lt, List, length, Option, Some, None, refl, sym, ap, ◌∙◌, arith, subst, ⊎_elim}
 use Rattle.std.specs.Option.{option_or, option_map}
-use Rattle.std.proofs.lemmas.Bool.{and_from, not-true, ltb-true, ltb-false, lt-ltb, eqb-true, cases_lt, both_ways}
+use Rattle.std.proofs.lemmas.Bool.{and_from, not-true, ltb-true, ltb-false, lt-ltb, eqb-true, cases_lt, both_ways, not_from_false}
 use Rattle.std.proofs.lemmas.Bool.Decides.{nat_tests}
 use Rattle.std.proofs.lemmas.List.{get_or_past}
 use Rattle.cal_machine.specs.Tasks.{no_task}
@@ -110,9 +110,6 @@ books_back s x t h =
     none_or (unless limit AtLimit) (unless cap AtCap) (held_so limit AtLimit (lt-ltb _ _ h.limit))
     (held_so cap AtCap (or_back (is_latency_critical s.table t) (nat_lt (booked_by s.table x t) (cap_of s.table x t)) (λ best. lt-ltb _ _ (h.cap best))))
 
-not_back : (b : Bool) → b ≡ false → not b ≡ true
-not_back b e = ap not e
-
 grants : (s : Setting) (acts : List Action) (core thread : ℕ) → wrong_to_grant s acts core thread ≡ None → MayBeGranted s acts core thread
 grants s acts core thread e =
     let x : List Action = so_far s acts in
@@ -125,7 +122,7 @@ grants_back : (s : Setting) (acts : List Action) (core thread : ℕ) → MayBeGr
 grants_back s acts core thread h =
     let x : List Action = so_far s acts in
     let t = owner_of s.table thread in
-    none_or (unless (not (is_banned x core)) Banned) (option_or (wrong_to_book s.table x t) (wrong_to_send s acts thread)) (held_so (not (is_banned x core)) Banned (not_back _ h.unbanned))
+    none_or (unless (not (is_banned x core)) Banned) (option_or (wrong_to_book s.table x t) (wrong_to_send s acts thread)) (held_so (not (is_banned x core)) Banned (not_from_false _ h.unbanned))
     (none_or (wrong_to_book s.table x t) (wrong_to_send s acts thread) (books_back s x t h.books) (sends_back s acts thread h.send))
 
 makes : (s : Setting) (acts : List Action) (a : Action) → wrong_to_make s acts a ≡ None → MayBeMade s acts a
@@ -195,7 +192,7 @@ done table x o low e =
           (third (is_banned x c) (is_held (holder_of x c)) (is_core c o) (none_passes (is_left_held x o) table.cores none_held c (low.low c is)) banned is);
       lowered = λ t best more. from_is table x t o
           (third (not (is_latency_critical table t)) (nat_lt (cap_of table x t) (held_by table x t)) (is_from table x t o)
-          (none_passes (is_left_over table x o) (length table.tasks) none_over t (critical_past table t best)) (not_back _ best) (lt-ltb _ _ more));
+          (none_passes (is_left_over table x o) (length table.tasks) none_over t (critical_past table t best)) (not_from_false _ best) (lt-ltb _ _ more));
     }
 
 pub done_back : (table : Table) (x : List Action) (o : Option ℕ) → IsDone table x o → left_undone table x o ≡ None

@@ -1,4 +1,5 @@
-//! What every permitted history is safe from, at every point of it.
+//! What every permitted history is safe from, at every point of it. What cal_laws has by the same
+//! name is of legal ones.
 
 ghost use Rattle.cal_guard.specs.Laws.{ThreadsHaveOneCore, HoldersAreOfTheirLastRun};
 ghost use Rattle.cal_guard.specs.Laws.{RunsGoToIdleThreads, KeptRecordsAreTrue};

@@ -17,7 +17,8 @@ use std::marker::Model;
 /// The most entries of a journal.
 pub const MOST_ENTRIES: usize = 1_048_576;
 
-/// How many entries must fit before a turn begins. A turn adds at most five; one place is spare.
+/// How many entries must fit before a turn begins: one of each kind. A turn adds at most five, since
+/// none both serves a request and gives up its core; so one place is spare.
 pub const TURN_ENTRIES: usize = 6;
 
 /// A kernel thread. It may be moved to a thread of its own; no call of it waits.
@@ -28,7 +29,7 @@ pub const TURN_ENTRIES: usize = 6;
 pub struct KernelThread {
     /// Its number, in thread order from 0.
     pub(crate) number: u8,
-    /// What it did, in order.
+    /// What it did, in order: a vector, since a `Journal` does not grow. `end` makes one of it.
     pub(crate) journal: Vec<Entry>,
     /// All else: its ends of page, ring and queues, and what it is at.
     pub(crate) thread: Thread,

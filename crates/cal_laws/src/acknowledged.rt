@@ -1,4 +1,6 @@
 //! Cores are freed only where their thread showed that it left.
+//!
+//! At every point of a legal history. What cal_guard has by the same name is of permitted ones.
 
 ghost use Rattle.cal_laws.specs.Acknowledged.{FreedCoresWereLeft};
 

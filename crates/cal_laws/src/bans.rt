@@ -1,4 +1,6 @@
 //! Banned cores, and what each ban stands for.
+//!
+//! At every point of a legal history. What cal_guard has by the same name is of permitted ones.
 
 ghost use Rattle.cal_laws.specs.Bans.{NoBannedIsGranted, BansAreDue, NoPairIsBanned};
 ghost use Rattle.cal_laws.specs.Bans.{BannedAreEmptyAfterPasses, BannedAreEmptiedAtOnce};

@@ -1,4 +1,6 @@
 //! No core and no thread has two masters.
+//!
+//! At every point of a legal history. What cal_guard has by the same name is of permitted ones.
 
 ghost use Rattle.cal_laws.specs.Exclusion.{ThreadsHaveOneCore, HoldersAreOfTheirLastRun};
 ghost use Rattle.cal_laws.specs.Exclusion.{RunsGoToIdleThreads};

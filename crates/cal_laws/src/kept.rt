@@ -1,4 +1,6 @@
 //! What the kept records say is true.
+//!
+//! At every point of a legal history. What cal_guard has by the same name is of permitted ones.
 
 ghost use Rattle.cal_laws.specs.Kept.{KeptRecordsAreTrue, KeptThreadsAreOnCore};
 

@@ -1,4 +1,6 @@
 //! No task has more than it may, and none is pressed below its guarantee.
+//!
+//! At every point of a legal history. What cal_guard has by the same name is of permitted ones.
 
 ghost use Rattle.cal_laws.specs.Limits.{TasksKeepToLimits, GrantsKeepToCaps};
 ghost use Rattle.cal_laws.specs.Limits.{TasksKeepToCaps, RevocationsLeaveGuarantees};

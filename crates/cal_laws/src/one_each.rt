@@ -1,4 +1,6 @@
 //! How much one pass sends.
+//!
+//! At every point of a legal history. What cal_guard has by the same name is of permitted ones.
 
 ghost use Rattle.cal_laws.specs.OneEach.{CommandsGoWhereIsRoom, ActionsComeInTurn};
 ghost use Rattle.cal_laws.specs.OneEach.{TasksAreServedOnce};

@@ -1,4 +1,6 @@
 //! Each Run that was sent stands until it is left.
+//!
+//! At every point of a legal history. What cal_guard has by the same name is of permitted ones.
 
 ghost use Rattle.cal_laws.specs.Runs.{RunsStandUntilLeft};
 

@@ -23,10 +23,10 @@ use Rattle.cal_world.specs.Watches.{watch_in, watches_in}
 use Rattle.cal_linear.proofs.LegalAlong.{IsAllowedAlong, IsLegalAlong, MayBePublished}
 use Rattle.cal_kthread.specs.Journal.Entries.{steps_of, is_step}
 use Rattle.cal_linear.specs.Steps.{event_of, events_of}
-use Rattle.cal_linear.proofs.Lists.{eqb_self}
 use Rattle.cal_linear.proofs.OneMore.{history_push, journal_push, looks_push, floor_push, watches_push, legal_push}
 use Rattle.cal_kthread.proofs.JournalLemmas.Parts.{others-change-nothing}
 use Rattle.cal_linear.proofs.Standing.{MayHappen, MayAllHappen}
+use Rattle.std.proofs.lemmas.Bool.{eq-eqb}
 
 -- after `es` a legal list went on to `new` by steps of thread k alone, which has now done `own`
 pub record GoesOn (table : Table) (k : ℕ) (es new : List Event) (own : List Entry) : Type 0 where
@@ -108,7 +108,7 @@ one_entry table k es before (Took number command) low legal own may =
     let at : slice_get sent (state_after (journal_along es k)).taken ≡ Some command = ap (slice_get sent) taken ∙ may.1 in
     let numbered : (state_after (journal_along es k)).taken + 1 ≡ number = ap (λ n. n + 1) taken ∙ sym may.0 in
     let adds : adds_to k (journal_along es k) (history_in es) (Take k) ≡ Took number command ∷ [] =
-    ap (λ (b : Bool). cond b (took_next (state_after (journal_along es k)).taken sent) []) (eqb_self k)
+    ap (λ (b : Bool). cond b (took_next (state_after (journal_along es k)).taken sent) []) (eq-eqb k k refl)
     ∙ ap (λ (o : Option Command). option_to_list (option_map (Took ((state_after (journal_along es k)).taken + 1)) o)) at ∙ ap (λ n. Took n command ∷ []) numbered in
     one_step table k es before (Took number command) (Take k) (take_is_own k) legal own (low, slice_get_within sent (state_after (journal_along es k)).taken command at) refl adds
 one_entry table k es before (Stole from id) low legal own may = quiet table k es before (Stole from id ∷ []) legal own refl
@@ -116,7 +116,7 @@ one_entry table k es before (Served id) low legal own may = quiet table k es bef
 one_entry table k es before Yielded low legal own may =
     let state : state_after (journal_along es k) ≡ state_after before = ap state_after own ∙ (others-change-nothing before).0 in
     let P : State → Type 0 = λ s. IsSome s.core in
-    one_step table k es before Yielded (Yield k) (yield_is_own k) legal own (low, subst P (sym state) may) refl (ap (λ (b : Bool). cond b (Yielded ∷ []) []) (eqb_self k))
+    one_step table k es before Yielded (Yield k) (yield_is_own k) legal own (low, subst P (sym state) may) refl (ap (λ (b : Bool). cond b (Yielded ∷ []) []) (eq-eqb k k refl))
 one_entry table k es before (Published number rec) low legal own may =
     let state : state_after (journal_along es k) ≡ state_after before = ap state_after own ∙ (others-change-nothing before).0 in
     let records : records_of (journal_along es k) ≡ records_of before = ap records_of own ∙ (others-change-nothing before).1 in
@@ -124,7 +124,7 @@ one_entry table k es before (Published number rec) low legal own may =
     let Q : List Record → Type 0 = λ l. MayBePublished (state_after before) l rec in
     let numbered : length (records_of (journal_along es k)) + 1 ≡ number = ap (λ (l : List Record). length l + 1) records ∙ sym may.0 in
     let adds : adds_to k (journal_along es k) (history_in es) (Publish k rec) ≡ Published number rec ∷ [] =
-    ap (λ (b : Bool). cond b (Published (length (records_of (journal_along es k)) + 1) rec ∷ []) []) (eqb_self k) ∙ ap (λ n. Published n rec ∷ []) numbered in
+    ap (λ (b : Bool). cond b (Published (length (records_of (journal_along es k)) + 1) rec ∷ []) []) (eq-eqb k k refl) ∙ ap (λ n. Published n rec ∷ []) numbered in
     one_step table k es before (Published number rec) (Publish k rec) (publish_is_own k rec) legal own (low, subst P (sym state) (subst Q (sym records) may.1)) refl adds
 
 -- entries of thread k in turn

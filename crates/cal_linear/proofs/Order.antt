@@ -24,7 +24,7 @@ use Rattle.cal_policy.proofs.ListLemmas.OneMore.{get_or_same, each_of_push}
 use Rattle.cal_linear.specs.declared.front.Front.{Front}
 use Rattle.std.proofs.lemmas.Bool.Decides.{nat_tests}
 use Rattle.std.proofs.lemmas.Bool.{eqb-true}
-use Rattle.cal_linear.proofs.Cuts.{cut_whole, cut_more}
+use Rattle.cal_linear.proofs.Cuts.{cut_more}
 
 -- what is left of a list, with its first
 pub drop_next : {X : Type 0} (xs : List X) (i : ℕ) (d : X) → i < length xs → drop i xs ≡ get_or xs i d ∷ drop (i + 1) xs
@@ -48,10 +48,6 @@ cut_next xs i (suc left) count d lt some was =
     let one : suc left - 1 ≡ left = omega arith in
     ap (λ l. l ++ up_to (still_after x (suc left - 1)) (drop (i + 1) xs)) (take_more xs i d lt) ∙ append_assoc (take i xs) (x ∷ []) (up_to (still_after x (suc left - 1)) (drop (i + 1) xs))
     ∙ ap (λ n. take i xs ++ x ∷ up_to (still_after x n) (drop (i + 1) xs)) one ∙ ap (λ l. take i xs ++ up_to (suc left) l) (sym (drop_next xs i d lt)) ∙ was
-
--- a front is no longer than the whole, and what is past it is what is left
-pub up_to_within : (n : ℕ) (xs : List Entry) → length (up_to n xs) ≤ length xs
-up_to_within n xs = let e = ap (λ (l : List Entry). length l) (cut_whole n xs) in let both = length-append (up_to n xs) (past n xs) in omega (arith, e, both)
 
 pub past_drop : (n : ℕ) (xs : List Entry) → past n xs ≡ drop (length (up_to n xs)) xs
 past_drop zero xs = refl

@@ -1,16 +1,16 @@
 -- What tests and options that came out say of their parts.
-use Rattle.std.proofs.Common.{◌≡◌, Bool, true, false, ◌&&◌, cond, Option, Some, None, refl}
+use Rattle.std.proofs.Common.{◌≡◌, Bool, true, false, cond, Option, Some, None, refl}
 use Rattle.std.specs.Option.{unwrap_or}
-
-pub both_true : (a b : Bool) → (a && b) ≡ true → (a ≡ true) × (b ≡ true)
-both_true true true e = (refl, refl)
-both_true true false e = cc
-both_true false b e = cc
 
 pub some_then : {Y : Type 0} (b : Bool) (o : Option Y) (y : Y) →
     cond b o None ≡ Some y → (b ≡ true) × (o ≡ Some y)
 some_then true o y e = (refl, e)
 some_then false o y e = cc
+
+pub some_else : {Y : Type 0} (b : Bool) (o : Option Y) (y : Y) →
+    cond b None o ≡ Some y → (b ≡ false) × (o ≡ Some y)
+some_else true o y e = cc
+some_else false o y e = (refl, e)
 
 pub unwrap_if : {Y : Type 0} (b : Bool) (y d : Y) →
     unwrap_or (cond b (Some y) None) d ≡ cond b y d

@@ -1,8 +1,9 @@
 -- A list with one member more at its end.
-use Rattle.std.proofs.Common.{◌≡◌, ◌≢◌, ◌<◌, ℕ, zero, suc, List, [], ◌∷◌, ◌++◌, length, Some, slice_get, ◌⊎◌, inl, inr, refl, sym, ap, ◌∙◌}
+use Rattle.std.proofs.Common.{◌≡◌, ◌≢◌, ◌<◌, ℕ, zero, suc, List, [], ◌∷◌, ◌++◌, length, Some, slice_get, ◌⊎◌, inl, inr, refl, sym, ap, ◌∙◌, take, ◌+◌}
 use Rattle.std.proofs.lemmas.Bool.Decides.{eqb_tells}
-use Rattle.std.proofs.lemmas.Option.{slice_get_within}
+use Rattle.std.proofs.lemmas.Option.{slice_get_within, get_or_from_slice_get}
 use Rattle.std.specs.Option.{unwrap_or}
+use Rattle.std.proofs.lemmas.List.{take_more}
 
 module _ {X : Type 0} where
   pub some_same : (a b : X) → Some a ≡ Some b → a ≡ b
@@ -27,3 +28,7 @@ module _ {X : Type 0} where
     | inl here ↦ inr (here.1, some_same x y (sym (slice_get-last xs x) ∙ rw here.1 at e))
     | inr there ↦ let was : slice_get xs k ≡ Some y = sym (slice_get-other xs x k there.1) ∙ e in inl (slice_get_within xs k y was, was)
   ]
+
+  -- the front with the member at its end
+  pub take_next : (xs : List X) (i : ℕ) (x : X) → slice_get xs i ≡ Some x → take (i + 1) xs ≡ take i xs ++ x ∷ []
+  take_next xs i x e = take_more xs i x (slice_get_within xs i x e) ∙ ap (λ y. take i xs ++ y ∷ []) (get_or_from_slice_get xs i x x e)

@@ -5,6 +5,7 @@ use Rattle.cal_policy.specs.History.Lists.{each_after, each_of}
 use Rattle.cal_policy.specs.declared.history.action.Action.{Action}
 use Rattle.cal_policy.proofs.ListLemmas.OneMore.{each_of_push}
 use Rattle.cal_measure.specs.Actions.{if_such, many_of}
+use Rattle.cal_policy.proofs.ListLemmas.OneNumberMore.{one_at_most}
 
 length_if : (b : Bool) (action : Action) → length (cond b (action ∷ []) []) ≡ cond b 1 0
 length_if true action = refl
@@ -18,10 +19,6 @@ many_push such x action =
     ∙ length-append (each_of (if_such such) x) (if_such such x action)
     ∙ ap (λ n. many_of such x + n) (length_if (such x action) action)
 
-if_few : (b : Bool) → cond b 1 0 ≤ 1
-if_few true = omega arith
-if_few false = omega arith
-
 few_after : (such : List Action → Action → Bool) (before x : List Action) → length (each_after (if_such such) before x) ≤ length x
 few_after such before [] = omega arith
 few_after such before (action ∷ x) =
@@ -29,7 +26,7 @@ few_after such before (action ∷ x) =
       arith,
       length-append (if_such such before action) (each_after (if_such such) (before ++ action ∷ []) x),
       length_if (such before action) action,
-      if_few (such before action),
+      one_at_most (such before action),
       few_after such (before ++ action ∷ []) x,
     )
 

@@ -3,27 +3,20 @@ use Rattle.std.proofs.Common.{◌≡◌, ℕ, Bool, true, false, ◌||◌, cond,
 use Rattle.std.specs.Option.{is_some, option_or}
 use Rattle.cal_measure.specs.Services.{any_serves, since_service, first_at_work, begun_since}
 use Rattle.cal_measure.specs.declared.turns.Turn.{Turn}
+use Rattle.std.proofs.Math.Bool.{or-true, or-false}
 
 or_assoc : (a b c : Bool) → (a || (b || c)) ≡ ((a || b) || c)
 or_assoc true b c = refl
 or_assoc false b c = refl
 
-or_false : (a : Bool) → (a || false) ≡ a
-or_false true = refl
-or_false false = refl
-
-or_true : (a : Bool) → (a || true) ≡ true
-or_true true = refl
-or_true false = refl
-
 any_push : (turns : List Turn) (turn : Turn) → any_serves (turns ++ turn ∷ []) ≡ (any_serves turns || is_some turn.served)
-any_push [] turn = or_false (is_some turn.served)
+any_push [] turn = or-false (is_some turn.served)
 any_push (t ∷ turns) turn = ap (λ b. is_some t.served || b) (any_push turns turn) ∙ or_assoc (is_some t.served) (any_serves turns) (is_some turn.served)
 
 -- a turn that served leaves nothing since
 since_push_some : (turns : List Turn) (turn : Turn) → is_some turn.served ≡ true → since_service (turns ++ turn ∷ []) ≡ []
 since_push_some [] turn e = rw e refl
-since_push_some (t ∷ turns) turn e = rw (any_push turns turn, e, or_true, or_true) (since_push_some turns turn e)
+since_push_some (t ∷ turns) turn e = rw (any_push turns turn, e, or-true, or-true) (since_push_some turns turn e)
 
 cond_push : (b : Bool) (xs ys : List Turn) (turn : Turn) → cond b xs ys ++ turn ∷ [] ≡ cond b (xs ++ turn ∷ []) (ys ++ turn ∷ [])
 cond_push true xs ys turn = refl
@@ -33,7 +26,7 @@ cond_push false xs ys turn = refl
 since_push_none : (turns : List Turn) (turn : Turn) → is_some turn.served ≡ false → since_service (turns ++ turn ∷ []) ≡ since_service turns ++ turn ∷ []
 since_push_none [] turn e = rw e refl
 since_push_none (t ∷ turns) turn e =
-    rw (any_push turns turn, e, or_false, since_push_none turns turn e) (sym (cond_push (is_some t.served || any_serves turns) (since_service turns) (t ∷ turns) turn))
+    rw (any_push turns turn, e, or-false, since_push_none turns turn e) (sym (cond_push (is_some t.served || any_serves turns) (since_service turns) (t ∷ turns) turn))
 
 -- the first at work, one turn more
 at_work_push : (turns : List Turn) (turn : Turn) → first_at_work (turns ++ turn ∷ []) ≡ option_or (first_at_work turns) (cond turn.at_work (Some turn.stamp) None)

@@ -5,7 +5,6 @@ pub mod BannedSet
 pub mod BansKept
 pub mod CommandNumbers
 pub mod FitLooks
-pub mod Holders
 pub mod OpenCores
 pub mod Replayed
 pub mod Sorted

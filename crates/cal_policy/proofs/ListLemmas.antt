@@ -1,5 +1,4 @@
--- Lists, tests, and counts among the numbers below n.
-pub mod Booleans
+-- Lists, and counts among the numbers below n.
 pub mod Counted
 pub mod Each
 pub mod EachAfter

@@ -6,3 +6,4 @@ pub mod core_class;
 pub mod entry;
 pub mod input;
 pub mod look;
+pub mod sending;

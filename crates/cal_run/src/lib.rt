@@ -25,6 +25,6 @@ pub use outcome::{Outcome, RunEnd, ThreadsEnd};
 pub use parts::Parts;
 pub use parts::opening::{MOST_ROUNDS, open_parts};
 pub use rounds::passes::pass_given;
-pub use rounds::watch::round_given;
+pub use rounds::watch::watch_of_round;
 pub use workers::turn_each;
 pub use workers::worker::Worker;

@@ -1,23 +1,10 @@
 //! A whole run on one thread.
 
-ghost use Rattle.std.specs.Prelude.{◌≡◌, ◌<◌, [], ℕ, length, map, min, IfOk, IfErr};
-ghost use Rattle.cal_kthread.specs.End.Account.{IsAccounted};
-ghost use Rattle.cal_kthread.specs.Journal.{IsJournal, commands_of};
-ghost use Rattle.cal_kthread.specs.Turn.Turns.{AreTurns};
-ghost use Rattle.cal_linear.specs.Law.{IsLinearised};
-ghost use Rattle.cal_linear.specs.Linear.{linear};
-ghost use Rattle.cal_linear.specs.Runs.{AreFirst, AreWatched, page_at};
-ghost use Rattle.cal_linear.specs.Steps.{journal_at};
-ghost use Rattle.cal_policy.specs.History.{actions_of, commands_to};
-ghost use Rattle.cal_policy.specs.History.Found.{looks_at};
-ghost use Rattle.cal_machine.specs.TableTasks.{threads_of_table};
-ghost use Rattle.cal_run.specs.Workers.Given.{turns_given};
+ghost use Rattle.std.specs.Prelude.{◌≡◌, IfOk, IfErr};
 ghost use Rattle.cal_run.specs.Outcome.Headline.{Headline};
-ghost use Rattle.cal_run.specs.Outcome.{EachStandsOnce, IsRun, IsRunEnd, figures_of};
-ghost use Rattle.cal_run.specs.declared.parts.opening.TheConstants.{MOST_ROUNDS};
+ghost use Rattle.cal_run.specs.Outcome.{EachStandsOnce, IsRun, IsRunEnd};
 ghost use Rattle.cal_run.specs.Outcome.{IsThreadsEnd, outcome_of};
 ghost use Rattle.cal_run.specs.declared.fault.SimFault.TheVariants.{Memory};
-ghost use Rattle.cal_signal.specs.Pages.{FitsPage};
 ghost use Rattle.cal_trace.specs.Arrivals.FitsTable.{FitsTable};
 
 use crate::closing::{close_parts, end_parts, end_threads};
@@ -43,30 +30,6 @@ use std::alloc::Global;
 pub fn lockstep(alloc: Global, config: &Config, arrivals: &Arrivals) -> Result<Outcome, SimFault>
     requires fits { FitsTable config.now arrivals.now }
     ensures run { IfOk result (IsRun config.now arrivals.now) }
-    ensures passes { IfOk result (λ outcome.
-        map figures_of outcome.history ≡ arrivals.now.passes) }
-    ensures threads { IfOk result (λ outcome.
-        length outcome.journals ≡ threads_of_table config.now) }
-    ensures turns { IfOk result (λ outcome. (k : ℕ) → k < threads_of_table config.now →
-        AreTurns (turns_given arrivals.now.requests arrivals.now.turns k) []
-        (journal_at outcome.journals k)) }
-    ensures kept { IfOk result (λ outcome. (k : ℕ) →
-        IsJournal (journal_at outcome.journals k)) }
-    ensures rounds { IfOk result (λ outcome.
-        length outcome.watched ≡ min (length arrivals.now.passes) MOST_ROUNDS) }
-    ensures looks { IfOk result (λ outcome. (k : ℕ) →
-        FitsPage (page_at outcome.journals k) (looks_at outcome.history k)) }
-    ensures watched { IfOk result (λ outcome.
-        AreWatched config.now outcome.journals outcome.watched) }
-    ensures taken { IfOk result (λ outcome. (k : ℕ) →
-        AreFirst (commands_of (journal_at outcome.journals k))
-        (commands_to (actions_of outcome.history) k)) }
-    ensures events { IfOk result (λ outcome. IsLinearised config.now outcome.history
-        outcome.journals outcome.watched outcome.events) }
-    ensures order { IfOk result (λ outcome.
-        outcome.events ≡ linear outcome.history outcome.journals outcome.watched) }
-    ensures lefts { IfOk result (λ outcome. length outcome.left ≡ threads_of_table config.now) }
-    ensures account { IfOk result (λ outcome. IsAccounted outcome.journals outcome.left) }
     ensures once { IfOk result (λ outcome. EachStandsOnce arrivals.now outcome) }
     ensures headline { IfOk result (Headline config.now) }
     ensures memory { IfErr result (λ fault. fault ≡ Memory) }

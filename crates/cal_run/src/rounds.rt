@@ -13,7 +13,7 @@ ghost use Rattle.cal_run.specs.Workers.{FitSomeTable, HaveMade, seats_of};
 use crate::fault::SimFault;
 use crate::parts::Parts;
 use crate::rounds::passes::pass_given;
-use crate::rounds::watch::round_given;
+use crate::rounds::watch::watch_of_round;
 use crate::workers::turn_each;
 use crate::workers::worker::Worker;
 use cal_sched::Scheduler;
@@ -48,7 +48,7 @@ fn make_round(parts: &mut Parts, arrivals: &Arrivals, r: usize) -> Result<(), Si
 {
     pass_of_round(&mut parts.scheduler, arrivals, r)?;
     turns_of_round(parts.workers.as_mut_slice(), arrivals, r)?;
-    round_given(&mut parts.watch);
+    watch_of_round(&mut parts.watch);
     Ok(())
 }
 

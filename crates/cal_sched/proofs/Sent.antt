@@ -21,10 +21,9 @@ use Rattle.cal_laws.specs.OneEach.{CommandsGoWhereIsRoom, ThreadsAreSentOneComma
 use Rattle.cal_laws.specs.Point.{Point, IsPoint}
 use Rattle.cal_sched.specs.Passing.{HaveSent}
 use Rattle.cal_sched.specs.Sending.{MaySend}
-use Rattle.cal_laws.proofs.PointLemmas.EachAction.{take_next}
 use Rattle.cal_sched.proofs.Lists.{slice_get-set_other, slice_get-set_same, snoc_same}
 use Rattle.cal_machine.proofs.Places.{slice_get_at}
-use Rattle.cal_machine.proofs.Last.{some_same, slice_get-last}
+use Rattle.cal_machine.proofs.Last.{some_same, slice_get-last, take_next}
 use Rattle.cal_policy.proofs.BoardLemmas.Replayed.{actions_push}
 
 -- the commands of the first i actions were sent, and a ring on which none of them was is as it was

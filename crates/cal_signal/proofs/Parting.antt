@@ -8,17 +8,14 @@ use Rattle.atomic_table.proofs.Lists.{at_set, set_else}
 use Rattle.cal_signal.specs.declared.view.View.{View}
 use Rattle.cal_signal.specs.Rule.{Sole}
 use Rattle.cal_signal.proofs.PageLists.{at_below}
+use Rattle.std.proofs.lemmas.Bool.{cases_Bool}
 
 -- a member of a list with one more is an old one or the new one
-at_grown : {A : Type 0} (l : List A) (a b : A) (j : ℕ) → get_elem? (l ++ a ∷ []) j ≡ some b → (get_elem? l j ≡ some b) ⊎ ((j ≡ length l) × (a ≡ b))
+pub at_grown : {A : Type 0} (l : List A) (a b : A) (j : ℕ) → get_elem? (l ++ a ∷ []) j ≡ some b → (get_elem? l j ≡ some b) ⊎ ((j ≡ length l) × (a ≡ b))
 at_grown [] a b zero e = inr (refl, some-injective a b e)
 at_grown [] a b (suc j) e = absurd (some-ne-none b (sym e))
 at_grown (x ∷ xs) a b zero e = inl e
 at_grown (x ∷ xs) a b (suc j) e = ⊎_elim (λ t. inl t) (λ t. inr (ap suc t.0, t.1)) (at_grown xs a b j e)
-
-one_of_two : (b : Bool) → (b ≡ true) ⊎ (b ≡ false)
-one_of_two true = inl refl
-one_of_two false = inr refl
 
 module _ {T : Type 0} where
   -- a view that is set keeps the part that it had, and gets no other
@@ -84,7 +81,7 @@ module _ {T : Type 0} where
   sole_split part vs me v left right at lost got sole = ⊎_elim
       (λ (had : part v ≡ true). sole_cut part vs me v left right at had lost (got ∙ had) sole)
       (λ (none : part v ≡ false). sole_cut_beside part vs me v left right at (lost ∙ sym none) (got ∙ none) sole)
-      (one_of_two (part v))
+      (cases_Bool (part v))
 
   -- a join by which the view me gets the part that the other has, where there is one
   pub sole_joined : (part : View T → Bool) (vs : List (View T)) (me other : ℕ) (v w both spent : View T) → get_elem? vs me ≡ some v → other ≢ me → get_elem? (set vs me both) other ≡ some w → part v ≡ false → part both ≡ part w → part spent ≡ false → Sole part vs
@@ -92,7 +89,7 @@ module _ {T : Type 0} where
   sole_joined part vs me other v w both spent at apart there without same lost sole = ⊎_elim
       (λ (had : part w ≡ true). sole_moved part vs me other v w both spent at apart there had (same ∙ had) lost sole)
       (λ (none : part w ≡ false). sole_set part (set vs me both) other w spent there (lost ∙ sym none) (sole_set part vs me v both at (same ∙ (none ∙ sym without)) sole))
-      (one_of_two (part w))
+      (cases_Bool (part w))
 
   -- a join by which the view me keeps the part
   pub sole_kept : (part : View T → Bool) (vs : List (View T)) (me other : ℕ) (v w both spent : View T) → get_elem? vs me ≡ some v → other ≢ me → get_elem? (set vs me both) other ≡ some w → part v ≡ true → part both ≡ true → part spent ≡ false → Sole part vs
@@ -100,4 +97,4 @@ module _ {T : Type 0} where
   sole_kept part vs me other v w both spent at apart there had keeps lost sole = ⊎_elim
       (λ (too : part w ≡ true). absurd (apart ((sole.2 other w (sym (set_else vs me other both apart) ∙ there)).0 too ∙ sym ((sole.2 me v at).0 had))))
       (λ (none : part w ≡ false). sole_set part (set vs me both) other w spent there (lost ∙ sym none) (sole_set part vs me v both at (keeps ∙ sym had) sole))
-      (one_of_two (part w))
+      (cases_Bool (part w))

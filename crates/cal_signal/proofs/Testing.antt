@@ -1,6 +1,6 @@
 -- The tests of records and looks say what the rules say.
-use Rattle.std.proofs.Common.{◌≡◌, ◌<◌, ◌^◌, ◌%◌, ◌==◌, ◌&&◌, ◌||◌, nat_lt, nat_le, ℕ, Bool, true, false, inl, inr, ◌⊎◌, refl, arith}
-use Rattle.std.proofs.lemmas.Bool.{and_parts, and_from, ltb-true, leb-true, le-leb, lt-ltb, eq-eqb, ne_eqb}
+use Rattle.std.proofs.Common.{◌≡◌, ◌<◌, ◌%◌, ◌==◌, ◌&&◌, nat_lt, nat_le, ℕ, true, inl, inr, refl, arith}
+use Rattle.std.proofs.lemmas.Bool.{and_parts, and_from, ltb-true, leb-true, le-leb, lt-ltb, eq-eqb, ne_eqb, or_cases}
 use Rattle.cal_machine.specs.declared.machine.TheConstants.{MOST_CORES}
 use Rattle.cal_signal.specs.declared.record.Record.{Record}
 use Rattle.cal_signal.specs.declared.record.TheConstants.{MOST_MISSES}
@@ -9,10 +9,6 @@ use Rattle.cal_signal.specs.Records.{IsLater, IsShaped}
 use Rattle.cal_signal.specs.Looks.{IsBusyPair}
 use Rattle.cal_signal.specs.Shown.{IsShownAfter}
 use Rattle.cal_signal.specs.Tests.{is_shaped, is_later, is_same, is_shown_after, is_busy_pair}
-
-either : (a b : Bool) → (a || b) ≡ true → (a ≡ true) ⊎ (b ≡ true)
-either true b e = inl refl
-either false b e = inr e
 
 equal : (a b : ℕ) → (a == b) ≡ true → a ≡ b
 equal a b e = grind arith
@@ -53,7 +49,7 @@ same_holds a b e =
     λ i. record { taken = q0 i; running = q1 i; queued = q2 i; oldest = q3 i; started = q4 i; misses = q5 i; stamp = q6 i; paused = q7 i; since = q8 i }
 
 pub follows_holds : (a b : Shown) → is_shown_after a b ≡ true → IsShownAfter a b
-follows_holds a b e = elim (either ((a.number == b.number) && is_same a.rec b.rec) (nat_lt a.number b.number && is_later a.rec b.rec) e) [
+follows_holds a b e = elim (or_cases ((a.number == b.number) && is_same a.rec b.rec) (nat_lt a.number b.number && is_later a.rec b.rec) e) [
   | inl h ↦
       let p = and_parts (a.number == b.number) (is_same a.rec b.rec) h in
       let here : a.number ≡ b.number = equal a.number b.number p.0 in
@@ -65,7 +61,7 @@ follows_holds a b e = elim (either ((a.number == b.number) && is_same a.rec b.re
 ]
 
 pub pair_holds : (first second : ℕ) → is_busy_pair first second ≡ true → IsBusyPair first second
-pair_holds first second e = elim (either ((first % 2 == 1) && (second == first)) ((first % 2 == 0) && nat_lt first second) e) [
+pair_holds first second e = elim (or_cases ((first % 2 == 1) && (second == first)) ((first % 2 == 0) && nat_lt first second) e) [
   | inl h ↦ let p = and_parts (first % 2 == 1) (second == first) h in inl (equal (first % 2) 1 p.0, equal second first p.1)
   | inr h ↦ let p = and_parts (first % 2 == 0) (nat_lt first second) h in inr (equal (first % 2) 0 p.0, ltb-true first second p.1)
 ]

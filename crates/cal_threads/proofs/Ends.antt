@@ -1,5 +1,5 @@
 -- The least of several faults; where it is the gate's, all are.
-use Rattle.std.proofs.Common.{◌≡◌, ℕ, ◌≤◌, ◌⊎◌, inl, inr, ⊎_elim, List, [], ◌∷◌, ◌++◌, Option, Some, None, Result, Ok, Err, IfErr, arith, ap, subst, refl, sym, ◌∙◌}
+use Rattle.std.proofs.Common.{◌≡◌, ℕ, ◌⊎◌, inl, inr, ⊎_elim, List, [], ◌∷◌, ◌++◌, Option, Some, None, Result, Ok, Err, IfErr, arith, ap, subst, refl, sym, ◌∙◌}
 use Rattle.std.specs.List.{Contains}
 use Rattle.std.specs.Option.{unwrap_or}
 use Rattle.std.proofs.lemmas.List.Elements.{Contains-append_left, Contains-push, Contains-push_cases}
@@ -25,14 +25,6 @@ both_is_gate (Err f) (Err h) e spawn is gate = absurd (let n = ap fault_number (
 pub ended_by_gate : (may : Type 0) (fault : SimFault) → EndedBy may fault → fault ≡ Gate → may
 ended_by_gate may fault (inl memory) gate = absurd (let n = ap fault_number (sym memory ∙ gate) in omega (arith, n))
 ended_by_gate may fault (inr refused) gate = refused.1
-
--- where the fault of the scheduler and the others is the gate's, it may have refused the one or the others
-pub gate_of_both : {A B : Type 0} (P Q : Type 0) (a : Result A SimFault) (b : Result B SimFault) (e : SimFault) → IfErr a (EndedBy P) → IfErr b (λ f. f ≡ Gate → Q) → IsFaultOf a b e →
-    e ≡ Gate → P ⊎ Q
-gate_of_both P Q (Ok x) (Ok y) e one other is gate = absurd is
-gate_of_both P Q (Ok x) (Err f) e one other is gate = inr (other (sym is ∙ gate))
-gate_of_both P Q (Err f) (Ok y) e one other is gate = inl (ended_by_gate P f one (sym is ∙ gate))
-gate_of_both P Q (Err f) (Err h) e one other is gate = inl (ended_by_gate P f one (least_is_gate f h e is gate))
 
 module _ {A : Type 0} where
   -- the least fault of the results so far, where there is one

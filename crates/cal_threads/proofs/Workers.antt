@@ -9,10 +9,6 @@ use Rattle.cal_threads.specs.Promises.{HasMadeTurns, IsKept, IsOf}
 use Rattle.cal_threads.specs.declared.kernel_threads.Turned.{Turned}
 use Rattle.cal_threads.proofs.Pairs.{pairs_at, pairs_map, pairs_place}
 
--- a thread that made turns is known by its own number
-pub by_its_number : (arrivals : Arrivals) (k j : ℕ) (worker : Worker) → HasMade arrivals k j worker → HasMade arrivals worker.number j worker
-by_its_number arrivals k j worker made = let P : ℕ → Type 0 = λ n. HasMade arrivals n j worker in subst P (sym made.number) made
-
 -- each of these threads, the first of which is thread k, has made j turns
 pub record HaveMadeFrom (arrivals : Arrivals) (k j : ℕ) (workers : List Worker) : Type 0 where
   pub at : (i : ℕ) (worker : Worker) → slice_get workers i ≡ Some worker → HasMade arrivals (k + i) j worker

@@ -16,8 +16,8 @@ pub(crate) fn least(fault: SimFault, other: SimFault) -> SimFault
     }
 }
 
-/// What both came to, or the least fault.
-pub(crate) fn both<A: Drop, B: Drop>(
+/// The two values; if either failed, the fault with the least number.
+pub(crate) fn both_or_least_fault<A: Drop, B: Drop>(
     a: Result<A, SimFault>,
     b: Result<B, SimFault>,
 ) -> Result<(A, B), SimFault>

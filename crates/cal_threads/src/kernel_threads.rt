@@ -9,7 +9,7 @@ ghost use Rattle.cal_threads.specs.Faults.{IsLeastOfAll};
 ghost use Rattle.cal_threads.specs.Gates.{LetsEachThrough, MayRefuseOne};
 ghost use Rattle.cal_threads.specs.Promises.{IsKept, IsOf, MayEnd, MayGive};
 
-use crate::faults::{both, least};
+use crate::faults::{both_or_least_fault, least};
 use crate::gate::Gate;
 use crate::working::make_turns;
 use cal_run::{SimFault, Worker};
@@ -59,7 +59,7 @@ pub(crate) fn run_workers<'s, R: Threads, E, G: Gate + Sync>(
     let back = Vec::with_capacity(alloc, workers.len())?;
     let (threads, started) = start_workers(scope, gate, arrivals, workers, threads);
     let joined = join_workers(rt, threads, back);
-    match both(started, joined) {
+    match both_or_least_fault(started, joined) {
         Ok((_, workers)) => Ok(workers),
         Err(fault) => Err(fault),
     }

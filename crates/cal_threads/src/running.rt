@@ -8,7 +8,7 @@ ghost use Rattle.cal_threads.specs.Gates.{EndedBy, LetsEachThrough, LetsThrough}
 ghost use Rattle.cal_threads.specs.Gates.{MayRefuse, MayRefuseOne};
 ghost use Rattle.cal_threads.specs.Promises.{AsksEachPass, HasMadePasses, HasMadeRounds};
 
-use crate::faults::both;
+use crate::faults::both_or_least_fault;
 use crate::gate::Gate;
 use crate::kernel_threads::run_workers;
 use crate::working::{make_passes, make_rounds};
@@ -130,7 +130,7 @@ fn run_within<'s, R: Threads, E, G: Gate + Sync>(
     let passing = start_scheduler(scope, arrivals, gate, scheduler)?;
     let others = run_others(rt, scope, alloc, arrivals, gate, workers, watch);
     let scheduler = passing.join(rt);
-    match both(scheduler, others) {
+    match both_or_least_fault(scheduler, others) {
         Ok((scheduler, (workers, watch))) => Ok(Parts {
             scheduler,
             workers,

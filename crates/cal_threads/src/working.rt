@@ -7,7 +7,7 @@ ghost use Rattle.cal_run.specs.Workers.{FitSomeTable, HasMade, seat_of};
 ghost use Rattle.cal_threads.specs.Gates.{EndedBy, LetsThrough, MayRefuse};
 
 use crate::gate::Gate;
-use cal_run::{SimFault, Worker, pass_given, round_given};
+use cal_run::{SimFault, Worker, pass_given, watch_of_round};
 use cal_sched::{Scheduler, Watch};
 use cal_trace::Arrivals;
 
@@ -68,7 +68,7 @@ pub(crate) fn make_rounds(passes: usize, mut watch: Watch) -> Watch
     ensures seat { watch_seat_of result ≡ watch_seat_of watch }
 {
     for _ in 0..passes {
-        round_given(&mut watch);
+        watch_of_round(&mut watch);
     }
     watch
 }

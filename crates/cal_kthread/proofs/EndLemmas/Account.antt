@@ -22,12 +22,7 @@ use Rattle.cal_kthread.specs.Queue.Rule.{weigh, TookWhatCame}
 use Rattle.cal_kthread.specs.End.Rest.{RestView, HandsOut, HandsOutOf, to_hand_out}
 use Rattle.cal_kthread.specs.Team.{Place, place_of_rest, thief_place, lent, lent_to}
 use Rattle.cal_kthread.proofs.ListSums.{weigh-append, weigh-set, weigh-one-more, weigh-map, weigh-each, weigh-plus, member, heavy, each-set, map-append, map-at, within, at-get_or}
-
-abbrev place : KernelEnd → Place
-place e = place_of_rest e.rest
-
-abbrev victims_of : KernelEnd → List Victim
-victims_of e = e.rest.victims
+use Rattle.cal_kthread.proofs.TeamLemmas.Gathering.{place, victims_of}
 
 abbrev queued : (Waiting → ℕ) → KernelEnd → ℕ
 queued h e = weigh h e.rest.queue.had + handed_of h e

@@ -14,9 +14,6 @@ use Rattle.cal_kthread.specs.declared.queue.waiting.Waiting.{Waiting}
 use Rattle.cal_kthread.proofs.EndLemmas.Account.{accounted, moved, still-settled}
 use Rattle.cal_kthread.proofs.ListSums.{map-append, map-at, map-set-like, within}
 
-pub none-yet : (rest : RestView) → HandsOutSome rest rest
-none-yet rest = record { place = refl; victims = refl; pushed = refl; had = refl; kept = λ h. refl }
-
 -- one more request is handed out
 pub one-more : (first before after : RestView) (w : Waiting) → HandsOutSome first before → HandsOut w before after → HandsOutSome first after
 one-more first before after w so_far hands = let m = moved before.held w before after refl hands in record {
@@ -49,16 +46,6 @@ pub record HandedUpTo (k : ℕ) (first ends : List KernelEnd) (lefts : List (Lis
   pub lists : lefts ≡ map left_of (take k ends)
   pub drained : (j : ℕ) (e : KernelEnd) → get_elem? ends j ≡ some e → j < k → IsDrained e
   pub untouched : (j : ℕ) (e : KernelEnd) → get_elem? ends j ≡ some e → k ≤ j → HandedOutNothing e
-
-pub none-handed : (ends : List KernelEnd) → IsSettled ends → Each HandedOutNothing ends → HandedUpTo 0 ends ends []
-none-handed ends settled untouched = record {
-  settled = settled;
-  same = refl;
-  count = refl;
-  lists = refl;
-  drained = λ j e at below. absurd (omega (arith, below));
-  untouched = λ j e at _. untouched j e at;
-}
 
 take-set : {T : Type 0} (xs : List T) (k : ℕ) (x y : T) → get_elem? xs k ≡ some x → take (k + 1) (set xs k y) ≡ take k xs ++ y ∷ []
 take-set {T = T} xs k x y at = subst (λ n. take n (set xs k y) ≡ take k xs ++ y ∷ []) (let e : suc k ≡ k + 1 = omega arith in e) (by-suc xs k at)

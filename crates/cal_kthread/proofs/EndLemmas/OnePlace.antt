@@ -107,7 +107,7 @@ served-serves : (id : ℕ) → 0 < serves id (Served id)
 served-serves id = let e : one_if (nat_eq id id) ≡ 1 = ap one_if (eq-eqb id id refl) in omega (arith, e)
 
 -- how often a request has this id
-abbrev has : ℕ → Request → ℕ
+abbrev pub has : ℕ → Request → ℕ
 has id request = one_if (nat_eq request.id id)
 
 module _ (journals : List (List Entry)) (lefts : List (List Request)) (id : ℕ) (accounted : IsAccounted journals lefts) where

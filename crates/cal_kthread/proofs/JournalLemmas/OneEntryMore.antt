@@ -29,7 +29,7 @@ length-filter_map h (x ∷ xs) = let e = length-filter_map h xs in let f = longe
     longer None ys = omega arith
     longer (Some y) ys = omega arith
 
-state-push : (s : State) (xs : List Entry) (x : Entry) → state_from s (xs ++ x ∷ []) ≡ changed_by x (state_from s xs)
+pub state-push : (s : State) (xs : List Entry) (x : Entry) → state_from s (xs ++ x ∷ []) ≡ changed_by x (state_from s xs)
 state-push s [] x = refl
 state-push s (z ∷ zs) x = state-push (changed_by z s) zs x
 
@@ -37,7 +37,7 @@ pub state_after-push : (xs : List Entry) (x : Entry) → state_after (xs ++ x �
 state_after-push xs x = state-push _ xs x
 
 -- one more entry may stand after them all
-stand-push : (before xs : List Entry) (x : Entry) → StandAfter before xs → MayStand (before ++ xs) x → StandAfter before (xs ++ x ∷ [])
+pub stand-push : (before xs : List Entry) (x : Entry) → StandAfter before xs → MayStand (before ++ xs) x → StandAfter before (xs ++ x ∷ [])
 stand-push before [] x _ may = (subst (λ z. MayStand z x) (append-nil before) may, tt)
 stand-push before (z ∷ zs) x each may = (each.0, stand-push (before ++ z ∷ []) zs x each.1 (subst (λ l. MayStand l x) (sym (append_assoc before (z ∷ []) zs)) may))
 

@@ -15,10 +15,10 @@ use Rattle.cal_kthread.specs.Team.{IsTeam, Place, place_of_rest, thief_place, qu
 use Rattle.cal_kthread.proofs.TeamLemmas.Shares.{returned}
 use Rattle.cal_kthread.proofs.ListSums.{weigh-append, weigh-set, weigh-one-more, map-set-like, map-append, map-at, within, at-get_or}
 
-abbrev place : KernelEnd → Place
+abbrev pub place : KernelEnd → Place
 place e = place_of_rest e.rest
 
-abbrev victims_of : KernelEnd → List Victim
+abbrev pub victims_of : KernelEnd → List Victim
 victims_of e = e.rest.victims
 
 module _ (ends : List KernelEnd) (k : ℕ) (giver : KernelEnd) (given : RestView) (v : Victim) where

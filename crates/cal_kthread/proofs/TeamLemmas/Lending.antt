@@ -86,7 +86,7 @@ module _ (places : List Place) (j : ℕ) (g : Place) (k : ℕ) (p : Place) where
       shares = after-shares;
     }
 
-abbrev place : KernelView → Place
+abbrev pub place : KernelView → Place
 place t = place_of t.thread
 
 abbrev shares_of : KernelView → ℕ

@@ -1,7 +1,7 @@
 -- A new team: thread after thread is opened, and task after task is linked.
-use Rattle.std.proofs.Common.{◌≡◌, ℕ, zero, suc, ◌+◌, ◌-◌, ◌<◌, ◌≤◌, ◌⊎◌, nat_eq, List, [], ◌∷◌, ◌++◌, map, length, take, drop, sym, refl, ap, ◌∙◌, subst, inl, inr, ⊎_elim, arith}
+use Rattle.std.proofs.Common.{◌≡◌, ℕ, zero, suc, ◌+◌, ◌-◌, ◌<◌, ◌≤◌, ◌⊎◌, nat_eq, List, [], ◌∷◌, ◌++◌, map, length, take, drop, sym, refl, ap, ◌∙◌, subst, ⊎_elim, arith}
 use native.Mathlib.Decide.{ℕ_discrete}
-use mathlib.Core.Option.{some, some-injective, some-ne-none}
+use mathlib.Core.Option.{some, some-ne-none}
 use lib.ListN.{get_elem?}
 use Rattle.crossbeam_deque.proofs.Lists.{at_map, at_snoc}
 use Rattle.cal_command.specs.Rings.{SenderView}
@@ -12,18 +12,14 @@ use Rattle.cal_kthread.specs.Team.Linking.{Links, IsLinked, StoleNothing, unlink
 use Rattle.cal_kthread.specs.Team.Opening.{AreOpened}
 use Rattle.cal_kthread.specs.Places.{Each, one_if}
 use Rattle.cal_kthread.specs.Queue.{QueueId}
-use Rattle.cal_kthread.specs.Team.{Place, IsTeam, place_of, lent, lent_to, thief_place}
+use Rattle.cal_kthread.specs.Team.{Place, IsTeam, lent, lent_to, thief_place}
 use Rattle.cal_kthread.specs.Turn.Thread.{KernelView, IsFresh}
 use Rattle.cal_kthread.specs.declared.turn.victims.Victim.{Victim}
 use Rattle.cal_kthread.specs.Queue.Rule.{weigh}
 use Rattle.cal_kthread.proofs.ListSums.{map-append, map-at, same-through, at-get_or, within}
 use Rattle.cal_machine.proofs.ThreadNumbers.{first_next}
-
-at-end : {T : Type 0} (xs : List T) (y x : T) (k : ℕ) → get_elem? (xs ++ y ∷ []) k ≡ some x → (get_elem? xs k ≡ some x) ⊎ ((k ≡ length xs) × (y ≡ x))
-at-end [] y x zero e = inr (refl, some-injective y x e)
-at-end [] y x (suc k) e = absurd (some-ne-none x (sym e))
-at-end (z ∷ zs) y x zero e = inl e
-at-end (z ∷ zs) y x (suc k) e = ⊎_elim (λ t. inl t) (λ t. inr (ap suc t.0, t.1)) (at-end zs y x k e)
+use Rattle.cal_signal.proofs.Parting.{at_grown}
+use Rattle.cal_kthread.proofs.TeamLemmas.Lending.{place}
 
 each-more : {T : Type 0} (P : T → Type 0) (xs : List T) (y : T) → Each P xs → P y → Each P (xs ++ y ∷ [])
 each-more P xs y all here k x e = ⊎_elim (all k x) (λ (same : y ≡ x). subst P same here) (at_snoc xs y x k e)
@@ -41,29 +37,12 @@ fresh-idle t f k v e = absurd (some-ne-none v (sym (subst (λ vs. get_elem? vs k
 pub all-idle : (threads : List KernelView) → Each IsFresh threads → Each StoleNothing threads
 all-idle threads fresh k t e = fresh-idle t (fresh k t e)
 
-pub none-opened : AreOpened [] [] [] []
-none-opened = record {
-  numbers = λ k t e. absurd (some-ne-none t (sym e));
-  fresh = λ k t e. absurd (some-ne-none t (sym e));
-  thieves = λ k t e. absurd (some-ne-none t (sym e));
-  observed = refl;
-  watched = refl;
-  rings = refl;
-  unseen = λ k t e. absurd (some-ne-none t (sym e));
-  unwatched = λ k t e. absurd (some-ne-none t (sym e));
-  unsent = λ k t e. absurd (some-ne-none t (sym e));
-  free = λ k t e. absurd (some-ne-none t (sym e));
-}
-
-pub none-fresh : Each IsFresh []
-none-fresh k t e = absurd (some-ne-none t (sym e))
-
 pub one-more : (ts : List KernelView) (os : List ObserverView) (ss : List SenderView) (ws : List ObserverView) (t : KernelView) (o : ObserverView) (s : SenderView) (w : ObserverView)
     → AreOpened ts os ss ws → t.number ≡ length ts → IsFresh t → (t.thread.publisher.page ≡ o.page) × (t.thread.publisher.page ≡ w.page)
     → (o.loads ≡ []) × (o.looks ≡ []) × (w.loads ≡ []) × (w.looks ≡ []) → (t.thread.taker.ring ≡ s.ring) × (s.sent ≡ []) × (s.free ≡ 4)
     → AreOpened (ts ++ t ∷ []) (os ++ o ∷ []) (ss ++ s ∷ []) (ws ++ w ∷ [])
 one-more ts os ss ws t o s w a number fresh page unseen ring = record {
-  numbers = λ k x e. ⊎_elim (a.numbers k x) (λ (u : (k ≡ length ts) × (t ≡ x)). sym (ap (λ (y : KernelView). y.number) u.1) ∙ number ∙ sym u.0) (at-end ts t x k e);
+  numbers = λ k x e. ⊎_elim (a.numbers k x) (λ (u : (k ≡ length ts) × (t ≡ x)). sym (ap (λ (y : KernelView). y.number) u.1) ∙ number ∙ sym u.0) (at_grown ts t x k e);
   fresh = each-more (λ (x : KernelView). IsFresh (unlinked x)) ts t a.fresh (still-fresh t fresh);
   thieves = each-more StoleNothing ts t a.thieves (fresh-idle t fresh);
   observed = both-more (λ (x : ObserverView). x.page) (λ (x : KernelView). x.thread.publisher.page) os ts o t a.observed (sym page.0);
@@ -114,9 +93,6 @@ untouched threads fresh k within = let t = there threads k within in let f = fre
   at-get_or (map (λ (x : KernelView). x.thread.queue.shares) threads) k t.0.thread.queue.shares 0 (at_map (λ (x : KernelView). x.thread.queue.shares) threads k t.0 t.1) ∙ f.shares,
 )
 
-abbrev place : KernelView → Place
-place t = place_of t.thread
-
 nothing-lent : (j : ℕ) (threads : List KernelView) → Each IsFresh threads → lent j (map place threads) ≡ 0
 nothing-lent j [] fresh = refl
 nothing-lent j (t ∷ ts) fresh = let a : lent_to j (place t) ≡ 0 = ap (λ (vs : List Victim). weigh (λ (x : ℕ × QueueId). one_if (nat_eq x.0 j)) (map thief_place vs)) (fresh 0 t refl).victims in
@@ -158,13 +134,6 @@ none-linked tasks threads fresh = record {
   idle = all-idle threads fresh;
   done = λ s before. absurd (omega (arith, before));
   due = λ k _ within. untouched threads fresh k within;
-}
-
--- a task whose threads have no thieves yet is linked at no distance
-pub not-linked : (first count : ℕ) (threads : List KernelView) → first + count ≤ length threads → ((k : ℕ) → first ≤ k → k < length threads → Untouched k threads) → IsLinked first count 0 threads
-not-linked first count threads within all = record {
-  numbers = λ p h. (all (first + p) (omega arith) (omega (arith, within, h))).0;
-  shares = λ p h. let u = all (first + p) (omega arith) (omega (arith, within, h)) in let s = u.1 in omega (arith, s);
 }
 
 pub one-more-linked : (tasks : List Task) (t : ℕ) (start before after : List KernelView) → t < length tasks → length after ≡ length before → LinkedUpTo tasks t start before

@@ -1,9 +1,8 @@
 -- Round by round each thread of a task gets its thieves.
-use Rattle.std.proofs.Common.{◌≡◌, ◌≢◌, ℕ, zero, suc, ◌+◌, ◌-◌, ◌<◌, ◌≤◌, ◌⊎◌, if◌then◌else◌, List, [], ◌∷◌, ◌++◌, map, sym, refl, ap, ◌∙◌, subst, inl, inr, ⊎_elim, arith}
+use Rattle.std.proofs.Common.{◌≡◌, ◌≢◌, ℕ, zero, suc, ◌+◌, ◌-◌, ◌<◌, ◌≤◌, ◌⊎◌, if◌then◌else◌, List, [], ◌∷◌, ◌++◌, sym, ap, ◌∙◌, subst, inl, inr, ⊎_elim, arith}
 use Rattle.std.proofs.lemmas.Bool.{lt-ltb, le-ltb}
 use native.Mathlib.Decide.{ℕ_discrete, dec_le}
-use Rattle.cal_kthread.specs.Team.Linking.{Lends, Links, IsLinked, wrapped, next_threads, numbers_at, shares_at}
-use Rattle.cal_kthread.specs.Team.{IsTeam, place_of}
+use Rattle.cal_kthread.specs.Team.Linking.{Lends, IsLinked, wrapped, next_threads, numbers_at, shares_at}
 use Rattle.cal_kthread.specs.Turn.Thread.{KernelView}
 
 pub wraps : (count n : ℕ) → ((n < count) × (wrapped count n ≡ n)) ⊎ ((count ≤ n) × (wrapped count n ≡ n - count))
@@ -73,23 +72,4 @@ pub ends : (first count distance owner : ℕ) (threads : List KernelView) → di
 ends first count distance owner threads far all round = record {
   numbers = λ place within. round.done place within (let w = wrapped-within count distance place far within in omega (arith, w, all));
   shares = λ place within. round.lent place within (omega (arith, within, all));
-}
-
-pub links-none : (first count : ℕ) (threads : List KernelView) → IsTeam (map (λ k. place_of k.thread) threads) → Links first count threads threads
-links-none first count threads team = record { team = team; same = refl; outside = λ k apart. (refl, refl); thieves = λ idle. idle }
-
-pub links-more : (first count : ℕ) (a b c : List KernelView) → Links first count a b → Links first count b c → Links first count a c
-links-more first count a b c ab bc = record {
-  team = bc.team;
-  same = bc.same ∙ ab.same;
-  outside = λ k apart. ((bc.outside k apart).0 ∙ (ab.outside k apart).0, (bc.outside k apart).1 ∙ (ab.outside k apart).1);
-  thieves = λ idle. bc.thieves (ab.thieves idle);
-}
-
-pub one-link : (first count robber owner : ℕ) (b c : List KernelView) → robber < count → owner < count → Lends (first + robber) (first + owner) b c → Links first count b c
-one-link first count robber owner b c robber_within owner_within lends = record {
-  team = lends.team;
-  same = lends.same;
-  outside = λ k apart. (lends.others_rob k (λ e. let h = apart (omega (arith, e)) in omega (arith, h, e, robber_within)), lends.others_lend k (λ e. let h = apart (omega (arith, e)) in omega (arith, h, e, owner_within)));
-  thieves = lends.thieves;
 }

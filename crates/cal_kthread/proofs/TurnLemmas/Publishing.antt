@@ -1,14 +1,10 @@
 -- The record of a turn is never refused.
-use Rattle.std.proofs.Common.{◌≡◌, ℕ, ◌-◌, ◌<◌, ◌≤◌, ◌^◌, Option, Some, None, IfSome, List, [], ◌∷◌, ◌++◌, length, refl, arith}
+use Rattle.std.proofs.Common.{◌≡◌, ℕ, ◌<◌, ◌≤◌, Option, Some, None, IfSome, List, [], ◌∷◌, ◌++◌, refl, arith}
 use Rattle.cal_machine.specs.declared.machine.TheConstants.{MOST_CORES}
 use Rattle.cal_signal.specs.declared.record.Record.{Record}
-use Rattle.cal_signal.specs.declared.fault.PublishFault.{PublishFault}
-use Rattle.cal_signal.specs.declared.fault.PublishFault.TheVariants.{Backwards, BadShape, Exhausted}
-use Rattle.cal_signal.specs.Faults.{IsRefusal}
 use Rattle.cal_signal.specs.Pages.{last_published, last_from}
 use Rattle.cal_signal.specs.Records.{MayFollow}
 use Rattle.cal_signal.specs.Records.{running_word}
-use Rattle.cal_signal.specs.declared.publisher.TheConstants.{LAST_PLACE}
 use Rattle.cal_kthread.specs.Turn.Thread.{ThreadView, IsThread}
 use Rattle.cal_kthread.specs.Turn.{shown}
 
@@ -20,12 +16,6 @@ running_bound (Some c) within = omega arith
 pub follows : (now : ℕ) (t : ThreadView) (count : ℕ) → IsThread count t.taker.taken t.core t.misses t.publisher.published → (last_published t.publisher.published).stamp ≤ now → MayFollow (last_published t.publisher.published) (shown now t)
 follows now t count is later = let n = is.taken in let a = is.shown_taken in let b = is.shown_misses in let r = running_bound t.core is.number in
     ((omega arith, b, later), (r, is.limit))
-
--- what may be published is not refused
-pub not_refused : (published : List Record) (rec : Record) (fault : PublishFault) → MayFollow (last_published published) rec → length published < LAST_PLACE → IsRefusal published rec fault → ⊥
-not_refused published rec Backwards may room refusal = refusal may.0
-not_refused published rec BadShape may room refusal = refusal.1 may.1
-not_refused published rec Exhausted may room refusal = let e = refusal.2 in omega arith
 
 -- the last record is the one that was published last
 pub last_snoc : (x : Record) (xs : List Record) (y : Record) → last_from x (xs ++ y ∷ []) ≡ y

@@ -61,8 +61,8 @@ impl Thread {
         Some(Entry::Took(number, command))
     }
 
-    /// 3. On a core, a thread without a current request takes its front, else the first of its own
-    ///    queue, else it tries to steal one.
+    /// 3. Work is found: on a core, a thread without a current request takes its front, else the
+    ///    first of its own queue, else it tries to steal one.
     pub(crate) fn provide(&mut self, now: u64) -> Option<Entry>
         ensures provided { (own : Option Waiting) × (theft : Option (ℕ × Waiting))
             × IfSome theft (λ place. place.0 < length self.old.victims)
@@ -84,8 +84,8 @@ impl Thread {
         })
     }
 
-    /// 3. On a core, the current request loses one of its work; with no work left it is served. A
-    ///    thread that found none gives up its core.
+    /// And, still step 3, it is done: on a core, the current request loses one of its work; with no
+    /// work left it is served. A thread that found none gives up its core.
     pub(crate) fn work(&mut self) -> Option<Entry>
         ensures worked { (self.new, result) ≡ turn.worked self.old }
         ensures apart { self.new.publisher ≡ self.old.publisher }
@@ -108,7 +108,7 @@ impl Thread {
         self.front = next(&mut self.front, &mut self.queue);
     }
 
-    /// 5. The record that shows the thread now.
+    /// The record that shows the thread now, which step 5 publishes.
     fn record(&self, now: u64) -> Record
         ensures { result ≡ turn.shown now self.now }
     {

@@ -29,9 +29,10 @@ use Rattle.cal_laws.proofs.ExclusionLemmas.SameHolders.{held_same}
 use Rattle.cal_laws.proofs.CapLemmas.Followed.{AllFollowed, pass_followed, revocation_next}
 use Rattle.cal_laws.proofs.ChoiceLemmas.Granted.{grant_facts, books}
 use Rattle.cal_laws.proofs.CapLemmas.Held.{held_freed, held_revoked, held_lost, held_granted, held_elsewhere, cap_same, cap_new}
-use Rattle.cal_laws.proofs.PointLemmas.EachAction.{take_next, actions_more}
+use Rattle.cal_laws.proofs.PointLemmas.EachAction.{actions_more}
 use Rattle.cal_laws.proofs.CauseLemmas.Revoked.{takes_held, after_cap}
 use Rattle.cal_policy.proofs.PassLemmas.Fits.{held_le_booked}
+use Rattle.cal_machine.proofs.Last.{take_next}
 
 abbrev pub Within : Table → List Action → ℕ → Type 0
 Within table x t = held_by table x t ≤ cap_of table x t

@@ -20,11 +20,7 @@ use Rattle.cal_policy.specs.Setting.{Setting, so_far, has_room}
 use Rattle.cal_policy.specs.Pass.Grants.{leaves_for, none_leaves_for, is_granted_in, is_thread_for, idle_class, preempt_class, may_preempt, class_by, class_of}
 use Rattle.cal_laws.specs.Choice.{IsIdle, IsHeldBy, WentLastTo, MayBePreempted, CriticalMayBePreempted, IsPreemptible, IsOfClass}
 use Rattle.cal_laws.proofs.ListLemmas.Counted.{count_none}
-use Rattle.cal_machine.proofs.Booleans.{some_then}
-
-else_some : {X : Type 0} (b : Bool) (o : Option X) (y : X) → cond b None o ≡ Some y → (b ≡ false) × (o ≡ Some y)
-else_some true o y e = cc
-else_some false o y e = (refl, e)
+use Rattle.cal_machine.proofs.Booleans.{some_then, some_else}
 
 -- who holds a core, and to whom it went last
 held_for : (table : Table) (x : List Action) (t c : ℕ) (h : Holder) → holder_of x c ≡ h → is_held_for table t h ≡ true → IsHeldBy table x t c
@@ -139,7 +135,7 @@ of_class s acts t class core (holders.Leaving p cause) e f = cc
 of_class s acts t class core holders.Free e f =
     let x = so_far s acts in
     let idle : CoreClass = idle_class s.table t (holder_of x (sibling_of core)) (last_thread x core) in
-    let parts = else_some (is_banned x core) (Some idle) class f in
+    let parts = some_else (is_banned x core) (Some idle) class f in
     idle_by s acts t class core (record { free = e; not_banned = parts.0 })
     (is_held_for s.table t (holder_of x (sibling_of core))) (is_thread_for s.table t (last_thread x core)) refl refl (same_Some idle class parts.1)
 of_class s acts t class core (holders.Held p) e f =

@@ -28,6 +28,7 @@ use Rattle.cal_laws.proofs.CauseLemmas.Revoked.{TakesHeld, takes_held}
 use Rattle.cal_laws.proofs.ChoiceLemmas.Granted.{gives_free}
 use Rattle.cal_machine.proofs.Booleans.{unwrap_if}
 use Rattle.cal_policy.proofs.PassLemmas.Steady.{free_place}
+use Rattle.cal_policy.proofs.HistoryLemmas.FreshCores.{eqb_swap}
 
 -- threads have one core each, by their last Run
 pub record Excludes (table : Table) (x : List Action) : Type 0 where
@@ -178,11 +179,8 @@ granted more table x core thread class none was =
       runs = λ c lt. let P : Holder → Type 0 = λ h. IsByLastRun y c h in
           subst P (sym (holder c)) (granted_run x y core thread c (step.commands thread ∙ sent_there (commands_to x thread) thread (Run core)) (eqb core c) refl
           (run_kept x y c (holder_of x c)
-          (λ p is. step.commands p.thread ∙ sent_elsewhere (commands_to x p.thread) thread p.thread (Run core) (other_way p.thread thread (off c p lt is))) (was.runs c lt)));
+          (λ p is. step.commands p.thread ∙ sent_elsewhere (commands_to x p.thread) thread p.thread (Run core) (eqb_swap thread p.thread ∙ off c p lt is)) (was.runs c lt)));
     }
-  where
-    other_way : (a b : ℕ) → eqb a b ≡ false → eqb b a ≡ false
-    other_way a b e = grind (arith, nat_tests)
 
 -- any action
 step : ActionIsOneMore → LastThreadIsPlaced → (table : Table) (before : List PassEntry) (entry : PassEntry) (acts : List Action) (a : Action) →

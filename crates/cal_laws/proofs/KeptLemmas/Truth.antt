@@ -24,7 +24,8 @@ use Rattle.cal_policy.proofs.HistoryLemmas.OneMore.{sent_grows}
 use Rattle.cal_laws.specs.Point.{Point, setting_at, made_at}
 use Rattle.cal_laws.specs.Safe.{IsSafeHistory, IsSafePoint}
 use Rattle.cal_laws.specs.Kept.{IsOnItsCore, WasKeptOnCore, IsTrueRecord}
-use Rattle.cal_laws.proofs.PointLemmas.EachAction.{take_next, actions_more}
+use Rattle.cal_laws.proofs.PointLemmas.EachAction.{actions_more}
+use Rattle.cal_machine.proofs.Last.{take_next}
 
 -- what is known of a record that the looks before pass n let be kept
 pub record IsTrueBefore (table : Table) (history : List PassEntry) (k n : ℕ) (rec : Record) : Type 0 where

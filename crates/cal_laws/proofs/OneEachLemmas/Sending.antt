@@ -34,11 +34,13 @@ use Rattle.cal_laws.specs.Turns.{turn_of}
 use Rattle.cal_laws.proofs.ListLemmas.Counted.{count_none}
 use Rattle.cal_laws.proofs.ExclusionLemmas.Excluded.{excludes_at, on_other, last_loser}
 use Rattle.cal_laws.proofs.ChoiceLemmas.Granted.{gives_free, free_nobody}
-use Rattle.cal_laws.proofs.PointLemmas.EachAction.{take_next, legal_safe, safe_point}
+use Rattle.cal_laws.proofs.PointLemmas.EachAction.{legal_safe, safe_point}
 use Rattle.cal_laws.proofs.CauseLemmas.Revoked.{takes_held, preempted_before_pass}
 use Rattle.cal_laws.proofs.OneEachLemmas.Turns.{Below, IsInTurn, pass_in_turn}
 use Rattle.cal_machine.proofs.Booleans.{unwrap_if}
 use Rattle.cal_policy.proofs.ListLemmas.EachAfter.{each_at}
+use Rattle.cal_policy.proofs.HistoryLemmas.FreshCores.{eqb_swap}
+use Rattle.cal_machine.proofs.Last.{take_next}
 
 -- the thread was sent its command of this pass, by one of the actions acts: it is on a core, which
 -- it is leaving or was granted in this pass
@@ -94,15 +96,12 @@ Rests table x acts a k = (length (sends k x a) ≡ 0) × IsServed table (x ++ a 
 not_sent : (k thread : ℕ) (command : Command) → eqb thread k ≡ false → length (command_to k (Some thread) command) ≡ 0
 not_sent k thread command e = ap (λ (b : Bool). length (cond b (command ∷ []) [])) e
 
-other_way : (a b : ℕ) → eqb a b ≡ false → eqb b a ≡ false
-other_way a b e = grind (arith, nat_tests)
-
 granted_rests : ActionIsOneMore → LastThreadIsPlaced → (table : Table) (x acts : List Action) (core thread class k : ℕ) → is_free (holder_of x core) ≡ true → cores_of_thread table x thread ≡ 0 →
     IsServed table x acts k → Rests table x acts (Grant core thread class) k
 granted_rests more last table x acts core thread class k free none was =
     let off : eqb core was.core ≡ false = apart (eqb core was.core) refl in
     let on_none = count_none (λ c. is_with thread (holder_of x c)) was.core table.cores was.low none in
-    let other : eqb thread k ≡ false = ap (eqb thread) (sym was.is) ∙ other_way was.place.thread thread (on_other thread (holder_of x was.core) was.place on_none was.there) in
+    let other : eqb thread k ≡ false = ap (eqb thread) (sym was.is) ∙ eqb_swap thread was.place.thread ∙ on_other thread (holder_of x was.core) was.place on_none was.there in
     let same = (more x (Grant core thread class)).holder was.core ∙ unwrap_if (eqb core was.core) (holders.Held (placed x thread)) (holder_of x was.core)
     ∙ ap (λ (b : Bool). cond b (holders.Held (placed x thread)) (holder_of x was.core)) off in
     (not_sent k thread (Run core) other, stays more last table x acts (Grant core thread class) k was same)

@@ -10,7 +10,7 @@ use Rattle.cal_policy.specs.Board.CoreSets.{IsSetOfBanned}
 use Rattle.cal_policy.proofs.ListLemmas.OneMore.{map_if}
 use Rattle.cal_policy.proofs.HistoryLemmas.OneMore.{ban_push}
 use Rattle.cal_machine.proofs.Booleans.{unwrap_if}
-use Rattle.cal_policy.proofs.HistoryLemmas.FreshCores.{or_cond, turned}
+use Rattle.cal_policy.proofs.HistoryLemmas.FreshCores.{or_cond, eqb_swap}
 
 -- an action that names no ban
 pub Banned_same : (set : CoreSet) (x : List Action) (a : Action) → ((c : ℕ) → ban_of (x ++ a ∷ []) c ≡ ban_of x c) → IsSetOfBanned set x → IsSetOfBanned set (x ++ a ∷ [])
@@ -23,7 +23,7 @@ and_cond false r = refl
 pub Banned_ban : (set set2 : CoreSet) (x : List Action) (core thread started : ℕ) → ((c : ℕ) → has set2 c ≡ (eqb c core || has set c)) →
     IsSetOfBanned set x → IsSetOfBanned set2 (x ++ Ban core thread started ∷ [])
 Banned_ban set set2 x core thread started e s = record {
-  banned = λ c lt. e c ∙ ap (λ b. b || has set c) (turned c core) ∙ or_cond (eqb core c) (has set c) ∙ ap (cond (eqb core c) true) (s.banned c lt)
+  banned = λ c lt. e c ∙ ap (λ b. b || has set c) (eqb_swap c core) ∙ or_cond (eqb core c) (has set c) ∙ ap (cond (eqb core c) true) (s.banned c lt)
       ∙ sym (ap is_some (ban_push x (Ban core thread started) c ∙ unwrap_if (eqb core c) (Some (record { thread = thread; started = started })) (ban_of x c))
       ∙ map_if is_some (eqb core c) (Some (record { thread = thread; started = started })) (ban_of x c));
 }
@@ -31,6 +31,6 @@ Banned_ban set set2 x core thread started e s = record {
 pub Banned_unban : (set set2 : CoreSet) (x : List Action) (core : ℕ) → ((c : ℕ) → has set2 c ≡ (not (eqb c core) && has set c)) →
     IsSetOfBanned set x → IsSetOfBanned set2 (x ++ Unban core ∷ [])
 Banned_unban set set2 x core e s = record {
-  banned = λ c lt. e c ∙ ap (λ b. not b && has set c) (turned c core) ∙ and_cond (eqb core c) (has set c) ∙ ap (cond (eqb core c) false) (s.banned c lt)
+  banned = λ c lt. e c ∙ ap (λ b. not b && has set c) (eqb_swap c core) ∙ and_cond (eqb core c) (has set c) ∙ ap (cond (eqb core c) false) (s.banned c lt)
       ∙ sym (ap is_some (ban_push x (Unban core) c ∙ unwrap_if (eqb core c) None (ban_of x c)) ∙ map_if is_some (eqb core c) None (ban_of x c));
 }

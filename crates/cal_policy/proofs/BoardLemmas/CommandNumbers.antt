@@ -1,5 +1,5 @@
 -- Numbers of commands as they are kept: at most 2^64.
-use Rattle.std.proofs.Common.{◌≡◌, ℕ, ◌+◌, ◌<◌, ◌^◌, leb, ltb, min, arith}
+use Rattle.std.proofs.Common.{◌≡◌, ℕ, ◌+◌, ◌<◌, ◌^◌, leb, min, arith}
 use Rattle.std.proofs.lemmas.Bool.Decides.{nat_tests}
 use Rattle.cal_policy.specs.Board.{kept_number}
 
@@ -10,7 +10,3 @@ kept_more n = omega arith
 -- a record's count is below 2^64, so a kept number is at most it exactly where the number is
 pub kept_le : (n taken : ℕ) → taken < 2 ^ 64 → leb (kept_number n) taken ≡ leb n taken
 kept_le n taken lt = grind (arith, nat_tests)
-
--- and below it
-pub kept_lt : (n taken : ℕ) → taken < 2 ^ 64 → ltb (kept_number n) taken ≡ ltb n taken
-kept_lt n taken lt = grind (arith, nat_tests)

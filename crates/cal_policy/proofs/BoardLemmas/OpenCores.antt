@@ -1,5 +1,5 @@
 -- The cores that grants and bans go over, when an action changes a holder or a ban.
-use Rattle.std.proofs.Common.{◌≡◌, ◌≢◌, ℕ, ◌<◌, ◌⊎◌, inl, inr, true, false, cond, eqb, Some, None, refl, ap, sym, ◌∙◌, arith}
+use Rattle.std.proofs.Common.{◌≡◌, ◌≢◌, ℕ, ◌<◌, ◌⊎◌, inl, inr, true, false, cond, eqb, Some, refl, ap, sym, ◌∙◌, arith}
 use Rattle.std.proofs.lemmas.Bool.{cases_eq}
 use Rattle.std.proofs.lemmas.Bool.Decides.{nat_tests}
 use Rattle.cal_machine.specs.Machine.{sibling_of}
@@ -38,14 +38,6 @@ idle_same f g a b c e h = rw (e, h) refl
 alone_same : (f g : ℕ → Holder) (a b : CoreSet) (c : ℕ) → g c ≡ f c → g (sibling_of c) ≡ f (sibling_of c) → has b c ≡ has a c →
     has b (sibling_of c) ≡ has a (sibling_of c) → is_alone_by f a c ≡ is_alone_by g b c
 alone_same f g a b c e es h hs = rw (e, es, h, hs) refl
-
-pub opens_none : (a : Action) (f g : ℕ → Holder) (x y : CoreSet) (cores : OpenCores) → core_named a ≡ None → Opens f x cores → IsSameElsewhere a f x g y → Opens g y cores
-opens_none a f g x y cores e o same =
-    let off : (c : ℕ) → core_named a ≢ Some c = λ c e2. cc in record {
-      idle = λ c lt. o.idle c lt ∙ idle_same f g x y c (same.holders c (off c)) (same.bans c (off c));
-      alone = λ c lt. o.alone c lt ∙ alone_same f g x y c (same.holders c (off c)) (same.holders (sibling_of c) (off (sibling_of c)))
-          (same.bans c (off c)) (same.bans (sibling_of c) (off (sibling_of c)));
-    }
 
 idle_one : (f g : ℕ → Holder) (x y : CoreSet) (core c : ℕ) (old new : OpenCores) → (c ≢ core → g c ≡ f c) → (c ≢ core → has y c ≡ has x c) →
     has old.idle c ≡ is_idle_by f x c → has new.idle c ≡ cond (eqb c core) (is_idle_by g y core) (has old.idle c) → (c ≡ core) ⊎ (c ≢ core) →

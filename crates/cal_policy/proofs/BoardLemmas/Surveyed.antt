@@ -12,7 +12,7 @@ use Rattle.cal_policy.specs.History.{holder_of}
 use Rattle.cal_policy.specs.Pass.Choice.{count_below}
 use Rattle.cal_policy.specs.Board.Counts.{is_held_for, is_booked_for, is_with}
 use Rattle.cal_policy.specs.Pass.Grants.{leaves_for}
-use Rattle.cal_policy.specs.Board.{HoldingAgrees, HoldingSound, holder_in, holder_at, placement_of}
+use Rattle.cal_policy.specs.Board.{HoldingAgrees, holder_in, holder_at}
 use Rattle.cal_policy.specs.Board.Survey.{Surveys, CountsAtMost, IsCounted, CountsOneMore}
 use Rattle.cal_policy.proofs.ListLemmas.OneNumberMore.{count_at_most}
 use Rattle.cal_policy.proofs.BoardLemmas.StateKept.{some_counted}
@@ -95,11 +95,6 @@ pub Surveys_moved : (table : Table) (h h2 : Holding) (o : Option ℕ) (old witho
 Surveys_moved table h h2 None old without new lt e s less more = moved_none table (holder_in h) (holder_in h2) old without new (λ c. e c (λ bad. cc)) s less more
 Surveys_moved table h h2 (Some core) old without new lt e s less more =
     moved_one table (holder_in h) (holder_in h2) core old without new lt (λ c off. e c (λ same. let at : c ≡ core = cc in off at)) s less more
-
--- who has the core is a thread of the table
-pub placed_at : (threads : ℕ) (h : Holding) (o : Option ℕ) → HoldingSound threads h → IfSome (placement_of (holder_at h o)) (λ placement. placement.thread < threads)
-placed_at threads h None s = tt
-placed_at threads h (Some core) s = s.holders core
 
 -- the core is among those counted
 pub counted_at : (table : Table) (h : Holding) (o : Option ℕ) (s : Survey) → IfSome o (λ c. c < table.cores) → Surveys table (holder_in h) s →

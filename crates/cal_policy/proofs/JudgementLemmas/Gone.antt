@@ -2,7 +2,7 @@
 use Rattle.std.proofs.Common.{◌≡◌, ◌≢◌, ℕ, ◌+◌, ◌-◌, ◌<◌, ◌≤◌, ◌^◌, ◌==◌, ◌&&◌, nat_lt, nat_le, zero, suc, Bool, true, false, cond, List, [], ◌∷◌, ◌++◌, length, map, take, Option, Some, None, slice_get, refl, sym, ap, subst, ◌∙◌, arith, append_assoc, ⊎_elim}
 use Rattle.std.specs.Option.{option_map, option_or, unwrap_or, option_and_then}
 use Rattle.std.specs.List.{Contains}
-use Rattle.std.proofs.lemmas.Bool.{and_parts, leb-true, le-leb, cases_lt}
+use Rattle.std.proofs.lemmas.Bool.{and_parts, leb-true, le-leb, cases_lt, le-ltb}
 use Rattle.std.proofs.lemmas.Bool.Decides.{nat_tests}
 use Rattle.std.proofs.lemmas.List.{append-nil}
 use Rattle.std.proofs.lemmas.List.Elements.{Contains-push, Contains-append_left, Contains-append_right}
@@ -58,7 +58,7 @@ pub last_of_all : {X Y : Type 0} (P : Y → Type 0) (f : List X → X → Option
 last_of_all P f xs each y e = last_after_all P f [] xs each y e
 
 -- what a look that fits carries has the right shape
-shown_shaped : (last : Shown) (seen : Seen) (shown : Shown) → IsFitLook last seen → shown_by seen ≡ Some shown → IsShaped shown.rec
+pub shown_shaped : (last : Shown) (seen : Seen) (shown : Shown) → IsFitLook last seen → shown_by seen ≡ Some shown → IsShaped shown.rec
 shown_shaped last (Whole number rec) shown fit e =
     let same : record { number = number; rec = rec } ≡ shown = ap (λ o. unwrap_or o shown) e in
     subst (λ (s : Shown). IsShaped s.rec) same fit.0
@@ -124,14 +124,11 @@ gone_fits table h k legal n =
       },
     )
 
-not_ahead : (sent : ℕ) → nat_lt sent sent ≡ false
-not_ahead sent = grind (arith, nat_tests)
-
 pub gone_is_kept : GoneIsKept
 gone_is_kept table h k legal can =
     let shown = shown_when_gone h k in
     let n = numbers h k can in
-    let is : judged table.cores (actions_of h) k (found.Whole shown.number shown.rec) ≡ Whole shown.number shown.rec = rw (not_ahead (sent_to (actions_of h) k)) refl in
+    let is : judged table.cores (actions_of h) k (found.Whole shown.number shown.rec) ≡ Whole shown.number shown.rec = rw (le-ltb (sent_to (actions_of h) k) (sent_to (actions_of h) k) (omega arith)) refl in
     record {
       taken = (only_faults_are_refused table.cores h k (found.Whole shown.number shown.rec)).1 (rw is (gone_fits table h k legal n), rw is refl);
       kept = is;

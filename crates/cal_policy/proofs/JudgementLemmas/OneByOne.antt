@@ -1,9 +1,9 @@
 -- Looks taken one by one fit, and those that are refused leave no trace.
-use Rattle.std.proofs.Common.{◌≡◌, ◌≢◌, ℕ, ◌+◌, ◌<◌, ◌==◌, ◌||◌, nat_lt, zero, suc, Bool, true, false, not, cond, List, [], ◌∷◌, ◌++◌, length, map, Option, Some, None, slice_get, inl, refl, sym, ap, subst, ◌∙◌, arith, ◌↔◌}
+use Rattle.std.proofs.Common.{◌≡◌, ◌≢◌, ℕ, ◌+◌, ◌<◌, ◌==◌, nat_lt, zero, suc, Bool, true, false, not, cond, List, [], ◌∷◌, length, map, Option, Some, None, slice_get, inl, refl, sym, ap, subst, ◌∙◌, arith, ◌↔◌}
 use mathlib.Core.Bool.{true≢false}
 use Rattle.std.specs.Option.{is_some, option_or, unwrap_or}
 use Rattle.std.specs.List.{enumerate_from}
-use Rattle.std.proofs.lemmas.List.{map-append, length-map}
+use Rattle.std.proofs.lemmas.List.{length-map}
 use Rattle.std.proofs.lemmas.List.FromFn.{length-enumerate_from}
 use Rattle.cal_machine.specs.Table.{Table}
 use Rattle.cal_signal.specs.declared.record.Record.{Record}
@@ -29,6 +29,7 @@ use Rattle.cal_policy.specs.Judgement.OneByOne.{misfit_of, misfit_of_record, fau
 use Rattle.cal_policy.specs.Judgement.Taken.{MisfitsDoNotFit, OnlyFaultsAreRefused, TakenInputFits, OthersCountAsGiven, RoomsCountAsGiven, RefusedLeavesNoTrace}
 use Rattle.cal_policy.proofs.HistoryLemmas.OneMore.{kept_push, shown_push}
 use Rattle.cal_policy.proofs.JudgementLemmas.OpenInput.{length-judged_looks, made_as_judged}
+use Rattle.cal_policy.proofs.BoardLemmas.Replayed.{looks_push}
 
 -- a record is no misfit where it is shaped and may be shown next
 record_fits : (last : Shown) (number : ℕ) (rec : Record) (shape follows below same : Bool) →
@@ -64,10 +65,6 @@ same_itself a =
 
 later_test : (a b : Record) → IsLater a b → is_later a b ≡ true
 later_test a b l = rw (le-leb a.taken b.taken l.0, le-leb a.misses b.misses l.1, le-leb a.stamp b.stamp l.2) refl
-
-or_true : (b : Bool) → (b || true) ≡ true
-or_true true = refl
-or_true false = refl
 
 -- what may be shown next passes the test
 pub follows_test : (a b : Shown) → IsShownAfter a b → is_shown_after a b ≡ true
@@ -202,15 +199,12 @@ rooms_count_as_given table h now bandwidth looks = rooms_from table.cores h 0 lo
 refused_is_busy : (cores : ℕ) (h : List PassEntry) (k : ℕ) (look : Look) → is_some (fault_of cores h k look) ≡ true → judged cores (actions_of h) k (taken_look cores h k look) ≡ Busy 1 1
 refused_is_busy cores h k look e = rw e refl
 
-looks_more : (h : List PassEntry) (entry : PassEntry) → looks_of (h ++ entry ∷ []) ≡ looks_of h ++ entry.input.seen ∷ []
-looks_more h entry = map-append (λ (e : PassEntry). e.input.seen) h (entry ∷ [])
-
 pub refused_leaves_no_trace : RefusedLeavesNoTrace
 refused_leaves_no_trace table h now bandwidth looks acts k one at refused =
     let input = taken_input table h now bandwidth looks in
     let entry : PassEntry = record { input = input; actions = acts } in
     let busy : slice_get input.seen k ≡ Some (Busy 1 1) = taken_at table h now bandwidth looks k one at ∙ ap Some (refused_is_busy table.cores h k one.look refused) in
     record {
-      kept = ap (λ looks. kept_by looks k) (looks_more h entry) ∙ kept_push (looks_of h) input.seen k ∙ rw busy refl;
-      shown = ap (λ looks. last_shown looks k) (looks_more h entry) ∙ shown_push (looks_of h) input.seen k ∙ rw busy refl;
+      kept = ap (λ looks. kept_by looks k) (looks_push h entry) ∙ kept_push (looks_of h) input.seen k ∙ rw busy refl;
+      shown = ap (λ looks. last_shown looks k) (looks_push h entry) ∙ shown_push (looks_of h) input.seen k ∙ rw busy refl;
     }

@@ -3,6 +3,7 @@ use Rattle.std.proofs.Common.{◌≡◌, ℕ, ◌+◌, ◌<◌, ◌≤◌, ◌�
 use Rattle.std.proofs.lemmas.Bool.{cases_eq}
 use Rattle.cal_policy.specs.Pass.Choice.{count_below, best_below, better, highest_below, lowest_below, first_or}
 use Rattle.cal_policy.specs.declared.pass.choice.Candidate.{Candidate}
+use Rattle.cal_policy.proofs.ListLemmas.OneNumberMore.{one_at_most}
 
 -- where fewer pass, fewer are counted
 pub one_le : (a b : Bool) → (a ≡ true → b ≡ true) → cond a 1 0 ≤ cond b 1 0
@@ -13,14 +14,10 @@ pub count_le : (p q : ℕ → Bool) (n : ℕ) → ((c : ℕ) → c < n → q c �
 count_le p q zero e = omega arith
 count_le p q (suc n) e = omega (arith, count_le p q n (λ c lt. e c (omega arith)), one_le (q n) (p n) (e n (omega arith)))
 
-one_more : (a : Bool) → cond a 1 0 ≤ 1
-one_more true = omega arith
-one_more false = omega arith
-
 -- where one more may pass, at most one more is counted
 one_step : (p q : ℕ → Bool) (core n : ℕ) → ((c : ℕ) → c < suc n → (c ≡ core → ⊥) → q c ≡ true → p c ≡ true) → count_below q n ≤ count_below p n + 1 →
     (n ≡ core) ⊎ (n ≡ core → ⊥) → count_below q (suc n) ≤ count_below p (suc n) + 1
-one_step p q core n e h (inl at) = omega (arith, count_le p q n (λ c lt. e c (omega arith) (omega arith)), one_more (q n))
+one_step p q core n e h (inl at) = omega (arith, count_le p q n (λ c lt. e c (omega arith) (omega arith)), one_at_most (q n))
 one_step p q core n e h (inr off) = omega (arith, h, one_le (q n) (p n) (e n (omega arith) off))
 
 pub count_le_one : (p q : ℕ → Bool) (core n : ℕ) → ((c : ℕ) → c < n → (c ≡ core → ⊥) → q c ≡ true → p c ≡ true) → count_below q n ≤ count_below p n + 1

@@ -22,10 +22,6 @@ pub or_map : {Y Z : Type 0} (h : Y → Z) (o p : Option Y) → option_or (option
 or_map h None p = refl
 or_map h (Some y) p = refl
 
-pub map_unwrap : {Y Z : Type 0} (h : Y → Z) (o : Option Y) (d : Y) → h (unwrap_or o d) ≡ unwrap_or (option_map h o) (h d)
-map_unwrap h None d = refl
-map_unwrap h (Some y) d = refl
-
 last_after_push : {X Y : Type 0} (f : List X → X → Option Y) (before xs : List X) (y : X) →
     last_after f before (xs ++ y ∷ []) ≡ option_or (f (before ++ xs) y) (last_after f before xs)
 last_after_push f before [] y = rw append-nil (or_none (f before y))

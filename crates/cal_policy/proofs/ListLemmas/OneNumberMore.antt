@@ -15,7 +15,7 @@ pub best_more : {R : Type 0} (beats : R → R → Bool) (f : ℕ → Option R) (
 best_more beats f n best rank e g = rw (add-one n, e, g) refl
 
 -- no more pass than there are
-one_at_most : (b : Bool) → cond b 1 0 ≤ 1
+pub one_at_most : (b : Bool) → cond b 1 0 ≤ 1
 one_at_most true = omega arith
 one_at_most false = omega arith
 

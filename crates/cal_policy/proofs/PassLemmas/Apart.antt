@@ -105,7 +105,7 @@ passes_apart table before (entry ∷ more) o h =
     (λ p e g. let Q : List PassEntry → Type 0 = λ l. IsOrderlyEntry table l e in subst Q (sym (append_assoc before (entry ∷ []) (take p more))) (o (suc p) e g))
     (subst N (sym one) after))
 
-none_banned : NoPairBanned []
+pub none_banned : NoPairBanned []
 none_banned = record { apart = λ c e. cc }
 
 -- after an orderly history no core is banned while its sibling is

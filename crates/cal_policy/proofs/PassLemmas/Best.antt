@@ -2,7 +2,7 @@
 use Rattle.std.proofs.Common.{◌≡◌, ℕ, ◌<◌, ◌⊎◌, Bool, true, false, cond, Option, Some, None, refl, arith, inl, inr, ⊎_elim, zero, suc}
 use Rattle.std.specs.Cmp.{IsStrictWeakOrder}
 use Rattle.std.specs.Option.{MatchOption}
-use Rattle.std.proofs.lemmas.Bool.{cases_lt}
+use Rattle.std.proofs.lemmas.Bool.{cases_lt, cases_Bool}
 use Rattle.cal_policy.specs.Pass.Choice.{better, best_below, IsBest}
 use Rattle.cal_policy.specs.declared.pass.choice.Candidate.{Candidate}
 
@@ -10,12 +10,8 @@ use Rattle.cal_policy.specs.declared.pass.choice.Candidate.{Candidate}
 abbrev pub BestOrNone : {R : Type 0} → (R → R → Bool) → (ℕ → Option R) → ℕ → Option (Candidate R) → Type 0
 BestOrNone beats rank n found = MatchOption found ((k : ℕ) → k < n → rank k ≡ None) (IsBest beats rank n)
 
-true_or_false : (b : Bool) → (b ≡ true) ⊎ (b ≡ false)
-true_or_false true = inl refl
-true_or_false false = inr refl
-
 irreflexive : {R : Type 0} (beats : R → R → Bool) → IsStrictWeakOrder beats → (r : R) → beats r r ≡ false
-irreflexive beats o r = ⊎_elim (λ t. o.one_way r r t) (λ f. f) (true_or_false (beats r r))
+irreflexive beats o r = ⊎_elim (λ t. o.one_way r r t) (λ f. f) (cases_Bool (beats r r))
 
 pub cases_eq_lt : (k n : ℕ) → k < suc n → (k < n) ⊎ (k ≡ n)
 cases_eq_lt k n lt = ⊎_elim (λ l. inl l) (λ g. inr (omega arith)) (cases_lt k n)
@@ -28,7 +24,7 @@ challenge beats rank o n best s e h true won = record {
   ranked = e;
   unbeaten = λ k r lt g. ⊎_elim (λ l. o.chain r best.rank s (h.unbeaten k r l g) (o.one_way s best.rank won))
       (λ q. let e2 : rank k ≡ Some s = rw q e in let e3 : r ≡ s = cc in rw e3 (irreflexive beats o s)) (cases_eq_lt k n lt);
-  first = λ k r l g. ⊎_elim (λ t. t) (λ f. let no = o.chain s r best.rank f (h.unbeaten k r l g) in cc) (true_or_false (beats s r));
+  first = λ k r l g. ⊎_elim (λ t. t) (λ f. let no = o.chain s r best.rank f (h.unbeaten k r l g) in cc) (cases_Bool (beats s r));
 }
 challenge beats rank o n best s e h false lost = record {
   below = omega (arith, h.below);

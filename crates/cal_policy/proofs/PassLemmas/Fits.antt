@@ -1,6 +1,6 @@
 -- Each action that is made fits the state at its place, and leaves a steady one.
 use Rattle.std.proofs.Common.{◌≡◌, ℕ, ◌<◌, ◌≤◌, Bool, true, false, ◌&&◌, ◌||◌, not, cond, eqb, ltb, leb, nat_lt, List, [], ◌∷◌, ◌++◌, length, Option, Some, None, refl, sym, ap, ◌∙◌, arith, inl, inr, subst, append_assoc}
-use Rattle.std.proofs.lemmas.Bool.{lt-ltb, le-leb}
+use Rattle.std.proofs.lemmas.Bool.{lt-ltb, le-leb, and_parts, and_from, not-true, not_from_false}
 use Rattle.std.proofs.lemmas.Bool.Decides.{nat_tests}
 use Rattle.cal_machine.specs.Table.{Table, IsTable}
 use Rattle.cal_signal.specs.declared.record.Record.{Record}
@@ -29,13 +29,12 @@ use Rattle.cal_policy.specs.Judgement.Orderly.{fits_state, names_table}
 use Rattle.cal_policy.specs.Board.{placement_of}
 use Rattle.cal_policy.specs.Pass.Made.{IsMade, IsFreed, IsUnbanned, IsBanned, IsRevokedForBan, IsPreempted, IsCapCut, IsCapRise, IsGranted, IsCut}
 use Rattle.cal_policy.specs.Pass.Steady.{IsSteady}
-use Rattle.cal_policy.proofs.ListLemmas.Booleans.{and_true, not_true, not_false, some_else}
 use Rattle.cal_policy.proofs.ListLemmas.Counted.{count_le, highest_passes, lowest_passes, best_ranked}
 use Rattle.cal_policy.proofs.HistoryLemmas.OneMore.{holder_push}
 use Rattle.cal_policy.proofs.PassLemmas.Steady.{Shrinks_ban, Shrinks_unban, Shrinks_cap, Shrinks_free, Shrinks_revoke, Steady_shrinks, Steady_grant}
 use Rattle.cal_machine.proofs.Siblings.{pairs}
 use Rattle.cal_machine.proofs.ThreadNumbers.{task_there, next_le}
-use Rattle.cal_machine.proofs.Booleans.{both_true, some_then}
+use Rattle.cal_machine.proofs.Booleans.{some_then, some_else}
 
 -- the actions so far, with one more
 pub so_far_push : (s : Setting) (acts : List Action) (a : Action) → so_far s (acts ++ a ∷ []) ≡ so_far s acts ++ a ∷ []
@@ -49,13 +48,13 @@ left_not_free kept (holders.Held p) e = refl
 left_not_free kept (holders.Leaving p cause) e = refl
 
 free_fits : (s : Setting) (acts : List Action) (c : ℕ) → IsFreed s acts c → fits_state s.table (so_far s acts) (Free c) ≡ true
-free_fits s acts c m = and_true (ltb c s.table.cores) (not (is_free (holder_of (so_far s acts) c))) (lt-ltb c s.table.cores m.core)
-    (not_false (is_free (holder_of (so_far s acts) c)) (left_not_free (kept_now s) (holder_of (so_far s acts) c) m.left))
+free_fits s acts c m = and_from (ltb c s.table.cores) (not (is_free (holder_of (so_far s acts) c))) (lt-ltb c s.table.cores m.core)
+    (not_from_false (is_free (holder_of (so_far s acts) c)) (left_not_free (kept_now s) (holder_of (so_far s acts) c) m.left))
 
 -- Unbans
 
 unban_fits : (s : Setting) (acts : List Action) (c : ℕ) (ban : BannedFor) → IsUnbanned s acts c ban → fits_state s.table (so_far s acts) (Unban c) ≡ true
-unban_fits s acts c ban m = and_true (ltb c s.table.cores) (is_banned (so_far s acts) c) (lt-ltb c s.table.cores m.core) (rw m.banned refl)
+unban_fits s acts c ban m = and_from (ltb c s.table.cores) (is_banned (so_far s acts) c) (lt-ltb c s.table.cores m.core) (rw m.banned refl)
 
 -- Bans
 
@@ -77,14 +76,14 @@ pub ban_facts : (s : Setting) (x : List Action) (c thread : ℕ) → ban_due s x
 ban_facts s x c thread e =
     let there = some_then (may_ban_beside s x c) (too_long_on s c (holder_of x c)) thread e in
     let place = too_long_place s c thread (holder_of x c) there.1 in
-    let first = both_true (not (is_banned x c) && not (is_banned x (sibling_of c))) (may_be_emptied s x (holder_of x (sibling_of c))) there.0 in
-    let second = both_true (not (is_banned x c)) (not (is_banned x (sibling_of c))) first.0 in
+    let first = and_parts (not (is_banned x c) && not (is_banned x (sibling_of c))) (may_be_emptied s x (holder_of x (sibling_of c))) there.0 in
+    let second = and_parts (not (is_banned x c)) (not (is_banned x (sibling_of c))) first.0 in
     record {
       place = place.0;
       holder = place.1;
       thread_there = place.2;
-      core_open = not_true (is_banned x c) second.0;
-      beside_open = not_true (is_banned x (sibling_of c)) second.1;
+      core_open = not-true (is_banned x c) second.0;
+      beside_open = not-true (is_banned x (sibling_of c)) second.1;
     }
 
 ban_fits : (s : Setting) (acts : List Action) (core thread started : ℕ) → IsTable s.table → IsSteady s.table (so_far s acts) → IsBanned s acts core thread started →
@@ -97,18 +96,18 @@ ban_fits s acts core thread started table steady m =
     let lt : thread < threads_of_table s.table = (let P : ℕ → Type 0 = λ n. n < threads_of_table s.table in subst P facts.thread_there (steady.threads m.by facts.place there)) in
     let back : sibling_of core ≡ m.by = ap sibling_of m.beside ∙ pair.2 in
     let low : core < s.table.cores = (let P : ℕ → Type 0 = λ n. n < s.table.cores in subst P (sym m.beside) pair.0) in
-    and_true (ltb core s.table.cores && ltb thread (threads_of_table s.table) && not (is_banned x core)) (not (is_banned x (sibling_of core)))
-    (and_true (ltb core s.table.cores && ltb thread (threads_of_table s.table)) (not (is_banned x core))
-    (and_true (ltb core s.table.cores) (ltb thread (threads_of_table s.table)) (lt-ltb core s.table.cores low) (lt-ltb thread (threads_of_table s.table) lt))
-    (not_false (is_banned x core) (ap (is_banned x) m.beside ∙ facts.beside_open)))
-    (not_false (is_banned x (sibling_of core)) (ap (is_banned x) back ∙ facts.core_open))
+    and_from (ltb core s.table.cores && ltb thread (threads_of_table s.table) && not (is_banned x core)) (not (is_banned x (sibling_of core)))
+    (and_from (ltb core s.table.cores && ltb thread (threads_of_table s.table)) (not (is_banned x core))
+    (and_from (ltb core s.table.cores) (ltb thread (threads_of_table s.table)) (lt-ltb core s.table.cores low) (lt-ltb thread (threads_of_table s.table) lt))
+    (not_from_false (is_banned x core) (ap (is_banned x) m.beside ∙ facts.beside_open)))
+    (not_from_false (is_banned x (sibling_of core)) (ap (is_banned x) back ∙ facts.core_open))
 
 -- Revocations
 
 revoke_fits : (table : Table) (x : List Action) (core : ℕ) (cause : Cause) → core < table.cores → names_table table cause ≡ true → is_held (holder_of x core) ≡ true →
     fits_state table x (Revoke core cause) ≡ true
 revoke_fits table x core cause lt names held =
-    and_true (ltb core table.cores && names_table table cause) (is_held (holder_of x core)) (and_true (ltb core table.cores) (names_table table cause) (lt-ltb core table.cores lt) names) held
+    and_from (ltb core table.cores && names_table table cause) (is_held (holder_of x core)) (and_from (ltb core table.cores) (names_table table cause) (lt-ltb core table.cores lt) names) held
 
 -- what a ban or a cap just before leaves as it was
 after_ban : (s : Setting) (acts earlier : List Action) (core thread started c : ℕ) → acts ≡ earlier ++ Ban core thread started ∷ [] →
@@ -132,7 +131,7 @@ pub cut_held : (s : Setting) (acts : List Action) (victim : Candidate ℕ) (core
 cut_held s acts victim core m =
     let x : List Action = so_far s acts in
     let there = highest_passes (can_lose s x victim.number) s.table.cores core m.highest in
-    let both = both_true (is_held_for s.table victim.number (holder_of x core)) (is_held_with_room s (holder_of x core)) there.1 in
+    let both = and_parts (is_held_for s.table victim.number (holder_of x core)) (is_held_with_room s (holder_of x core)) there.1 in
     (there.0, held_for_held s.table victim.number (holder_of x core) both.0)
 
 -- an idle class is that of a free core, another that of a held one
@@ -193,7 +192,7 @@ held_le_booked table x t = count_le (λ c. is_booked_for table t (holder_of x c)
     held_booked table t (holders.Leaving p cause) e = cc
 
 cap_fits_by : (table : Table) (x : List Action) (t cap : ℕ) → t < length table.tasks → cap ≤ limit_of table t → fits_state table x (Cap t cap) ≡ true
-cap_fits_by table x t cap lt le = and_true (ltb t (length table.tasks)) (leb cap (limit_of table t)) (lt-ltb t (length table.tasks) lt) (le-leb cap (limit_of table t) le)
+cap_fits_by table x t cap lt le = and_from (ltb t (length table.tasks)) (leb cap (limit_of table t)) (lt-ltb t (length table.tasks) lt) (le-leb cap (limit_of table t) le)
 
 cut_fits : (s : Setting) (acts : List Action) (t cap : ℕ) → IsSteady s.table (so_far s acts) → IsCapCut s acts t cap → fits_state s.table (so_far s acts) (Cap t cap) ≡ true
 cut_fits s acts t cap steady m =
@@ -210,7 +209,7 @@ rise_fits : (s : Setting) (acts : List Action) (t cap : ℕ) → IsCapRise s act
 rise_fits s acts t cap m =
     let x : List Action = so_far s acts in
     let low = lowest_passes (is_capped s x) (length s.table.tasks) t m.raised.lowest in
-    let capped = both_true (not (is_latency_critical s.table t)) (nat_lt (cap_of s.table x t) (limit_of s.table t)) low.1 in
+    let capped = and_parts (not (is_latency_critical s.table t)) (nat_lt (cap_of s.table x t) (limit_of s.table t)) low.1 in
     let lt = below_true (cap_of s.table x t) (limit_of s.table t) capped.1 in
     cap_fits_by s.table x t cap low.0 (omega (arith, m.above, lt))
 
@@ -229,7 +228,7 @@ thread_facts s x t chosen lt e =
     let best = best_ranked (λ rank best. nat_lt best rank) (λ j. thread_rank s x (thread_of s.table t j)) (limit_of s.table t) chosen e in
     let k : ℕ = thread_of s.table t chosen.number in
     let there = some_then (eqb (cores_of_thread s.table x k) 0 && has_room s k) (Some (thread_delay s k)) chosen.rank best.1 in
-    let both = both_true (eqb (cores_of_thread s.table x k) 0) (has_room s k) there.0 in
+    let both = and_parts (eqb (cores_of_thread s.table x k) 0) (has_room s k) there.0 in
     record {
       owner = task_there s.table.tasks t k lt (omega arith) (omega (arith, best.0));
       low = omega (arith, best.0, next_le s.table.tasks t lt);
@@ -247,9 +246,9 @@ grant_fits s acts core thread class m =
     let own = thread_facts s x m.task m.chosen_thread m.chosen.task m.chosen.longest in
     let lowk : thread < threads_of_table s.table = (let P : ℕ → Type 0 = λ n. n < threads_of_table s.table in subst P (sym m.thread_chosen) own.low) in
     let none : eqb (cores_of_thread s.table x thread) 0 ≡ true = ap (λ n. eqb (cores_of_thread s.table x n) 0) m.thread_chosen ∙ own.on_none in
-    and_true (ltb core s.table.cores && ltb thread (threads_of_table s.table) && is_free (holder_of x core)) (eqb (cores_of_thread s.table x thread) 0)
-    (and_true (ltb core s.table.cores && ltb thread (threads_of_table s.table)) (is_free (holder_of x core))
-    (and_true (ltb core s.table.cores) (ltb thread (threads_of_table s.table)) (lt-ltb core s.table.cores low) (lt-ltb thread (threads_of_table s.table) lowk)) free)
+    and_from (ltb core s.table.cores && ltb thread (threads_of_table s.table) && is_free (holder_of x core)) (eqb (cores_of_thread s.table x thread) 0)
+    (and_from (ltb core s.table.cores && ltb thread (threads_of_table s.table)) (is_free (holder_of x core))
+    (and_from (ltb core s.table.cores) (ltb thread (threads_of_table s.table)) (lt-ltb core s.table.cores low) (lt-ltb thread (threads_of_table s.table) lowk)) free)
     none
 
 grant_steady : (s : Setting) (acts : List Action) (core thread class : ℕ) → IsSteady s.table (so_far s acts) → IsGranted s acts core thread class →
@@ -259,7 +258,7 @@ grant_steady s acts core thread class steady m =
     let own = thread_facts s x m.task m.chosen_thread m.chosen.task m.chosen.longest in
     let lowk : thread < threads_of_table s.table = (let P : ℕ → Type 0 = λ n. n < threads_of_table s.table in subst P (sym m.thread_chosen) own.low) in
     let owner : owner_of s.table thread ≡ m.task = ap (owner_of s.table) m.thread_chosen ∙ own.owner in
-    let first = both_true (nat_lt (booked_by s.table x m.task) (limit_of s.table m.task)) (is_latency_critical s.table m.task || nat_lt (booked_by s.table x m.task) (cap_of s.table x m.task)) m.chosen.room in
+    let first = and_parts (nat_lt (booked_by s.table x m.task) (limit_of s.table m.task)) (is_latency_critical s.table m.task || nat_lt (booked_by s.table x m.task) (cap_of s.table x m.task)) m.chosen.room in
     let room = below_true (booked_by s.table x m.task) (limit_of s.table m.task) first.0 in
     let P : ℕ → Type 0 = λ n. booked_by s.table x n < limit_of s.table n in
     Steady_grant s.table x core thread class lowk (subst P (sym owner) room) steady
@@ -286,7 +285,7 @@ made_fits s acts (Grant core thread class) table steady m = grant_fits s acts co
 
 revoke_steady : (table : Table) (x : List Action) (core : ℕ) (cause : Cause) → IsSteady table x → fits_state table x (Revoke core cause) ≡ true → IsSteady table (x ++ Revoke core cause ∷ [])
 revoke_steady table x core cause steady fits =
-    let both = both_true (ltb core table.cores && names_table table cause) (is_held (holder_of x core)) fits in
+    let both = and_parts (ltb core table.cores && names_table table cause) (is_held (holder_of x core)) fits in
     Steady_shrinks table x (x ++ Revoke core cause ∷ []) (Shrinks_revoke table x core cause steady both.1) steady
 
 pub made_steady : (s : Setting) (acts : List Action) (a : Action) → IsTable s.table → IsSteady s.table (so_far s acts) → IsMade s acts a → IsSteady s.table (so_far s acts ++ a ∷ [])

@@ -21,7 +21,7 @@ use Rattle.cal_policy.specs.Pass.Grants.{is_congested, may_book, thread_choice, 
 use Rattle.cal_policy.specs.Pass.{pass_of}
 use Rattle.cal_policy.specs.Pass.Made.{EachAfter, IsMade, IsCut, IsChosen}
 use Rattle.cal_policy.proofs.ListLemmas.EachAfter.{each_append, each_in_turn}
-use Rattle.cal_machine.proofs.Booleans.{both_true}
+use Rattle.std.proofs.lemmas.Bool.{and_parts}
 
 -- what holds of all members where the test holds holds of all where nothing stands otherwise
 each_if : {X : Type 0} (P : List X → X → Type 0) (before : List X) (b : Bool) (xs : List X) → (b ≡ true → EachAfter P before xs) → EachAfter P before (if b then xs else [])
@@ -96,7 +96,7 @@ grant_of_made s acts t lt congested room (Some thread) (Some core) e f =
 
 grant_made : (s : Setting) (acts : List Action) (t : ℕ) → t < length s.table.tasks → EachAfter (IsMade s) acts (grant_at s acts t)
 grant_made s acts t lt = each_if (IsMade s) acts (is_congested s t && may_book s (so_far s acts) t) (grant_of s t (thread_choice s (so_far s acts) t) (choice_of s acts t))
-    (λ e. let both = both_true (is_congested s t) (may_book s (so_far s acts) t) e in
+    (λ e. let both = and_parts (is_congested s t) (may_book s (so_far s acts) t) e in
     grant_of_made s acts t lt both.0 both.1 (thread_choice s (so_far s acts) t) (choice_of s acts t) refl refl)
 
 pub critical_grants_made : (s : Setting) (acts : List Action) → EachAfter (IsMade s) acts (grants_of_kind kinds.LatencyCritical s acts)

@@ -37,16 +37,13 @@ use Rattle.cal_machine.specs.TableTasks.{thread_of}
 use Rattle.cal_policy.specs.Pass.Choice.{greatest_below}
 use Rattle.cal_policy.proofs.BoardLemmas.TwoSets.{in_taken}
 use Rattle.cal_policy.proofs.ListLemmas.OneNumberMore.{greatest_past}
-
-and_false : (a : Bool) → (a && false) ≡ false
-and_false true = refl
-and_false false = refl
+use Rattle.std.proofs.Math.Bool.{and-false}
 
 -- a thread that is shown on its core has not left it
 shown_stays : (rec : Record) (n c : ℕ) → rec.running ≡ c + 1 → has_left rec n ≡ false
 shown_stays rec n c e =
     let on : eqb rec.running 0 ≡ false = grind (arith, nat_tests) in
-    ap (λ b. nat_le n rec.taken && b) on ∙ and_false (nat_le n rec.taken)
+    ap (λ b. nat_le n rec.taken && b) on ∙ and-false (nat_le n rec.taken)
 
 none_left : (kept now : ℕ → Record) (c : ℕ) (h : Holder) → ((k : ℕ) → k < 128 → kept k ≡ now k) →
     IfSome (placement_of (kept_holder h)) (λ p. p.thread < 128) → IsShownOn kept c (kept_holder h) → shows_left now h ≡ false

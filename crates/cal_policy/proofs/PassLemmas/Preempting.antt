@@ -1,5 +1,5 @@
 -- Where no task may be preempted for another, no core that is taken has a class for that one.
-use Rattle.std.proofs.Common.{◌≡◌, ℕ, ◌<◌, ◌≤◌, ◌&&◌, Bool, true, false, not, cond, eqb, nat_lt, List, length, Option, Some, None, refl, ap, ◌∙◌, arith}
+use Rattle.std.proofs.Common.{◌≡◌, ℕ, ◌<◌, ◌≤◌, ◌&&◌, Bool, true, false, not, cond, nat_lt, List, length, Option, Some, None, refl, ap, ◌∙◌, arith}
 use Rattle.std.proofs.lemmas.Bool.Decides.{nat_tests}
 use Rattle.std.specs.Option.{IfSome, is_some}
 use Rattle.cal_machine.specs.Table.{Table}
@@ -20,13 +20,11 @@ use Rattle.cal_policy.specs.Pass.Among.{class_among}
 use Rattle.cal_policy.specs.Board.{Stands, IsReady, kept_holder, placement_of}
 use Rattle.cal_policy.proofs.BoardLemmas.StateKept.{some_counted}
 use Rattle.cal_policy.proofs.BoardLemmas.TwoSets.{best_none, in_taken}
+use Rattle.std.proofs.lemmas.Bool.{eq-eqb}
 
 -- no task may be preempted for task t
 abbrev pub NoneMayBePreempted : Table → List Action → ℕ → Type 0
 NoneMayBePreempted table x t = (other : ℕ) → other < length table.tasks → (nat_lt 0 (held_by table x other) && is_some (preempt_class table x t other)) ≡ false
-
-same_number : (n : ℕ) → eqb n n ≡ true
-same_number n = grind (arith, nat_tests)
 
 some_below : (n : ℕ) → 1 ≤ n → nat_lt 0 n ≡ true
 some_below n le = grind (arith, nat_tests)
@@ -52,7 +50,7 @@ none_by : (s : Setting) (acts : List Action) (t core : ℕ) (h : Holder) → IfS
 none_by s acts t core Free there e = refl
 none_by s acts t core (Held p) there e =
     let task = task_in s.table.tasks p.thread there in
-    ap (λ class. cond (may_preempt s acts t core (Held p)) class None) (e (owner_of s.table p.thread) task.0 (same_number (owner_of s.table p.thread)))
+    ap (λ class. cond (may_preempt s acts t core (Held p)) class None) (e (owner_of s.table p.thread) task.0 (eq-eqb (owner_of s.table p.thread) (owner_of s.table p.thread) refl))
     ∙ either (may_preempt s acts t core (Held p)) None
 none_by s acts t core (Leaving p cause) there e = refl
 

@@ -35,7 +35,7 @@ use Rattle.cal_policy.specs.Judgement.Orderly.{fits_state}
 use Rattle.cal_policy.specs.Pass.Steady.{IsSound}
 use Rattle.cal_policy.proofs.PassLemmas.Fits.{so_far_push}
 use Rattle.cal_policy.proofs.HistoryLemmas.OneMore.{holder_push, last_placement_push}
-use Rattle.cal_machine.proofs.Booleans.{both_true}
+use Rattle.std.proofs.lemmas.Bool.{and_parts}
 
 -- each action is so
 abbrev pub Every : (Action → Type 0) → List Action → Type 0
@@ -196,7 +196,7 @@ left_step table x (Revoke core v) c p cause fits none e = go (eqb core c) refl
     go : (b : Bool) → eqb core c ≡ b → (holder_of (x ++ Revoke core v ∷ []) c ≡ holders.Leaving p cause) × (last_placement (x ++ Revoke core v ∷ []) c ≡ last_placement x c)
     go true is =
         let same : core ≡ c = grind (arith, nat_tests) in
-        let held : is_held (holder_of x core) ≡ true = (both_true _ (is_held (holder_of x core)) fits).1 in
+        let held : is_held (holder_of x core) ≡ true = (and_parts _ (is_held (holder_of x core)) fits).1 in
         let other : is_held (holder_of x core) ≡ false = ap (λ n. is_held (holder_of x n)) same ∙ ap is_held e in
         let bad : true ≡ false = sym held ∙ other in cc
     go false is = (holder_push x (Revoke core v) c ∙ rw is e, last_placement_push x (Revoke core v) c)
@@ -205,7 +205,7 @@ left_step table x (Grant core thread class) c p cause fits none e = go (eqb core
     go : (b : Bool) → eqb core c ≡ b → (holder_of (x ++ Grant core thread class ∷ []) c ≡ holders.Leaving p cause) × (last_placement (x ++ Grant core thread class ∷ []) c ≡ last_placement x c)
     go true is =
         let same : core ≡ c = grind (arith, nat_tests) in
-        let free : is_free (holder_of x core) ≡ true = (both_true _ (is_free (holder_of x core)) (both_true _ _ fits).0).1 in
+        let free : is_free (holder_of x core) ≡ true = (and_parts _ (is_free (holder_of x core)) (and_parts _ _ fits).0).1 in
         let other : is_free (holder_of x core) ≡ false = ap (λ n. is_free (holder_of x n)) same ∙ ap is_free e in
         let bad : true ≡ false = sym free ∙ other in cc
     go false is = (holder_push x (Grant core thread class) c ∙ rw is e, last_placement_push x (Grant core thread class) c ∙ rw is refl)
@@ -233,7 +233,7 @@ pub record IsRevocable (table : Table) (x : List Action) (c : ℕ) (p : placemen
 pub revocable : (s : Setting) (acts : List Action) (c : ℕ) (cause : Cause) → IsSound s acts (Revoke c cause) → (p : placements.Placement) × IsRevocable s.table (so_far s acts) c p
 revocable s acts c cause sound =
     let x = so_far s acts in
-    let held = held_by_one (holder_of x c) (both_true _ (is_held (holder_of x c)) sound.fits).1 in (
+    let held = held_by_one (holder_of x c) (and_parts _ (is_held (holder_of x c)) sound.fits).1 in (
       held.0,
       record {
         held = held.1;

@@ -132,21 +132,18 @@ grant_booked : (table : Table) (t : ℕ) (b : Bool) (q : placements.Placement) (
 grant_booked table t true q h e is = let no = e refl in cc
 grant_booked table t false q h e is = is
 
-off_core : (core c : ℕ) → (c ≡ core → ⊥) → eqb core c ≡ false
-off_core core c ne = grind (arith, nat_tests)
-
-other_task : (a t : ℕ) → (t ≡ a → ⊥) → eqb a t ≡ false
-other_task a t ne = grind (arith, nat_tests)
+other_number : (core c : ℕ) → (c ≡ core → ⊥) → eqb core c ≡ false
+other_number core c ne = grind (arith, nat_tests)
 
 booked_off : (table : Table) (x : List Action) (core thread class t c : ℕ) → (c ≡ core → ⊥) →
     is_booked_for table t (holder_of (x ++ Grant core thread class ∷ []) c) ≡ true → is_booked_for table t (holder_of x c) ≡ true
 booked_off table x core thread class t c ne is =
-    grant_booked table t (eqb core c) (placed x thread) (holder_of x c) (λ b. let no = off_core core c ne in cc) (sym (ap (is_booked_for table t) (granted_holder x core thread class c)) ∙ is)
+    grant_booked table t (eqb core c) (placed x thread) (holder_of x c) (λ b. let no = other_number core c ne in cc) (sym (ap (is_booked_for table t) (granted_holder x core thread class c)) ∙ is)
 
 booked_other : (table : Table) (x : List Action) (core thread class t c : ℕ) → (t ≡ owner_of table thread → ⊥) →
     is_booked_for table t (holder_of (x ++ Grant core thread class ∷ []) c) ≡ true → is_booked_for table t (holder_of x c) ≡ true
 booked_other table x core thread class t c ne is =
-    grant_booked table t (eqb core c) (placed x thread) (holder_of x c) (λ b. other_task (owner_of table thread) t ne) (sym (ap (is_booked_for table t) (granted_holder x core thread class c)) ∙ is)
+    grant_booked table t (eqb core c) (placed x thread) (holder_of x c) (λ b. other_number (owner_of table thread) t ne) (sym (ap (is_booked_for table t) (granted_holder x core thread class c)) ∙ is)
 
 grant_limit : (table : Table) (x : List Action) (core thread class t : ℕ) → booked_by table x t ≤ limit_of table t →
     booked_by table x (owner_of table thread) < limit_of table (owner_of table thread) → (t ≡ owner_of table thread) ⊎ (t ≡ owner_of table thread → ⊥) →

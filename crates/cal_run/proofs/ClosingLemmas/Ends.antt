@@ -74,10 +74,6 @@ pub record ClosesOn (runs : List RunView) (observers watchers : List ObserverVie
   pub others : AreOtherEnds (pages_of_runs rest) (rings_of_runs rest) observers_left watchers_left senders_left
   pub whole : ClosedAlong rest observers_left watchers_left senders_left → ClosedAlong runs observers watchers senders
 
-pub none_closed : (runs : List RunView) (observers watchers : List ObserverView) (senders : List SenderView) → AreOtherEnds (pages_of_runs runs) (rings_of_runs runs) observers watchers senders →
-    ClosesOn runs observers watchers senders runs observers watchers senders
-none_closed runs observers watchers senders others = record { others = others; whole = λ along. along }
-
 module _ {runs : List RunView} {observers watchers : List ObserverView} {senders : List SenderView} where
   pub one_closed : (rest : List RunView) (os ws : List ObserverView) (ss : List SenderView) (run : RunView) (o w : ObserverView) (s : SenderView) →
       ClosesOn runs observers watchers senders (run ∷ rest) (o ∷ os) (w ∷ ws) (s ∷ ss) → IsClosed run o w s → ClosesOn runs observers watchers senders rest os ws ss

@@ -20,6 +20,7 @@ use Rattle.cal_run.specs.Workers.Given.{IsGiven, coming_to, request_at, turns_fr
 use Rattle.cal_run.specs.Workers.{IsFrom}
 use Rattle.cal_run.proofs.WorkersLemmas.NextRequest.{comes_next, three}
 use Rattle.cal_run.proofs.WorkersLemmas.Given.{given_at}
+use Rattle.cal_kthread.proofs.EndLemmas.OnePlace.{has}
 
 module _ {T : Type 0} where
   -- a list whose members weigh nothing
@@ -41,10 +42,6 @@ module _ {T : Type 0} where
       let first = others zero y refl (λ s. absurd (omega (arith, s))) in
       let rest = single f ys k x at (λ i z is apart. others (suc i) z is (λ s. apart (omega (arith, s)))) in
       omega (arith, first, rest)
-
--- 1 where a request has this id
-abbrev has : ℕ → Request → ℕ
-has id request = one_if (nat_eq request.id id)
 
 -- how many requests with this id come before a turn
 abbrev asks : ℕ → Given → ℕ

@@ -1,5 +1,5 @@
 -- The parts of a run that was just opened.
-use Rattle.std.proofs.Common.{◌≡◌, ◌<◌, List, [], ◌∷◌, ◌++◌, length, map, refl, sym, ap, subst, ◌∙◌, arith, length-append, append_assoc}
+use Rattle.std.proofs.Common.{◌≡◌, List, [], ◌∷◌, ◌++◌, length, map, refl, sym, ap, subst, ◌∙◌, append_assoc}
 use Rattle.std.specs.List.{slice_get}
 use Rattle.std.proofs.lemmas.List.{length-map, map-append}
 use Rattle.cal_command.specs.Rings.{SenderView}
@@ -26,24 +26,12 @@ pub record HaveWorkers (arrivals : Arrivals) (threads rest : List KernelView) (w
   pub split : map (λ (w : Worker). w.thread) workers ++ rest ≡ threads
   pub made : HaveMade arrivals 0 workers
 
-pub no_workers : (arrivals : Arrivals) (threads : List KernelView) → HaveWorkers arrivals threads threads []
-no_workers arrivals threads = record { split = refl; made = λ k worker e. absurd (cc) }
-
 -- the next thread made no turn
 pub next_is_fresh : (arrivals : Arrivals) (threads rest : List KernelView) (thread : KernelView) (workers : List Worker) →
     HaveWorkers arrivals threads (thread ∷ rest) workers → HaveMadeNoTurn threads → MadeNoTurn thread
 next_is_fresh arrivals threads rest thread workers so_far fresh =
     let own : List KernelView = map (λ (w : Worker). w.thread) workers in
     fresh (length own) thread (ap (λ (l : List KernelView). slice_get l (length own)) (sym so_far.split) ∙ slice_get_seam own thread rest)
-
--- there are fewer workers than threads
-pub fewer_workers : (arrivals : Arrivals) (threads rest : List KernelView) (thread : KernelView) (workers : List Worker) →
-    HaveWorkers arrivals threads (thread ∷ rest) workers → length workers < length threads
-fewer_workers arrivals threads rest thread workers so_far =
-    let own : List KernelView = map (λ (w : Worker). w.thread) workers in
-    let all = ap (λ (l : List KernelView). length l) (sym so_far.split) ∙ length-append own (thread ∷ rest) in
-    let many = length-map workers (λ (w : Worker). w.thread) in
-    omega (arith, all, many)
 
 -- one worker more
 pub worker_more : (arrivals : Arrivals) (threads rest : List KernelView) (thread : KernelView) (workers : List Worker) (worker : Worker) →
@@ -59,33 +47,11 @@ worker_more arrivals threads rest thread workers worker so_far its made = record
   made = one_more arrivals 0 workers worker so_far.made made;
 }
 
--- all have workers
-pub all_workers : (arrivals : Arrivals) (threads : List KernelView) (workers : List Worker) → HaveWorkers arrivals threads [] workers →
-    map (λ (w : Worker). w.thread) workers ≡ threads
-all_workers arrivals threads workers so_far =
-    let own : List KernelView = map (λ (w : Worker). w.thread) workers in
-    sym (append_nil own) ∙ so_far.split
-  where
-    append_nil : (l : List KernelView) → l ++ [] ≡ l
-    append_nil [] = refl
-    append_nil (x ∷ xs) = ap (λ (ys : List KernelView). x ∷ ys) (append_nil xs)
-
 -- opened threads made no turn
 pub opened_are_fresh : (threads : List KernelView) (observers : List ObserverView) (senders : List SenderView) (watchers : List ObserverView) →
     AreOpened threads observers senders watchers → HaveMadeNoTurn threads
 opened_are_fresh threads observers senders watchers opened k thread at =
     let fresh = opened.fresh k thread (both_get threads k thread at) in (fresh.journal, fresh.published)
-
--- as many ends as threads, of which nothing was seen or sent
-pub as_many_observers : (threads : List KernelView) (observers : List ObserverView) (senders : List SenderView) (watchers : List ObserverView) →
-    AreOpened threads observers senders watchers → length observers ≡ length threads
-as_many_observers threads observers senders watchers opened =
-    sym (length-map observers (λ (o : ObserverView). o.page)) ∙ ap (λ l. length l) opened.observed ∙ length-map threads (λ (t : KernelView). t.thread.publisher.page)
-
-pub as_many_senders : (threads : List KernelView) (observers : List ObserverView) (senders : List SenderView) (watchers : List ObserverView) →
-    AreOpened threads observers senders watchers → length senders ≡ length threads
-as_many_senders threads observers senders watchers opened =
-    sym (length-map senders (λ (s : SenderView). s.ring)) ∙ ap (λ l. length l) opened.rings ∙ length-map threads (λ (t : KernelView). t.thread.taker.ring)
 
 pub saw_nothing : (threads : List KernelView) (observers : List ObserverView) (senders : List SenderView) (watchers : List ObserverView) →
     AreOpened threads observers senders watchers → HaveSeenNothing observers

@@ -1,29 +1,13 @@
 -- The passes of a run, one after the other.
-use Rattle.std.proofs.Common.{◌≡◌, ℕ, ◌+◌, List, [], ◌∷◌, ◌++◌, map, take, Some, sym, ap, ◌∙◌, arith}
-use Rattle.std.specs.List.{slice_get}
-use Rattle.std.proofs.lemmas.List.{map-append}
+use Rattle.std.proofs.Common.{◌≡◌, ℕ, map, ◌∙◌, arith}
 use Rattle.std.proofs.lemmas.Option.{slice_get_within}
 use Rattle.cal_command.specs.Rings.{SenderView}
-use Rattle.cal_policy.specs.declared.history.entry.PassEntry.{PassEntry}
 use Rattle.cal_sched.specs.Passing.{IsPassed}
 use Rattle.cal_sched.specs.Scheduler.{IsKept, SchedulerView}
 use Rattle.cal_signal.specs.Ends.{ObserverView}
-use Rattle.cal_trace.specs.declared.arrivals.GivenPass.{GivenPass}
-use Rattle.cal_run.specs.Outcome.{figures_of}
 use Rattle.cal_run.specs.Parts.{scheduler_seat_of}
 use Rattle.cal_machine.proofs.Places.{slice_get_at}
 use Rattle.cal_run.proofs.Members.{same_of_each}
-use Rattle.cal_run.proofs.WorkersLemmas.Given.{take_next}
-
--- one pass more, with the figures that are given for it
-pub passed_more : (passes : List GivenPass) (p : ℕ) (given : GivenPass) (history : List PassEntry) (entry : PassEntry) →
-    map figures_of history ≡ take p passes → slice_get passes p ≡ Some given → figures_of entry ≡ given →
-    map figures_of (history ++ entry ∷ []) ≡ take (p + 1) passes
-passed_more passes p given history entry was at is =
-    map-append figures_of history (entry ∷ [])
-    ∙ ap (λ (l : List GivenPass). l ++ figures_of entry ∷ []) was
-    ∙ ap (λ (g : GivenPass). take p passes ++ g ∷ []) is
-    ∙ sym (take_next passes p given at)
 
 -- a pass keeps the pages
 pages_stay : (now bandwidth : ℕ) (before after : SchedulerView) → IsPassed now bandwidth before after →

@@ -1,5 +1,5 @@
 -- The rounds of a run on one thread, one after the other.
-use Rattle.std.proofs.Common.{◌≡◌, ℕ, ◌+◌, ◌≤◌, List, length, sym, ap, subst, ◌∙◌, arith}
+use Rattle.std.proofs.Common.{◌≡◌, ℕ, ◌+◌, List, length, sym, ap, subst, ◌∙◌, arith}
 use Rattle.std.specs.Prelude.{min, Result, IfOk}
 use Rattle.cal_machine.specs.Table.{Table}
 use Rattle.cal_trace.specs.declared.arrivals.Arrivals.{Arrivals}
@@ -28,16 +28,6 @@ all_counted {T} {E} arrivals result workers j k same made = let P : ℕ → Type
 pub before_rounds : (table : Table) (arrivals : Arrivals) (parts : Parts) → AreParts table arrivals 0 0 0 parts → AreAfterRounds table arrivals 0 parts
 before_rounds table arrivals parts are = with_counts table arrivals parts 0 (min 0 (length arrivals.passes)) 0 (min 0 (length arrivals.turns)) 0 (min 0 (rounds_of arrivals))
     (omega arith) (omega arith) (omega arith) are
-
-pub after_rounds : (table : Table) (arrivals : Arrivals) (parts : Parts) (n : ℕ) → length arrivals.passes ≤ n → length arrivals.turns ≤ n → AreAfterRounds table arrivals n parts →
-    AreParts table arrivals (length arrivals.passes) (length arrivals.turns) (rounds_of arrivals) parts
-after_rounds table arrivals parts n passes turns are =
-    with_counts table arrivals parts (min n (length arrivals.passes)) (length arrivals.passes) (min n (length arrivals.turns)) (length arrivals.turns) (min n (rounds_of arrivals)) (rounds_of arrivals)
-    (omega (arith, passes)) (omega (arith, turns)) (omega (arith, passes)) are
-
--- the watch may make its round
-pub few_rounds : (table : Table) (arrivals : Arrivals) (parts : Parts) (r : ℕ) → AreAfterRounds table arrivals r parts → length parts.watch.rounds ≤ parts.watch.most
-few_rounds table arrivals parts r are = let rounds = are.rounds in let most = are.most in omega (arith, rounds, most)
 
 -- one round more
 pub round_more : (table : Table) (arrivals : Arrivals) (r : ℕ) (before after : Parts) → AreAfterRounds table arrivals r before →

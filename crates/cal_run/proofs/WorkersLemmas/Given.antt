@@ -1,5 +1,5 @@
 -- What is given to a thread, turn by turn.
-use Rattle.std.proofs.Common.{◌≡◌, ℕ, ◌+◌, zero, suc, List, [], ◌∷◌, ◌++◌, Some, take, ap, ◌∙◌, arith}
+use Rattle.std.proofs.Common.{◌≡◌, ℕ, ◌+◌, zero, suc, List, [], ◌∷◌, Some, ap, ◌∙◌, arith}
 use Rattle.std.specs.List.{slice_get}
 use Rattle.cal_trace.specs.declared.arrivals.Arrival.{Arrival}
 use Rattle.cal_run.specs.Workers.Given.{request_at, turns_from}
@@ -15,12 +15,3 @@ given_at requests k i zero now (clock ∷ clocks) e =
 given_at requests k i (suc j) now (clock ∷ clocks) e =
     let there : (i + 1) + j ≡ i + suc j = omega arith in
     given_at requests k (i + 1) j now clocks e ∙ ap (λ (n : ℕ). Some (now, request_at requests k n)) there
-
-take_suc : {X : Type 0} (xs : List X) (j : ℕ) (x : X) → slice_get xs j ≡ Some x → take (suc j) xs ≡ take j xs ++ x ∷ []
-take_suc [] j x e = absurd (cc)
-take_suc (y ∷ xs) zero x e = let same : y ≡ x = cc in ap (λ z. z ∷ []) same
-take_suc (y ∷ xs) (suc j) x e = ap (λ zs. y ∷ zs) (take_suc xs j x e)
-
--- one member more of a list's front
-pub take_next : {X : Type 0} (xs : List X) (j : ℕ) (x : X) → slice_get xs j ≡ Some x → take (j + 1) xs ≡ take j xs ++ x ∷ []
-take_next xs j x e = let more : j + 1 ≡ suc j = omega arith in ap (λ (n : ℕ). take n xs) more ∙ take_suc xs j x e

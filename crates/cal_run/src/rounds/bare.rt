@@ -10,7 +10,7 @@ ghost use Rattle.cal_run.specs.Workers.{FitSomeTable};
 use crate::fault::SimFault;
 use crate::parts::BareParts;
 use crate::rounds::turns_of_round;
-use crate::rounds::watch::round_given;
+use crate::rounds::watch::watch_of_round;
 use cal_sched::{BareScheduler, PassFault};
 use cal_trace::Arrivals;
 
@@ -44,7 +44,7 @@ fn make_bare_round(parts: &mut BareParts, arrivals: &Arrivals, r: usize) -> Resu
 {
     pass_of_round(&mut parts.scheduler, arrivals, r)?;
     turns_of_round(parts.workers.as_mut_slice(), arrivals, r)?;
-    round_given(&mut parts.watch);
+    watch_of_round(&mut parts.watch);
     Ok(())
 }
 

@@ -1,5 +1,5 @@
 -- Passes that are handed out one by one, and the pass at hand.
-use Rattle.std.proofs.Common.{◌≡◌, ◌∙◌, ◌+◌, ◌<◌, ◌≤◌, ℕ, List, [], ◌∷◌, ◌++◌, length, length-append, Option, Some, None, Result, Ok, Err, nat_lt, refl, ap, sym, arith}
+use Rattle.std.proofs.Common.{◌≡◌, ◌∙◌, ◌+◌, ◌<◌, ◌≤◌, ℕ, List, [], ◌∷◌, ◌++◌, length, length-append, Option, Some, None, Result, Ok, Err, nat_lt, ap, sym, arith}
 use Rattle.std.proofs.lemmas.Bool.{ltb-true}
 use Rattle.std.specs.Option.{option_map, option_to_list}
 use Rattle.cal_trace.specs.Rows.Passes.{with_closed, GivesNext}
@@ -15,12 +15,6 @@ use Rattle.cal_trace.specs.declared.rows.look_rows.PassRow.{PassRow}
 use Rattle.cal_policy.specs.declared.history.entry.TheConstants.{MOST_PASSES}
 use Rattle.cal_trace.proofs.RowLemmas.Checks.{check_one}
 use Rattle.cal_trace.proofs.RowLemmas.Refusals.{decided}
-
--- a pass at hand that grows is no more passes
-pub count-at_hand : {Pass : Type 0} (f : Pass → Pass) (given : List Pass) (at_hand : Option Pass)
-    → length (given ++ option_to_list (option_map f at_hand)) ≡ length (given ++ option_to_list at_hand)
-count-at_hand f given None = refl
-count-at_hand f given (Some pass) = length-append given (f pass ∷ []) ∙ sym (length-append given (pass ∷ []))
 
 -- a pass that begins is one more, and the one before it is handed out
 pub counted-begun : {Open Pass : Type 0} (hand : Open → Pass) (given : List Pass) (closed : Option Pass) (old new : PassesSoFar Open) (begun : Open) → IsCounted hand given old → old.passes < MOST_PASSES

@@ -46,15 +46,6 @@ module _ {So Value : Type 0} (take : Version → So → Fields → Result So Fau
   pub no_header : (fault : TraceFault) → Decided fault.kind (file ≡ Err fault) → Decided fault.kind (read_under take value start file ≡ Err fault)
   no_header fault h = decided fault.kind (file ≡ Err fault) (read_under take value start file ≡ Err fault) (λ e. ap (read_under take value start) e) h
 
-  pub bad_file : (version : Version) (rest : List Fields) (fault : TraceFault) → file ≡ Ok (version, rest)
-      → Decided fault.kind (read_from (take version) value start 1 rest ≡ Err fault) → Decided fault.kind (read_under take value start file ≡ Err fault)
-  bad_file version rest fault header h =
-      decided fault.kind (read_from (take version) value start 1 rest ≡ Err fault) (read_under take value start file ≡ Err fault) (λ e. ap (read_under take value start) header ∙ e) h
-
-  pub good_file : (version : Version) (rest : List Fields) (v : Value) → file ≡ Ok (version, rest)
-      → read_from (take version) value start 1 rest ≡ Ok v → read_under take value start file ≡ Ok v
-  good_file version rest v header h = ap (read_under take value start) header ∙ h
-
 -- what each row keeps holds of what the whole file gives
 after_row : {So Value : Type 0} (P : So → Type 0) (Q : Type 0) (row : ℕ) (taken : Result So FaultKind) (more : So → Result Value TraceFault) (v : Value)
     → ((next : So) → taken ≡ Ok next → P next) → ((next : So) → P next → more next ≡ Ok v → Q) → and_then row taken more ≡ Ok v → Q

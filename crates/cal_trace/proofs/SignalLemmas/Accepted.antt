@@ -29,11 +29,7 @@ use Rattle.cal_trace.specs.declared.signals.reading.Form.TheVariants as form
 use Rattle.cal_trace.proofs.RowLemmas.Checks.{check_one, same_ok}
 use Rattle.cal_trace.proofs.RowLemmas.Readings.{kept_under}
 use Rattle.cal_trace.specs.Signals.Fitting.{IsFitting, AreFitting, IsFittingPass, AreFittingPasses, IsHand, IsFittingSoFar}
-
-both_true : (a b : Bool) → (a && b) ≡ true → (a ≡ true) × (b ≡ true)
-both_true true true e = (refl, refl)
-both_true true false e = (refl, e)
-both_true false b e = absurd (cc)
+use Rattle.std.proofs.lemmas.Bool.{and_parts}
 
 -- one look more
 AreFitting-append : (before : List SignalPass) (looks : List FoundLook) (seen : FoundLook) → AreFitting before looks
@@ -98,7 +94,7 @@ shaped_row thread fields row e =
     let order = check_one (number_at fields 1 == thread) kinds.Order after_order row numbers.1 in
     let range = check_one in_range kinds.Range (Ok found) row order.1 in
     let same : found ≡ row = same_ok found row range.1 in
-    subst (λ (r : WholeRow). IsShaped r.shown.rec) same (shaped_holds (record_of fields) (both_true (nat_lt (number_at fields 2) 2) (is_shaped (record_of fields)) range.0).1)
+    subst (λ (r : WholeRow). IsShaped r.shown.rec) same (shaped_holds (record_of fields) (and_parts (nat_lt (number_at fields 2) 2) (is_shaped (record_of fields)) range.0).1)
 
 busy_pair_row : (thread : ℕ) (fields : Fields) (row : BusyRow) → busy_row thread fields ≡ Ok row → IsBusyPair row.first row.second
 busy_pair_row thread fields row e =
@@ -111,7 +107,7 @@ busy_pair_row thread fields row e =
     let range = check_one in_range kinds.Range (Ok found) row order.1 in
     let same : found ≡ row = same_ok found row range.1 in
     subst (λ (r : BusyRow). IsBusyPair r.first r.second) same
-    (pair_holds (number_at fields 3) (number_at fields 4) (both_true (nat_lt (number_at fields 2) 2) (is_busy_pair (number_at fields 3) (number_at fields 4)) range.0).1)
+    (pair_holds (number_at fields 3) (number_at fields 4) (and_parts (nat_lt (number_at fields 2) 2) (is_busy_pair (number_at fields 3) (number_at fields 4)) range.0).1)
 
 fitting_whole : (last : Shown) (row : Result WholeRow FaultKind) (seen : FoundLook) → ((r : WholeRow) → row ≡ Ok r → IsShaped r.shown.rec)
     → following last row ≡ Ok seen → IsFitting last seen.look
@@ -179,11 +175,11 @@ fits_with_form threads before at_hand ended next (Some form.Whole) fields fit ha
 fits_with_form threads before at_hand ended next (Some form.Busy) fields fit hand e = fits_with_row threads before at_hand ended next form.Busy fields fit hand e
 fits_with_form threads before at_hand ended next (Some form.Pass) fields fit hand e =
     let passed = check_one _ _ _ next e in
-    let full = both_true (not ended) (is_full looks_in threads at_hand) passed.0 in
+    let full = and_parts (not ended) (is_full looks_in threads at_hand) passed.0 in
     fits_with_pass threads (record { before = before; at_hand = at_hand; ended = ended }) next _ (all_fit threads before at_hand fit hand full.1) passed.1
 fits_with_form threads before at_hand ended next (Some form.End) fields fit hand e =
     let passed = check_one _ _ _ next e in
-    let full = both_true (not ended) (is_full looks_in threads at_hand) passed.0 in
+    let full = and_parts (not ended) (is_full looks_in threads at_hand) passed.0 in
     fits_with_end threads (record { before = before; at_hand = at_hand; ended = ended }) next _ (all_fit threads before at_hand fit hand full.1) passed.1
 
 -- after a row that was taken what was read so far fits

@@ -1,6 +1,5 @@
 -- What threads showed last, with one more pass and with one more look.
 use Rattle.std.proofs.Common.{◌≡◌, ◌≢◌, ◌<◌, inl, inr, ℕ, List, [], ◌∷◌, ◌++◌, length, Option, Some, None, Ok, Err, Bool, true, false, nat_lt, if◌then◌else◌, refl, sym, ap, ◌∙◌, arith}
-use Rattle.std.proofs.lemmas.List.{append-nil}
 use Rattle.std.proofs.lemmas.Option.{slice_get_past}
 use Rattle.std.specs.Option.{option_map, option_to_list, option_and_then, unwrap_or}
 use Rattle.cal_signal.specs.Shown.{nothing_shown}
@@ -29,10 +28,6 @@ shown-push k passes pass =
 -- a pass without looks shows nothing
 pub shown-begun : (k : ℕ) (passes : List SignalPass) (now bandwidth : ℕ) → last_shown k (passes ++ record { now = now; bandwidth = bandwidth; looks = [] } ∷ []) ≡ last_shown k passes
 shown-begun k passes now bandwidth = shown-push k passes (record { now = now; bandwidth = bandwidth; looks = [] })
-
--- no pass is one more of none
-pub shown-closed : (k : ℕ) (passes : List SignalPass) → last_shown k (passes ++ []) ≡ last_shown k passes
-shown-closed k passes = ap (last_shown k) (append-nil passes)
 
 -- another thread's look
 pub shown-other : (k : ℕ) (before : List SignalPass) (pass : SignalPass) (seen : FoundLook) → k ≢ length pass.looks

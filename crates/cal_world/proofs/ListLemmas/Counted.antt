@@ -4,10 +4,7 @@ use Rattle.std.proofs.lemmas.Bool.{and_parts}
 use Rattle.std.proofs.lemmas.Bool.Decides.{nat_tests}
 use Rattle.cal_policy.specs.Pass.Choice.{count_below}
 use Rattle.cal_laws.proofs.ListLemmas.Counted.{count_less}
-
-and_false : (b : Bool) → (b && false) ≡ false
-and_false true = refl
-and_false false = refl
+use Rattle.std.proofs.Math.Bool.{and-false}
 
 -- f puts the numbers below n that pass p among those below m that pass q, no two on one
 pub record PutsInto (p : ℕ → Bool) (n : ℕ) (q : ℕ → Bool) (m : ℕ) (f : ℕ → ℕ) : Type 0 where
@@ -43,5 +40,5 @@ count_put p (suc n) q m f put = choose (λ r. count_put p n r m f) (p n) refl
     choose fewer_of true is =
         let le = fewer_of rest (fewer rest (rest_passes is)) in
         let same : eqb (f n) (f n) ≡ true = grind (arith, nat_tests) in
-        let gone : rest (f n) ≡ false = ap (λ (b : Bool). q (f n) && not b) same ∙ and_false (q (f n)) in
+        let gone : rest (f n) ≡ false = ap (λ (b : Bool). q (f n) && not b) same ∙ and-false (q (f n)) in
         let less = count_less q rest (f n) m (put.low n (omega arith) is) (λ c low here. (and_parts (q c) (not (eqb c (f n))) here).0) (put.passes n (omega arith) is) gone in omega arith

@@ -27,9 +27,9 @@ use Rattle.cal_world.proofs.ListLemmas.OneMore.{each_more, of_each_part}
 use Rattle.cal_world.proofs.ScheduleLemmas.Journals.{Stands, stands_first}
 use Rattle.cal_world.proofs.ScheduleLemmas.SinceDecide.{LooksInOrder, no_looks, looks_after}
 use Rattle.cal_world.proofs.ScheduleLemmas.Walk.{RunsStand, NoneLeft, runs_through_pass}
-use Rattle.cal_world.proofs.ScheduleLemmas.Moves.{standing_in, moves, decide_stands, history_same, history_more, looks_on}
+use Rattle.cal_world.proofs.ScheduleLemmas.Moves.{standing_in, moves, decide_stands, history_same, history_more}
 use Rattle.cal_world.proofs.ScheduleLemmas.Floors.{Grows, grows}
-use Rattle.cal_policy.proofs.BoardLemmas.Replayed.{actions_push}
+use Rattle.cal_policy.proofs.BoardLemmas.Replayed.{actions_push, looks_push}
 
 -- no record of thread k up to its read floor shows that the core of its command at this place was
 -- left
@@ -133,7 +133,7 @@ decide sound more one table before entry ok allowed was =
     let through : RunsStand table (actions_of h ++ entry.actions) (unleft_in before) = runs_through_pass sound more table h entry (unleft_in before) all none was.runs in
     let same : history_in after ≡ h ++ entry ∷ [] = history_more before entry in
     let actions : actions_in after ≡ actions_of h ++ entry.actions = ap actions_of same ∙ actions_push h entry in
-    let looks : looks_of (history_in after) ≡ looks_of h ++ entry.input.seen ∷ [] = ap looks_of same ∙ looks_on h entry in record {
+    let looks : looks_of (history_in after) ≡ looks_of h ++ entry.input.seen ∷ [] = ap looks_of same ∙ looks_push h entry in record {
       permitted = subst (IsPermittedHistory table) (sym same) all;
       stands = λ k. decide_stands more before entry k (was.stands k);
       floors = λ k. (grown k).within;

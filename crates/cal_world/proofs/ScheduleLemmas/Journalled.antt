@@ -1,5 +1,5 @@
 -- What the events say of a thread is a journal.
-use Rattle.std.proofs.Common.{◌≡◌, ℕ, ◌+◌, Bool, true, false, cond, eqb, List, [], ◌∷◌, ◌++◌, length, length-append, take, Option, Some, None, refl, sym, ap, ◌∙◌, ◌≤◌, arith, subst, append_assoc}
+use Rattle.std.proofs.Common.{◌≡◌, ℕ, ◌+◌, Bool, true, false, cond, eqb, List, [], ◌∷◌, ◌++◌, length, length-append, take, Option, Some, None, refl, sym, ap, ◌∙◌, ◌≤◌, arith, subst}
 use Rattle.std.specs.Option.{IsSome}
 use Rattle.std.proofs.lemmas.Bool.{eqb-true}
 use Rattle.std.proofs.lemmas.List.{append-nil}
@@ -26,11 +26,7 @@ use Rattle.cal_world.proofs.ListLemmas.OneMore.{of_each_part}
 use Rattle.cal_world.proofs.ScheduleLemmas.Floors.{published_more}
 use Rattle.cal_world.proofs.ScheduleLemmas.Invariant.{Holds, holds_first, holds_more}
 use Rattle.cal_world.proofs.ScheduleLemmas.Reading.{order_more}
-
--- one entry more
-stand_push : (before es : List Entry) (e : Entry) → StandAfter before es → MayStand (before ++ es) e → StandAfter before (es ++ e ∷ [])
-stand_push before [] e was may = (subst (λ xs. MayStand xs e) (append-nil before) may, tt)
-stand_push before (x ∷ es) e was may = (was.0, stand_push (before ++ x ∷ []) es e was.1 (subst (λ xs. MayStand xs e) (sym (append_assoc before (x ∷ []) es)) may))
+use Rattle.cal_kthread.proofs.JournalLemmas.OneEntryMore.{stand-push}
 
 -- an event that adds nothing to a journal, and one that adds an entry which may stand there
 nothing : (before : List Event) (event : Event) (k : ℕ) → entries_for k before event ≡ [] → StandAfter [] (journal_in before k) → StandAfter [] (journal_in before k ++ entries_for k before event)
@@ -38,7 +34,7 @@ nothing before event k e was = subst (λ es. StandAfter [] (journal_in before k 
 
 one_entry : (before : List Event) (event : Event) (k : ℕ) (entry : Entry) → entries_for k before event ≡ entry ∷ [] → MayStand (journal_in before k) entry → StandAfter [] (journal_in before k) →
     StandAfter [] (journal_in before k ++ entries_for k before event)
-one_entry before event k entry e may was = subst (λ es. StandAfter [] (journal_in before k ++ es)) (sym e) (stand_push [] (journal_in before k) entry was may)
+one_entry before event k entry e may was = subst (λ es. StandAfter [] (journal_in before k ++ es)) (sym e) (stand-push [] (journal_in before k) entry was may)
 
 takes_well : (table : Table) (before : List Event) (thread k : ℕ) → Holds table before → (b : Bool) → eqb thread k ≡ b → (o : Option Command) → next_command before k ≡ o → StandAfter [] (journal_in before k) →
     StandAfter [] (journal_in before k ++ entries_for k before (Take thread))

@@ -17,7 +17,7 @@ use Rattle.cal_kthread.specs.Journal.{State, first_state, core_after, changed_by
 use Rattle.cal_signal.specs.Records.{running_word}
 use Rattle.cal_world.specs.Threads.{run_number}
 use Rattle.cal_world.proofs.ListLemmas.OneMore.{slice_get_left, get_or_push}
-use Rattle.cal_laws.proofs.PointLemmas.EachAction.{take_next}
+use Rattle.cal_machine.proofs.Last.{take_next}
 
 -- where a kernel thread stands: its state and its last Run, the commands that it took, what it
 -- published, what was sent to it, and how often it took

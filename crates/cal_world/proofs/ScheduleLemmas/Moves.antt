@@ -3,7 +3,7 @@ use Rattle.std.proofs.Common.{◌≡◌, ℕ, ◌+◌, ◌<◌, Bool, true, fals
 use Rattle.std.specs.List.{filter_map}
 use Rattle.std.specs.Option.{option_or}
 use Rattle.std.proofs.lemmas.Bool.{eqb-true}
-use Rattle.std.proofs.lemmas.List.{append-nil, map-append}
+use Rattle.std.proofs.lemmas.List.{append-nil}
 use Rattle.std.proofs.lemmas.List.Elements.{filter_map-append}
 use Rattle.std.proofs.lemmas.List.Sums.{sum_by-append}
 use Rattle.std.proofs.lemmas.Option.{slice_get_cases}
@@ -12,12 +12,12 @@ use Rattle.cal_machine.specs.Table.{Table}
 use Rattle.cal_signal.specs.declared.record.Record.{Record}
 use Rattle.cal_policy.specs.declared.history.action.Action.{Action}
 use Rattle.cal_policy.specs.declared.history.entry.PassEntry.{PassEntry}
-use Rattle.cal_policy.specs.History.{actions_of, looks_of, commands_to, sends, sent_to}
+use Rattle.cal_policy.specs.History.{actions_of, commands_to, sends, sent_to}
 use Rattle.cal_policy.specs.Laws.{ActionIsOneMore}
 use Rattle.cal_policy.proofs.ListLemmas.OneMore.{last_of_push, each_of_push}
 use Rattle.cal_kthread.specs.declared.journal.entry.Entry.{Entry}
 use Rattle.cal_kthread.specs.declared.journal.entry.Entry.TheVariants.{Took, Yielded, Published}
-use Rattle.cal_kthread.specs.Journal.{State, state_after, state_from, first_state, changed_by, records_of, record_in, commands_of, command_in}
+use Rattle.cal_kthread.specs.Journal.{State, state_after, first_state, changed_by, records_of, record_in, commands_of, command_in}
 use Rattle.cal_world.specs.declared.event.Event.{Event}
 use Rattle.cal_world.specs.declared.event.Event.TheVariants.{Take, Yield, Publish, Read, Skip, Decide, Watch}
 use Rattle.cal_world.specs.Projections.{entry_in, history_in, actions_in, is_take_by, takes_in, publishes_in, next_command, took, entries_for, journal_in}
@@ -27,6 +27,7 @@ use Rattle.cal_world.specs.Safe.{IsSafeEvent}
 use Rattle.cal_world.specs.declared.illegal.Illegal.TheVariants.{NothingSent, NotItsState}
 use Rattle.cal_world.proofs.ScheduleLemmas.Journals.{Standing, Stands, took_one, stands_took, gave_up, stands_off, showed, stands_showed, sent_more, stands_sent}
 use Rattle.cal_policy.proofs.BoardLemmas.Replayed.{actions_push}
+use Rattle.cal_kthread.proofs.JournalLemmas.OneEntryMore.{state-push}
 
 -- where thread k stands after these events, with this journal and this history
 abbrev pub standing_by : List Entry → List PassEntry → ℕ → ℕ → Standing
@@ -76,11 +77,6 @@ stays_put : (before : List Event) (event : Event) (k : ℕ) → entry_in event �
     Stands (standing_in (before ++ event ∷ []) k)
 stays_put before event k none quiet untaken was = subst Stands (sym (nothing_more before event k none quiet untaken)) was
 
--- one entry more in a journal
-state_from_push : (s : State) (es : List Entry) (e : Entry) → state_from s (es ++ e ∷ []) ≡ changed_by e (state_from s es)
-state_from_push s [] e = refl
-state_from_push s (x ∷ es) e = state_from_push (changed_by x s) es e
-
 -- with these parts
 abbrev with_parts : State → Option ℕ → List Command → List Record → List PassEntry → ℕ → ℕ → Standing
 with_parts s run done published history takes k = record {
@@ -101,7 +97,7 @@ pushed : (es : List Entry) (e : Entry) (history : List PassEntry) (takes k : ℕ
     ≡ with_parts (changed_by e (state_after es)) (option_or (run_number e) (last_run_of es)) (commands_of es ++ filter_map command_in (e ∷ []))
     (records_of es ++ filter_map record_in (e ∷ [])) history takes k
 pushed es e history takes k = same_parts _ _ _ _ _ _ _ _ history takes k
-    (state_from_push first_state es e)
+    (state-push first_state es e)
     (last_of_push (λ before entry. run_number entry) es e)
     (filter_map-append command_in es (e ∷ []))
     (filter_map-append record_in es (e ∷ []))
@@ -189,9 +185,6 @@ sent_on more x (a ∷ acts) k =
       ap (λ l. commands_to l k) (sym (append_assoc x (a ∷ []) acts)) ∙ rest.1
           ∙ ap (λ cs. cs ++ rest.0) ((more x a).commands k) ∙ append_assoc (commands_to x k) (sends k x a) rest.0,
     )
-
-pub looks_on : (history : List PassEntry) (entry : PassEntry) → looks_of (history ++ entry ∷ []) ≡ looks_of history ++ entry.input.seen ∷ []
-looks_on history entry = map-append (λ (entry : PassEntry). entry.input.seen) history (entry ∷ [])
 
 -- a Decide sends more
 pub decide_stands : ActionIsOneMore → (before : List Event) (entry : PassEntry) (k : ℕ) → Stands (standing_in before k) → Stands (standing_in (before ++ Decide entry ∷ []) k)

@@ -47,11 +47,12 @@ use Rattle.cal_world.proofs.ListLemmas.OneMore.{of_each_part}
 use Rattle.cal_world.proofs.ScheduleLemmas.Chains.{later_at, shaped_at, zero_shaped}
 use Rattle.cal_world.proofs.ScheduleLemmas.SinceDecide.{LooksInOrder, looks_same, looks_more, since_none}
 use Rattle.cal_world.proofs.ScheduleLemmas.Floors.{Grows, grows, published_more}
-use Rattle.cal_world.proofs.ScheduleLemmas.Moves.{history_same, history_more, looks_on}
+use Rattle.cal_world.proofs.ScheduleLemmas.Moves.{history_same, history_more}
 use Rattle.cal_world.proofs.ScheduleLemmas.Walk.{by_run}
 use Rattle.cal_world.proofs.ScheduleLemmas.Invariant.{Holds, unleft_in, holds_first, holds_more}
 use Rattle.cal_machine.proofs.Places.{slice_get_parts}
 use Rattle.cal_policy.proofs.HistoryLemmas.OneMore.{shown_push}
+use Rattle.cal_policy.proofs.BoardLemmas.Replayed.{looks_push}
 
 -- what was published is in order
 
@@ -171,7 +172,7 @@ shown_decide table before entry same grown held was k =
     let h : List PassEntry = history_in before in
     let now : ShownFromPage before k (unwrap_or (shown_at entry.input.seen k) (last_shown (looks_of h) k)) =
     shown_looked before k (last_shown (looks_of h) k) held.looks was (was.shown k) (slice_get entry.input.seen k) (ap (λ seen. slice_get seen k) (sym same)) in
-    let looks : looks_of (history_in after) ≡ looks_of h ++ entry.input.seen ∷ [] = ap looks_of (history_more before entry) ∙ looks_on h entry in
+    let looks : looks_of (history_in after) ≡ looks_of h ++ entry.input.seen ∷ [] = ap looks_of (history_more before entry) ∙ looks_push h entry in
     let last : last_shown (looks_of (history_in after)) k ≡ unwrap_or (shown_at entry.input.seen k) (last_shown (looks_of h) k) =
     ap (λ l. last_shown l k) looks ∙ shown_push (looks_of h) entry.input.seen k in
     subst (ShownFromPage after k) (sym last) (shown_still before after k _ (grown k) (held.floors k) now)

@@ -15,7 +15,7 @@ use Rattle.cal_world.specs.Projections.{actions_in, entries_for, is_take_by, nex
 use Rattle.cal_world.specs.Threads.{state_in, read_floor, watch_floor, place_read, place_watched}
 use Rattle.cal_world.specs.World.Standing.{IsOf, StandingsAreOf}
 use Rattle.std.specs.List.{slice_get}
-use Rattle.std.proofs.lemmas.Bool.{cases_eq}
+use Rattle.std.proofs.lemmas.Bool.{cases_eq, eq-eqb}
 use Rattle.std.proofs.lemmas.Option.{slice_get_within, slice_get_cases}
 use Rattle.cal_policy.specs.History.{commands_to}
 use Rattle.cal_world.specs.World.{HasCommand}
@@ -25,9 +25,6 @@ use Rattle.cal_world.proofs.ScheduleLemmas.Moves.{standing_in, journal_same, tak
 use Rattle.cal_world.proofs.ScheduleLemmas.SinceDecide.{floor_same, floor_here}
 use Rattle.cal_machine.proofs.Places.{slice_get_parts}
 
-same : (k : ℕ) → eqb k k ≡ true
-same k = grind (arith, nat_tests)
-
 -- the watch floor, one event more
 pub watch_more : (before : List Event) (event : Event) (k : ℕ) → watch_floor (before ++ event ∷ []) k ≡ unwrap_or (place_watched k before event) (watch_floor before k)
 watch_more before event k = ap (λ o. unwrap_or o 0) (last_of_push (place_watched k) before event) ∙ unwrap_or_or (place_watched k before event) (last_of (place_watched k) before) 0
@@ -36,7 +33,7 @@ pub watch_same : (before : List Event) (event : Event) (k : ℕ) → place_watch
 watch_same before event k e = watch_more before event k ∙ ap (λ o. unwrap_or o (watch_floor before k)) e
 
 watch_here : (before : List Event) (k number : ℕ) → watch_floor (before ++ Watch k number ∷ []) k ≡ number
-watch_here before k number = watch_more before (Watch k number) k ∙ ap (λ (b : Bool). unwrap_or (cond b (Some number) None) (watch_floor before k)) (same k)
+watch_here before k number = watch_more before (Watch k number) k ∙ ap (λ (b : Bool). unwrap_or (cond b (Some number) None) (watch_floor before k)) (eq-eqb k k refl)
 
 -- from where the thread stands
 is_of : (s : Standing) (after : List Event) (k : ℕ) (t : standings.Standing) → standing_in after k ≡ t → s.taken ≡ t.state.taken → s.taken ≡ t.takes → s.core ≡ t.state.core →
@@ -92,12 +89,12 @@ of_publish s before thread k rec was = here (eqb thread k) refl
 pub of_take : (s : Standing) (command : Command) (core : Option ℕ) (before : List Event) (k : ℕ) → next_command before k ≡ Some command → core ≡ core_after command → IsOf s before k →
     IsOf (record s { taken = s.taken + 1; core = core }) (before ++ Take k ∷ []) k
 of_take s command core before k next e was =
-    is_of _ (before ++ Take k ∷ []) k _ (takes_one before k k (same k) command next) (ap (λ n. n + 1) was.taken) (ap (λ n. n + 1) was.takes) e
+    is_of _ (before ++ Take k ∷ []) k _ (takes_one before k k (eq-eqb k k refl) command next) (ap (λ n. n + 1) was.taken) (ap (λ n. n + 1) was.takes) e
     (was.read_floor ∙ sym (floor_same before (Take k) k refl)) (was.watch_floor ∙ sym (watch_same before (Take k) k refl))
 
 pub of_yield : (s : Standing) (before : List Event) (k : ℕ) → IsOf s before k → IsOf (record s { core = None }) (before ++ Yield k ∷ []) k
 of_yield s before k was =
-    is_of _ (before ++ Yield k ∷ []) k _ (yields_one before k k (same k)) was.taken was.takes refl
+    is_of _ (before ++ Yield k ∷ []) k _ (yields_one before k k (eq-eqb k k refl)) was.taken was.takes refl
     (was.read_floor ∙ sym (floor_same before (Yield k) k refl)) (was.watch_floor ∙ sym (watch_same before (Yield k) k refl))
 
 pub of_read : (s : Standing) (number : ℕ) (before : List Event) (k : ℕ) → IsOf s before k → IsOf (record s { read_floor = number }) (before ++ Read k number ∷ []) k

@@ -4,8 +4,9 @@ use Rattle.std.proofs.lemmas.Option.{slice_get-get_or}
 use Rattle.cal_kthread.specs.Turn.Turns.{AreTurns, Given}
 use Rattle.cal_run.specs.Workers.Given.{request_at, turns_given}
 use Rattle.cal_run.specs.Workers.{IsNext}
-use Rattle.cal_run.proofs.WorkersLemmas.Given.{given_at, take_next}
+use Rattle.cal_run.proofs.WorkersLemmas.Given.{given_at}
 use Rattle.cal_run.proofs.workers.worker.Worker.turn.Goals as goal
+use Rattle.cal_machine.proofs.Last.{take_next}
 
 pub returns-in-Ok-clause-made : goal.returns-in-Ok-clause-made
 returns-in-Ok-clause-made c =
