@@ -8,13 +8,13 @@
 ghost use Rattle.std.specs.Prelude.{◌≡◌, length, IfOk};
 ghost use Rattle.cal_sched.specs.Scheduler.{HaveSeenNothing, HaveSentNothing};
 
-mod kernel_thread;
+mod runtime_thread;
 
 use cal_command::{Sender, open_ring};
 use cal_machine::Config;
 use cal_sched::Scheduler;
 use cal_signal::{Observer, open_page};
-use kernel_thread::KernelThread;
+use runtime_thread::RuntimeThread;
 use std::alloc::{AllocError, Global};
 
 /// Two cores, and two tasks of one kernel thread each.
@@ -28,7 +28,7 @@ const TABLE: &[u8] = b"cores = 2\nbandwidth_limit = 1000
 struct Ends {
     observers: Vec<Observer>,
     senders: Vec<Sender>,
-    threads: Vec<KernelThread>,
+    threads: Vec<RuntimeThread>,
 }
 
 /// A page and a ring for each of so many kernel threads.
@@ -46,7 +46,7 @@ fn open_ends(alloc: Global, count: usize) -> Result<Ends, AllocError>
         let (sender, taker) = open_ring(alloc)?;
         observers.push(observer)?;
         senders.push(sender)?;
-        threads.push(KernelThread::new(number, publisher, taker))?;
+        threads.push(RuntimeThread::new(number, publisher, taker))?;
     }
     Ok(Ends {
         observers,
@@ -72,8 +72,8 @@ fn pass(rt: &HostRuntime, scheduler: &mut Scheduler, now: u64) -> anyhow::Result
 fn run(
     rt: &HostRuntime,
     scheduler: &mut Scheduler,
-    first: &mut KernelThread,
-    second: &mut KernelThread,
+    first: &mut RuntimeThread,
+    second: &mut RuntimeThread,
 ) -> anyhow::Result<()> {
     first.wait_from(100)?;
     pass(rt, scheduler, 111)?;

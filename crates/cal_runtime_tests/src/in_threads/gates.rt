@@ -117,6 +117,7 @@ impl Asked {
         }
     }
 
+    /// Notes that turn `j` of thread `k` was asked for.
     fn turn(&self, k: usize, j: u64) {
         if let Some(turns) = self.turns.get(k) {
             turns.store(j.saturating_add(1), Ordering::SeqCst);

@@ -3,9 +3,9 @@
 use cal_command::{Command, Taker};
 use cal_signal::{PublishFault, Publisher, Record, running_word};
 
-/// A kernel thread with one request at a time.
+/// A kernel thread of such a runtime, with one request at a time.
 #[derive(Drop)]
-pub struct KernelThread {
+pub struct RuntimeThread {
     number: usize,
     publisher: Publisher,
     taker: Taker,
@@ -13,10 +13,10 @@ pub struct KernelThread {
     arrived: u64,
 }
 
-impl KernelThread {
+impl RuntimeThread {
     /// The kernel thread of these ends, to which no request came yet.
-    pub fn new(number: usize, publisher: Publisher, taker: Taker) -> KernelThread {
-        KernelThread {
+    pub fn new(number: usize, publisher: Publisher, taker: Taker) -> RuntimeThread {
+        RuntimeThread {
             number,
             publisher,
             taker,
