@@ -15,10 +15,12 @@ ghost use Rattle.cal_policy.specs.Board.{HasSizes, IsReady, IsStateAfter, KeepsB
 ghost use Rattle.cal_policy.specs.Book.{AgreesWith, IsBookOf, IsSentBy};
 
 use crate::board::Board;
+use crate::board::holders::core_changed_by;
 use crate::history::action::Action;
 use crate::history::action_list::Actions;
 use crate::history::input::Input;
 use crate::history::look::Seen;
+use crate::history::sending::command_for;
 use crate::judgement::open_input::FoundLook;
 use crate::pass::deciding::decide;
 use cal_machine::{Command, Config};
@@ -105,15 +107,8 @@ impl Book {
             (i : ℕ) → slice_get entry.actions i ≡ Some action →
             IsSentBy table (actions_of h ++ take i entry.actions) action result }
     {
-        match action {
-            Action::Grant { core, thread, .. } => Some((thread, Command::Run(core))),
-            Action::Revoke { core, .. } => {
-                let granted = self.board.holding.grant_of(core)?;
-                Some((granted.thread, Command::Park))
-            }
-            Action::Free { .. } | Action::Unban { .. } | Action::Ban { .. } | Action::Cap { .. } =>
-                None,
-        }
+        let core = core_changed_by(action);
+        command_for(action, self.board.holding.thread_granted(core))
     }
 
     /// Appends the actions of the next pass, on an input that fits, to an empty list, and takes the

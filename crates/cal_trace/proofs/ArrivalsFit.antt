@@ -3,7 +3,7 @@ use Rattle.std.proofs.Common.{◌≡◌, ◌<◌, ◌≤◌, ◌==◌, ◌&&◌,
 use Rattle.std.proofs.lemmas.Bool.{and_parts, or_cases, or_parts, not-true, ltb-true, leb-true, eqb-true, eqb-false}
 use Rattle.cal_trace.specs.Rows.Answers.{Gives}
 use Rattle.cal_trace.specs.Arrivals.{SoFar, at_start, form_of, take_row, take_form, whole, last_in, turn_row, comes_after, is_given, is_size, arrival_row, add_pass, add_turn, add_arrival, add_end, is_none_yet, rows_in, arrivals_of}
-use Rattle.cal_trace.specs.declared.arrivals.reading.TheConstants.{MOST_TURNS}
+use Rattle.cal_trace.specs.declared.arrivals.reading.TheConstants.{MOST_TURNS, MOST_WORK, MOST_REQUEST_MISSES}
 use Rattle.cal_trace.specs.Rows.RowFields.{has_numbers, number_at}
 use Rattle.cal_trace.specs.Arrivals.FitsTable.{IsArrival, ComesBefore, HaveTwoIds, Fits}
 use Rattle.cal_trace.specs.Rows.Header.{header_of, in_version_one}
@@ -25,6 +25,7 @@ use Rattle.cal_trace.proofs.RowLemmas.Conjunctions.{and_three}
 use Rattle.cal_trace.proofs.ListLemmas.EachLater.{later_none, later_push, each_to_last}
 use Rattle.cal_trace.proofs.ListLemmas.EachOne.{each_none, each_cons, each_push}
 use Rattle.cal_trace.proofs.RowLemmas.Readings.{kept_under}
+use Rattle.cal_trace.proofs.RowLemmas.Passes.{pass_below}
 
 -- what the rows so far have given, as arrivals
 abbrev given : SoFar → Arrivals
@@ -114,15 +115,15 @@ arrival_read threads turns last fields arrival h =
     let misses = number_at fields 5 in
     let c = check_three (has_numbers fields) (comes_after last thread turn) (nat_lt thread threads && nat_lt turn turns && is_size work misses) kind.Number kind.Order kind.Range (arrival_in fields) arrival h in
     let p = and_three (nat_lt thread threads) (nat_lt turn turns) (is_size work misses) c.2 in
-    let q = and_three (nat_le 1 work) (nat_le work 1000000) (nat_le misses 4294967295) p.2 in
+    let q = and_three (nat_le 1 work) (nat_le work MOST_WORK) (nat_le misses MOST_REQUEST_MISSES) p.2 in
     subst (IsRead threads turns last) c.3
     (record {
       is = record {
         thread = ltb-true thread threads p.0;
         turn = ltb-true turn turns p.1;
         some_work = leb-true 1 work q.0;
-        most_work = leb-true work 1000000 q.1;
-        misses = leb-true misses 4294967295 q.2;
+        most_work = leb-true work MOST_WORK q.1;
+        misses = leb-true misses MOST_REQUEST_MISSES q.2;
       };
       after = c.1;
     })
@@ -156,18 +157,13 @@ none_at_all : {X : Type 0} (xs : List X) → is_none_yet xs ≡ true → xs ≡ 
 none_at_all [] h = refl
 none_at_all (x ∷ xs) h = absurd (cc)
 
--- a pass row that was read had room
-pass_room : (passes : ℕ) (fields : Fields) (pass : PassRow) → pass_row passes fields ≡ Ok pass → passes < MOST_PASSES
-pass_room passes fields pass h =
-    ltb-true passes MOST_PASSES (check_two (has_numbers fields) (nat_lt passes MOST_PASSES) kind.Number kind.Range (record { now = number_at fields 1; bandwidth = number_at fields 2 }) pass h).1
-
 -- each row keeps what was read fitting
 row_fits : (threads : ℕ) (so_far next : SoFar) (row : Option Form) (fields : Fields) → Fits threads (given so_far) → take_form threads so_far row fields ≡ Ok next → Fits threads (given next)
 row_fits threads so_far next None fields fits e = absurd (cc)
 row_fits threads so_far next (Some form.Header) fields fits e = absurd (cc)
 row_fits threads so_far next (Some form.Pass) fields fits e =
     let c = check_one (not so_far.ended && is_none_yet so_far.turns && is_none_yet so_far.requests) kind.Order (add_pass so_far (pass_row (length so_far.passes) fields)) next e in
-    pass_fits threads so_far next (pass_row (length so_far.passes) fields) (λ pass is. pass_room (length so_far.passes) fields pass is) fits c.1
+    pass_fits threads so_far next (pass_row (length so_far.passes) fields) (λ pass is. pass_below (length so_far.passes) fields pass is) fits c.1
 row_fits threads so_far next (Some form.Turn) fields fits e =
     let c = check_one (not so_far.ended && is_none_yet so_far.requests) kind.Order (add_turn so_far (turn_row so_far.turns fields)) next e in
     let none = none_at_all so_far.requests (and_parts (not so_far.ended) (is_none_yet so_far.requests) c.0).1 in

@@ -13,7 +13,8 @@ use Rattle.cal_trace.specs.Rows.Reading.{read_under}
 use Rattle.cal_trace.specs.Rows.{Fields}
 use Rattle.cal_trace.specs.declared.arrivals.reading.Form.{Form}
 use Rattle.cal_trace.specs.declared.arrivals.reading.Form.TheVariants as form
-use Rattle.cal_trace.specs.declared.arrivals.reading.TheConstants.{MOST_TURNS}
+use Rattle.cal_trace.specs.declared.arrivals.reading.TheConstants.{MOST_TURNS, MOST_WORK}
+use Rattle.cal_trace.specs.declared.arrivals.reading.TheConstants.{MOST_REQUEST_MISSES}
 use Rattle.cal_trace.specs.declared.arrivals.Arrival.{Arrival}
 use Rattle.cal_trace.specs.declared.arrivals.Arrivals.{Arrivals}
 use Rattle.cal_trace.specs.declared.arrivals.GivenPass.{GivenPass}
@@ -70,9 +71,10 @@ comes_after (Some last) thread turn =
 abbrev pub is_given : ℕ → List Arrival → Bool
 is_given id requests = list_any (λ (arrival : Arrival). arrival.request.id == id) requests
 
--- whether a request has so much work, from 1 to 1,000,000, and so few misses
+-- whether a request has so much work, at least 1, and so few misses
 abbrev pub is_size : ℕ → ℕ → Bool
-is_size work misses = nat_le 1 work && nat_le work 1000000 && nat_le misses 4294967295
+is_size work misses =
+    nat_le 1 work && nat_le work MOST_WORK && nat_le misses MOST_REQUEST_MISSES
 
 -- a request row after this request, for so many threads and so many turns, whatever ids came before
 abbrev pub arrival_row : ℕ → ℕ → Option Arrival → Fields → Result Arrival FaultKind

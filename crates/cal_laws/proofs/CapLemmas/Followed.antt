@@ -8,6 +8,8 @@ use Rattle.cal_policy.specs.declared.history.action.Action.TheVariants.{Free, Un
 use Rattle.cal_policy.specs.declared.history.action.Cause.TheVariants as causes
 use Rattle.cal_policy.specs.declared.board.bans.BannedFor.{BannedFor}
 use Rattle.cal_policy.specs.declared.pass.choice.Candidate.{Candidate}
+use Rattle.cal_policy.specs.declared.history.core_class.CoreClass.{CoreClass}
+use Rattle.cal_policy.specs.History.CoreClasses.{class_number, is_idle}
 use Rattle.cal_policy.specs.History.Lists.{in_turn}
 use Rattle.cal_policy.specs.History.{holder_of, ban_of}
 use Rattle.cal_policy.specs.Board.Counts.{is_held}
@@ -71,7 +73,7 @@ cut_at_followed : (s : Setting) (x : List Action) (t : ℕ) (o : Option ℕ) →
 cut_at_followed s x t None = tt
 cut_at_followed s x t (Some core) = (λ over. record { core = core; more = []; begins = refl }, (tt, tt))
 
-cut_followed : (s : Setting) (x : List Action) (o : Option Candidate) → AllFollowed s (cut_of s x o)
+cut_followed : (s : Setting) (x : List Action) (o : Option (Candidate ℕ)) → AllFollowed s (cut_of s x o)
 cut_followed s x None = tt
 cut_followed s x (Some victim) = cut_at_followed s x victim.number (core_to_lose s x victim.number)
 
@@ -84,10 +86,10 @@ bandwidth_followed s acts = if_followed s (nat_lt s.table.bandwidth_limit s.inpu
     (rise_of s (so_far s acts) (lowest_below (is_capped s (so_far s acts)) (length s.table.tasks)))
     (λ e. cut_followed s (so_far s acts) (victim_of s (so_far s acts))) (λ e. rise_followed s (so_far s acts) (lowest_below (is_capped s (so_far s acts)) (length s.table.tasks)) e)
 
-grant_of_followed : (s : Setting) (t : ℕ) (thread core : Option Candidate) → AllFollowed s (grant_of s t thread core)
+grant_of_followed : (s : Setting) (t : ℕ) (thread : Option (Candidate ℕ)) (core : Option (Candidate CoreClass)) → AllFollowed s (grant_of s t thread core)
 grant_of_followed s t None core = tt
 grant_of_followed s t (Some thread) None = tt
-grant_of_followed s t (Some thread) (Some core) = if_followed s (nat_lt core.rank 4) (Grant core.number (thread_of s.table t thread.number) core.rank ∷ []) (Revoke core.number (causes.Preempt t) ∷ [])
+grant_of_followed s t (Some thread) (Some core) = if_followed s (is_idle core.rank) (Grant core.number (thread_of s.table t thread.number) (class_number core.rank) ∷ []) (Revoke core.number (causes.Preempt t) ∷ [])
     (λ e. (tt, tt)) (λ e. (tt, tt))
 
 grant_followed : (s : Setting) (acts : List Action) (t : ℕ) → AllFollowed s (grant_at s acts t)

@@ -5,6 +5,8 @@ use Rattle.cal_machine.specs.Machine.{sibling_of}
 use Rattle.cal_machine.specs.Table.{Table, IsTable}
 use Rattle.cal_policy.specs.declared.board.bans.BannedFor.{BannedFor}
 use Rattle.cal_policy.specs.declared.pass.choice.Candidate.{Candidate}
+use Rattle.cal_policy.specs.declared.history.core_class.CoreClass.{CoreClass}
+use Rattle.cal_policy.specs.History.CoreClasses.{class_number, is_idle}
 use Rattle.cal_policy.specs.declared.history.action.Action.{Action}
 use Rattle.cal_policy.specs.declared.history.action.Action.TheVariants.{Free, Unban, Ban, Revoke, Grant}
 use Rattle.cal_policy.specs.declared.history.action.Cause.TheVariants as causes
@@ -93,7 +95,7 @@ cut_two : (s : Setting) (x : List Action) (t : ℕ) (core : Option ℕ) → leng
 cut_two s x t None = omega arith
 cut_two s x t (Some core) = omega arith
 
-victim_two : (s : Setting) (x : List Action) (victim : Option Candidate) → length (cut_of s x victim) ≤ 2
+victim_two : (s : Setting) (x : List Action) (victim : Option (Candidate ℕ)) → length (cut_of s x victim) ≤ 2
 victim_two s x None = omega arith
 victim_two s x (Some victim) = cut_two s x victim.number (core_to_lose s x victim.number)
 
@@ -117,10 +119,10 @@ one_either : (b : Bool) (a c : Action) → length (if b then a ∷ [] else c ∷
 one_either true a c = omega arith
 one_either false a c = omega arith
 
-chosen_one : (s : Setting) (t : ℕ) (thread core : Option Candidate) → length (grant_of s t thread core) ≤ 1
+chosen_one : (s : Setting) (t : ℕ) (thread : Option (Candidate ℕ)) (core : Option (Candidate CoreClass)) → length (grant_of s t thread core) ≤ 1
 chosen_one s t None core = omega arith
 chosen_one s t (Some thread) None = omega arith
-chosen_one s t (Some thread) (Some core) = one_either (nat_lt core.rank 4) (Grant core.number (thread_of s.table t thread.number) core.rank) (Revoke core.number (causes.Preempt t))
+chosen_one s t (Some thread) (Some core) = one_either (is_idle core.rank) (Grant core.number (thread_of s.table t thread.number) (class_number core.rank)) (Revoke core.number (causes.Preempt t))
 
 one_when : (b : Bool) (l : List Action) → length l ≤ 1 → length (if b then l else []) ≤ 1
 one_when true l h = h

@@ -13,6 +13,8 @@ use Rattle.cal_policy.specs.declared.history.action.Cause.{Cause}
 use Rattle.cal_policy.specs.declared.history.action.Cause.TheVariants as causes
 use Rattle.cal_policy.specs.declared.board.bans.BannedFor.{BannedFor}
 use Rattle.cal_policy.specs.declared.pass.choice.Candidate.{Candidate}
+use Rattle.cal_policy.specs.declared.history.core_class.CoreClass.{CoreClass}
+use Rattle.cal_policy.specs.History.CoreClasses.{class_number, is_idle}
 use Rattle.cal_policy.specs.declared.board.holders.Placement as placements
 use Rattle.cal_policy.specs.declared.board.holders.Holder.{Holder}
 use Rattle.cal_policy.specs.declared.board.holders.Holder.TheVariants as holders
@@ -141,7 +143,7 @@ cut_at_none : (s : Setting) (x : List Action) (t : ℕ) (o : Option ℕ) → Eve
 cut_at_none s x t None = tt
 cut_at_none s x t (Some core) = (tt, (tt, tt))
 
-cut_none : (s : Setting) (x : List Action) (o : Option Candidate) → Every FreesNone (cut_of s x o)
+cut_none : (s : Setting) (x : List Action) (o : Option (Candidate ℕ)) → Every FreesNone (cut_of s x o)
 cut_none s x None = tt
 cut_none s x (Some victim) = cut_at_none s x victim.number (core_to_lose s x victim.number)
 
@@ -155,11 +157,11 @@ bandwidth_none s acts =
     every_if FreesNone (nat_lt s.table.bandwidth_limit s.input.bandwidth) (cut_of s x (victim_of s x)) (rise_of s x (lowest_below (is_capped s x) (length s.table.tasks)))
     (cut_none s x (victim_of s x)) (rise_none s x (lowest_below (is_capped s x) (length s.table.tasks)))
 
-chosen_none : (s : Setting) (t : ℕ) (thread core : Option Candidate) → Every FreesNone (grant_of s t thread core)
+chosen_none : (s : Setting) (t : ℕ) (thread : Option (Candidate ℕ)) (core : Option (Candidate CoreClass)) → Every FreesNone (grant_of s t thread core)
 chosen_none s t None core = tt
 chosen_none s t (Some thread) None = tt
 chosen_none s t (Some thread) (Some core) =
-    every_if FreesNone (nat_lt core.rank 4) (Grant core.number (thread_of s.table t thread.number) core.rank ∷ []) (Revoke core.number (causes.Preempt t) ∷ []) (tt, tt) (tt, tt)
+    every_if FreesNone (is_idle core.rank) (Grant core.number (thread_of s.table t thread.number) (class_number core.rank) ∷ []) (Revoke core.number (causes.Preempt t) ∷ []) (tt, tt) (tt, tt)
 
 grant_none : (s : Setting) (acts : List Action) (t : ℕ) → Every FreesNone (grant_at s acts t)
 grant_none s acts t =

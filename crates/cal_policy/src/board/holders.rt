@@ -7,9 +7,9 @@ ghost use Rattle.cal_machine.specs.declared.numbering.TheConstants.{MOST_THREADS
 ghost use Rattle.cal_policy.specs.declared.history.action.Action.{Action};
 ghost use Rattle.cal_policy.specs.declared.history.action.Action.TheVariants.{Revoke, Grant};
 ghost use Rattle.cal_policy.specs.Board.{HoldingAgrees, HoldingSound, NamesCores, granted_in};
-ghost use Rattle.cal_policy.specs.Board.{holder_in, holder_at, placement_of, core_changed};
+ghost use Rattle.cal_policy.specs.Board.{holder_in, holder_at, core_changed};
 ghost use Rattle.cal_policy.specs.Board.Counts as counts;
-ghost use Rattle.std.specs.Option.{IfSome};
+ghost use Rattle.std.specs.Option.{IfSome, option_map};
 
 use crate::history::action::{Action, Cause};
 use cal_machine::{MOST_CORES, MOST_THREADS};
@@ -38,16 +38,6 @@ pub enum Holder {
 }
 
 impl Holder {
-    /// The thread that has the core, and the Run that put it there; of a free core none.
-    pub fn placement(self) -> Option<Placement>
-        ensures { result ≡ placement_of self }
-    {
-        match self {
-            Holder::Free => None,
-            Holder::Held(placement) | Holder::Leaving(placement, _) => Some(placement),
-        }
-    }
-
     /// Whether nobody has the core.
     pub fn is_free(self) -> bool
         ensures { result ≡ counts.is_free self }
@@ -159,6 +149,17 @@ impl Holding {
             self.granted[core as usize]
         } else {
             None
+        }
+    }
+
+    /// The thread of this core's last grant; of no core none.
+    pub fn thread_granted(&self, core: Option<u8>) -> Option<u8>
+        ensures { (c : ℕ) → core ≡ Some c →
+            result ≡ option_map (λ (p : Placement). p.thread) (granted_in self.now c) }
+    {
+        match self.grant_of(core?) {
+            Some(grant) => Some(grant.thread),
+            None => None,
         }
     }
 

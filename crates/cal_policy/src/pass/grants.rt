@@ -21,6 +21,7 @@ use crate::board::counts::cap_of;
 use crate::board::survey::survey_of;
 use crate::history::action::{Action, Cause};
 use crate::history::action_list::Actions;
+use crate::history::core_class::CoreClass;
 use crate::history::input::Input;
 use crate::pass::Pass;
 use crate::pass::appending::make;
@@ -42,20 +43,23 @@ impl Pass<'_> {
         booked < self.config.task(task).limit && below_cap
     }
 
-    /// What was chosen for the task: a core of class 1 to 3 is granted, one of another class is
-    /// revoked for it.
-    fn chosen(&self, task: usize, thread: Candidate, core: Option<Candidate>) -> Option<Action>
+    /// What was chosen for the task: an idle core is granted, another is revoked for it.
+    fn chosen(
+        &self,
+        task: usize,
+        thread: Candidate<u128>,
+        core: Option<Candidate<CoreClass>>,
+    ) -> Option<Action>
         requires at_hand { IsAtHand self.now }
         requires task { task < length self.now.config.now.tasks }
         requires thread { thread.number < limit_of self.now.config.now task }
-        requires core { IfSome core (λ best.
-            (best.number < self.now.config.now.cores) × (best.rank < 256)) }
+        requires core { IfSome core (λ best. best.number < self.now.config.now.cores) }
         ensures chosen { (h : List PassEntry) →
             option_to_list result ≡ grant_of (setting_in self.now h) task (Some thread) core }
         ensures names { IfSome result (NamesTable self.now.config.now) }
     {
         let core = core?;
-        if core.rank >= 4 {
+        if !core.rank.is_idle() {
             let cause = Cause::Preempt { task: task as u8 };
             return Some(Action::Revoke {
                 core: core.number,
@@ -66,7 +70,7 @@ impl Pass<'_> {
         Some(Action::Grant {
             core: core.number,
             thread: first as u8 + thread.number,
-            class: core.rank as u8,
+            class: core.rank.number(),
         })
     }
 

@@ -2,7 +2,8 @@
 use Rattle.std.specs.Prelude.{◌≡◌, ◌<◌, ◌≤◌, ◌⊎◌, ℕ, List, length, Some, slice_get}
 use Rattle.cal_machine.specs.Table.{Table}
 use Rattle.cal_machine.specs.Tasks.{threads_in}
-use Rattle.cal_trace.specs.declared.arrivals.reading.TheConstants.{MOST_TURNS}
+use Rattle.cal_trace.specs.declared.arrivals.reading.TheConstants.{MOST_TURNS, MOST_WORK}
+use Rattle.cal_trace.specs.declared.arrivals.reading.TheConstants.{MOST_REQUEST_MISSES}
 use Rattle.cal_policy.specs.declared.history.entry.TheConstants.{MOST_PASSES}
 use Rattle.cal_trace.specs.History.Ranges.{Each}
 use Rattle.cal_trace.specs.declared.arrivals.Arrival.{Arrival}
@@ -18,8 +19,8 @@ pub record IsArrival (threads turns : ℕ) (arrival : Arrival) : Type 0 where
   pub thread : arrival.thread < threads
   pub turn : arrival.turn < turns
   pub some_work : 1 ≤ arrival.request.work
-  pub most_work : arrival.request.work ≤ 1000000
-  pub misses : arrival.request.misses ≤ 4294967295
+  pub most_work : arrival.request.work ≤ MOST_WORK
+  pub misses : arrival.request.misses ≤ MOST_REQUEST_MISSES
 
 -- one request comes before another: for an earlier thread, or for the same one and before an
 -- earlier turn

@@ -18,6 +18,12 @@ use std::collections::BTreeSet;
 /// Doranjei's own limit.
 pub const MOST_TURNS: usize = 174_762;
 
+/// The most work that a request may have, in turns. Doranjei's own limit.
+pub const MOST_WORK: u64 = 1_000_000;
+
+/// The most cache misses that a request may have: 2^32 - 1. Doranjei's own limit.
+pub const MOST_REQUEST_MISSES: u64 = 4_294_967_295;
+
 /// What a row of a file of arrivals is, by its first field and its number of fields.
 #[derive(Clone, Copy)]
 pub(crate) enum Form {
@@ -124,7 +130,7 @@ fn arrival_row(
 fn is_size(request: &Request) -> bool
     ensures { result ≡ is_size request.now.work request.now.misses }
 {
-    1 <= request.work && request.work <= 1_000_000 && request.misses <= 4_294_967_295
+    1 <= request.work && request.work <= MOST_WORK && request.misses <= MOST_REQUEST_MISSES
 }
 
 ghost use Rattle.cal_trace.specs.Arrivals.{is_size};

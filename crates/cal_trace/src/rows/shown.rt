@@ -12,15 +12,15 @@ pub(crate) fn record_of(numbers: &[u64; 13]) -> Record
     ensures { (fields : Fields) → ((k : ℕ) → 1 ≤ k → k < 13 →
         slice_index numbers.now k ≡ number_at fields k) → result ≡ record_of fields }
 {
-    Record {
-        taken: numbers[4],
-        running: numbers[5],
-        queued: numbers[6],
-        oldest: numbers[7],
-        started: numbers[8],
-        misses: numbers[9],
-        stamp: numbers[10],
-        paused: numbers[11],
-        since: numbers[12],
-    }
+    Record::from_words([
+        numbers[4],
+        numbers[5],
+        numbers[6],
+        numbers[7],
+        numbers[8],
+        numbers[9],
+        numbers[10],
+        numbers[11],
+        numbers[12],
+    ])
 }

@@ -6,8 +6,8 @@ use Rattle.std.proofs.Math.ListN.{length-set}
 use Rattle.std.proofs.lemmas.List.{take-append-le, get_or-set_same, get_or-set_other}
 use Rattle.std.proofs.lemmas.Option.{slice_get_cases, slice_get-get_or, slice_get_within, get_or_from_slice_get}
 use Rattle.std.proofs.Math.Seq.{take-append_seam}
-use Rattle.cal_laws.proofs.PointLemmas.EachAction.{take_next}
 use Rattle.cal_machine.proofs.Places.{slice_get_parts, slice_get_seam}
+use Rattle.cal_machine.proofs.Last.{take_next}
 
 -- what a list has at a place it has there when more comes after it
 pub slice_get_left : {X : Type 0} (xs ys : List X) (i : ℕ) (z : X) → slice_get xs i ≡ Some z → slice_get (xs ++ ys) i ≡ Some z
@@ -71,16 +71,6 @@ slice_get_set_other xs k j y z off at =
     slice_get-get_or xs j z (omega arith) ∙ ap (λ x. Some x) (sym (get_or-set_other xs k j y z other) ∙ get_or_from_slice_get (set xs k y) j z z at)
 
 -- two lists that were compared place by place
-
-pub same_one_more : {X : Type 0} (xs ys : List X) (i : ℕ) (d e : X) → i < length xs → length xs ≡ length ys → get_or xs i d ≡ get_or ys i e →
-    ((k : ℕ) → k < i → slice_get xs k ≡ slice_get ys k) → (k : ℕ) → k < i + 1 → slice_get xs k ≡ slice_get ys k
-same_one_more xs ys i d e low len here was k lt = ⊎_elim
-    (λ (below : k < i). was k below)
-    (λ (above : i ≤ k).
-    let at : i ≡ k = omega arith in
-    let P : ℕ → Type 0 = λ n. slice_get xs n ≡ slice_get ys n in
-    subst P at (slice_get-get_or xs i d low ∙ ap (λ x. Some x) here ∙ sym (slice_get-get_or ys i e (omega arith))))
-    (cases_lt k i)
 
 pub same_lists : {X : Type 0} (xs ys : List X) → length xs ≡ length ys → ((k : ℕ) → k < length xs → slice_get xs k ≡ slice_get ys k) → xs ≡ ys
 same_lists [] [] len same = refl

@@ -11,11 +11,11 @@ use Rattle.std.proofs.Math.Seq.{take-length}
 use Rattle.cal_machine.specs.declared.command.Command.{Command}
 use Rattle.cal_policy.specs.declared.history.action.Action.{Action}
 use Rattle.cal_policy.specs.declared.history.action.Action.TheVariants.{Grant}
-use Rattle.cal_policy.specs.History.{commands_to, last_thread, thread_granted, sends}
+use Rattle.cal_policy.specs.History.{commands_to, last_thread, thread_granted, sends, addressed_to}
 use Rattle.cal_policy.specs.Laws.{ActionIsOneMore}
 use Rattle.cal_policy.proofs.ListLemmas.OneMore.{last_of_push, set_says, or_if, get_or_same}
 use Rattle.cal_world.specs.World.Outbox.{Outbox}
-use Rattle.cal_world.specs.World.Sending.{AreGranted, AreSent, HaveRoom, command_for}
+use Rattle.cal_world.specs.World.Sending.{AreGranted, AreSent, HaveRoom}
 use Rattle.cal_world.proofs.ListLemmas.OneMore.{slice_get_set_same, slice_get_set_other}
 
 pub granted_same : (granted : List (Option ℕ)) (x : List Action) (a : Action) → ((c : ℕ) → thread_granted c x a ≡ None) → AreGranted granted x → AreGranted granted (x ++ a ∷ [])
@@ -42,7 +42,7 @@ pub granted_first : AreGranted (replicate 256 None) []
 granted_first = record { size = length-replicate {A = Option ℕ} 256 None; each = λ c lt. get_or_same 256 c None }
 
 -- what an action sends to a thread comes at the end
-sent_more : ActionIsOneMore → (x : List Action) (a : Action) (k : ℕ) (o : Option (ℕ × Command)) → sends k x a ≡ command_for k o → commands_to (x ++ a ∷ []) k ≡ commands_to x k ++ command_for k o
+sent_more : ActionIsOneMore → (x : List Action) (a : Action) (k : ℕ) (o : Option (ℕ × Command)) → sends k x a ≡ addressed_to k o → commands_to (x ++ a ∷ []) k ≡ commands_to x k ++ addressed_to k o
 sent_more more x a k o is = (more x a).commands k ∙ ap (λ cs. commands_to x k ++ cs) is
 
 -- nothing was sent
@@ -50,17 +50,17 @@ pub sent_none : ActionIsOneMore → (sent : List Outbox) (x : List Action) (a : 
 sent_none more sent x a none was k outbox at =
     was k outbox at ∙ sym (append-nil (commands_to x k)) ∙ ap (λ cs. commands_to x k ++ cs) (sym (none k)) ∙ sym ((more x a).commands k)
 
-to_other : (thread k : ℕ) (command : Command) → (thread ≡ k → ⊥) → command_for k (Some (thread, command)) ≡ []
+to_other : (thread k : ℕ) (command : Command) → (thread ≡ k → ⊥) → addressed_to k (Some (thread, command)) ≡ []
 to_other thread k command off =
     let no : eqb thread k ≡ false = grind (arith, nat_tests) in ap (λ (b : Bool). cond b (command ∷ []) []) no
 
-to_it : (thread : ℕ) (command : Command) → command_for thread (Some (thread, command)) ≡ command ∷ []
+to_it : (thread : ℕ) (command : Command) → addressed_to thread (Some (thread, command)) ≡ command ∷ []
 to_it thread command =
     let yes : eqb thread thread ≡ true = grind (arith, nat_tests) in ap (λ (b : Bool). cond b (command ∷ []) []) yes
 
 -- a command was sent to a thread past the last
 pub sent_past : ActionIsOneMore → (sent : List Outbox) (x : List Action) (a : Action) (thread : ℕ) (command : Command) → length sent ≤ thread →
-    ((k : ℕ) → sends k x a ≡ command_for k (Some (thread, command))) → AreSent sent x → AreSent sent (x ++ a ∷ [])
+    ((k : ℕ) → sends k x a ≡ addressed_to k (Some (thread, command))) → AreSent sent x → AreSent sent (x ++ a ∷ [])
 sent_past more sent x a thread command past is was k outbox at =
     let low = slice_get_within sent k outbox at in
     let off : thread ≡ k → ⊥ = λ same. omega arith in
@@ -68,7 +68,7 @@ sent_past more sent x a thread command past is was k outbox at =
 
 -- a command was sent to a thread
 pub sent_one : ActionIsOneMore → (sent : List Outbox) (x : List Action) (a : Action) (thread : ℕ) (command : Command) (old new : Outbox) → slice_get sent thread ≡ Some old →
-    ((k : ℕ) → sends k x a ≡ command_for k (Some (thread, command))) → new.commands ≡ old.commands ++ command ∷ [] → AreSent sent x → AreSent (set sent thread new) (x ++ a ∷ [])
+    ((k : ℕ) → sends k x a ≡ addressed_to k (Some (thread, command))) → new.commands ≡ old.commands ++ command ∷ [] → AreSent sent x → AreSent (set sent thread new) (x ++ a ∷ [])
 sent_one more sent x a thread command old new there is sends_it was k outbox at = ⊎_elim
     (λ (same : thread ≡ k). here same)
     (λ (off : thread ≡ k → ⊥). was k outbox (slice_get_set_other sent thread k new outbox off at) ∙ sym (append-nil (commands_to x k))
@@ -97,6 +97,3 @@ room_one sent thread n old new there less was k outbox at = ⊎_elim
         let found : new ≡ outbox = slice_get_set_same sent thread new outbox (slice_get_within sent thread old there) (subst P (sym same) at) in
         let room : new.room ≡ outbox.room = ap (λ (o : Outbox). o.room) found in
         let before = was thread old there in omega arith
-
-pub room_less : (sent : List Outbox) (n : ℕ) → HaveRoom sent (n + 1) → HaveRoom sent n
-room_less sent n was k outbox at = let more = was k outbox at in omega arith

@@ -1,7 +1,6 @@
 -- What is known of the commands sent, after the actions x.
-use Rattle.std.specs.Prelude.{◌≡◌, ◌==◌, ℕ, ◌<◌, ◌≤◌, List, [], ◌∷◌, length, Option}
-use Rattle.std.specs.Prelude.{Some, None, slice_get, slice_index_or, if◌then◌else◌}
-use Rattle.cal_machine.specs.declared.command.Command.{Command}
+use Rattle.std.specs.Prelude.{◌≡◌, ℕ, ◌<◌, ◌≤◌, List, length, Option, Some, None}
+use Rattle.std.specs.Prelude.{slice_get, slice_index_or}
 use Rattle.cal_policy.specs.declared.history.action.Action.{Action}
 use Rattle.cal_policy.specs.History.{commands_to, last_thread}
 use Rattle.cal_world.specs.World.Outbox.{Outbox}
@@ -19,8 +18,3 @@ HaveRoom sent n = (k : ℕ) (outbox : Outbox) → slice_get sent k ≡ Some outb
 pub record AreGranted (granted : List (Option ℕ)) (x : List Action) : Type 0 where
   pub size : length granted ≡ 256
   pub each : (c : ℕ) → c < 256 → slice_index_or granted c None ≡ last_thread x c
-
--- the command for thread k, where there is one and it is to it
-abbrev pub command_for : ℕ → Option (ℕ × Command) → List Command
-command_for k None = []
-command_for k (Some sent) = if sent.0 == k then sent.1 ∷ [] else []

@@ -135,26 +135,11 @@ fn refusal_of_skip(looks: usize, thread: u8, seen: Seen) -> Option<Illegal>
     }
 }
 
-/// Whether two looks are equal.
-fn same_look(a: Seen, b: Seen) -> bool
-    ensures { IsTrue result ↔ a ≡ b }
-{
-    a == b
-}
-
 /// Whether two lists of looks are equal.
 fn same_looks(a: &[Seen], b: &[Seen]) -> bool
     ensures { IsTrue result ↔ a.now ≡ b.now }
 {
-    if a.len() != b.len() {
-        return false;
-    }
-    for i in 0..a.len() {
-        if !same_look(a[i], b[i]) {
-            return false;
-        }
-    }
-    true
+    a == b
 }
 
 /// Whether the entry is the pass after a legal history. Fails only when out of memory.

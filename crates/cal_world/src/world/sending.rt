@@ -1,13 +1,14 @@
 //! What the actions of a pass send to the kernel threads.
 
-ghost use Rattle.std.specs.Prelude.{◌≡◌, ◌+◌, ◌∷◌, ◌++◌, [], None, ℕ};
+ghost use Rattle.std.specs.Prelude.{◌≡◌, ◌+◌, ◌∷◌, ◌++◌, [], Some, ℕ};
 ghost use Rattle.std.specs.Prelude.{List, length, OnOk};
 ghost use Rattle.cal_policy.specs.declared.history.action.Action.{Action};
-ghost use Rattle.cal_policy.specs.History.{sends};
-ghost use Rattle.cal_world.specs.World.Sending.{AreGranted, AreSent, HaveRoom, command_for};
+ghost use Rattle.cal_policy.specs.Board.{core_changed};
+ghost use Rattle.cal_policy.specs.History.{last_thread};
+ghost use Rattle.cal_world.specs.World.Sending.{AreGranted, AreSent, HaveRoom};
 
 use crate::world::outbox::Outbox;
-use cal_command::Command;
+use cal_policy::state::{command_for, core_changed_by};
 use cal_policy::{Action, action_is_one_more};
 use std::alloc::AllocError;
 
@@ -18,21 +19,14 @@ pub(crate) fn none_granted() -> [Option<u8>; 256]
     [None; 256]
 }
 
-/// The command that an action sends, and to which thread.
-fn sent_by(granted: &[Option<u8>; 256], action: Action) -> Option<(u8, Command)>
-    ensures { (x : List Action) (k : ℕ) → AreGranted granted.now x →
-        sends k x action ≡ command_for k result }
+/// The thread to which the core that an action names was last granted.
+fn last_granted(granted: &[Option<u8>; 256], action: Action) -> Option<u8>
+    ensures { (x : List Action) (core : ℕ) → AreGranted granted.now x →
+        core_changed action ≡ Some core → result ≡ last_thread x core }
 {
-    match action {
-        Action::Grant { core, thread, .. } => Some((thread, Command::Run(core))),
-        Action::Revoke { core, .. } => match granted[core as usize] {
-            Some(thread) => Some((thread, Command::Park)),
-            None => None,
-        },
-        Action::Free { .. } => None,
-        Action::Unban { .. } => None,
-        Action::Ban { .. } => None,
-        Action::Cap { .. } => None,
+    match core_changed_by(action) {
+        None => None,
+        Some(core) => granted[core as usize],
     }
 }
 
@@ -72,7 +66,8 @@ fn send_one(sent: &mut Vec<Outbox>, granted: &[Option<u8>; 256], action: Action)
     ensures room { (n : ℕ) → HaveRoom sent.old.items (n + 1) → HaveRoom sent.new.items n }
 {
     action_is_one_more();
-    if let Some((thread, command)) = sent_by(granted, action) {
+    let last = last_granted(granted, action);
+    if let Some((thread, command)) = command_for(action, last) {
         if (thread as usize) < sent.len() {
             sent[thread as usize].send(command);
         }

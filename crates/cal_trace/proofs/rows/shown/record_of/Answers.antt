@@ -1,5 +1,5 @@
 -- Each word of the record is a number of the row.
-use Rattle.std.proofs.Common.{arith, refl}
+use Rattle.std.proofs.Common.{arith}
 use Rattle.cal_trace.proofs.rows.shown.record_of.Goals as goal
 
 pub returns : goal.returns
@@ -13,4 +13,4 @@ returns c = λ fields e. rw (
   ← e 10 (omega arith) (omega arith),
   ← e 11 (omega arith) (omega arith),
   ← e 12 (omega arith) (omega arith),
-) refl
+) c.from_words.ensures

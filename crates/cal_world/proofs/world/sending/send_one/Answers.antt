@@ -1,7 +1,9 @@
-use Rattle.std.proofs.Common.{◌≡◌, Some, length, refl, ap, ◌∙◌, arith}
+use Rattle.std.proofs.Common.{◌≡◌, Some, length, refl, sym, ap, ◌∙◌, arith}
 use Rattle.std.specs.List.{slice_get}
 use Rattle.std.proofs.lemmas.Option.{slice_get_read}
-use Rattle.cal_world.specs.World.Sending.{command_for}
+use Rattle.cal_policy.specs.Board.{core_changed}
+use Rattle.cal_policy.specs.History.{addressed_to, last_thread}
+use Rattle.cal_policy.specs.declared.history.action.Action.{Action}
 use Rattle.cal_world.proofs.WorldLemmas.Sent.{sent_one, sent_past, sent_none, room_one}
 use Rattle.cal_world.proofs.world.sending.send_one.Goals as goal
 
@@ -11,7 +13,7 @@ returns-then-thread-len-clause-sent c = λ x granted was.
     let there : slice_get sent c.in-Some.thread ≡ Some c.index_mut.result.now =
     slice_get_read sent (length sent) c.in-Some.thread c.index_mut.result.now refl (let size = c.len.ensures in let low = c.if-thread-len.true in omega arith) c.index_mut.ensures.value in
     sent_one c.action_is_one_more.ensures sent x c.args.action c.in-Some.thread c.in-Some.command c.index_mut.result.now c.send.new.self there
-    (λ k. c.sent_by.ensures x k granted ∙ ap (command_for k) c.in-Some.is) c.send.ensures.commands was
+    (λ k. sym (c.command_for.ensures x (λ core cause is. c.last_granted-last.ensures x core granted (ap core_changed is)) k) ∙ ap (addressed_to k) c.in-Some.is) c.send.ensures.commands was
 
 pub returns-then-thread-len-clause-room : goal.returns-then-thread-len-clause-room
 returns-then-thread-len-clause-room c = λ n was.
@@ -23,9 +25,9 @@ returns-then-thread-len-clause-room c = λ n was.
 pub returns-else-thread-len-clause-sent : goal.returns-else-thread-len-clause-sent
 returns-else-thread-len-clause-sent c = λ x granted was.
     sent_past c.action_is_one_more.ensures c.args.sent.now.items x c.args.action c.in-Some.thread c.in-Some.command
-    (let size = c.len.ensures in let past = c.if-thread-len.false in omega arith) (λ k. c.sent_by.ensures x k granted ∙ ap (command_for k) c.in-Some.is) was
+    (let size = c.len.ensures in let past = c.if-thread-len.false in omega arith) (λ k. sym (c.command_for.ensures x (λ core cause is. c.last_granted-last.ensures x core granted (ap core_changed is)) k) ∙ ap (addressed_to k) c.in-Some.is) was
 
 pub returns-in_default-clause-sent : goal.returns-in_default-clause-sent
 returns-in_default-clause-sent c = λ x granted was.
     sent_none c.action_is_one_more.ensures c.args.sent.now.items x c.args.action
-    (λ k. c.sent_by.ensures x k granted ∙ ap (command_for k) c.in_default.is) was
+    (λ k. sym (c.command_for.ensures x (λ core cause is. c.last_granted-last.ensures x core granted (ap core_changed is)) k) ∙ ap (addressed_to k) c.in_default.is) was
