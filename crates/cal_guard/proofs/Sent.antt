@@ -5,8 +5,8 @@ use Rattle.std.proofs.lemmas.Bool.Decides.{nat_tests}
 use Rattle.std.proofs.lemmas.List.{append-nil}
 use Rattle.cal_machine.specs.declared.command.Command.{Command}
 use Rattle.cal_machine.specs.declared.command.Command.TheVariants.{Run, Park}
-use Rattle.cal_machine.specs.declared.core_set.CoreSet.{CoreSet}
-use Rattle.cal_machine.specs.CoreSet.{has}
+use Rattle.cal_machine.specs.declared.thread_set.ThreadSet.{ThreadSet}
+use Rattle.cal_machine.specs.ThreadSet.{has_thread}
 use Rattle.cal_policy.specs.declared.history.action.Action.{Action}
 use Rattle.cal_policy.specs.declared.history.action.Action.TheVariants.{Grant, Revoke}
 use Rattle.cal_policy.specs.declared.history.action.Cause.{Cause}
@@ -36,8 +36,8 @@ or_swap true false = refl
 or_swap false true = refl
 or_swap false false = refl
 
-pub noted : (set new : CoreSet) (s : Setting) (acts : List Action) (a : Action) (o : Option ℕ) → ((k : ℕ) → ltb 0 (length (sends k (so_far s acts) a)) ≡ is_core k o) → IsSetOfSent set s acts →
-    ((k : ℕ) → k < 128 → has new k ≡ (is_core k o || has set k)) → IsSetOfSent new s (acts ++ a ∷ [])
+pub noted : (set new : ThreadSet) (s : Setting) (acts : List Action) (a : Action) (o : Option ℕ) → ((k : ℕ) → ltb 0 (length (sends k (so_far s acts) a)) ≡ is_core k o) → IsSetOfSent set s acts →
+    ((k : ℕ) → k < 128 → has_thread new k ≡ (is_core k o || has_thread set k)) → IsSetOfSent new s (acts ++ a ∷ [])
 noted set new s acts a o to was is = record {
   sent = λ k lt. is k lt ∙ ap (λ b. is_core k o || b) (was.sent k lt) ∙ or_swap (is_core k o) (was_sent s acts k) ∙ ap (λ b. was_sent s acts k || b) (sym (to k)) ∙ sym (was_more s acts a k);
 }
@@ -61,8 +61,8 @@ to_revoked x core cause o e k =
     last_thread_placement x core ∙ sym (thread_as_kept (last_placement x core)) ∙ ap (λ o. option_map (λ (p : placements.Placement). p.thread) o) (sym e) in
     ap (λ o. ltb 0 (length (command_to k o Park))) last ∙ to_last (option_map (λ (p : placements.Placement). p.thread) o) k
 
-pub inserted : (set new : CoreSet) (thread : ℕ) → ((c : ℕ) → has new c ≡ (eqb c thread || has set c)) → (k : ℕ) → k < 128 → has new k ≡ (is_core k (Some thread) || has set k)
-inserted set new thread is k lt = is k ∙ ap (λ b. b || has set k) (eqb_swap k thread)
+pub inserted : (set new : ThreadSet) (thread : ℕ) → ((c : ℕ) → has_thread new c ≡ (eqb c thread || has_thread set c)) → (k : ℕ) → k < 128 → has_thread new k ≡ (is_core k (Some thread) || has_thread set k)
+inserted set new thread is k lt = is k ∙ ap (λ b. b || has_thread set k) (eqb_swap k thread)
 
 pub not_some : {X : Type 0} (o : Option X) → ((x : X) → o ≡ Some x → ⊥) → o ≡ None
 not_some None f = refl
@@ -72,7 +72,7 @@ not_below : (n : ℕ) → ltb n n ≡ false
 not_below n = grind (arith, nat_tests)
 
 -- at first nobody was sent one
-pub none_sent : (set : CoreSet) (s : Setting) → ((c : ℕ) → has set c ≡ false) → IsSetOfSent set s []
+pub none_sent : (set : ThreadSet) (s : Setting) → ((c : ℕ) → has_thread set c ≡ false) → IsSetOfSent set s []
 none_sent set s e = record {
   sent = λ k lt. e k ∙ sym (ap (λ l. ltb (sent_to (actions_of s.history) k) (sent_to l k)) (append-nil (actions_of s.history)) ∙ not_below (sent_to (actions_of s.history) k));
 }

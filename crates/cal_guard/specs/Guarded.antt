@@ -4,18 +4,16 @@ use Rattle.cal_machine.specs.Table.{Table}
 use Rattle.cal_policy.specs.declared.history.action.Action.{Action}
 use Rattle.cal_policy.specs.declared.history.entry.PassEntry.{PassEntry}
 use Rattle.cal_policy.specs.declared.history.input.Input.{Input}
-use Rattle.cal_policy.specs.History.{actions_of, looks_of}
 use Rattle.cal_policy.specs.Setting.{Setting, setting}
-use Rattle.cal_policy.specs.Board.{Agrees, KeepingAgrees, IsReady}
+use Rattle.cal_policy.specs.Board.{IsStateAfter, IsReady}
 use Rattle.cal_guard.specs.declared.guard.Guard.{Guard}
 use Rattle.cal_guard.specs.Permitted.{ArePermitted}
 use Rattle.cal_guard.specs.Refusals.{MayEndWith}
 use Rattle.cal_guard.specs.Passing.{IsInside}
 
--- what the guard keeps is what the history says: of its actions, and of its looks
-pub record Keeps (guard : Guard) (history : List PassEntry) : Type 0 where
-  pub actions : Agrees guard.passing.value.board (actions_of history)
-  pub looks : KeepingAgrees guard.passing.value.board.keeping (looks_of history)
+-- what the guard keeps is the state that the history leaves
+abbrev pub Keeps : Guard → List PassEntry → Type 0
+Keeps guard history = IsStateAfter guard.passing.value.board history
 
 -- the guard is inside a pass, after the actions acts of it
 pub record IsWithin (guard : Guard) (s : Setting) (acts : List Action) : Type 0 where

@@ -1,8 +1,8 @@
 -- What is kept inside a pass, and when it is what the history and the actions of the pass say.
 use Rattle.std.specs.Prelude.{◌≡◌, ℕ, ◌<◌, ◌≤◌, true, List, length}
 use Rattle.cal_machine.specs.Table.{Table}
-use Rattle.cal_machine.specs.declared.core_set.CoreSet.{CoreSet}
-use Rattle.cal_machine.specs.CoreSet.{has}
+use Rattle.cal_machine.specs.declared.thread_set.ThreadSet.{ThreadSet}
+use Rattle.cal_machine.specs.ThreadSet.{has_thread}
 use Rattle.cal_machine.specs.declared.numbering.TheConstants.{MOST_THREADS}
 use Rattle.cal_policy.specs.declared.history.action.Action.{Action}
 use Rattle.cal_policy.specs.declared.history.action_list.TheConstants.{MOST_ACTIONS}
@@ -14,8 +14,8 @@ use Rattle.cal_guard.specs.declared.passing.Passing.{Passing}
 use Rattle.cal_guard.specs.Refusals.{was_sent}
 
 -- the set has the threads that were sent a command in this pass
-pub record IsSetOfSent (set : CoreSet) (s : Setting) (acts : List Action) : Type 0 where
-  pub sent : (k : ℕ) → k < MOST_THREADS → has set k ≡ was_sent s acts k
+pub record IsSetOfSent (set : ThreadSet) (s : Setting) (acts : List Action) : Type 0 where
+  pub sent : (k : ℕ) → k < MOST_THREADS → has_thread set k ≡ was_sent s acts k
 
 -- every core that is held is one of the machine's
 pub record HeldAreLow (table : Table) (x : List Action) : Type 0 where

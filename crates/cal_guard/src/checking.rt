@@ -8,7 +8,7 @@ ghost use Rattle.cal_guard.specs.Permitted.{ArePermitted, IsPermittedPass, IsPer
 
 use crate::histories::permitted_is_orderly;
 use crate::passing::Passing;
-use cal_machine::{Config, CoreSet};
+use cal_machine::{Config, ThreadSet};
 use cal_policy::state::board_of;
 use cal_policy::{Action, Input, PassEntry, is_input};
 
@@ -23,7 +23,7 @@ pub fn permits(config: &Config, before: &[PassEntry], input: &Input, actions: &[
     config.limits();
     permitted_is_orderly();
     let board = board_of(config, before);
-    let sent = CoreSet::empty();
+    let sent = ThreadSet::empty();
     let mut passing = Passing {
         board,
         sent,

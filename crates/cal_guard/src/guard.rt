@@ -1,32 +1,25 @@
 //! A guard that never looks back: it keeps the state after the history so far, and lets through
 //! what is permitted.
 
-mod looks;
-
-ghost use Rattle.std.specs.Prelude.{◌≡◌, ℕ, ◌<◌, ◌++◌, ◌↔◌, [], List, length};
-ghost use Rattle.std.specs.Prelude.{IsOk, IfOk, IfErr, OnErr, IsTrue};
-ghost use Rattle.cal_machine.specs.declared.machine.TheConstants.{MOST_CORES};
-ghost use Rattle.cal_machine.specs.TableTasks.{threads_of_table};
+ghost use Rattle.std.specs.Prelude.{◌≡◌, ◌++◌, ◌↔◌, [], List};
+ghost use Rattle.std.specs.Prelude.{IsOk, IfOk, IfErr, OnErr};
+ghost use Rattle.cal_machine.specs.Table.{Table};
 ghost use Rattle.cal_policy.specs.declared.history.action.Action.{Action};
 ghost use Rattle.cal_policy.specs.declared.history.entry.PassEntry.{PassEntry};
-ghost use Rattle.cal_policy.specs.Board.Counts as counts;
-ghost use Rattle.cal_policy.specs.History.{actions_of, holder_of};
-ghost use Rattle.cal_policy.specs.Judgement.Judging.{judged, IsInput};
-ghost use Rattle.cal_policy.specs.Judgement.OpenInput.{judged_input};
-ghost use Rattle.cal_policy.specs.declared.judgement.open_input.FoundLook.{FoundLook};
+ghost use Rattle.cal_policy.specs.Judgement.Judging.{IsInput};
 ghost use Rattle.cal_policy.specs.Setting.{setting};
-ghost use Rattle.cal_policy.specs.Board.{HasSizes, kept_holder};
+ghost use Rattle.cal_policy.specs.Board.{HasSizes, IsReady, IsStateAfter};
 ghost use Rattle.cal_guard.specs.Permitted.{ArePermitted, IsPermittedHistory};
 ghost use Rattle.cal_guard.specs.Refusals.{MayEndWith, IsFirstWrong};
 ghost use Rattle.cal_guard.specs.Guarded.{Keeps, IsWithin, IsGuardOf};
-ghost use Rattle.cal_guard.specs.Guarded.{PassesAreKept, GroupsMakeAPass, and_then};
+ghost use Rattle.cal_guard.specs.Guarded.{and_then};
 
 use crate::histories::{doing_nothing_is_permitted, permitted_goes_on};
 use crate::passing::Passing;
 use crate::refusal::Refused;
 use cal_machine::Config;
-use cal_policy::state::{Holder, booked_by, cap_of, fits, held_by, judged_by, looks_fit};
-use cal_policy::{Action, Input, Look, Seen};
+use cal_policy::state::Board;
+use cal_policy::{Action, Input};
 use std::alloc::{AllocError, Global};
 
 /// The state after the history so far, and the actions that the pass has so far. Only opening a
@@ -40,17 +33,6 @@ pub struct Guard {
     passing: Box<Passing>,
 }
 
-/// What a guard took of a pass it keeps as that pass's entry: so the next pass may begin.
-pub fn passes_are_kept()
-    ensures { PassesAreKept }
-{}
-
-/// After a permitted pass a group of actions may follow just where with them it is a permitted
-/// pass. So what a guard took group by group, from no action on, is a permitted pass.
-pub fn groups_make_a_pass()
-    ensures { GroupsMakeAPass }
-{}
-
 impl Guard {
     /// The guard of the empty history. Fails only when out of memory.
     pub fn open(alloc: Global, config: &Config) -> Result<Guard, AllocError>
@@ -62,77 +44,13 @@ impl Guard {
         Ok(Guard { passing })
     }
 
-    /// The judgement of a look at thread `k` after the history.
-    pub fn judge(&self, config: &Config, k: usize, look: Look) -> Seen
-        requires { k < threads_of_table config.now }
-        ensures { (h : List PassEntry) → Keeps self.now h →
-            result ≡ judged config.now.cores (actions_of h) k look }
+    /// The state that the history leaves. Within a pass it has the pass's looks too, and the actions
+    /// that were taken.
+    pub fn board(&self) -> &Board
+        ensures agrees { (h : List PassEntry) → Keeps self.now h → IsStateAfter result.now h }
+        ensures ready { (table : Table) → IsGuardOf table self.now → IsReady table result.now }
     {
-        config.limits();
-        judged_by(&self.passing.board, config.machine().cores(), k, look)
-    }
-
-    /// Whether the next pass may be given this input.
-    pub fn fits(&self, config: &Config, input: &Input) -> bool
-        ensures fits { (h : List PassEntry) → Keeps self.now h → IsTrue result ↔
-            IsInput config.now h input.entry.now }
-        ensures sizes { IsTrue result → HasSizes config.now input.entry.now }
-    {
-        config.limits();
-        fits(&self.passing.board, config, input)
-    }
-
-    /// Whether the next pass may be given an input that was made of what was found, by this guard
-    /// as it stands: `fits`, but no look is judged again.
-    pub fn made_fits(&self, config: &Config, input: &Input) -> bool
-        ensures fits { (h : List PassEntry) (now bandwidth : ℕ) (found : List FoundLook) →
-            Keeps self.now h → input.entry.now ≡ judged_input config.now h now bandwidth found →
-            IsTrue result ↔ IsInput config.now h input.entry.now }
-        ensures sizes { IsTrue result → HasSizes config.now input.entry.now }
-    {
-        config.limits();
-        looks_fit(&self.passing.board.keeping, config, input)
-    }
-
-    /// Who has a core after the history. A number is the least of the Run's and 2^64.
-    pub fn holder(&self, core: u8) -> Holder
-        requires { core < MOST_CORES }
-        ensures { (h : List PassEntry) → Keeps self.now h →
-            result ≡ kept_holder (holder_of (actions_of h) core) }
-    {
-        self.passing.board.holding.holders[core as usize]
-    }
-
-    /// How many cores a task's threads hold after the history; one that is being left is not held.
-    pub fn held(&self, config: &Config, task: usize) -> u8
-        requires of { IsGuardOf config.now self.now }
-        requires task { task < length config.now.tasks }
-        ensures { (h : List PassEntry) → Keeps self.now h →
-            result ≡ counts.held_by config.now (actions_of h) task }
-    {
-        config.limits();
-        held_by(config, &self.passing.board, task)
-    }
-
-    /// How many cores a task's threads hold or leave after the history.
-    pub fn booked(&self, config: &Config, task: usize) -> u8
-        requires of { IsGuardOf config.now self.now }
-        requires task { task < length config.now.tasks }
-        ensures { (h : List PassEntry) → Keeps self.now h →
-            result ≡ counts.booked_by config.now (actions_of h) task }
-    {
-        config.limits();
-        booked_by(config, &self.passing.board, task)
-    }
-
-    /// The cap of a task after the history: its last one, else its limit.
-    pub fn cap(&self, config: &Config, task: usize) -> u8
-        requires { task < length config.now.tasks }
-        ensures { (h : List PassEntry) → Keeps self.now h →
-            result ≡ counts.cap_of config.now (actions_of h) task }
-    {
-        config.limits();
-        cap_of(config, &self.passing.board, task)
+        &self.passing.board
     }
 
     /// Begins the next pass, on an input that fits, without any action yet.

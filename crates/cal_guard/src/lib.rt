@@ -8,6 +8,7 @@
 
 mod checking;
 mod gone;
+mod group_laws;
 mod guard;
 mod histories;
 mod laws;
@@ -17,7 +18,8 @@ mod refusal;
 
 pub use checking::{is_permitted, is_permitted_pass, permits};
 pub use gone::{gone_may_be_freed, permitted_gone_is_kept};
-pub use guard::{Guard, groups_make_a_pass, passes_are_kept};
+pub use group_laws::{groups_make_a_pass, passes_are_kept};
+pub use guard::Guard;
 pub use histories::{
     doing_nothing_is_permitted, permitted_goes_on, permitted_is_orderly, permitted_is_safe,
     permitted_is_steady,

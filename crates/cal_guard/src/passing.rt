@@ -21,7 +21,7 @@ ghost use Rattle.cal_guard.specs.Refusals.{MayEndWith, IsFirstWrong};
 ghost use Rattle.cal_guard.specs.Passing.{IsSetOfSent, IsInside};
 
 use crate::refusal::{Refused, Why};
-use cal_machine::{Config, CoreSet};
+use cal_machine::{Config, ThreadSet};
 use cal_policy::state::{
     Board, Holder, cap_of, held_by, holds_for, is_banned, is_fit, is_held, is_left, is_over,
     survey_of,
@@ -34,7 +34,7 @@ pub struct Passing {
     /// The state after all actions and looks so far.
     pub board: Board,
     /// The threads that were sent a command in this pass.
-    pub sent: CoreSet,
+    pub sent: ThreadSet,
     /// How many actions the pass has.
     pub made: usize,
 }
@@ -47,13 +47,13 @@ fn unless(holds: bool, why: Why) -> Option<Why>
 }
 
 /// What is wrong with sending the thread a command.
-fn wrong_to_send(input: &Input, sent: &CoreSet, thread: u8) -> Option<Why>
+fn wrong_to_send(input: &Input, sent: &ThreadSet, thread: u8) -> Option<Why>
     requires thread { thread < MOST_THREADS }
     requires rooms { thread < length input.now.rooms }
     ensures { (s : Setting) (acts : List Action) → s.input ≡ input.entry.now →
         IsSetOfSent sent.now s acts → result ≡ refusals.wrong_to_send s acts thread }
 {
-    let unsent = unless(!sent.has(thread), Why::SecondCommand);
+    let unsent = unless(!sent.has(thread as usize), Why::SecondCommand);
     unless(input.rooms.as_slice()[thread as usize], Why::NoRoom).or(unsent)
 }
 
@@ -62,7 +62,7 @@ fn wrong_to_revoke(
     config: &Config,
     input: &Input,
     board: &Board,
-    sent: &CoreSet,
+    sent: &ThreadSet,
     core: u8,
 ) -> Option<Why>
     requires table { IsTable config.now }
@@ -106,7 +106,7 @@ fn wrong_to_grant(
     config: &Config,
     input: &Input,
     board: &Board,
-    sent: &CoreSet,
+    sent: &ThreadSet,
     core: u8,
     thread: u8,
 ) -> Option<Why>
@@ -130,7 +130,7 @@ fn wrong_to_make(
     config: &Config,
     input: &Input,
     board: &Board,
-    sent: &CoreSet,
+    sent: &ThreadSet,
     action: Action,
 ) -> Option<Why>
     requires table { IsTable config.now }
@@ -264,7 +264,7 @@ fn left_undone(config: &Config, board: &Board, revoked: Option<u8>) -> Option<Wh
 }
 
 /// Notes the thread to which an action sends a command.
-fn note_sent(config: &Config, board: &Board, sent: &mut CoreSet, action: Action)
+fn note_sent(config: &Config, board: &Board, sent: &mut ThreadSet, action: Action)
     requires table { IsTable config.now }
     requires ready { IsReady config.now board.now }
     requires names { NamesTable config.now action }
@@ -273,10 +273,10 @@ fn note_sent(config: &Config, board: &Board, sent: &mut CoreSet, action: Action)
 {
     let _ = config;
     match action {
-        Action::Grant { thread, .. } => sent.insert(thread),
+        Action::Grant { thread, .. } => sent.insert(thread as usize),
         Action::Revoke { core, .. } => {
             if let Some(placement) = board.holding.granted[core as usize] {
-                sent.insert(placement.thread);
+                sent.insert(placement.thread as usize);
             }
         }
         Action::Free { .. } => {}
@@ -295,7 +295,7 @@ impl Passing {
     {
         Passing {
             board: Board::new(),
-            sent: CoreSet::empty(),
+            sent: ThreadSet::empty(),
             made: 0,
         }
     }
@@ -323,7 +323,7 @@ impl Passing {
             IsReady table self.new.board }
     {
         self.board.begin(seen);
-        self.sent = CoreSet::empty();
+        self.sent = ThreadSet::empty();
         self.made = 0;
     }
 

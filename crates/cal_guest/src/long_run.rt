@@ -45,7 +45,7 @@ fn input_of(alloc: Global, config: &Config, guard: &Guard, i: u64) -> Result<Inp
     let mut seen = Vec::new(alloc);
     let mut rooms = Vec::new(alloc);
     for k in 0..config.threads() {
-        seen.push(guard.judge(config, k, look(i, k)))?;
+        seen.push(guard.board().judge(config, k, look(i, k)))?;
         rooms.push(true)?;
     }
     Ok(Input {
@@ -62,7 +62,7 @@ fn make_pass(alloc: Global, config: &Config, guard: &mut Guard, i: u64) -> Resul
     ensures { IsGuardOf config.now guard.new }
 {
     let input = input_of(alloc, config, guard, i)?;
-    if !guard.fits(config, &input) {
+    if !guard.board().fits(config, &input) {
         return Ok(false);
     }
     Ok(guard.step(config, &input, &[action(i)]).is_ok())

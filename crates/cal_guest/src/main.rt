@@ -30,7 +30,7 @@ fn input_of(
     let mut seen = Vec::new(alloc);
     let mut rooms = Vec::new(alloc);
     for k in 0..config.threads() {
-        seen.push(guard.judge(config, k, made.look(k)))?;
+        seen.push(guard.board().judge(config, k, made.look(k)))?;
         rooms.push(made.full != Some(k))?;
     }
     Ok(Input {
@@ -106,7 +106,7 @@ fn show_pass(
     ensures { IsGuardOf config.now guard.new }
 {
     let input = input_of(rt.alloc(), config, guard, made)?;
-    if !guard.fits(config, &input) {
+    if !guard.board().fits(config, &input) {
         return Ok(None);
     }
     Ok(Some(make_pass(rt, config, guard, policy, input)?))

@@ -6,6 +6,7 @@ use Rattle.cal_machine.specs.TableTasks.{owner_of, limit_of, guaranteed_of, is_l
 use Rattle.cal_policy.specs.declared.history.action.Action.{Action}
 use Rattle.cal_policy.specs.declared.history.action.Action.TheVariants.{Ban, Cap, Revoke}
 use Rattle.cal_policy.specs.declared.history.action.Cause.{Cause}
+use Rattle.cal_policy.specs.declared.history.core_class.CoreClass.{CoreClass}
 use Rattle.cal_policy.specs.declared.history.action.Cause.TheVariants as causes
 use Rattle.cal_policy.specs.declared.board.holders.Placement as placements
 use Rattle.cal_policy.specs.declared.board.holders.Holder.TheVariants as holders
@@ -16,7 +17,7 @@ use Rattle.cal_policy.specs.Pass.Bandwidth.{task_misses}
 use Rattle.cal_policy.specs.Pass.Grants.{is_congested}
 use Rattle.cal_laws.specs.Point.{Point, IsPoint, setting_at, made_at, next_at}
 use Rattle.cal_laws.specs.Bans.{IsDue, IsOverWithRoom}
-use Rattle.cal_laws.specs.Choice.{IsLeastPossible, IsBurst}
+use Rattle.cal_laws.specs.Choice.{IsLeastPossible, IsPreemptible}
 
 -- core c can be taken from task t: a thread of t holds it, and the ring of that thread has room
 pub record CanLose (s : Setting) (x : List Action) (t c : ℕ) : Type 0 where
@@ -54,15 +55,15 @@ pub record IsForBandwidth (s : Setting) (acts : List Action) (core : ℕ) : Type
   pub none_higher : (c : ℕ) → CanLose s (so_far s acts) victim c → c ≤ core
 
 -- for task t: it is congested and books less than its limit; of all pairs of class and core that
--- are possible for it this is the least, and the core may be taken from its holder for it, which no
--- core is being left for
+-- are possible for it this is the least, and the core may be preempted for it, which no core is
+-- being left for
 pub record IsForTask (s : Setting) (acts : List Action) (core t : ℕ) : Type 0 where
   pub own : t < length s.table.tasks
   pub congested : is_congested s t ≡ true
   pub below_limit : booked_by s.table (so_far s acts) t < limit_of s.table t
-  pub class : ℕ
+  pub class : CoreClass
   pub least : IsLeastPossible s acts t class core
-  pub burst : IsBurst s acts t class core
+  pub preemptible : IsPreemptible s acts t class core
 
 -- for a ban beside core `by`: the action just before is the ban of this core, which was due; the
 -- core is held by a task that is over

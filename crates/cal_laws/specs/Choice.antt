@@ -8,9 +8,12 @@ use Rattle.cal_machine.specs.TableTasks.{guaranteed_of, is_latency_critical}
 use Rattle.cal_policy.specs.declared.history.action.Action.{Action}
 use Rattle.cal_policy.specs.declared.history.action.Action.TheVariants.{Revoke, Grant}
 use Rattle.cal_policy.specs.declared.history.action.Cause.TheVariants as causes
+use Rattle.cal_policy.specs.declared.history.core_class.CoreClass.{CoreClass}
+use Rattle.cal_policy.specs.declared.history.core_class.CoreClass.TheVariants as classes
 use Rattle.cal_policy.specs.declared.board.holders.Placement as placements
 use Rattle.cal_policy.specs.declared.board.holders.Holder.TheVariants as holders
 use Rattle.cal_policy.specs.History.{holder_of, last_thread, is_banned}
+use Rattle.cal_policy.specs.History.CoreClasses.{class_number, is_idle}
 use Rattle.cal_policy.specs.Board.Counts.{held_by, booked_by, cores_of_thread}
 use Rattle.cal_policy.specs.Setting.{Setting, so_far, has_room}
 use Rattle.cal_policy.specs.Pass.Grants.{thread_delay, is_congested, may_book, is_granted_in}
@@ -51,29 +54,32 @@ pub record WentLastTo (table : Table) (x : List Action) (t core : ℕ) : Type 0 
   pub last : last_thread x core ≡ Some thread
   pub task : owner_of table thread ≡ t
 
--- class 1: idle, beside a core that task t holds
-pub record IsSibling (s : Setting) (x : List Action) (t class core : ℕ) : Type 0 where
-  pub number : class ≡ 1
+-- idle, beside a core that task t holds
+pub record IsSibling (s : Setting) (x : List Action) (t : ℕ) (class : CoreClass)
+    (core : ℕ) : Type 0 where
+  pub is : class ≡ classes.Sibling
   pub idle : IsIdle x core
   pub beside : IsHeldBy s.table x t (sibling_of core)
 
--- class 2: idle, not beside one, last granted to task t
-pub record IsRecent (s : Setting) (x : List Action) (t class core : ℕ) : Type 0 where
-  pub number : class ≡ 2
+-- idle, not beside one, last granted to task t
+pub record IsRecent (s : Setting) (x : List Action) (t : ℕ) (class : CoreClass)
+    (core : ℕ) : Type 0 where
+  pub is : class ≡ classes.RecentlyUsed
   pub idle : IsIdle x core
   pub not_beside : ¬ IsHeldBy s.table x t (sibling_of core)
   pub last : WentLastTo s.table x t core
 
--- class 3: idle, and neither
-pub record IsOther (s : Setting) (x : List Action) (t class core : ℕ) : Type 0 where
-  pub number : class ≡ 3
+-- idle, and neither
+pub record IsOther (s : Setting) (x : List Action) (t : ℕ) (class : CoreClass)
+    (core : ℕ) : Type 0 where
+  pub is : class ≡ classes.OtherIdle
   pub idle : IsIdle x core
   pub not_beside : ¬ IsHeldBy s.table x t (sibling_of core)
   pub not_last : ¬ WentLastTo s.table x t core
 
--- a core that may be taken for task t: t is latency-critical and no core is being left for it; the
--- core is held by a thread whose ring has room, and was not granted in this pass
-pub record MayBeTaken (s : Setting) (acts : List Action) (t core : ℕ) : Type 0 where
+-- a core that may be preempted for task t: t is latency-critical and no core is being left for it;
+-- the core is held by a thread whose ring has room, and was not granted in this pass
+pub record MayBePreempted (s : Setting) (acts : List Action) (t core : ℕ) : Type 0 where
   pub critical : is_latency_critical s.table t ≡ true
   pub none_leaves : (c : ℕ) (left : placements.Placement) → c < s.table.cores →
       holder_of (so_far s acts) c ≢ holders.Leaving left (causes.Preempt t)
@@ -82,58 +88,68 @@ pub record MayBeTaken (s : Setting) (acts : List Action) (t core : ℕ) : Type 0
   pub room : has_room s placement.thread ≡ true
   pub not_granted : is_granted_in acts core ≡ false
 
--- another latency-critical task lends task t a core: it holds more than it is guaranteed, and t has
--- booked less than it is
-pub record Lends (s : Setting) (x : List Action) (t other : ℕ) : Type 0 where
+-- another latency-critical task may be preempted for task t: it holds more than it is guaranteed,
+-- and t has booked less than it is
+pub record CriticalMayBePreempted (s : Setting) (x : List Action) (t other : ℕ) : Type 0 where
   pub critical : is_latency_critical s.table other ≡ true
   pub another : other ≢ t
   pub over : guaranteed_of s.table other < held_by s.table x other
   pub short : booked_by s.table x t < guaranteed_of s.table t
 
--- class 4: a core of a best-effort task; class 5: one that a latency-critical task lends
-pub record IsBurst (s : Setting) (acts : List Action) (t class core : ℕ) : Type 0 where
-  pub taken : MayBeTaken s acts t core
-  pub lender : ((class ≡ 4) × (is_latency_critical s.table (owner_of s.table taken.placement.thread)
-      ≡ false))
-      ⊎ ((class ≡ 5) × Lends s (so_far s acts) t (owner_of s.table taken.placement.thread))
+-- a core that may be preempted, of a best-effort task or of a latency-critical one that may be
+pub record IsPreemptible (s : Setting) (acts : List Action) (t : ℕ) (class : CoreClass)
+    (core : ℕ) : Type 0 where
+  pub core_may : MayBePreempted s acts t core
+  pub holder : ((class ≡ classes.BestEffortBurstable)
+      × (is_latency_critical s.table (owner_of s.table core_may.placement.thread) ≡ false))
+      ⊎ ((class ≡ classes.LatencyCriticalBurstable)
+      × CriticalMayBePreempted s (so_far s acts) t
+      (owner_of s.table core_may.placement.thread))
 
 -- the core is of this class for task t
-abbrev pub IsOfClass : Setting → List Action → ℕ → ℕ → ℕ → Type 0
+abbrev pub IsOfClass : Setting → List Action → ℕ → CoreClass → ℕ → Type 0
 IsOfClass s acts t class core =
     IsSibling s (so_far s acts) t class core
     ⊎ (IsRecent s (so_far s acts) t class core
-    ⊎ (IsOther s (so_far s acts) t class core ⊎ IsBurst s acts t class core))
+    ⊎ (IsOther s (so_far s acts) t class core ⊎ IsPreemptible s acts t class core))
 
 -- what the pass takes for the class of a core is the class that it is of
 abbrev pub ClassesAreTold : Type 0
-ClassesAreTold = (s : Setting) (acts : List Action) (t class core : ℕ) →
+ClassesAreTold = (s : Setting) (acts : List Action) (t : ℕ) (class : CoreClass) (core : ℕ) →
     (class_of s acts t core ≡ Some class) ↔ IsOfClass s acts t class core
 
 -- a pair of class and core that is possible for task t
-pub record IsPossible (s : Setting) (acts : List Action) (t class core : ℕ) : Type 0 where
+pub record IsPossible (s : Setting) (acts : List Action) (t : ℕ) (class : CoreClass)
+    (core : ℕ) : Type 0 where
   pub own : core < s.table.cores
   pub applies : IsOfClass s acts t class core
 
--- one pair of class and core is less than another: by its class, and within a class by its core
-abbrev pub IsLessPair : ℕ → ℕ → ℕ → ℕ → Type 0
+-- one pair of class and core is less than another: by the number of its class, and within a class
+-- by its core
+abbrev pub IsLessPair : CoreClass → ℕ → CoreClass → ℕ → Type 0
 IsLessPair class core other_class other_core =
-    (class < other_class) ⊎ ((class ≡ other_class) × (core < other_core))
+    (class_number class < class_number other_class)
+    ⊎ ((class ≡ other_class) × (core < other_core))
 
 -- a pair is possible for task t, and no possible pair is less
-pub record IsLeastPossible (s : Setting) (acts : List Action) (t class core : ℕ) : Type 0 where
+pub record IsLeastPossible (s : Setting) (acts : List Action) (t : ℕ) (class : CoreClass)
+    (core : ℕ) : Type 0 where
   pub possible : IsPossible s acts t class core
-  pub none_less : (other_class other_core : ℕ) → IsPossible s acts t other_class other_core →
+  pub none_less : (other_class : CoreClass) (other_core : ℕ) →
+      IsPossible s acts t other_class other_core →
       ¬ IsLessPair other_class other_core class core
 
--- a grant of this class: the thread's task is congested and may book one more core; core and thread
--- are the best that the task can have
-pub record IsBestGrant (s : Setting) (acts : List Action) (core thread class : ℕ) : Type 0 where
+-- a grant of the class of this number: the thread's task is congested and may book one more core;
+-- core and thread are the best that the task can have
+pub record IsBestGrant (s : Setting) (acts : List Action) (core thread number : ℕ) : Type 0 where
   pub task : ℕ
   pub own : task < length s.table.tasks
   pub owner : owner_of s.table thread ≡ task
   pub congested : is_congested s task ≡ true
   pub room : may_book s (so_far s acts) task ≡ true
-  pub idle : class < 4
+  pub class : CoreClass
+  pub numbered : number ≡ class_number class
+  pub idle : is_idle class ≡ true
   pub least : IsLeastPossible s acts task class core
   pub longest : HasGreatestDelay s (so_far s acts) task thread
 
@@ -149,7 +165,7 @@ pub record HasThread (s : Setting) (x : List Action) (t : ℕ) : Type 0 where
   pub own : number < limit_of s.table t
   pub candidate : IsFreeWithRoom s x (thread_of s.table t number)
 
--- where a core is taken for a task, the task has a thread to run on it
+-- where a core is preempted for a task, the task has a thread to run on it
 abbrev pub PreemptionsHaveThread : Type 0
 PreemptionsHaveThread = (here : Point) → IsPoint here → (core t : ℕ) →
     next_at here ≡ Some (Revoke core (causes.Preempt t)) →

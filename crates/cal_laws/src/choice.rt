@@ -7,7 +7,7 @@ use cal_policy::{chosen_has_waited_longest, chosen_is_of_least_class, legal_is_s
 
 /// What a pass takes for the class of a core is the class that the core is of: 1 idle beside a core
 /// of the task, 2 idle and last granted to the task, 3 idle otherwise, 4 held by a best-effort
-/// task, 5 lent by a latency-critical one above its guarantee; each where none before it applies.
+/// task, 5 held by a latency-critical one above its guarantee; each where none before it applies.
 /// (After Caladan's core allocator; the classes are Doranjei's.)
 pub fn classes_are_told()
     ensures { ClassesAreTold }
@@ -26,8 +26,8 @@ pub fn grants_are_best()
     threads_are_of_their_task();
 }
 
-/// Where a core is taken for a task, some thread of the task has no core and room in its ring: so
-/// the core is not taken for nothing.
+/// Where a core is preempted for a task, some thread of the task has no core and room in its ring:
+/// so the core is not preempted for nothing.
 pub fn preemptions_have_thread()
     ensures { PreemptionsHaveThread }
 {

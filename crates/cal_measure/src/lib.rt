@@ -25,5 +25,5 @@ pub use requests::{TaskRequests, requests_of, responses_of};
 pub use services::{Service, services_of};
 pub use shares::thousandths;
 pub use spread::{Spread, spread_of};
-pub use states::CoreState;
+pub use states::{CoreState, is_congested};
 pub use turns::{Turn, turns_of};

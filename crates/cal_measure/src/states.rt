@@ -18,8 +18,8 @@ ghost use Rattle.cal_measure.specs.States.{clock_at, count_in_state, delay_after
 ghost use Rattle.cal_measure.specs.States.{lasts_at};
 
 use cal_machine::Config;
-use cal_policy::state::{Board, is_banned};
-use cal_policy::{Action, Holder, PassEntry, Record};
+use cal_policy::state::{Board, is_banned, record_delay};
+use cal_policy::{Action, Holder, PassEntry};
 
 /// What a core can be in.
 #[derive(Clone, Copy, Debug, PartialEq, Eq)]
@@ -105,27 +105,6 @@ pub fn count_in_state(config: &Config, board: &Board, state: CoreState) -> u8
     count
 }
 
-/// How long something that came at `came` has waited by a clock, where there is something.
-fn waited(clock: u64, there: bool, came: u64) -> u64
-    ensures { result ≡ grants.waited clock there came }
-{
-    if there && came < clock {
-        clock - came
-    } else {
-        0
-    }
-}
-
-/// The delay that a record shows: that of its oldest queued request or that of its suspended one,
-/// the greater.
-fn record_delay(clock: u64, rec: &Record) -> u64
-    ensures { result ≡ grants.record_delay clock rec.now }
-{
-    let queued = waited(clock, rec.queued > 0, rec.oldest);
-    let paused = waited(clock, rec.paused > 0, rec.since);
-    queued.max(paused)
-}
-
 /// The delay of a thread by its kept record.
 fn thread_delay(board: &Board, clock: u64, thread: usize) -> u64
     requires { thread < MOST_THREADS }
@@ -151,7 +130,8 @@ fn task_delay(config: &Config, board: &Board, clock: u64, task: usize) -> u64
     greatest
 }
 
-/// Whether a task's delay is strictly above its threshold.
+/// Whether a task's delay by this clock, as the kept records show it, is strictly above its
+/// threshold.
 pub fn is_congested(config: &Config, board: &Board, clock: u64, task: usize) -> bool
     requires { task < length config.now.tasks }
     ensures { (looks : List (List Seen)) → KeepingAgrees board.now.keeping looks →

@@ -10,7 +10,7 @@ pub mod FromParts
 pub mod LegalOrderly
 pub mod Legality
 pub mod Length
-pub mod Losing
+pub mod Preempting
 pub mod Made
 pub mod NothingDue
 pub mod Pairs

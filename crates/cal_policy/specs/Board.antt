@@ -146,6 +146,12 @@ pub record BoardSound (threads : ℕ) (b : Board) : Type 0 where
   pub holding : HoldingSound threads b.holding
   pub bans : BansSound threads b.bans
 
+-- the board is the state that the history leaves: what it says of cores, bans and caps, and of
+-- records
+pub record IsStateAfter (b : Board) (history : List PassEntry) : Type 0 where
+  pub actions : Agrees b (actions_of history)
+  pub looks : KeepingAgrees b.keeping (looks_of history)
+
 -- the action's cores, threads and tasks are the table's
 abbrev pub NamesTable : Table → Action → Type 0
 NamesTable table action = NamesCores table.cores (threads_of_table table) action

@@ -8,13 +8,12 @@ use Rattle.cal_policy.specs.declared.book.Book.{Book}
 use Rattle.cal_policy.specs.declared.history.action.Action.{Action}
 use Rattle.cal_policy.specs.declared.history.entry.PassEntry.{PassEntry}
 use Rattle.cal_machine.specs.TableTasks.{threads_of_table}
-use Rattle.cal_policy.specs.History.{actions_of, looks_of, sends, addressed_to}
-use Rattle.cal_policy.specs.Board.{Agrees, KeepingAgrees, IsReady}
+use Rattle.cal_policy.specs.History.{sends, addressed_to}
+use Rattle.cal_policy.specs.Board.{IsStateAfter, IsReady}
 
--- what the book keeps is what the history says: of its actions, and of its looks
-pub record AgreesWith (book : Book) (history : List PassEntry) : Type 0 where
-  pub actions : Agrees book.board.value (actions_of history)
-  pub looks : KeepingAgrees book.board.value.keeping (looks_of history)
+-- what the book keeps is the state that the history leaves
+abbrev pub AgreesWith : Book → List PassEntry → Type 0
+AgreesWith book history = IsStateAfter book.board.value history
 
 -- the book names no thread that is not the table's
 pub record IsBookOf (table : Table) (book : Book) : Type 0 where

@@ -1,6 +1,7 @@
 -- What all actions so far say of cores, threads and tasks. The actions are a list from the first
 -- pass on; nothing is carried along.
 pub mod Lists
+pub mod CoreClasses
 pub mod Looks
 pub mod Found
 use Rattle.std.specs.Prelude.{ℕ, ◌+◌, ◌-◌, ◌==◌, Bool, List, [], ◌∷◌, length, take}

@@ -20,6 +20,8 @@ use Rattle.cal_policy.specs.Pass.Steady.{IsSteady, IsSound}
 use Rattle.cal_machine.specs.Table.{Table, IsTable}
 use Rattle.cal_policy.specs.declared.history.entry.PassEntry.{PassEntry}
 use Rattle.cal_policy.specs.declared.pass.choice.Candidate.{Candidate}
+use Rattle.cal_policy.specs.declared.history.core_class.CoreClass.{CoreClass}
+use Rattle.cal_policy.specs.History.CoreClasses.{class_number}
 use Rattle.cal_machine.specs.TableTasks.{limit_of, thread_of}
 use Rattle.cal_policy.specs.Setting.{Setting, setting_of, so_far}
 use Rattle.cal_policy.specs.Pass.Bans.{NoPairBanned}
@@ -36,7 +38,7 @@ LegalIsOrderly = (table : Table) (history : List PassEntry) → IsTable table �
 -- of the threads of task t that may be granted a core it is the one that has waited longest, and of
 -- those that have waited as long the first
 pub record HasWaitedLongest (s : Setting) (x : List Action) (t : ℕ)
-    (thread : Candidate) : Type 0 where
+    (thread : Candidate ℕ) : Type 0 where
   pub own : thread.number < limit_of s.table t
   pub may_have : thread_rank s x (thread_of s.table t thread.number) ≡ Some thread.rank
   pub none_longer : (j delay : ℕ) → j < limit_of s.table t →
@@ -52,13 +54,13 @@ ChosenHasWaitedLongest = (s : Setting) (x : List Action) (t : ℕ) → MatchOpti
 
 -- of the cores that have a class for task t it is one of the least class, and of those the lowest
 pub record IsOfLeastClass (s : Setting) (acts : List Action) (t : ℕ)
-    (core : Candidate) : Type 0 where
+    (core : Candidate CoreClass) : Type 0 where
   pub own : core.number < s.table.cores
   pub class : class_of s acts t core.number ≡ Some core.rank
-  pub none_less : (c class : ℕ) → c < s.table.cores → class_of s acts t c ≡ Some class →
-      core.rank ≤ class
-  pub lower_greater : (c class : ℕ) → c < core.number → class_of s acts t c ≡ Some class →
-      core.rank < class
+  pub none_less : (c : ℕ) (class : CoreClass) → c < s.table.cores →
+      class_of s acts t c ≡ Some class → class_number core.rank ≤ class_number class
+  pub lower_greater : (c : ℕ) (class : CoreClass) → c < core.number →
+      class_of s acts t c ≡ Some class → class_number core.rank < class_number class
 
 -- the chosen core is that one; where none is chosen, no core has a class for the task
 abbrev pub ChosenIsOfLeastClass : Type 0
@@ -155,7 +157,7 @@ CommandsBeginAlike = (history more : List PassEntry) (k : ℕ) →
 
 -- of the tasks that may be the victim it is the one with the most misses, and of those with as many
 -- the first
-pub record HasMostMisses (s : Setting) (x : List Action) (victim : Candidate) : Type 0 where
+pub record HasMostMisses (s : Setting) (x : List Action) (victim : Candidate ℕ) : Type 0 where
   pub own : victim.number < length s.table.tasks
   pub may_be : victim_rank s x victim.number ≡ Some victim.rank
   pub none_more : (t misses : ℕ) → t < length s.table.tasks → victim_rank s x t ≡ Some misses →

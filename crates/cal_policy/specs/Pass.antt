@@ -11,6 +11,7 @@ pub mod Made
 pub mod Steady
 pub mod ToBan
 use Rattle.std.specs.Prelude.{◌≡◌, ℕ, List, [], ◌++◌, take, Some, slice_get}
+use Rattle.cal_machine.specs.declared.task.Kind.TheVariants as kinds
 use Rattle.cal_machine.specs.Table.{Table}
 use Rattle.cal_policy.specs.declared.history.action.Action.{Action}
 use Rattle.cal_policy.specs.declared.history.entry.PassEntry.{PassEntry}
@@ -18,7 +19,7 @@ use Rattle.cal_policy.specs.Setting.{Setting}
 use Rattle.cal_policy.specs.Pass.Frees.{frees}
 use Rattle.cal_policy.specs.Pass.Bans.{unbans, bans}
 use Rattle.cal_policy.specs.Pass.Bandwidth.{bandwidth_part}
-use Rattle.cal_policy.specs.Pass.Grants.{critical_grants, best_effort_grants}
+use Rattle.cal_policy.specs.Pass.Grants.{grants_of_kind}
 use Rattle.cal_policy.specs.Judgement.Judging.{IsInput}
 
 -- the actions so far, and then what a part makes after them
@@ -32,8 +33,8 @@ pass_of s =
     let unbanned = followed freed (unbans s) in
     let banned = followed unbanned (bans s) in
     let bounded = followed banned (bandwidth_part s) in
-    let granted = followed bounded (critical_grants s) in
-    followed granted (best_effort_grants s)
+    let granted = followed bounded (grants_of_kind kinds.LatencyCritical s) in
+    followed granted (grants_of_kind kinds.BestEffort s)
 
 -- an entry is a pass after these: its input is one that it may be given, and its actions are the
 -- pass's

@@ -3,9 +3,8 @@
 ghost use Rattle.std.specs.Prelude.{◌<◌, ◌^◌, ◌++◌, ◌∷◌, ◌↔◌, [], List, length, IfOk, IsTrue};
 ghost use Rattle.cal_machine.specs.Table.{Table};
 ghost use Rattle.cal_policy.specs.Auditor.{IsAuditOf, IsAuditorOf};
-ghost use Rattle.cal_policy.specs.Board.{Agrees, IsReady};
+ghost use Rattle.cal_policy.specs.Board.{IsReady, IsStateAfter};
 ghost use Rattle.cal_policy.specs.Book.{AgreesWith, IsBookOf};
-ghost use Rattle.cal_policy.specs.History.{actions_of};
 ghost use Rattle.cal_policy.specs.Pass.{IsPass, IsLegal};
 ghost use Rattle.cal_policy.specs.Verdict.{IsVerdict};
 ghost use Rattle.cal_policy.specs.declared.history.entry.PassEntry.{PassEntry};
@@ -91,7 +90,7 @@ impl Auditor {
     /// The state that the passes so far leave, where they are legal.
     pub fn board(&self) -> &Board
         ensures agrees { (table : Table) (h : List PassEntry) → IsLegal table h →
-            IsAuditOf table h self.now → Agrees result.now (actions_of h) }
+            IsAuditOf table h self.now → IsStateAfter result.now h }
         ensures ready { (table : Table) → IsAuditorOf table self.now → IsReady table result.now }
     {
         self.book.board()

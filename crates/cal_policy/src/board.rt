@@ -3,9 +3,11 @@
 pub mod bans;
 pub mod caps;
 pub mod core_sets;
+pub mod cores;
 pub mod counts;
 pub mod holders;
 pub mod open_cores;
+pub mod queries;
 pub mod records;
 pub mod replay;
 pub mod survey;

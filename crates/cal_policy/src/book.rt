@@ -3,28 +3,25 @@
 ghost use Rattle.std.specs.Prelude.{◌≡◌, ℕ, ◌<◌, ◌++◌, ◌∷◌, ◌↔◌, [], List, Some};
 ghost use Rattle.std.specs.Prelude.{length, take, slice_get, IfOk, IsTrue};
 ghost use Rattle.cal_machine.specs.Table.{Table, IsTable};
-ghost use Rattle.cal_machine.specs.declared.machine.TheConstants.{MOST_CORES};
 ghost use Rattle.cal_machine.specs.TableTasks.{threads_of_table};
 ghost use Rattle.cal_policy.specs.declared.judgement.open_input.FoundLook.{FoundLook};
 ghost use Rattle.cal_policy.specs.declared.history.entry.PassEntry.{PassEntry};
-ghost use Rattle.cal_policy.specs.Board.Counts as counts;
-ghost use Rattle.cal_policy.specs.History.{actions_of, holder_of, looks_of};
+ghost use Rattle.cal_policy.specs.History.{actions_of, looks_of};
 ghost use Rattle.cal_policy.specs.Judgement.OpenInput.{judged_input};
 ghost use Rattle.cal_policy.specs.Judgement.Judging.{judged, IsInput};
 ghost use Rattle.cal_policy.specs.Setting.{setting};
 ghost use Rattle.cal_policy.specs.Pass.{pass_of, IsLegal};
-ghost use Rattle.cal_policy.specs.Board.{HasSizes, KeepsBefore, kept_holder};
+ghost use Rattle.cal_policy.specs.Board.{HasSizes, IsReady, IsStateAfter, KeepsBefore};
 ghost use Rattle.cal_policy.specs.Book.{AgreesWith, IsBookOf, IsSentBy};
 
-use crate::board::holders::{Holder, core_changed_by};
-use crate::board::{Board, counts};
+use crate::board::Board;
+use crate::board::holders::core_changed_by;
 use crate::history::action::Action;
 use crate::history::action_list::Actions;
 use crate::history::input::Input;
 use crate::history::look::Seen;
 use crate::history::sending::command_for;
-use crate::judgement::judging;
-use crate::judgement::open_input::{FoundLook, OpenInput};
+use crate::judgement::open_input::FoundLook;
 use crate::pass::deciding::decide;
 use cal_machine::{Command, Config};
 use cal_signal::Look;
@@ -59,8 +56,7 @@ impl Book {
         ensures { (h : List PassEntry) → AgreesWith self.now h →
             result ≡ judged config.now.cores (actions_of h) k look }
     {
-        config.limits();
-        judging::judged_by(&self.board, config.machine().cores(), k, look)
+        self.board.judge(config, k, look)
     }
 
     /// The input of the next pass at this clock and bandwidth figure, from what was found of each
@@ -79,11 +75,7 @@ impl Book {
             input ≡ judged_input config.now h now bandwidth found.now) }
         ensures sizes { IfOk result (HasSizes config.now) }
     {
-        let mut open = OpenInput::reserved(alloc, config)?;
-        for one in found {
-            open.look(config, self, *one);
-        }
-        Ok(open.finish(now, bandwidth))
+        self.board.input(alloc, config, now, bandwidth, found)
     }
 
     /// Whether the next pass may be given this input.
@@ -92,67 +84,13 @@ impl Book {
             IsInput config.now h input.entry.now }
         ensures sizes { IsTrue result → HasSizes config.now input.entry.now }
     {
-        config.limits();
-        judging::fits(&self.board, config, input)
-    }
-
-    /// Whether the next pass may be given an input that was made of what was found, by this book as
-    /// it stands: `fits`, but no look is judged again.
-    pub fn made_fits(&self, config: &Config, input: &Input) -> bool
-        ensures fits { (h : List PassEntry) (now bandwidth : ℕ) (found : List FoundLook) →
-            AgreesWith self.now h →
-            input.entry.now ≡ judged_input config.now h now bandwidth found →
-            IsTrue result ↔ IsInput config.now h input.entry.now }
-        ensures sizes { IsTrue result → HasSizes config.now input.entry.now }
-    {
-        config.limits();
-        judging::looks_fit(&self.board.keeping, config, input)
-    }
-
-    /// Who has a core after the history. A number is the least of the Run's and 2^64.
-    pub fn holder(&self, core: u8) -> Holder
-        requires { core < MOST_CORES }
-        ensures { (h : List PassEntry) → AgreesWith self.now h →
-            result ≡ kept_holder (holder_of (actions_of h) core) }
-    {
-        self.board.holding.holders[core as usize]
-    }
-
-    /// How many cores a task's threads hold after the history; one that is being left is not held.
-    pub fn held(&self, config: &Config, task: usize) -> u8
-        requires of { IsBookOf config.now self.now }
-        requires task { task < length config.now.tasks }
-        ensures { (h : List PassEntry) → AgreesWith self.now h →
-            result ≡ counts.held_by config.now (actions_of h) task }
-    {
-        config.limits();
-        counts::held_by(config, &self.board, task)
-    }
-
-    /// How many cores a task's threads hold or leave after the history.
-    pub fn booked(&self, config: &Config, task: usize) -> u8
-        requires of { IsBookOf config.now self.now }
-        requires task { task < length config.now.tasks }
-        ensures { (h : List PassEntry) → AgreesWith self.now h →
-            result ≡ counts.booked_by config.now (actions_of h) task }
-    {
-        config.limits();
-        counts::booked_by(config, &self.board, task)
-    }
-
-    /// The cap of a task after the history: its last one, else its limit.
-    pub fn cap(&self, config: &Config, task: usize) -> u8
-        requires { task < length config.now.tasks }
-        ensures { (h : List PassEntry) → AgreesWith self.now h →
-            result ≡ counts.cap_of config.now (actions_of h) task }
-    {
-        config.limits();
-        counts::cap_of(config, &self.board, task)
+        self.board.fits(config, input)
     }
 
     /// The state that the history leaves.
     pub fn board(&self) -> &Board
-        ensures { result.now ≡ self.now.board.value }
+        ensures agrees { (h : List PassEntry) → AgreesWith self.now h → IsStateAfter result.now h }
+        ensures ready { (table : Table) → IsBookOf table self.now → IsReady table result.now }
     {
         &self.board
     }

@@ -2,6 +2,7 @@
 
 pub mod action;
 pub mod action_list;
+pub mod core_class;
 pub mod entry;
 pub mod input;
 pub mod look;

@@ -1,6 +1,6 @@
 //! How looks are judged, which inputs a pass may be given, and which histories are orderly.
 
-pub mod book_looks;
+pub mod board_looks;
 pub mod judging;
 pub mod look_fault;
 pub mod look_laws;

@@ -21,6 +21,7 @@ pub use book::Book;
 pub use cal_signal::{Look, Record, Shown, later, shaped};
 pub use history::action::{Action, Cause};
 pub use history::action_list::{ActionList, Actions, MOST_ACTIONS};
+pub use history::core_class::CoreClass;
 pub use history::entry::{MOST_PASSES, PassEntry};
 pub use history::input::{Input, Rooms};
 pub use history::look::{Seen, SeenList};

@@ -2,13 +2,12 @@
 //! it, or tells what it is. Whoever only wants this policy's passes needs none of this.
 
 pub use crate::board::Board;
+pub use crate::board::cores::{is_banned, is_held};
 pub use crate::board::counts::{booked_by, cap_of, held_by, holds_for, is_over};
 pub use crate::board::holders::{Holder, Placement, core_changed_by};
 pub use crate::board::replay::board_of;
 pub use crate::board::survey::{Survey, survey_of};
 pub use crate::history::sending::command_for;
-pub use crate::judgement::book_looks::{gone_by, sent_by};
-pub use crate::judgement::judging::{fits, judged_by, looks_fit};
-pub use crate::judgement::one_by_one::{fault_by, misfit_by};
-pub use crate::judgement::orderly::{is_banned, is_fit, is_held};
+pub use crate::judgement::orderly::is_fit;
+pub use crate::pass::delays::record_delay;
 pub use crate::pass::frees::is_left;

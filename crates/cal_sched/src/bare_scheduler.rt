@@ -148,7 +148,7 @@ impl BareScheduler {
         let mut actions = Actions::reserved(self.alloc)?;
         find_each(
             &self.config,
-            &self.book,
+            self.book.board(),
             self.observers.as_mut_slice(),
             self.senders.as_mut_slice(),
             &mut found,
@@ -180,7 +180,7 @@ impl BareScheduler {
         requires { t < length self.now.table.tasks }
         ensures { result ≡ counts.booked_by self.now.table (actions_of self.now.history) t }
     {
-        self.book.booked(&self.config, t)
+        self.book.board().booked(&self.config, t)
     }
 
     /// Who has the core: the thread, the number of the Run that put it there, and the cause for
@@ -192,7 +192,7 @@ impl BareScheduler {
         self.config.limits();
         threads_are_sent_one_command();
         holders_are_of_their_last_run();
-        self.book.holder(core)
+        self.book.board().holder(core)
     }
 
     /// The table, and the ends of the pages and rings, in thread order. Takes no memory.

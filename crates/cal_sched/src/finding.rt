@@ -3,21 +3,22 @@
 ghost use Rattle.std.specs.Prelude.{◌≡◌, [], List, length};
 ghost use Rattle.cal_policy.specs.declared.judgement.open_input.FoundLook.{FoundLook};
 ghost use Rattle.cal_policy.specs.declared.history.entry.PassEntry.{PassEntry};
-ghost use Rattle.cal_policy.specs.Book.{AgreesWith};
+ghost use Rattle.cal_policy.specs.Board.{IsStateAfter};
 ghost use Rattle.cal_policy.specs.Judgement.OpenInput.{IsOfFound};
 ghost use Rattle.cal_machine.specs.TableTasks.{threads_of_table};
 ghost use Rattle.cal_sched.specs.Passing.{HaveFound};
 
 use cal_command::Sender;
 use cal_machine::Config;
-use cal_policy::{Book, FoundLook, OpenInput};
+use cal_policy::state::Board;
+use cal_policy::{FoundLook, OpenInput};
 use cal_signal::Observer;
 
 /// Looks once at each page and asks each ring for room, in thread order, and takes what was found
-/// into an input that has no look yet, each look as the book judges it.
+/// into an input that has no look yet, each look as the state judges it.
 pub(crate) fn find_each(
     config: &Config,
-    book: &Book,
+    board: &Board,
     observers: &mut [Observer],
     senders: &mut [Sender],
     input: &mut OpenInput,
@@ -31,11 +32,12 @@ pub(crate) fn find_each(
     ensures full { length input.new.seen ≡ input.new.threads }
     ensures found { (found : List FoundLook)
         × HaveFound observers.old observers.new senders.old senders.new found
-        × ((h : List PassEntry) → AgreesWith book.now h → IsOfFound config.now h found input.new) }
+        × ((h : List PassEntry) → IsStateAfter board.now h →
+        IsOfFound config.now h found input.new) }
 {
     for k in 0..config.threads() {
         let look = observers[k].observe();
         let room = senders[k].room();
-        input.look(config, book, FoundLook { look, room });
+        input.look(config, board, FoundLook { look, room });
     }
 }

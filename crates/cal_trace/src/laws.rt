@@ -3,7 +3,7 @@
 ghost use Rattle.cal_trace.specs.Laws.{TextIsItsRows, TextIsReadBack, ReadIsReadBack};
 ghost use Rattle.cal_trace.specs.Laws.{LegalIsReadBack};
 
-use cal_policy::{chosen_is_of_least_class, legal_is_short, legal_is_sound};
+use cal_policy::{legal_is_short, legal_is_sound};
 
 /// The rows of the text of a history that is in range are the rows that it was written as.
 pub fn text_is_its_rows()
@@ -29,5 +29,4 @@ pub fn legal_is_read_back()
 {
     legal_is_sound();
     legal_is_short();
-    chosen_is_of_least_class();
 }

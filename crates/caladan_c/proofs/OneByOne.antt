@@ -1,5 +1,5 @@
 -- The looks of a pass that takes them one by one, one more.
-use Rattle.std.proofs.Common.{◌≡◌, ℕ, zero, suc, ◌+◌, ◌<◌, ◌≤◌, ◌++◌, ◌∷◌, [], Bool, true, false, List, Option, Some, None, length, map, take, slice_get, get_or, refl, sym, ap, subst, ◌∙◌, arith, if◌then◌else◌, ◌≢◌, set, inl, inr}
+use Rattle.std.proofs.Common.{◌≡◌, ℕ, zero, suc, ◌+◌, ◌<◌, ◌≤◌, ◌++◌, ◌∷◌, [], true, false, List, Option, Some, None, length, map, take, slice_get, get_or, refl, sym, ap, subst, ◌∙◌, arith, if◌then◌else◌, ◌≢◌, set, inl, inr}
 use Rattle.std.specs.List.{enumerate_from}
 use Rattle.std.specs.Option.{is_some}
 use Rattle.std.proofs.lemmas.List.{map-append, length-map, take_more, take_all, length-take-le}
@@ -11,11 +11,7 @@ use Rattle.cal_policy.specs.declared.history.entry.PassEntry.{PassEntry}
 use Rattle.cal_policy.specs.declared.judgement.look_fault.LookFault.{LookFault}
 use Rattle.cal_policy.specs.declared.judgement.open_input.FoundLook.{FoundLook}
 use Rattle.cal_policy.specs.Judgement.OneByOne.{fault_of, refused_look, taken_found, taken_looks}
-use Rattle.cal_policy.specs.declared.history.look.Seen.{Seen}
-use Rattle.cal_policy.specs.History.{actions_of}
-use Rattle.cal_policy.specs.Judgement.Judging.{judged}
-use Rattle.cal_policy.specs.Judgement.OpenInput.{IsOfFound, OpenView, judged_looks, rooms_found}
-use Rattle.cal_policy.proofs.JudgementLemmas.OpenInput.{judged_looks-append, rooms_found-append, length-judged_looks}
+use Rattle.cal_policy.specs.Judgement.OpenInput.{IsOfFound, OpenView}
 use Rattle.caladan_c.specs.Found.{found_of, look_in}
 use Rattle.caladan_c.specs.OneByOne.{IsTakenOf, said_of, is_unfit, IsFirstUnfit}
 use Rattle.caladan_c.specs.declared.found.Found.{Found}
@@ -114,24 +110,3 @@ fits_to h looks k d fits before j o low at = elim (eqb_tells j k) [
       ap (λ m. is_unfit h m o) e.1 ∙ ap (λ (f : Found). is_unfit h k f) (sym there) ∙ none
   | inr n ↦ let below : j < k = omega (arith, low, n.1) in before j o below at
 ]
-
--- the look that was taken was judged, and it and the ring's room noted
-pub taken_pushed : (table : Table) (h : List PassEntry) (looks : List Found) (one : Found) (k threads : ℕ) (f : FoundLook) (seen new_seen : List Seen) (rooms new_rooms : List Bool) (s : Seen) →
-    length looks ≡ k → length seen ≡ k → f ≡ taken_found table.cores h (k, found_of one) → s ≡ judged table.cores (actions_of h) k f.look →
-    new_seen ≡ seen ++ s ∷ [] → new_rooms ≡ rooms ++ f.room ∷ [] →
-    IsTakenOf table h looks (record { threads = threads; seen = seen; rooms = rooms }) → IsTakenOf table h (looks ++ one ∷ []) (record { threads = threads; seen = new_seen; rooms = new_rooms })
-taken_pushed table h looks one k threads f seen new_seen rooms new_rooms s count size is said pushed noted of =
-    let cores = table.cores in
-    let xs = taken_looks cores h (map found_of looks) in
-    let place : k ≡ length (map found_of looks) = sym count ∙ sym (length-map looks found_of) in
-    let more : xs ++ f ∷ [] ≡ taken_looks cores h (map found_of (looks ++ one ∷ [])) =
-    ap (λ (g : FoundLook). xs ++ g ∷ []) (is ∙ ap (λ m. taken_found cores h (m, found_of one)) place)
-    ∙ sym (taken_more cores h (map found_of looks) (found_of one))
-    ∙ ap (λ ys. taken_looks cores h ys) (sym (map-append found_of looks (one ∷ []))) in
-    let here : k ≡ length xs = sym size ∙ ap length of.seen ∙ length-judged_looks table h xs in
-    record {
-      seen = pushed ∙ ap (λ ys. ys ++ s ∷ []) of.seen
-          ∙ ap (λ (z : Seen). judged_looks table h xs ++ z ∷ []) (said ∙ ap (λ m. judged cores (actions_of h) m f.look) here)
-          ∙ sym (judged_looks-append table h xs f) ∙ ap (λ ys. judged_looks table h ys) more;
-      rooms = noted ∙ ap (λ ys. ys ++ f.room ∷ []) of.rooms ∙ sym (rooms_found-append xs f) ∙ ap (λ ys. rooms_found ys) more;
-    }

@@ -13,23 +13,22 @@ ghost use Rattle.cal_policy.specs.Board.{kept_holder};
 ghost use Rattle.cal_policy.specs.History.{actions_of, holder_of};
 ghost use Rattle.cal_policy.specs.Judgement.Judging.{IsInput};
 ghost use Rattle.cal_machine.specs.TableTasks.{threads_of_table};
-ghost use Rattle.cal_guard.specs.Guarded.{Keeps};
 ghost use Rattle.caladan_c.specs.Found.{input_given};
 ghost use Rattle.caladan_c.specs.Told.{AreJudgements, counts_of};
 ghost use Rattle.std.specs.Option.{is_some, IfSome};
 
 use crate::answer::Refusal;
-use crate::found::found_look;
 use crate::given::Given;
+use crate::input::{judge_looks, nothing, with_room};
 use crate::recorded::read_actions;
-use crate::scheduler::{nothing, with_room};
 use crate::told::Told;
-use crate::told::counts::Counts;
+use crate::told::counts::{Counts, counts_of_task};
+use crate::told::holder::holder_on;
 use crate::told::judgement::tell_judgements;
 use cal_guard::{Guard, Refused};
 use cal_machine::{Config, ConfigFault};
-use cal_policy::{Action, Holder, Input, MOST_ACTIONS, Rooms, SeenList};
-use std::alloc::{AllocError, Global};
+use cal_policy::{Action, Holder, Input, MOST_ACTIONS};
+use std::alloc::Global;
 use std::marker::Model;
 use std::mem;
 
@@ -53,35 +52,6 @@ impl Model for Gate {
     ghost view = { λ g. record { table = g.config; guard = g.guard } };
 
     ghost invariant = { λ g. IsGuardOf g.config g.guard };
-}
-
-/// The input of the next pass of a guard, of what was found, in the memory of one that is used up.
-fn judge_looks(
-    used: Input,
-    config: &Config,
-    guard: &Guard,
-    given: Given<'_>,
-) -> Result<Input, AllocError>
-    requires { length given.looks.now ≡ threads_of_table config.now }
-    ensures { IfOk result (λ input. (h : List PassEntry) → Keeps guard.now h →
-        input ≡ input_given config.now h given.entry) }
-{
-    let Input { seen, rooms, .. } = used;
-    let mut seen = seen.into_items();
-    let mut rooms = rooms.into_items();
-    seen.clear();
-    rooms.clear();
-    for (k, one) in given.looks.iter().enumerate() {
-        let found = found_look(one);
-        seen.push(guard.judge(config, k, found.look))?;
-        rooms.push(found.room)?;
-    }
-    Ok(Input {
-        now: given.now,
-        bandwidth: given.bandwidth,
-        seen: SeenList::new(seen),
-        rooms: Rooms::new(rooms),
-    })
 }
 
 ghost use Rattle.caladan_c.specs.Gated.{GuardsAfter, WentThrough, WasStopped};
@@ -120,12 +90,7 @@ impl Gate {
         ensures holder { IfSome result (λ holder. (h : List PassEntry) → GuardsAfter self.now h →
             holder ≡ kept_holder (holder_of (actions_of h) core)) }
     {
-        self.config.limits();
-        if core < self.config.machine().cores() {
-            Some(self.guard.holder(core))
-        } else {
-            None
-        }
+        holder_on(&self.config, self.guard.board(), core)
     }
 
     /// How many cores a task holds, how many it books, and its cap, where the table has it.
@@ -134,15 +99,7 @@ impl Gate {
         ensures counts { IfSome result (λ counted. (h : List PassEntry) → GuardsAfter self.now h →
             counted ≡ counts_of self.now.table (actions_of h) task) }
     {
-        if task < self.config.tasks() {
-            Some(Counts {
-                held: self.guard.held(&self.config, task),
-                booked: self.guard.booked(&self.config, task),
-                cap: self.guard.cap(&self.config, task),
-            })
-        } else {
-            None
-        }
+        counts_of_task(&self.config, self.guard.board(), task)
     }
 
     /// Lets the next pass through with the actions that C chose, where each is permitted at its
@@ -177,9 +134,9 @@ impl Gate {
     {
         read_actions(&mut self.chosen, told)?;
         let used = mem::replace(&mut self.used, nothing(alloc));
-        let input = judge_looks(used, &self.config, &self.guard, given)?;
+        let input = judge_looks(used, &self.config, self.guard.board(), given)?;
         self.used = input;
-        if !self.guard.made_fits(&self.config, &self.used) {
+        if !self.guard.board().made_fits(&self.config, &self.used) {
             return Err(Refusal::Unfit);
         }
         let chosen = self.chosen.as_slice();

@@ -19,5 +19,6 @@ mod scheduler;
 mod answer;
 mod found;
 mod given;
+mod input;
 mod recorded;
 mod told;

@@ -8,8 +8,6 @@ ghost use Rattle.std.specs.Prelude.{nat_lt};
 ghost use Rattle.cal_machine.specs.Outcome.{Gives};
 ghost use Rattle.cal_machine.specs.Reading.{table_in};
 ghost use Rattle.cal_policy.specs.declared.history.entry.PassEntry.{PassEntry};
-ghost use Rattle.cal_policy.specs.Board.{HasSizes};
-ghost use Rattle.cal_policy.specs.Book.{AgreesWith};
 ghost use Rattle.cal_policy.specs.Judgement.Judging.{IsInput};
 ghost use Rattle.cal_machine.specs.TableTasks.{threads_of_table};
 ghost use Rattle.cal_policy.specs.History.{actions_of, holder_of};
@@ -19,16 +17,14 @@ ghost use Rattle.caladan_c.specs.Told.{counts_of};
 ghost use Rattle.std.specs.Option.{is_some, IfSome};
 
 use crate::answer::Refusal;
-use crate::found::found_look;
 use crate::given::Given;
-use crate::told::counts::Counts;
+use crate::input::{judge_looks, nothing, with_room};
+use crate::told::counts::{Counts, counts_of_task};
+use crate::told::holder::holder_on;
 use crate::told::judgement::tell_judgements;
 use cal_machine::{Config, ConfigFault};
-use cal_policy::{
-    Action, Actions, Book, Holder, Input, OpenInput, Rooms, SeenList, legal_is_short,
-    one_pass_more_is_legal,
-};
-use std::alloc::{AllocError, Global};
+use cal_policy::{Action, Actions, Book, Holder, Input, legal_is_short, one_pass_more_is_legal};
+use std::alloc::Global;
 use std::marker::Model;
 use std::mem;
 
@@ -51,47 +47,6 @@ impl Model for Scheduler {
     ghost view = { λ s. record { table = s.config; book = s.book; made = s.made } };
 
     ghost invariant = { λ s. IsBookOf s.config s.book };
-}
-
-/// An input of nothing. It takes no memory.
-pub fn nothing(alloc: Global) -> Input {
-    Input {
-        now: 0,
-        bandwidth: 0,
-        seen: SeenList::new(Vec::new(alloc)),
-        rooms: Rooms::new(Vec::new(alloc)),
-    }
-}
-
-/// An input of nothing, with room for so many looks.
-pub fn with_room(alloc: Global, threads: usize) -> Result<Input, AllocError> {
-    let seen = Vec::with_capacity(alloc, threads)?;
-    let rooms = Vec::with_capacity(alloc, threads)?;
-    Ok(Input {
-        now: 0,
-        bandwidth: 0,
-        seen: SeenList::new(seen),
-        rooms: Rooms::new(rooms),
-    })
-}
-
-/// The input of the next pass of a book, of what was found, in the memory of one that is used up.
-fn judge_looks(
-    used: Input,
-    config: &Config,
-    book: &Book,
-    given: Given<'_>,
-) -> Result<Input, AllocError>
-    requires { length given.looks.now ≡ threads_of_table config.now }
-    ensures judged { IfOk result (λ input. (h : List PassEntry) → AgreesWith book.now h →
-        input ≡ input_given config.now h given.entry) }
-    ensures sizes { IfOk result (HasSizes config.now) }
-{
-    let mut open = OpenInput::again(used, config)?;
-    for one in given.looks {
-        open.look(config, book, found_look(one));
-    }
-    Ok(open.finish(given.now, given.bandwidth))
 }
 
 ghost use Rattle.caladan_c.specs.Passing.{StandsAfter, IsPassed};
@@ -144,12 +99,7 @@ impl Scheduler {
         ensures holder { IfSome result (λ holder. (h : List PassEntry) → StandsAfter self.now h →
             holder ≡ kept_holder (holder_of (actions_of h) core)) }
     {
-        self.config.limits();
-        if core < self.config.machine().cores() {
-            Some(self.book.holder(core))
-        } else {
-            None
-        }
+        holder_on(&self.config, self.book.board(), core)
     }
 
     /// How many cores a task holds, how many it books, and its cap, where the table has it.
@@ -158,15 +108,7 @@ impl Scheduler {
         ensures counts { IfSome result (λ counted. (h : List PassEntry) → StandsAfter self.now h →
             counted ≡ counts_of self.now.table (actions_of h) task) }
     {
-        if task < self.config.tasks() {
-            Some(Counts {
-                held: self.book.held(&self.config, task),
-                booked: self.book.booked(&self.config, task),
-                cap: self.book.cap(&self.config, task),
-            })
-        } else {
-            None
-        }
+        counts_of_task(&self.config, self.book.board(), task)
     }
 
     /// Makes the next pass, whose actions are then in `made`, and tells what was judged of each
@@ -189,9 +131,9 @@ impl Scheduler {
         ensures refused { OnErr result ((self.new ≡ self.old) × (judged.new ≡ judged.old)) }
     {
         let used = mem::replace(&mut self.used, nothing(alloc));
-        let input = judge_looks(used, &self.config, &self.book, given)?;
+        let input = judge_looks(used, &self.config, self.book.board(), given)?;
         self.used = input;
-        if !self.book.made_fits(&self.config, &self.used) {
+        if !self.book.board().made_fits(&self.config, &self.used) {
             return Err(Refusal::Unfit);
         }
         self.config.limits();

@@ -8,6 +8,7 @@ ghost use Rattle.cal_engine.specs.Running.{run_text};
 
 use crate::fault::RunFault;
 use crate::jobs::running::RunAnswer;
+use cal_kthread::{Journal, RequestList};
 use cal_machine::Config;
 use cal_policy::legal_is_orderly;
 use cal_run::{RunEnd, ThreadsEnd};
@@ -32,13 +33,14 @@ pub(crate) fn run_text(
     let mut text = Vec::new(alloc);
     let written = match answer {
         RunAnswer::History => write_history(end.history.as_slice(), &mut text),
-        RunAnswer::Summary => write_summary(
-            arrivals.passes.as_slice().len(),
-            arrivals.turns.as_slice().len(),
-            end.journals.as_slice(),
-            end.left.as_slice(),
-            &mut text,
-        ),
+        RunAnswer::Summary => {
+            return summary_of(
+                alloc,
+                arrivals,
+                end.journals.as_slice(),
+                end.left.as_slice(),
+            );
+        }
         RunAnswer::Report => write_report(config, end.history.as_slice(), &mut text),
     };
     match written {
@@ -58,15 +60,31 @@ pub(crate) fn threads_summary(
         (length arrivals.now.passes) (length arrivals.now.turns) end.now.journals end.now.left) }
     ensures kind { IfErr result (λ fault. fault ≡ RunFault.Memory) }
 {
-    let mut text = Vec::new(alloc);
-    let written = write_summary(
-        arrivals.passes.as_slice().len(),
-        arrivals.turns.as_slice().len(),
+    summary_of(
+        alloc,
+        arrivals,
         end.journals.as_slice(),
         end.left.as_slice(),
-        &mut text,
+    )
+}
+
+/// The summary of what kernel threads did and were left with, in memory. Its fault is `Memory`.
+fn summary_of(
+    alloc: Global,
+    arrivals: &Arrivals,
+    journals: &[Journal],
+    left: &[RequestList],
+) -> Result<Vec<u8>, RunFault>
+    ensures text { IfOk result (λ text. text.items ≡ summary_text
+        (length arrivals.now.passes) (length arrivals.now.turns) journals.now left.now) }
+    ensures kind { IfErr result (λ fault. fault ≡ RunFault.Memory) }
+{
+    let (passes, turns) = (
+        arrivals.passes.as_slice().len(),
+        arrivals.turns.as_slice().len(),
     );
-    match written {
+    let mut text = Vec::new(alloc);
+    match write_summary(passes, turns, journals, left, &mut text) {
         Ok(()) => Ok(text),
         // A list in memory refuses nothing but memory.
         Err(_) => Err(RunFault::Memory),

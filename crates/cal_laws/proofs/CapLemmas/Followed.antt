@@ -8,6 +8,8 @@ use Rattle.cal_policy.specs.declared.history.action.Action.TheVariants.{Free, Un
 use Rattle.cal_policy.specs.declared.history.action.Cause.TheVariants as causes
 use Rattle.cal_policy.specs.declared.board.bans.BannedFor.{BannedFor}
 use Rattle.cal_policy.specs.declared.pass.choice.Candidate.{Candidate}
+use Rattle.cal_policy.specs.declared.history.core_class.CoreClass.{CoreClass}
+use Rattle.cal_policy.specs.History.CoreClasses.{class_number, is_idle}
 use Rattle.cal_policy.specs.History.Lists.{in_turn}
 use Rattle.cal_policy.specs.History.{holder_of, ban_of}
 use Rattle.cal_policy.specs.Board.Counts.{is_held}
@@ -16,7 +18,8 @@ use Rattle.cal_policy.specs.Setting.{Setting, so_far, kept_now}
 use Rattle.cal_policy.specs.Pass.Frees.{shows_left, free_at}
 use Rattle.cal_policy.specs.Pass.Bans.{still_shows, unban_for, unban_at, ban_due, ban_for, bans_at}
 use Rattle.cal_policy.specs.Pass.Bandwidth.{victim_of, core_to_lose, cut_at, cut_of, rise_of, is_capped, bandwidth_part}
-use Rattle.cal_policy.specs.Pass.Grants.{is_congested, may_book, thread_choice, choice_of, grant_of, grant_at, grant_critical_at, grant_best_effort_at}
+use Rattle.cal_machine.specs.declared.task.Kind.TheVariants as kinds
+use Rattle.cal_policy.specs.Pass.Grants.{is_congested, may_book, thread_choice, choice_of, grant_of, grant_at, grant_of_kind_at}
 use Rattle.cal_policy.specs.Pass.{pass_of}
 
 -- a revocation for bandwidth comes first
@@ -71,7 +74,7 @@ cut_at_followed : (s : Setting) (x : List Action) (t : ℕ) (o : Option ℕ) →
 cut_at_followed s x t None = tt
 cut_at_followed s x t (Some core) = (λ over. record { core = core; more = []; begins = refl }, (tt, tt))
 
-cut_followed : (s : Setting) (x : List Action) (o : Option Candidate) → AllFollowed s (cut_of s x o)
+cut_followed : (s : Setting) (x : List Action) (o : Option (Candidate ℕ)) → AllFollowed s (cut_of s x o)
 cut_followed s x None = tt
 cut_followed s x (Some victim) = cut_at_followed s x victim.number (core_to_lose s x victim.number)
 
@@ -84,10 +87,10 @@ bandwidth_followed s acts = if_followed s (nat_lt s.table.bandwidth_limit s.inpu
     (rise_of s (so_far s acts) (lowest_below (is_capped s (so_far s acts)) (length s.table.tasks)))
     (λ e. cut_followed s (so_far s acts) (victim_of s (so_far s acts))) (λ e. rise_followed s (so_far s acts) (lowest_below (is_capped s (so_far s acts)) (length s.table.tasks)) e)
 
-grant_of_followed : (s : Setting) (t : ℕ) (thread core : Option Candidate) → AllFollowed s (grant_of s t thread core)
+grant_of_followed : (s : Setting) (t : ℕ) (thread : Option (Candidate ℕ)) (core : Option (Candidate CoreClass)) → AllFollowed s (grant_of s t thread core)
 grant_of_followed s t None core = tt
 grant_of_followed s t (Some thread) None = tt
-grant_of_followed s t (Some thread) (Some core) = if_followed s (nat_lt core.rank 4) (Grant core.number (thread_of s.table t thread.number) core.rank ∷ []) (Revoke core.number (causes.Preempt t) ∷ [])
+grant_of_followed s t (Some thread) (Some core) = if_followed s (is_idle core.rank) (Grant core.number (thread_of s.table t thread.number) (class_number core.rank) ∷ []) (Revoke core.number (causes.Preempt t) ∷ [])
     (λ e. (tt, tt)) (λ e. (tt, tt))
 
 grant_followed : (s : Setting) (acts : List Action) (t : ℕ) → AllFollowed s (grant_at s acts t)
@@ -100,9 +103,9 @@ pass_followed s =
     let unbanned = then_followed s _ _ freed (in_turn_followed s (unban_at s) _ s.table.cores (λ acts c. unban_followed s c (ban_of (so_far s acts) c))) in
     let banned = then_followed s _ _ unbanned (in_turn_followed s (bans_at s) _ s.table.cores (λ acts c. ban_followed s (so_far s acts) c (ban_due s (so_far s acts) c))) in
     let bounded = then_followed s _ _ banned (bandwidth_followed s _) in
-    let critical = then_followed s _ _ bounded (in_turn_followed s (grant_critical_at s) _ (length s.table.tasks)
+    let critical = then_followed s _ _ bounded (in_turn_followed s (grant_of_kind_at kinds.LatencyCritical s) _ (length s.table.tasks)
     (λ acts t. if_followed s (is_latency_critical s.table t) (grant_at s acts t) [] (λ e. grant_followed s acts t) (λ e. tt))) in
-    then_followed s _ _ critical (in_turn_followed s (grant_best_effort_at s) _ (length s.table.tasks)
+    then_followed s _ _ critical (in_turn_followed s (grant_of_kind_at kinds.BestEffort s) _ (length s.table.tasks)
     (λ acts t. if_followed s (is_latency_critical s.table t) [] (grant_at s acts t) (λ e. tt) (λ e. grant_followed s acts t)))
 
 -- after the cut of a cap comes its revocation, by place

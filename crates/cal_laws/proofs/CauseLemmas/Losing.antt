@@ -76,10 +76,10 @@ is_over : (s : Setting) (x : List Action) (t : ℕ) → IsTable s.table → IsCa
 is_over s x t ok h = omega (arith, nothing_guaranteed s.table t ok h.best_effort, holds_one s x t h.core h.loses)
 
 -- the law on the victim, where there is one
-pub most_misses : VictimHasMostMisses → (s : Setting) (x : List Action) (v : chosen.Candidate) → victim_of s x ≡ Some v → HasMostMisses s x v
+pub most_misses : VictimHasMostMisses → (s : Setting) (x : List Action) (v : chosen.Candidate ℕ) → victim_of s x ≡ Some v → HasMostMisses s x v
 most_misses law s x v e = MatchOption-at_some ((t : ℕ) → t < length s.table.tasks → victim_rank s x t ≡ None) (HasMostMisses s x) v e (law s x)
 
-pub has_misses : (s : Setting) (x : List Action) (v : chosen.Candidate) → IsTable s.table → HasMostMisses s x v → HasMisses s x v.number
+pub has_misses : (s : Setting) (x : List Action) (v : chosen.Candidate ℕ) → IsTable s.table → HasMostMisses s x v → HasMisses s x v.number
 has_misses s x v ok h =
     let worst = ranked s x v.number v.rank h.own h.may_be in record {
       candidate = worst.candidate;
@@ -100,7 +100,7 @@ misses_same s x y e t ok h =
       none_lesser = λ other c same. h.none_lesser other (candidate_same s y x (λ n. sym (e n)) other c) same;
     }
 
-cut_cause : VictimHasMostMisses → ActionIsOneMore → (s : Setting) (earlier : List Action) (v : chosen.Candidate) (core : ℕ) → IsTable s.table → IsCut s earlier v core →
+cut_cause : VictimHasMostMisses → ActionIsOneMore → (s : Setting) (earlier : List Action) (v : chosen.Candidate ℕ) (core : ℕ) → IsTable s.table → IsCut s earlier v core →
     IsForBandwidth s (earlier ++ Cap v.number (held_by s.table (so_far s earlier) v.number - 1) ∷ []) core
 cut_cause law more s earlier v core ok cut =
     let x = so_far s earlier in

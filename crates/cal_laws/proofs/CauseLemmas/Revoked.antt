@@ -18,6 +18,8 @@ use Rattle.cal_policy.specs.declared.history.action.Action.TheVariants.{Ban, Rev
 use Rattle.cal_policy.specs.declared.history.action.Cause.{Cause}
 use Rattle.cal_policy.specs.declared.history.action.Cause.TheVariants as causes
 use Rattle.cal_policy.specs.declared.pass.choice.Candidate.{Candidate}
+use Rattle.cal_policy.specs.declared.history.core_class.CoreClass.{CoreClass}
+use Rattle.cal_policy.specs.declared.history.core_class.CoreClass.TheVariants as classes
 use Rattle.cal_policy.specs.declared.board.holders.Placement as placements
 use Rattle.cal_policy.specs.declared.board.holders.Holder.{Holder}
 use Rattle.cal_policy.specs.declared.board.holders.Holder.TheVariants as holders
@@ -26,7 +28,7 @@ use Rattle.cal_policy.specs.Board.Counts.{is_held, is_held_for, held_by, booked_
 use Rattle.cal_policy.specs.Setting.{Setting, so_far, has_room, is_held_with_room}
 use Rattle.cal_policy.specs.Pass.Bans.{may_ban_beside, may_be_emptied, too_long_on}
 use Rattle.cal_policy.specs.Pass.Bandwidth.{can_lose, victim_of, victim_rank, task_misses}
-use Rattle.cal_policy.specs.Pass.Grants.{class_by, burst_class, may_preempt, is_granted_in, none_leaves_for, class_of}
+use Rattle.cal_policy.specs.Pass.Grants.{class_by, preempt_class, may_preempt, is_granted_in, none_leaves_for, class_of}
 use Rattle.cal_policy.specs.Judgement.Orderly.{fits_state, names_table}
 use Rattle.cal_policy.specs.Pass.Made.{IsMade, IsRevokedForBan, IsRevokedForBandwidth, IsPreempted}
 use Rattle.cal_policy.specs.Laws.{ActionIsOneMore, ChosenIsOfLeastClass, VictimHasMostMisses, HasMostMisses}
@@ -121,12 +123,12 @@ held_for_owner table t h p e is =
     let same : eqb (owner_of table p.thread) t ≡ true = ap (is_held_for table t) (sym e) ∙ is in grind (arith, nat_tests)
 
 -- the victim is a best-effort task
-victim_best_effort : (s : Setting) (x : List Action) (o : Option Candidate) (victim : Candidate) → o ≡ Some victim →
+victim_best_effort : (s : Setting) (x : List Action) (o : Option (Candidate ℕ)) (victim : Candidate ℕ) → o ≡ Some victim →
     MatchOption o ((t : ℕ) → t < length s.table.tasks → victim_rank s x t ≡ None) (HasMostMisses s x) → is_latency_critical s.table victim.number ≡ false
 victim_best_effort s x None victim e most = cc
 victim_best_effort s x (Some v) victim e most =
     let same : v ≡ victim = cc in
-    let P : Candidate → Type 0 = λ v. is_latency_critical s.table v.number ≡ false in
+    let P : Candidate ℕ → Type 0 = λ v. is_latency_critical s.table v.number ≡ false in
     let may = some_then _ (Some (task_misses s v.number)) v.rank most.may_be in
     subst P same (not-true _ (and_parts _ _ may.0).0)
 
@@ -148,22 +150,22 @@ for_bandwidth more most s acts core ok m takes =
     }
 
 -- a core with a class for which it may be revoked is of a best-effort task or of one that is over
-burst_over : (table : Table) (x : List Action) (t other class : ℕ) → burst_class table x t other ≡ Some class →
+preempt_over : (table : Table) (x : List Action) (t other : ℕ) (class : CoreClass) → preempt_class table x t other ≡ Some class →
     (is_latency_critical table other ≡ false) ⊎ (is_over table x other ≡ true)
-burst_over table x t other class e = choose (is_latency_critical table other) refl e
+preempt_over table x t other class e = choose (is_latency_critical table other) refl e
   where
     choose : (critical : Bool) → is_latency_critical table other ≡ critical →
-        cond (not critical) (Some 4) (cond (nat_lt (booked_by table x t) (guaranteed_of table t) && not (eqb other t) && is_over table x other) (Some 5) None) ≡ Some class →
+        cond (not critical) (Some classes.BestEffortBurstable) (cond (nat_lt (booked_by table x t) (guaranteed_of table t) && not (eqb other t) && is_over table x other) (Some classes.LatencyCriticalBurstable) None) ≡ Some class →
         (is_latency_critical table other ≡ false) ⊎ (is_over table x other ≡ true)
     choose false is e = inl is
     choose true is e = inr (and_parts (nat_lt (booked_by table x t) (guaranteed_of table t) && not (eqb other t)) (is_over table x other)
-        (some_then (nat_lt (booked_by table x t) (guaranteed_of table t) && not (eqb other t) && is_over table x other) (Some 5) class e).0).1
+        (some_then (nat_lt (booked_by table x t) (guaranteed_of table t) && not (eqb other t) && is_over table x other) (Some classes.LatencyCriticalBurstable) class e).0).1
 
 -- what stands where a core is revoked for a task
-pub record IsForTask (s : Setting) (acts : List Action) (core t : ℕ) (loser : placements.Placement) (class : ℕ) : Type 0 where
+pub record IsForTask (s : Setting) (acts : List Action) (core t : ℕ) (loser : placements.Placement) (class : CoreClass) : Type 0 where
   pub room : has_room s loser.thread ≡ true
   pub fresh : is_granted_in acts core ≡ false
-  pub burst : burst_class s.table (so_far s acts) t (owner_of s.table loser.thread) ≡ Some class
+  pub preempt : preempt_class s.table (so_far s acts) t (owner_of s.table loser.thread) ≡ Some class
 
 is_for_task : ChosenIsOfLeastClass → (s : Setting) (acts : List Action) (core t : ℕ) → (m : IsPreempted s acts core t) → (takes : TakesHeld s.table (so_far s acts) core) →
     IsForTask s acts core t takes.loser m.choice.rank
@@ -174,11 +176,11 @@ is_for_task least s acts core t m takes =
     let chosen : class_of s acts t core ≡ Some m.choice.rank =
     ap (class_of s acts t) m.number ∙ (least_class least s acts t m.choice m.chosen.least).class in
     let class : class_by s acts t core h ≡ Some m.choice.rank = ap (class_by s acts t core) (sym takes.held) ∙ chosen in
-    let both = some_then (may_preempt s acts t core h) (burst_class s.table x t (owner_of s.table p.thread)) m.choice.rank class in
+    let both = some_then (may_preempt s acts t core h) (preempt_class s.table x t (owner_of s.table p.thread)) m.choice.rank class in
     let third = and_parts (is_latency_critical s.table t && is_held_with_room s h && not (is_granted_in acts core)) (none_leaves_for s x t) both.0 in
     let second = and_parts (is_latency_critical s.table t && is_held_with_room s h) (not (is_granted_in acts core)) third.0 in
     let first = and_parts (is_latency_critical s.table t) (is_held_with_room s h) second.0 in
-    record { room = first.1; fresh = not-true (is_granted_in acts core) second.1; burst = both.1 }
+    record { room = first.1; fresh = not-true (is_granted_in acts core) second.1; preempt = both.1 }
 
 -- a core that was granted in this pass is not revoked for a task
 pub preempted_before_pass : ChosenIsOfLeastClass → (s : Setting) (acts : List Action) (core t : ℕ) → IsPreempted s acts core t → TakesHeld s.table (so_far s acts) core → is_granted_in acts core ≡ false
@@ -194,7 +196,7 @@ for_task least s acts core t ok m takes =
       held = takes.held;
       room = facts.room;
       over = ⊎_elim (λ best. best_effort_over s.table x core p ok takes.low takes.held best) (λ over. ltb-true _ _ over)
-          (burst_over s.table x t (owner_of s.table p.thread) m.choice.rank facts.burst);
+          (preempt_over s.table x t (owner_of s.table p.thread) m.choice.rank facts.preempt);
     }
 
 -- wherever a core is revoked

@@ -1,11 +1,13 @@
 -- What is chosen for a task, in words of its own.
-use Rattle.std.proofs.Common.{◌≡◌, ℕ, ◌<◌, true, ◌&&◌, nat_lt, eqb, List, length, Some, None, refl, arith, inl, inr, ⊎_elim}
+use Rattle.std.proofs.Common.{◌≡◌, ℕ, ◌<◌, true, ◌&&◌, eqb, List, length, Some, None, refl, ap, arith, inl, inr, ⊎_elim}
 use Rattle.std.proofs.lemmas.Bool.{ltb-true, eqb-true, eq-eqb, and_parts, and_from, cond-true, cases_lt}
 use Rattle.std.proofs.lemmas.Option.{MatchOption-at_some, cond_some}
 use Rattle.cal_machine.specs.Laws.{ThreadsAreOfTheirTask}
 use Rattle.cal_machine.specs.TableTasks.{limit_of, thread_of, owner_of}
 use Rattle.cal_policy.specs.declared.history.action.Action.{Action}
 use Rattle.cal_policy.specs.declared.pass.choice.Candidate.{Candidate}
+use Rattle.cal_policy.specs.declared.history.core_class.CoreClass.{CoreClass}
+use Rattle.cal_policy.specs.History.CoreClasses.{class_number, is_idle}
 use Rattle.cal_policy.specs.Board.Counts.{cores_of_thread}
 use Rattle.cal_policy.specs.Setting.{Setting, so_far, has_room}
 use Rattle.cal_policy.specs.Pass.Grants.{thread_delay, thread_rank, thread_choice, class_of, choice_of}
@@ -31,11 +33,11 @@ rank_of_free s x k f = cond-true (eqb (cores_of_thread s.table x k) 0 && has_roo
     (and_from _ _ (eq-eqb (cores_of_thread s.table x k) 0 f.free) f.room)
 
 -- the law on the thread that is chosen, where one is
-pub longest : ChosenHasWaitedLongest → (s : Setting) (x : List Action) (t : ℕ) (thread : Candidate) → thread_choice s x t ≡ Some thread → HasWaitedLongest s x t thread
+pub longest : ChosenHasWaitedLongest → (s : Setting) (x : List Action) (t : ℕ) (thread : Candidate ℕ) → thread_choice s x t ≡ Some thread → HasWaitedLongest s x t thread
 longest law s x t thread e =
     MatchOption-at_some ((j : ℕ) → j < limit_of s.table t → thread_rank s x (thread_of s.table t j) ≡ None) (HasWaitedLongest s x t) thread e (law s x t)
 
-pub greatest_delay : (s : Setting) (x : List Action) (t : ℕ) (thread : Candidate) → HasWaitedLongest s x t thread → HasGreatestDelay s x t (thread_of s.table t thread.number)
+pub greatest_delay : (s : Setting) (x : List Action) (t : ℕ) (thread : Candidate ℕ) → HasWaitedLongest s x t thread → HasGreatestDelay s x t (thread_of s.table t thread.number)
 greatest_delay s x t thread h =
     let best = ranked s x (thread_of s.table t thread.number) thread.rank h.may_have in record {
       number = thread.number;
@@ -49,7 +51,7 @@ greatest_delay s x t thread h =
           (cases_lt j thread.number);
     }
 
-pub has_thread : (s : Setting) (x : List Action) (t : ℕ) (thread : Candidate) → HasWaitedLongest s x t thread → HasThread s x t
+pub has_thread : (s : Setting) (x : List Action) (t : ℕ) (thread : Candidate ℕ) → HasWaitedLongest s x t thread → HasThread s x t
 has_thread s x t thread h = record {
   number = thread.number;
   own = h.own;
@@ -57,36 +59,38 @@ has_thread s x t thread h = record {
 }
 
 -- the law on the core that is chosen, where one is
-pub least_class : ChosenIsOfLeastClass → (s : Setting) (acts : List Action) (t : ℕ) (core : Candidate) → choice_of s acts t ≡ Some core → IsOfLeastClass s acts t core
+pub least_class : ChosenIsOfLeastClass → (s : Setting) (acts : List Action) (t : ℕ) (core : Candidate CoreClass) → choice_of s acts t ≡ Some core → IsOfLeastClass s acts t core
 least_class law s acts t core e =
     MatchOption-at_some ((c : ℕ) → c < s.table.cores → class_of s acts t c ≡ None) (IsOfLeastClass s acts t) core e (law s acts t)
 
-not_less : (s : Setting) (acts : List Action) (t : ℕ) (core : Candidate) → IsOfLeastClass s acts t core → (class c : ℕ) → IsPossible s acts t class c →
+not_less : (s : Setting) (acts : List Action) (t : ℕ) (core : Candidate CoreClass) → IsOfLeastClass s acts t core → (class : CoreClass) (c : ℕ) → IsPossible s acts t class c →
     IsLessPair class c core.rank core.number → ⊥
 not_less s acts t core h class c p (inl less) = let least = h.none_less c class p.own (class_from s acts t class c p.applies) in omega arith
-not_less s acts t core h class c p (inr same) = let greater = h.lower_greater c class same.1 (class_from s acts t class c p.applies) in omega arith
+not_less s acts t core h class c p (inr same) = let greater = h.lower_greater c class same.1 (class_from s acts t class c p.applies) in omega (arith, greater, ap class_number same.0)
 
-pub least_possible : (s : Setting) (acts : List Action) (t : ℕ) (core : Candidate) → IsOfLeastClass s acts t core → IsLeastPossible s acts t core.rank core.number
+pub least_possible : (s : Setting) (acts : List Action) (t : ℕ) (core : Candidate CoreClass) → IsOfLeastClass s acts t core → IsLeastPossible s acts t core.rank core.number
 least_possible s acts t core h = record {
   possible = record { own = h.own; applies = of_its_class s acts t core.rank core.number h.class };
   none_less = not_less s acts t core h;
 }
 
-best_of : ChosenIsOfLeastClass → ChosenHasWaitedLongest → (s : Setting) (acts : List Action) (t : ℕ) (thread core : Candidate) → IsChosen s acts t thread core → nat_lt core.rank 4 ≡ true →
-    owner_of s.table (thread_of s.table t thread.number) ≡ t → IsBestGrant s acts core.number (thread_of s.table t thread.number) core.rank
+best_of : ChosenIsOfLeastClass → ChosenHasWaitedLongest → (s : Setting) (acts : List Action) (t : ℕ) (thread : Candidate ℕ) (core : Candidate CoreClass) → IsChosen s acts t thread core → is_idle core.rank ≡ true →
+    owner_of s.table (thread_of s.table t thread.number) ≡ t → IsBestGrant s acts core.number (thread_of s.table t thread.number) (class_number core.rank)
 best_of least waited s acts t thread core c idle owner = record {
   task = t;
   own = c.task;
   owner = owner;
   congested = c.congested;
   room = c.room;
-  idle = ltb-true core.rank 4 idle;
+  class = core.rank;
+  numbered = refl;
+  idle = idle;
   least = least_possible s acts t core (least_class least s acts t core c.least);
   longest = greatest_delay s (so_far s acts) t thread (longest waited s (so_far s acts) t thread c.longest);
 }
 
 -- the chosen thread is of the task that it was chosen for
-pub chosen_owner : ThreadsAreOfTheirTask → ChosenHasWaitedLongest → (s : Setting) (x : List Action) (t : ℕ) (thread : Candidate) → t < length s.table.tasks →
+pub chosen_owner : ThreadsAreOfTheirTask → ChosenHasWaitedLongest → (s : Setting) (x : List Action) (t : ℕ) (thread : Candidate ℕ) → t < length s.table.tasks →
     thread_choice s x t ≡ Some thread → owner_of s.table (thread_of s.table t thread.number) ≡ t
 chosen_owner numbered waited s x t thread lt e =
     let own = (longest waited s x t thread e).own in

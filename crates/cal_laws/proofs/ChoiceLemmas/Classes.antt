@@ -6,6 +6,9 @@ use Rattle.cal_machine.specs.Machine.{sibling_of}
 use Rattle.cal_machine.specs.Table.{Table}
 use Rattle.cal_machine.specs.TableTasks.{owner_of, guaranteed_of, is_latency_critical}
 use Rattle.cal_policy.specs.declared.history.action.Action.{Action}
+use Rattle.cal_policy.specs.declared.history.core_class.CoreClass.{CoreClass}
+use Rattle.cal_policy.specs.declared.history.core_class.CoreClass.TheVariants as classes
+use Rattle.cal_policy.specs.History.CoreClasses.{class_number, is_idle}
 use Rattle.cal_policy.specs.declared.history.action.Cause.TheVariants as causes
 use Rattle.cal_policy.specs.declared.board.holders.Placement as placements
 use Rattle.cal_policy.specs.declared.board.holders.Holder.{Holder}
@@ -14,8 +17,8 @@ use Rattle.cal_policy.specs.History.{holder_of, last_thread, is_banned}
 use Rattle.cal_policy.specs.Board.Counts.{is_held_for, held_by, booked_by, is_over}
 use Rattle.cal_policy.specs.Pass.Choice.{count_below}
 use Rattle.cal_policy.specs.Setting.{Setting, so_far, has_room}
-use Rattle.cal_policy.specs.Pass.Grants.{leaves_for, none_leaves_for, is_granted_in, is_thread_for, idle_class, burst_class, may_preempt, class_by, class_of}
-use Rattle.cal_laws.specs.Choice.{IsIdle, IsHeldBy, WentLastTo, MayBeTaken, Lends, IsBurst, IsOfClass}
+use Rattle.cal_policy.specs.Pass.Grants.{leaves_for, none_leaves_for, is_granted_in, is_thread_for, idle_class, preempt_class, may_preempt, class_by, class_of}
+use Rattle.cal_laws.specs.Choice.{IsIdle, IsHeldBy, WentLastTo, MayBePreempted, CriticalMayBePreempted, IsPreemptible, IsOfClass}
 use Rattle.cal_laws.proofs.ListLemmas.Counted.{count_none}
 use Rattle.cal_machine.proofs.Booleans.{some_then, some_else}
 
@@ -36,16 +39,16 @@ last_test : (table : Table) (x : List Action) (t c : ℕ) → WentLastTo table x
 last_test table x t c h = ap (is_thread_for table t) h.last ∙ eq-eqb (owner_of table h.thread) t h.task
 
 -- an idle core by the two tests
-idle_by : (s : Setting) (acts : List Action) (t class core : ℕ) → IsIdle (so_far s acts) core → (a b : Bool) →
+idle_by : (s : Setting) (acts : List Action) (t : ℕ) (class : CoreClass) (core : ℕ) → IsIdle (so_far s acts) core → (a b : Bool) →
     is_held_for s.table t (holder_of (so_far s acts) (sibling_of core)) ≡ a → is_thread_for s.table t (last_thread (so_far s acts) core) ≡ b →
-    cond a 1 (cond b 2 3) ≡ class → IsOfClass s acts t class core
+    cond a classes.Sibling (cond b classes.RecentlyUsed classes.OtherIdle) ≡ class → IsOfClass s acts t class core
 idle_by s acts t class core idle true b e f is =
     let x = so_far s acts in
-    inl (record { number = sym is; idle = idle; beside = held_for s.table x t (sibling_of core) (holder_of x (sibling_of core)) refl e })
+    inl (record { is = sym is; idle = idle; beside = held_for s.table x t (sibling_of core) (holder_of x (sibling_of core)) refl e })
 idle_by s acts t class core idle false true e f is =
     let x = so_far s acts in
     inr (inl (record {
-      number = sym is;
+      is = sym is;
       idle = idle;
       not_beside = λ h. both_ways _ e (held_test s.table x t (sibling_of core) h);
       last = last_for s.table x t core (last_thread x core) refl f;
@@ -53,7 +56,7 @@ idle_by s acts t class core idle false true e f is =
 idle_by s acts t class core idle false false e f is =
     let x = so_far s acts in
     inr (inr (inl (record {
-      number = sym is;
+      is = sym is;
       idle = idle;
       not_beside = λ h. both_ways _ e (held_test s.table x t (sibling_of core) h);
       not_last = λ h. both_ways _ f (last_test s.table x t core h);
@@ -83,10 +86,10 @@ none_leaving s x t none c p lt e =
     let zero_counted = eqb-true (count_below (λ n. leaves_for t (holder_of x n)) s.table.cores) 0 none in
     both_ways _ (count_none (λ n. leaves_for t (holder_of x n)) c s.table.cores lt zero_counted) (ap (leaves_for t) e ∙ eq-eqb t t refl)
 
--- a held core that may be taken
-taken_by : (s : Setting) (acts : List Action) (t core : ℕ) (p : placements.Placement) → holder_of (so_far s acts) core ≡ holders.Held p →
-    (is_latency_critical s.table t && has_room s p.thread && not (is_granted_in acts core) && none_leaves_for s (so_far s acts) t) ≡ true → MayBeTaken s acts t core
-taken_by s acts t core p e may =
+-- a held core that may be preempted
+preempted_by : (s : Setting) (acts : List Action) (t core : ℕ) (p : placements.Placement) → holder_of (so_far s acts) core ≡ holders.Held p →
+    (is_latency_critical s.table t && has_room s p.thread && not (is_granted_in acts core) && none_leaves_for s (so_far s acts) t) ≡ true → MayBePreempted s acts t core
+preempted_by s acts t core p e may =
     let one = and_parts (is_latency_critical s.table t && has_room s p.thread && not (is_granted_in acts core)) (none_leaves_for s (so_far s acts) t) may in
     let two = and_parts (is_latency_critical s.table t && has_room s p.thread) (not (is_granted_in acts core)) one.0 in
     let three = and_parts (is_latency_critical s.table t) (has_room s p.thread) two.0 in
@@ -99,98 +102,97 @@ taken_by s acts t core p e may =
       not_granted = not-true (is_granted_in acts core) two.1;
     }
 
-taken_test : (s : Setting) (acts : List Action) (t core : ℕ) → (m : MayBeTaken s acts t core) → may_preempt s acts t core (holders.Held m.placement) ≡ true
-taken_test s acts t core m =
+preempted_test : (s : Setting) (acts : List Action) (t core : ℕ) → (m : MayBePreempted s acts t core) → may_preempt s acts t core (holders.Held m.placement) ≡ true
+preempted_test s acts t core m =
     and_from _ _ (and_from _ _ (and_from _ _ m.critical m.room) (not_from_false (is_granted_in acts core) m.not_granted)) (none_leaves_test s (so_far s acts) t m.none_leaves)
 
--- whether another task lends a core
-lends_by : (s : Setting) (x : List Action) (t other : ℕ) → is_latency_critical s.table other ≡ true →
-    (nat_lt (booked_by s.table x t) (guaranteed_of s.table t) && not (eqb other t) && is_over s.table x other) ≡ true → Lends s x t other
-lends_by s x t other critical e =
+-- whether another latency-critical task may be preempted
+critical_by : (s : Setting) (x : List Action) (t other : ℕ) → is_latency_critical s.table other ≡ true →
+    (nat_lt (booked_by s.table x t) (guaranteed_of s.table t) && not (eqb other t) && is_over s.table x other) ≡ true → CriticalMayBePreempted s x t other
+critical_by s x t other critical e =
     let last = and_parts (nat_lt (booked_by s.table x t) (guaranteed_of s.table t) && not (eqb other t)) (is_over s.table x other) e in
     let first = and_parts (nat_lt (booked_by s.table x t) (guaranteed_of s.table t)) (not (eqb other t)) last.0 in
     record { critical = critical; another = eqb-false other t (not-true (eqb other t) first.1); over = ltb-true _ _ last.1; short = ltb-true _ _ first.0 }
 
-lends_from : (s : Setting) (x : List Action) (t other : ℕ) → Lends s x t other →
+critical_from : (s : Setting) (x : List Action) (t other : ℕ) → CriticalMayBePreempted s x t other →
     (nat_lt (booked_by s.table x t) (guaranteed_of s.table t) && not (eqb other t) && is_over s.table x other) ≡ true
-lends_from s x t other h =
+critical_from s x t other h =
     and_from _ _ (and_from _ _ (lt-ltb (booked_by s.table x t) (guaranteed_of s.table t) h.short) (not_from_false (eqb other t) (ne_eqb other t h.another)))
     (lt-ltb (guaranteed_of s.table other) (held_by s.table x other) h.over)
 
-burst_by : (s : Setting) (acts : List Action) (t class core : ℕ) (m : MayBeTaken s acts t core) → (b : Bool) → is_latency_critical s.table (owner_of s.table m.placement.thread) ≡ b →
-    cond (not b) (Some 4) (cond (nat_lt (booked_by s.table (so_far s acts) t) (guaranteed_of s.table t) && not (eqb (owner_of s.table m.placement.thread) t)
-    && is_over s.table (so_far s acts) (owner_of s.table m.placement.thread)) (Some 5) None) ≡ Some class → IsBurst s acts t class core
-burst_by s acts t class core m true e f =
-    let parts = cond_some _ 5 class f in
-    record { taken = m; lender = inr (sym parts.1, lends_by s (so_far s acts) t (owner_of s.table m.placement.thread) e parts.0) }
-burst_by s acts t class core m false e f = record { taken = m; lender = inl (sym (same_Some 4 class f), e) }
+preemptible_by : (s : Setting) (acts : List Action) (t : ℕ) (class : CoreClass) (core : ℕ) (m : MayBePreempted s acts t core) → (b : Bool) → is_latency_critical s.table (owner_of s.table m.placement.thread) ≡ b →
+    cond (not b) (Some classes.BestEffortBurstable) (cond (nat_lt (booked_by s.table (so_far s acts) t) (guaranteed_of s.table t) && not (eqb (owner_of s.table m.placement.thread) t)
+    && is_over s.table (so_far s acts) (owner_of s.table m.placement.thread)) (Some classes.LatencyCriticalBurstable) None) ≡ Some class → IsPreemptible s acts t class core
+preemptible_by s acts t class core m true e f =
+    let parts = cond_some _ classes.LatencyCriticalBurstable class f in
+    record { core_may = m; holder = inr (sym parts.1, critical_by s (so_far s acts) t (owner_of s.table m.placement.thread) e parts.0) }
+preemptible_by s acts t class core m false e f = record { core_may = m; holder = inl (sym (same_Some classes.BestEffortBurstable class f), e) }
 
-of_class : (s : Setting) (acts : List Action) (t class core : ℕ) (h : Holder) → holder_of (so_far s acts) core ≡ h → class_by s acts t core h ≡ Some class →
+of_class : (s : Setting) (acts : List Action) (t : ℕ) (class : CoreClass) (core : ℕ) (h : Holder) → holder_of (so_far s acts) core ≡ h → class_by s acts t core h ≡ Some class →
     IsOfClass s acts t class core
-unfolding taken_by
+unfolding preempted_by
 of_class s acts t class core (holders.Leaving p cause) e f = cc
 of_class s acts t class core holders.Free e f =
     let x = so_far s acts in
-    let idle : ℕ = idle_class s.table t (holder_of x (sibling_of core)) (last_thread x core) in
+    let idle : CoreClass = idle_class s.table t (holder_of x (sibling_of core)) (last_thread x core) in
     let parts = some_else (is_banned x core) (Some idle) class f in
     idle_by s acts t class core (record { free = e; not_banned = parts.0 })
     (is_held_for s.table t (holder_of x (sibling_of core))) (is_thread_for s.table t (last_thread x core)) refl refl (same_Some idle class parts.1)
 of_class s acts t class core (holders.Held p) e f =
     let other = owner_of s.table p.thread in
-    let parts = some_then (may_preempt s acts t core (holders.Held p)) (burst_class s.table (so_far s acts) t other) class f in
-    inr (inr (inr (burst_by s acts t class core (taken_by s acts t core p e parts.0) (is_latency_critical s.table other) refl parts.1)))
+    let parts = some_then (may_preempt s acts t core (holders.Held p)) (preempt_class s.table (so_far s acts) t other) class f in
+    inr (inr (inr (preemptible_by s acts t class core (preempted_by s acts t core p e parts.0) (is_latency_critical s.table other) refl parts.1)))
 
 -- the class of an idle core
-class_of_idle : (s : Setting) (acts : List Action) (t core class : ℕ) → IsIdle (so_far s acts) core →
+class_of_idle : (s : Setting) (acts : List Action) (t core : ℕ) (class : CoreClass) → IsIdle (so_far s acts) core →
     idle_class s.table t (holder_of (so_far s acts) (sibling_of core)) (last_thread (so_far s acts) core) ≡ class → class_of s acts t core ≡ Some class
 class_of_idle s acts t core class idle e =
     ap (class_by s acts t core) idle.free ∙ cond-false (is_banned (so_far s acts) core) None _ idle.not_banned ∙ ap (λ n. Some n) e
 
--- the class of a core that may be taken
-class_of_taken : (s : Setting) (acts : List Action) (t class core : ℕ) (m : MayBeTaken s acts t core) →
-    burst_class s.table (so_far s acts) t (owner_of s.table m.placement.thread) ≡ Some class → class_of s acts t core ≡ Some class
-class_of_taken s acts t class core m e = ap (class_by s acts t core) m.held ∙ cond-true (may_preempt s acts t core (holders.Held m.placement)) _ None (taken_test s acts t core m) ∙ e
+-- the class of a core that may be preempted
+class_of_preempted : (s : Setting) (acts : List Action) (t : ℕ) (class : CoreClass) (core : ℕ) (m : MayBePreempted s acts t core) →
+    preempt_class s.table (so_far s acts) t (owner_of s.table m.placement.thread) ≡ Some class → class_of s acts t core ≡ Some class
+class_of_preempted s acts t class core m e = ap (class_by s acts t core) m.held ∙ cond-true (may_preempt s acts t core (holders.Held m.placement)) _ None (preempted_test s acts t core m) ∙ e
 
-class_of_burst : (s : Setting) (acts : List Action) (t class core : ℕ) (m : MayBeTaken s acts t core) →
-    ((class ≡ 4) × (is_latency_critical s.table (owner_of s.table m.placement.thread) ≡ false)) ⊎ ((class ≡ 5) × Lends s (so_far s acts) t (owner_of s.table m.placement.thread)) →
+class_of_preemptible : (s : Setting) (acts : List Action) (t : ℕ) (class : CoreClass) (core : ℕ) (m : MayBePreempted s acts t core) →
+    ((class ≡ classes.BestEffortBurstable) × (is_latency_critical s.table (owner_of s.table m.placement.thread) ≡ false)) ⊎ ((class ≡ classes.LatencyCriticalBurstable) × CriticalMayBePreempted s (so_far s acts) t (owner_of s.table m.placement.thread)) →
     class_of s acts t core ≡ Some class
-class_of_burst s acts t class core m (inl four) =
-    class_of_taken s acts t class core m
-    (cond-true (not (is_latency_critical s.table (owner_of s.table m.placement.thread))) (Some 4) _ (not_from_false _ four.1) ∙ ap (λ n. Some n) (sym four.0))
-class_of_burst s acts t class core m (inr five) =
-    class_of_taken s acts t class core m
-    (cond-false (not (is_latency_critical s.table (owner_of s.table m.placement.thread))) (Some 4) _ (not_from_true _ five.1.critical)
-    ∙ cond-true _ (Some 5) None (lends_from s (so_far s acts) t (owner_of s.table m.placement.thread) five.1) ∙ ap (λ n. Some n) (sym five.0))
+class_of_preemptible s acts t class core m (inl four) =
+    class_of_preempted s acts t class core m
+    (cond-true (not (is_latency_critical s.table (owner_of s.table m.placement.thread))) (Some classes.BestEffortBurstable) _ (not_from_false _ four.1) ∙ ap (λ n. Some n) (sym four.0))
+class_of_preemptible s acts t class core m (inr five) =
+    class_of_preempted s acts t class core m
+    (cond-false (not (is_latency_critical s.table (owner_of s.table m.placement.thread))) (Some classes.BestEffortBurstable) _ (not_from_true _ five.1.critical)
+    ∙ cond-true _ (Some classes.LatencyCriticalBurstable) None (critical_from s (so_far s acts) t (owner_of s.table m.placement.thread) five.1) ∙ ap (λ n. Some n) (sym five.0))
 
-pub class_from : (s : Setting) (acts : List Action) (t class core : ℕ) → IsOfClass s acts t class core → class_of s acts t core ≡ Some class
+pub class_from : (s : Setting) (acts : List Action) (t : ℕ) (class : CoreClass) (core : ℕ) → IsOfClass s acts t class core → class_of s acts t core ≡ Some class
 class_from s acts t class core (inl h) =
-    class_of_idle s acts t core class h.idle (cond-true _ 1 _ (held_test s.table (so_far s acts) t (sibling_of core) h.beside) ∙ sym h.number)
+    class_of_idle s acts t core class h.idle (cond-true _ classes.Sibling _ (held_test s.table (so_far s acts) t (sibling_of core) h.beside) ∙ sym h.is)
 class_from s acts t class core (inr (inl h)) =
     let x = so_far s acts in
     class_of_idle s acts t core class h.idle
-    (cond-false _ 1 _ (false_from_ne_true (is_held_for s.table t (holder_of x (sibling_of core))) (λ e. h.not_beside (held_for s.table x t (sibling_of core) (holder_of x (sibling_of core)) refl e)))
-    ∙ cond-true _ 2 3 (last_test s.table x t core h.last) ∙ sym h.number)
+    (cond-false _ classes.Sibling _ (false_from_ne_true (is_held_for s.table t (holder_of x (sibling_of core))) (λ e. h.not_beside (held_for s.table x t (sibling_of core) (holder_of x (sibling_of core)) refl e)))
+    ∙ cond-true _ classes.RecentlyUsed classes.OtherIdle (last_test s.table x t core h.last) ∙ sym h.is)
 class_from s acts t class core (inr (inr (inl h))) =
     let x = so_far s acts in
     class_of_idle s acts t core class h.idle
-    (cond-false _ 1 _ (false_from_ne_true (is_held_for s.table t (holder_of x (sibling_of core))) (λ e. h.not_beside (held_for s.table x t (sibling_of core) (holder_of x (sibling_of core)) refl e)))
-    ∙ cond-false _ 2 3 (false_from_ne_true (is_thread_for s.table t (last_thread x core)) (λ e. h.not_last (last_for s.table x t core (last_thread x core) refl e))) ∙ sym h.number)
-class_from s acts t class core (inr (inr (inr h))) = class_of_burst s acts t class core h.taken h.lender
+    (cond-false _ classes.Sibling _ (false_from_ne_true (is_held_for s.table t (holder_of x (sibling_of core))) (λ e. h.not_beside (held_for s.table x t (sibling_of core) (holder_of x (sibling_of core)) refl e)))
+    ∙ cond-false _ classes.RecentlyUsed classes.OtherIdle (false_from_ne_true (is_thread_for s.table t (last_thread x core)) (λ e. h.not_last (last_for s.table x t core (last_thread x core) refl e))) ∙ sym h.is)
+class_from s acts t class core (inr (inr (inr h))) = class_of_preemptible s acts t class core h.core_may h.holder
 
-pub of_its_class : (s : Setting) (acts : List Action) (t class core : ℕ) → class_of s acts t core ≡ Some class → IsOfClass s acts t class core
+pub of_its_class : (s : Setting) (acts : List Action) (t : ℕ) (class : CoreClass) (core : ℕ) → class_of s acts t core ≡ Some class → IsOfClass s acts t class core
 of_its_class s acts t class core e = of_class s acts t class core (holder_of (so_far s acts) core) refl e
 
--- a class below 4 is that of a core that is not banned, one from 4 on that of a core that may be
--- taken
-pub idle_unbanned : (s : Setting) (acts : List Action) (t class core : ℕ) → IsOfClass s acts t class core → nat_lt class 4 ≡ true → is_banned (so_far s acts) core ≡ false
-idle_unbanned s acts t class core (inl h) low = h.idle.not_banned
-idle_unbanned s acts t class core (inr (inl h)) low = h.idle.not_banned
-idle_unbanned s acts t class core (inr (inr (inl h))) low = h.idle.not_banned
-idle_unbanned s acts t class core (inr (inr (inr h))) low =
-    let less = ltb-true class 4 low in absurd (⊎_elim (λ four. let is = four.0 in omega arith) (λ five. let is = five.0 in omega arith) h.lender)
+-- an idle class is that of a core that is not banned, another that of a core that may be preempted
+pub idle_unbanned : (s : Setting) (acts : List Action) (t : ℕ) (class : CoreClass) (core : ℕ) → IsOfClass s acts t class core → is_idle class ≡ true → is_banned (so_far s acts) core ≡ false
+idle_unbanned s acts t class core (inl h) idle = h.idle.not_banned
+idle_unbanned s acts t class core (inr (inl h)) idle = h.idle.not_banned
+idle_unbanned s acts t class core (inr (inr (inl h))) idle = h.idle.not_banned
+idle_unbanned s acts t class core (inr (inr (inr h))) idle =
+    absurd (⊎_elim (λ best. both_ways _ (ap is_idle best.0) idle) (λ over. both_ways _ (ap is_idle over.0) idle) h.holder)
 
-pub burst_taken : (s : Setting) (acts : List Action) (t class core : ℕ) → IsOfClass s acts t class core → nat_lt class 4 ≡ false → IsBurst s acts t class core
-burst_taken s acts t class core (inl h) high = let no : nat_lt class 4 ≡ true = ap (λ n. nat_lt n 4) h.number in cc
-burst_taken s acts t class core (inr (inl h)) high = let no : nat_lt class 4 ≡ true = ap (λ n. nat_lt n 4) h.number in cc
-burst_taken s acts t class core (inr (inr (inl h))) high = let no : nat_lt class 4 ≡ true = ap (λ n. nat_lt n 4) h.number in cc
-burst_taken s acts t class core (inr (inr (inr h))) high = h
+pub preemptible_of : (s : Setting) (acts : List Action) (t : ℕ) (class : CoreClass) (core : ℕ) → IsOfClass s acts t class core → is_idle class ≡ false → IsPreemptible s acts t class core
+preemptible_of s acts t class core (inl h) held = let no : is_idle class ≡ true = ap is_idle h.is in cc
+preemptible_of s acts t class core (inr (inl h)) held = let no : is_idle class ≡ true = ap is_idle h.is in cc
+preemptible_of s acts t class core (inr (inr (inl h))) held = let no : is_idle class ≡ true = ap is_idle h.is in cc
+preemptible_of s acts t class core (inr (inr (inr h))) held = h

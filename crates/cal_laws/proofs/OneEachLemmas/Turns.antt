@@ -12,6 +12,8 @@ use Rattle.cal_policy.specs.declared.history.action.Action.TheVariants.{Free, Un
 use Rattle.cal_policy.specs.declared.history.action.Cause.TheVariants as causes
 use Rattle.cal_policy.specs.declared.board.bans.BannedFor.{BannedFor}
 use Rattle.cal_policy.specs.declared.pass.choice.Candidate.{Candidate}
+use Rattle.cal_policy.specs.declared.history.core_class.CoreClass.{CoreClass}
+use Rattle.cal_policy.specs.History.CoreClasses.{class_number, is_idle}
 use Rattle.cal_policy.specs.History.Lists.{in_turn}
 use Rattle.cal_policy.specs.History.{holder_of, ban_of}
 use Rattle.cal_policy.specs.Board.Counts.{is_held, held_by}
@@ -20,7 +22,8 @@ use Rattle.cal_policy.specs.Setting.{Setting, so_far, kept_now}
 use Rattle.cal_policy.specs.Pass.Frees.{shows_left, free_at, frees}
 use Rattle.cal_policy.specs.Pass.Bans.{still_shows, unban_for, unban_at, unbans, ban_due, ban_for, bans_at, bans}
 use Rattle.cal_policy.specs.Pass.Bandwidth.{victim_of, core_to_lose, cut_at, cut_of, rise_of, is_capped, bandwidth_part}
-use Rattle.cal_policy.specs.Pass.Grants.{is_congested, may_book, thread_choice, choice_of, grant_of, grant_at, grant_critical_at, grant_best_effort_at, critical_grants, best_effort_grants}
+use Rattle.cal_machine.specs.declared.task.Kind.TheVariants as kinds
+use Rattle.cal_policy.specs.Pass.Grants.{is_congested, may_book, thread_choice, choice_of, grant_of, grant_at, grant_of_kind_at, grants_of_kind}
 use Rattle.cal_policy.specs.Pass.{pass_of}
 use Rattle.cal_policy.specs.Pass.Made.{EachAfter}
 use Rattle.cal_policy.specs.Laws.{ChosenHasWaitedLongest}
@@ -128,7 +131,7 @@ cut_at_goes s acts t (Some core) q =
     goes_then (IsInTurn s.table) (Below s.table (n + 1)) (Below s.table (n + 2)) acts (cap ∷ []) (Revoke core causes.Bandwidth ∷ [])
     (one s.table acts n (n + 1) cap refl (omega arith) q) (λ was. one s.table (acts ++ cap ∷ []) (n + 1) (n + 2) (Revoke core causes.Bandwidth) refl (omega arith) was)
 
-cut_goes : (s : Setting) (acts : List Action) (o : Option Candidate) → Below s.table (4 * s.table.cores) acts → Goes (IsInTurn s.table) (Below s.table (4 * s.table.cores + 2)) acts (cut_of s (so_far s acts) o)
+cut_goes : (s : Setting) (acts : List Action) (o : Option (Candidate ℕ)) → Below s.table (4 * s.table.cores) acts → Goes (IsInTurn s.table) (Below s.table (4 * s.table.cores + 2)) acts (cut_of s (so_far s acts) o)
 cut_goes s acts None q = none s.table acts (4 * s.table.cores) (4 * s.table.cores + 2) (omega arith) q
 cut_goes s acts (Some victim) q = cut_at_goes s acts victim.number (core_to_lose s (so_far s acts) victim.number) q
 
@@ -146,13 +149,13 @@ abbrev task_turn : Setting → ℕ → ℕ
 task_turn s place = 4 * s.table.cores + 2 + place
 
 grant_of_goes : ThreadsAreOfTheirTask → ChosenHasWaitedLongest → (s : Setting) (acts : List Action) (t n m : ℕ) → t < length s.table.tasks → task_turn s (place_of_task s.table t) ≡ n → n < m →
-    Below s.table n acts → (thread core : Option Candidate) → thread_choice s (so_far s acts) t ≡ thread → Goes (IsInTurn s.table) (Below s.table m) acts (grant_of s t thread core)
+    Below s.table n acts → (thread : Option (Candidate ℕ)) (core : Option (Candidate CoreClass)) → thread_choice s (so_far s acts) t ≡ thread → Goes (IsInTurn s.table) (Below s.table m) acts (grant_of s t thread core)
 grant_of_goes numbered longest s acts t n m lt is le q None core e = none s.table acts n m (omega (arith, le)) q
 grant_of_goes numbered longest s acts t n m lt is le q (Some thread) None e = none s.table acts n m (omega (arith, le)) q
 grant_of_goes numbered longest s acts t n m lt is le q (Some thread) (Some core) e =
     let k = thread_of s.table t thread.number in
-    goes_if (IsInTurn s.table) (Below s.table m) acts (nat_lt core.rank 4) (Grant core.number k core.rank ∷ []) (Revoke core.number (causes.Preempt t) ∷ [])
-    (λ low. one s.table acts n m (Grant core.number k core.rank) (ap (λ o. task_turn s (place_of_task s.table o)) (chosen_owner numbered longest s (so_far s acts) t thread lt e) ∙ is) le q)
+    goes_if (IsInTurn s.table) (Below s.table m) acts (is_idle core.rank) (Grant core.number k (class_number core.rank) ∷ []) (Revoke core.number (causes.Preempt t) ∷ [])
+    (λ low. one s.table acts n m (Grant core.number k (class_number core.rank)) (ap (λ o. task_turn s (place_of_task s.table o)) (chosen_owner numbered longest s (so_far s acts) t thread lt e) ∙ is) le q)
     (λ high. one s.table acts n m (Revoke core.number (causes.Preempt t)) is le q)
 
 grant_goes : ThreadsAreOfTheirTask → ChosenHasWaitedLongest → (s : Setting) (acts : List Action) (t n m : ℕ) → t < length s.table.tasks → task_turn s (place_of_task s.table t) ≡ n → n < m →
@@ -162,8 +165,8 @@ grant_goes numbered longest s acts t n m lt is le q = goes_if (IsInTurn s.table)
     (λ e. grant_of_goes numbered longest s acts t n m lt is le q (thread_choice s (so_far s acts) t) (choice_of s acts t) refl) (λ e. none s.table acts n m (omega (arith, le)) q)
 
 critical_goes : ThreadsAreOfTheirTask → ChosenHasWaitedLongest → (s : Setting) (acts : List Action) → Below s.table (4 * s.table.cores + 2) acts →
-    Goes (IsInTurn s.table) (Below s.table (task_turn s (length s.table.tasks))) acts (critical_grants s acts)
-critical_goes numbered longest s acts b = goes_in_turn (IsInTurn s.table) (λ k. Below s.table (task_turn s k)) (grant_critical_at s) acts (length s.table.tasks)
+    Goes (IsInTurn s.table) (Below s.table (task_turn s (length s.table.tasks))) acts (grants_of_kind kinds.LatencyCritical s acts)
+critical_goes numbered longest s acts b = goes_in_turn (IsInTurn s.table) (λ k. Below s.table (task_turn s k)) (grant_of_kind_at kinds.LatencyCritical s) acts (length s.table.tasks)
     (below_more s.table (4 * s.table.cores + 2) (task_turn s 0) acts (omega arith) b) (λ now t lt q.
     goes_if (IsInTurn s.table) (Below s.table (task_turn s (t + 1))) now (is_latency_critical s.table t) (grant_at s now t) []
     (λ e. let place = ap (λ (b : Bool). task_turn s (cond b t (length s.table.tasks + t))) e in
@@ -171,8 +174,8 @@ critical_goes numbered longest s acts b = goes_in_turn (IsInTurn s.table) (λ k.
     (λ e. none s.table now (task_turn s t) (task_turn s (t + 1)) (omega arith) q))
 
 best_effort_goes : ThreadsAreOfTheirTask → ChosenHasWaitedLongest → (s : Setting) (acts : List Action) → Below s.table (task_turn s (length s.table.tasks)) acts →
-    Goes (IsInTurn s.table) (Below s.table (task_turn s (length s.table.tasks + length s.table.tasks))) acts (best_effort_grants s acts)
-best_effort_goes numbered longest s acts b = goes_in_turn (IsInTurn s.table) (λ k. Below s.table (task_turn s (length s.table.tasks + k))) (grant_best_effort_at s) acts (length s.table.tasks)
+    Goes (IsInTurn s.table) (Below s.table (task_turn s (length s.table.tasks + length s.table.tasks))) acts (grants_of_kind kinds.BestEffort s acts)
+best_effort_goes numbered longest s acts b = goes_in_turn (IsInTurn s.table) (λ k. Below s.table (task_turn s (length s.table.tasks + k))) (grant_of_kind_at kinds.BestEffort s) acts (length s.table.tasks)
     (below_more s.table (task_turn s (length s.table.tasks)) (task_turn s (length s.table.tasks + 0)) acts (omega arith) b) (λ now t lt q.
     let here = task_turn s (length s.table.tasks + t) in
     let next = task_turn s (length s.table.tasks + (t + 1)) in

@@ -7,6 +7,8 @@ use Rattle.cal_policy.specs.declared.history.action.Action.TheVariants.{Revoke, 
 use Rattle.cal_policy.specs.declared.history.action.Cause.{Cause}
 use Rattle.cal_policy.specs.declared.history.action.Cause.TheVariants as causes
 use Rattle.cal_policy.specs.declared.pass.choice.Candidate.{Candidate}
+use Rattle.cal_policy.specs.declared.history.core_class.CoreClass.{CoreClass}
+use Rattle.cal_policy.specs.History.CoreClasses.{class_number, is_idle}
 use Rattle.cal_policy.specs.History.Lists.{in_turn}
 use Rattle.cal_policy.specs.Pass.Choice.{lowest_below}
 use Rattle.cal_policy.specs.Board.Counts.{held_by, cap_of}
@@ -15,7 +17,8 @@ use Rattle.cal_policy.specs.Setting.{Setting, so_far}
 use Rattle.cal_policy.specs.Pass.Frees.{frees}
 use Rattle.cal_policy.specs.Pass.Bans.{unbans, bans_at, bans}
 use Rattle.cal_policy.specs.Pass.Bandwidth.{core_to_lose, victim_of, cut_at, cut_of, rise_of, is_capped, bandwidth_part}
-use Rattle.cal_policy.specs.Pass.Grants.{is_congested, may_book, thread_choice, choice_of, grant_of, grant_at, grant_critical_at, grant_best_effort_at, critical_grants, best_effort_grants}
+use Rattle.cal_machine.specs.declared.task.Kind.TheVariants as kinds
+use Rattle.cal_policy.specs.Pass.Grants.{is_congested, may_book, thread_choice, choice_of, grant_of, grant_at, grant_of_kind_at, grants_of_kind}
 use Rattle.cal_policy.specs.Pass.{pass_of}
 use Rattle.cal_policy.specs.Laws.{ChosenIsOfLeastClass}
 use Rattle.cal_laws.proofs.ChoiceLemmas.Chosen.{least_class}
@@ -33,8 +36,8 @@ in_turn_keeps Q f before (suc n) step h =
     subst Q (append_assoc before (in_turn f before n) (f (before ++ in_turn f before n) n))
     (step (before ++ in_turn f before n) n (omega arith) (in_turn_keeps Q f before n (λ acts k lt. step acts k (omega arith)) h))
 
--- a core that is chosen in a class below 4 is not banned
-pub chosen_unbanned : ChosenIsOfLeastClass → (s : Setting) (acts : List Action) (t : ℕ) (core : Candidate) → choice_of s acts t ≡ Some core → nat_lt core.rank 4 ≡ true →
+-- a core that is chosen in an idle class is not banned
+pub chosen_unbanned : ChosenIsOfLeastClass → (s : Setting) (acts : List Action) (t : ℕ) (core : Candidate CoreClass) → choice_of s acts t ≡ Some core → is_idle core.rank ≡ true →
     is_banned (so_far s acts) core.number ≡ false
 chosen_unbanned law s acts t core e low =
     idle_unbanned s acts t core.rank core.number (of_its_class s acts t core.rank core.number (least_class law s acts t core e).class) low
@@ -53,7 +56,7 @@ module _ (s : Setting) (Q : List Action → Type 0) (kept : IsKept s Q) where
       let cap = Cap t (held_by s.table (so_far s acts) t - 1) in
       subst Q (append_assoc acts (cap ∷ []) (Revoke core causes.Bandwidth ∷ [])) (kept.revoke (acts ++ cap ∷ []) core causes.Bandwidth (kept.cap acts t (held_by s.table (so_far s acts) t - 1) h))
 
-  cut_keeps : (acts : List Action) (o : Option Candidate) → Q acts → Q (acts ++ cut_of s (so_far s acts) o)
+  cut_keeps : (acts : List Action) (o : Option (Candidate ℕ)) → Q acts → Q (acts ++ cut_of s (so_far s acts) o)
   cut_keeps acts None h = nothing_more Q acts h
   cut_keeps acts (Some victim) h = cut_core_keeps acts victim.number (core_to_lose s (so_far s acts) victim.number) h
 
@@ -61,7 +64,7 @@ module _ (s : Setting) (Q : List Action → Type 0) (kept : IsKept s Q) where
   rise_keeps acts None h = nothing_more Q acts h
   rise_keeps acts (Some t) h = kept.cap acts t (cap_of s.table (so_far s acts) t + 1) h
 
-  bandwidth_by : (acts : List Action) (b : Bool) (victim : Option Candidate) (low : Option ℕ) → Q acts →
+  bandwidth_by : (acts : List Action) (b : Bool) (victim : Option (Candidate ℕ)) (low : Option ℕ) → Q acts →
       Q (acts ++ cond b (cut_of s (so_far s acts) victim) (rise_of s (so_far s acts) low))
   bandwidth_by acts true victim low h = cut_keeps acts victim h
   bandwidth_by acts false victim low h = rise_keeps acts low h
@@ -70,15 +73,15 @@ module _ (s : Setting) (Q : List Action → Type 0) (kept : IsKept s Q) where
   bandwidth_keeps acts h =
       bandwidth_by acts (nat_lt s.table.bandwidth_limit s.input.bandwidth) (victim_of s (so_far s acts)) (lowest_below (is_capped s (so_far s acts)) (length s.table.tasks)) h
 
-  chosen_keeps : ChosenIsOfLeastClass → (acts : List Action) (t thread : ℕ) (core : Candidate) → choice_of s acts t ≡ Some core → (b : Bool) → nat_lt core.rank 4 ≡ b → Q acts →
-      Q (acts ++ cond b (Grant core.number thread core.rank ∷ []) (Revoke core.number (causes.Preempt t) ∷ []))
-  chosen_keeps law acts t thread core e true low h = kept.grant acts core.number thread core.rank (chosen_unbanned law s acts t core e low) h
+  chosen_keeps : ChosenIsOfLeastClass → (acts : List Action) (t thread : ℕ) (core : Candidate CoreClass) → choice_of s acts t ≡ Some core → (b : Bool) → is_idle core.rank ≡ b → Q acts →
+      Q (acts ++ cond b (Grant core.number thread (class_number core.rank) ∷ []) (Revoke core.number (causes.Preempt t) ∷ []))
+  chosen_keeps law acts t thread core e true low h = kept.grant acts core.number thread (class_number core.rank) (chosen_unbanned law s acts t core e low) h
   chosen_keeps law acts t thread core e false low h = kept.revoke acts core.number (causes.Preempt t) h
 
-  grant_of_keeps : ChosenIsOfLeastClass → (acts : List Action) (t : ℕ) (thread core : Option Candidate) → choice_of s acts t ≡ core → Q acts → Q (acts ++ grant_of s t thread core)
+  grant_of_keeps : ChosenIsOfLeastClass → (acts : List Action) (t : ℕ) (thread : Option (Candidate ℕ)) (core : Option (Candidate CoreClass)) → choice_of s acts t ≡ core → Q acts → Q (acts ++ grant_of s t thread core)
   grant_of_keeps law acts t None core e h = nothing_more Q acts h
   grant_of_keeps law acts t (Some thread) None e h = nothing_more Q acts h
-  grant_of_keeps law acts t (Some thread) (Some core) e h = chosen_keeps law acts t (thread_of s.table t thread.number) core e (nat_lt core.rank 4) refl h
+  grant_of_keeps law acts t (Some thread) (Some core) e h = chosen_keeps law acts t (thread_of s.table t thread.number) core e (is_idle core.rank) refl h
 
   grant_by : (acts : List Action) (b : Bool) (more : List Action) → Q (acts ++ more) → Q acts → Q (acts ++ cond b more [])
   grant_by acts true more h none = h
@@ -95,16 +98,16 @@ module _ (s : Setting) (Q : List Action → Type 0) (kept : IsKept s Q) where
 
   -- from the end of the second part to the end of the pass
   rest_keeps : ChosenIsOfLeastClass → (acts : List Action) → Q acts →
-      Q (let banned = acts ++ bans s acts in let bounded = banned ++ bandwidth_part s banned in let granted = bounded ++ critical_grants s bounded in granted ++ best_effort_grants s granted)
+      Q (let banned = acts ++ bans s acts in let bounded = banned ++ bandwidth_part s banned in let granted = bounded ++ grants_of_kind kinds.LatencyCritical s bounded in granted ++ grants_of_kind kinds.BestEffort s granted)
   rest_keeps law acts h =
       let banned : List Action = acts ++ bans s acts in
       let bounded : List Action = banned ++ bandwidth_part s banned in
-      let granted : List Action = bounded ++ critical_grants s bounded in
+      let granted : List Action = bounded ++ grants_of_kind kinds.LatencyCritical s bounded in
       let q1 : Q banned = in_turn_keeps Q (bans_at s) acts s.table.cores kept.ban h in
       let q2 : Q bounded = bandwidth_keeps banned q1 in
-      let q3 : Q granted = in_turn_keeps Q (grant_critical_at s) bounded (length s.table.tasks)
+      let q3 : Q granted = in_turn_keeps Q (grant_of_kind_at kinds.LatencyCritical s) bounded (length s.table.tasks)
       (λ now t lt q. grant_by now (is_latency_critical s.table t) (grant_at s now t) (grant_keeps law now t q) q) q2 in
-      in_turn_keeps Q (grant_best_effort_at s) granted (length s.table.tasks)
+      in_turn_keeps Q (grant_of_kind_at kinds.BestEffort s) granted (length s.table.tasks)
       (λ now t lt q. grant_unless now (is_latency_critical s.table t) (grant_at s now t) (grant_keeps law now t q) q) q3
 
 -- the actions of the first two parts

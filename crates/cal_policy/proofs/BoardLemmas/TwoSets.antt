@@ -11,13 +11,16 @@ use Rattle.cal_policy.specs.declared.history.action.Action.{Action}
 use Rattle.cal_policy.specs.declared.board.holders.Holder.{Holder}
 use Rattle.cal_policy.specs.declared.board.holders.Holder.TheVariants.{Free, Held, Leaving}
 use Rattle.cal_policy.specs.declared.pass.choice.Candidate.{Candidate}
+use Rattle.cal_policy.specs.declared.history.core_class.CoreClass.{CoreClass}
+use Rattle.cal_policy.specs.History.CoreClasses.{class_number, is_idle, comes_before}
+use Rattle.cal_policy.specs.declared.history.core_class.CoreClass.TheVariants as classes
 use Rattle.cal_policy.specs.declared.board.Board.{Board}
 use Rattle.cal_machine.specs.TableTasks.{owner_of, guaranteed_of, is_latency_critical}
 use Rattle.cal_policy.specs.History.{holder_of, last_thread, is_banned}
 use Rattle.cal_policy.specs.Board.Counts.{is_free, is_held_for, is_over, booked_by}
 use Rattle.cal_policy.specs.Pass.Choice.{best_below, better}
 use Rattle.cal_policy.specs.Setting.{Setting, so_far, is_held_with_room}
-use Rattle.cal_policy.specs.Pass.Grants.{class_of, class_by, burst_class, may_preempt, none_leaves_for, is_granted_in, is_thread_for}
+use Rattle.cal_policy.specs.Pass.Grants.{class_of, class_by, preempt_class, may_preempt, none_leaves_for, is_granted_in, is_thread_for}
 use Rattle.cal_policy.specs.Pass.Among.{class_among}
 use Rattle.cal_policy.specs.Board.{Stands, holder_in}
 use Rattle.cal_policy.specs.Board.CoreSets.{Sorts}
@@ -25,7 +28,7 @@ use Rattle.cal_policy.specs.Board.OpenCores.{Opens}
 use Rattle.cal_policy.proofs.BoardLemmas.StateKept.{free_kept}
 
 -- numbers without a rank leave the best as it is
-pub best_skip : (beats : ℕ → ℕ → Bool) (f : ℕ → Option ℕ) (m n : ℕ) → m ≤ n → ((k : ℕ) → m ≤ k → k < n → f k ≡ None) → best_below beats f m ≡ best_below beats f n
+pub best_skip : {R : Type 0} (beats : R → R → Bool) (f : ℕ → Option R) (m n : ℕ) → m ≤ n → ((k : ℕ) → m ≤ k → k < n → f k ≡ None) → best_below beats f m ≡ best_below beats f n
 best_skip beats f m zero le e = let same : m ≡ 0 = omega (arith, le) in rw same refl
 best_skip beats f m (suc n) le e = ⊎_elim
     (λ l. best_skip beats f m n (omega (arith, l)) (λ k a b. e k a (omega (arith, b)))
@@ -33,103 +36,122 @@ best_skip beats f m (suc n) le e = ⊎_elim
     (λ g. let same : m ≡ suc n = omega (arith, g, le) in rw same refl)
     (cases_lt m (suc n))
 
-pub best_none : (beats : ℕ → ℕ → Bool) (f : ℕ → Option ℕ) (n : ℕ) → ((k : ℕ) → k < n → f k ≡ None) → best_below beats f n ≡ None
+pub best_none : {R : Type 0} (beats : R → R → Bool) (f : ℕ → Option R) (n : ℕ) → ((k : ℕ) → k < n → f k ≡ None) → best_below beats f n ≡ None
 best_none beats f n e = sym (best_skip beats f 0 n (omega arith) (λ k a b. e k b))
 
 -- a class of an idle core, if any, and one of a held core
-abbrev pub Low : Option ℕ → Type 0
-Low rank = IfSome rank (λ r. r < 4)
+abbrev pub Low : Option CoreClass → Type 0
+Low class = IfSome class (λ r. is_idle r ≡ true)
 
-abbrev pub High : Option ℕ → Type 0
-High rank = IfSome rank (λ r. 4 ≤ r)
+abbrev pub High : Option CoreClass → Type 0
+High class = IfSome class (λ r. is_idle r ≡ false)
 
 -- a class is that of an idle core or that of a held one
-abbrev pub Splits : Option ℕ → Option ℕ → Option ℕ → Type 0
+abbrev pub Splits : Option CoreClass → Option CoreClass → Option CoreClass → Type 0
 Splits rank low high = ((low ≡ rank) × (high ≡ None) × Low rank) ⊎ ((low ≡ None) × (high ≡ rank) × High rank)
 
 -- the best is the best of the idle ones, where there is one, else that of the others
-pub record Joins (best low high : Option Candidate) : Type 0 where
+pub record Joins (best low high : Option (Candidate CoreClass)) : Type 0 where
   pub first : best ≡ option_or low high
-  pub few : IfSome low (λ b. b.rank < 4)
-  pub many : IfSome high (λ b. 4 ≤ b.rank)
+  pub few : IfSome low (λ b. is_idle b.rank ≡ true)
+  pub many : IfSome high (λ b. is_idle b.rank ≡ false)
 
-less : (a b : ℕ) → a < b → nat_lt a b ≡ true
-less a b lt = grind (arith, nat_tests)
+-- the class of an idle core comes before that of a held one
+idle_number : (class : CoreClass) → is_idle class ≡ true → class_number class < 4
+idle_number classes.Sibling e = omega arith
+idle_number classes.RecentlyUsed e = omega arith
+idle_number classes.OtherIdle e = omega arith
+idle_number classes.BestEffortBurstable e = cc
+idle_number classes.LatencyCriticalBurstable e = cc
 
-not_less : (a b : ℕ) → b ≤ a → nat_lt a b ≡ false
-not_less a b le = grind (arith, nat_tests)
+held_number : (class : CoreClass) → is_idle class ≡ false → 4 ≤ class_number class
+held_number classes.Sibling e = cc
+held_number classes.RecentlyUsed e = cc
+held_number classes.OtherIdle e = cc
+held_number classes.BestEffortBurstable e = omega arith
+held_number classes.LatencyCriticalBurstable e = omega arith
 
-or_kept : (b : Bool) (x y : Candidate) (o : Option Candidate) → option_or (cond b (Some x) (Some y)) o ≡ cond b (Some x) (Some y)
+less : (a b : ℕ) → a < 4 → 4 ≤ b → nat_lt a b ≡ true
+less a b lt le = grind (arith, nat_tests)
+
+not_less : (a b : ℕ) → a < 4 → 4 ≤ b → nat_lt b a ≡ false
+not_less a b lt le = grind (arith, nat_tests)
+
+before : (a b : CoreClass) → is_idle a ≡ true → is_idle b ≡ false → comes_before a b ≡ true
+before a b e f = less (class_number a) (class_number b) (idle_number a e) (held_number b f)
+
+not_before : (a b : CoreClass) → is_idle a ≡ true → is_idle b ≡ false → comes_before b a ≡ false
+not_before a b e f = not_less (class_number a) (class_number b) (idle_number a e) (held_number b f)
+
+or_kept : (b : Bool) (x y : Candidate CoreClass) (o : Option (Candidate CoreClass)) → option_or (cond b (Some x) (Some y)) o ≡ cond b (Some x) (Some y)
 or_kept true x y o = refl
 or_kept false x y o = refl
 
-either : (P : Candidate → Type 0) (b : Bool) (x y : Candidate) → P x → P y → IfSome (cond b (Some x) (Some y)) P
+either : (P : Candidate CoreClass → Type 0) (b : Bool) (x y : Candidate CoreClass) → P x → P y → IfSome (cond b (Some x) (Some y)) P
 either P true x y p q = p
 either P false x y p q = q
 
-one_low : (low high : Option Candidate) (r : Option ℕ) (n : ℕ) → IfSome low (λ b. b.rank < 4) → IfSome high (λ b. 4 ≤ b.rank) → Low r →
-    Joins (better nat_lt (option_or low high) r n) (better nat_lt low r n) high
+one_low : (low high : Option (Candidate CoreClass)) (r : Option CoreClass) (n : ℕ) → IfSome low (λ b. is_idle b.rank ≡ true) → IfSome high (λ b. is_idle b.rank ≡ false) → Low r →
+    Joins (better comes_before (option_or low high) r n) (better comes_before low r n) high
 one_low low high None n few many lt = record { first = refl; few = few; many = many }
 one_low None None (Some q) n few many lt = record { first = refl; few = lt; many = tt }
 one_low None (Some h) (Some q) n few many lt =
-    let new : Candidate = record { rank = q; number = n } in
-    record { first = ap (λ b. cond b (Some new) (Some h)) (less q h.rank (omega (arith, lt, many))); few = lt; many = many }
+    let new : Candidate CoreClass = record { rank = q; number = n } in
+    record { first = ap (λ b. cond b (Some new) (Some h)) (before q h.rank lt many); few = lt; many = many }
 one_low (Some l) high (Some q) n few many lt =
-    let new : Candidate = record { rank = q; number = n } in
-    record { first = sym (or_kept (nat_lt q l.rank) new l high); few = either (λ b. b.rank < 4) (nat_lt q l.rank) new l lt few; many = many }
+    let new : Candidate CoreClass = record { rank = q; number = n } in
+    record { first = sym (or_kept (comes_before q l.rank) new l high); few = either (λ b. is_idle b.rank ≡ true) (comes_before q l.rank) new l lt few; many = many }
 
-one_high : (low high : Option Candidate) (r : Option ℕ) (n : ℕ) → IfSome low (λ b. b.rank < 4) → IfSome high (λ b. 4 ≤ b.rank) → High r →
-    Joins (better nat_lt (option_or low high) r n) low (better nat_lt high r n)
+one_high : (low high : Option (Candidate CoreClass)) (r : Option CoreClass) (n : ℕ) → IfSome low (λ b. is_idle b.rank ≡ true) → IfSome high (λ b. is_idle b.rank ≡ false) → High r →
+    Joins (better comes_before (option_or low high) r n) low (better comes_before high r n)
 one_high low high None n few many ge = record { first = refl; few = few; many = many }
 one_high None None (Some q) n few many ge = record { first = refl; few = tt; many = ge }
 one_high None (Some h) (Some q) n few many ge =
-    let new : Candidate = record { rank = q; number = n } in
-    record { first = refl; few = tt; many = either (λ b. 4 ≤ b.rank) (nat_lt q h.rank) new h ge many }
+    let new : Candidate CoreClass = record { rank = q; number = n } in
+    record { first = refl; few = tt; many = either (λ b. is_idle b.rank ≡ false) (comes_before q h.rank) new h ge many }
 one_high (Some l) None (Some q) n few many ge =
-    let new : Candidate = record { rank = q; number = n } in
-    record { first = ap (λ b. cond b (Some new) (Some l)) (not_less q l.rank (omega (arith, few, ge))); few = few; many = ge }
+    let new : Candidate CoreClass = record { rank = q; number = n } in
+    record { first = ap (λ b. cond b (Some new) (Some l)) (not_before l.rank q few ge); few = few; many = ge }
 one_high (Some l) (Some h) (Some q) n few many ge =
-    let new : Candidate = record { rank = q; number = n } in
+    let new : Candidate CoreClass = record { rank = q; number = n } in
     record {
-      first = ap (λ b. cond b (Some new) (Some l)) (not_less q l.rank (omega (arith, few, ge)));
+      first = ap (λ b. cond b (Some new) (Some l)) (not_before l.rank q few ge);
       few = few;
-      many = either (λ b. 4 ≤ b.rank) (nat_lt q h.rank) new h ge many;
+      many = either (λ b. is_idle b.rank ≡ false) (comes_before q h.rank) new h ge many;
     }
 
-one_more : (n : ℕ) (best low high : Option Candidate) (r l h : Option ℕ) → Joins best low high → Splits r l h →
-    Joins (better nat_lt best r n) (better nat_lt low l n) (better nat_lt high h n)
+one_more : (n : ℕ) (best low high : Option (Candidate CoreClass)) (r l h : Option CoreClass) → Joins best low high → Splits r l h →
+    Joins (better comes_before best r n) (better comes_before low l n) (better comes_before high h n)
 one_more n best low high r l h j (inl s) = rw (j.first, s.0, s.1) (one_low low high r n j.few j.many s.2)
 one_more n best low high r l h j (inr s) = rw (j.first, s.0, s.1) (one_high low high r n j.few j.many s.2)
 
-joins : (rank low high : ℕ → Option ℕ) (n : ℕ) → ((c : ℕ) → c < n → Splits (rank c) (low c) (high c)) →
-    Joins (best_below nat_lt rank n) (best_below nat_lt low n) (best_below nat_lt high n)
+joins : (rank low high : ℕ → Option CoreClass) (n : ℕ) → ((c : ℕ) → c < n → Splits (rank c) (low c) (high c)) →
+    Joins (best_below comes_before rank n) (best_below comes_before low n) (best_below comes_before high n)
 joins rank low high zero e = record { first = refl; few = tt; many = tt }
 joins rank low high (suc n) e =
-    one_more n (best_below nat_lt rank n) (best_below nat_lt low n) (best_below nat_lt high n) (rank n) (low n) (high n)
+    one_more n (best_below comes_before rank n) (best_below comes_before low n) (best_below comes_before high n) (rank n) (low n) (high n)
     (joins rank low high n (λ c lt. e c (omega (arith, lt)))) (e n (omega arith))
 
--- the class of an idle core is 1 to 3
-of_three : (a b : Bool) → cond a 1 (cond b 2 3) < 4
-of_three true b = omega arith
-of_three false true = omega arith
-of_three false false = omega arith
+of_idle : (a b : Bool) → is_idle (cond a classes.Sibling (cond b classes.RecentlyUsed classes.OtherIdle)) ≡ true
+of_idle true b = refl
+of_idle false true = refl
+of_idle false false = refl
 
-unless : (b : Bool) (n : ℕ) → n < 4 → Low (cond b None (Some n))
-unless true n lt = tt
-unless false n lt = lt
+unless : (b : Bool) (class : CoreClass) → is_idle class ≡ true → Low (cond b None (Some class))
+unless true class e = tt
+unless false class e = e
 
--- that of a held one 4 or 5
-four_or_five : (a b : Bool) → High (cond a (Some 4) (cond b (Some 5) None))
-four_or_five true b = let e : 4 ≤ 4 = omega arith in e
-four_or_five false true = let e : 4 ≤ 5 = omega arith in e
-four_or_five false false = tt
+of_held : (a b : Bool) → High (cond a (Some classes.BestEffortBurstable) (cond b (Some classes.LatencyCriticalBurstable) None))
+of_held true b = refl
+of_held false true = refl
+of_held false false = tt
 
-where_it_may : (b : Bool) (o : Option ℕ) → High o → High (cond b o None)
+where_it_may : (b : Bool) (o : Option CoreClass) → High o → High (cond b o None)
 where_it_may true o h = h
 where_it_may false o h = tt
 
-burst_high : (table : Table) (x : List Action) (t other : ℕ) → High (burst_class table x t other)
-burst_high table x t other = four_or_five (not (is_latency_critical table other))
+preempt_high : (table : Table) (x : List Action) (t other : ℕ) → High (preempt_class table x t other)
+preempt_high table x t other = of_held (not (is_latency_critical table other))
     (nat_lt (booked_by table x t) (guaranteed_of table t) && not (eqb other t) && is_over table x other)
 
 split_by : (s : Setting) (acts : List Action) (t c : ℕ) (h : Holder) →
@@ -138,20 +160,20 @@ split_by s acts t c Free = inl (
   refl,
   refl,
   unless (is_banned (so_far s acts) c) _
-      (of_three (is_held_for s.table t (holder_of (so_far s acts) (sibling_of c))) (is_thread_for s.table t (last_thread (so_far s acts) c))),
+      (of_idle (is_held_for s.table t (holder_of (so_far s acts) (sibling_of c))) (is_thread_for s.table t (last_thread (so_far s acts) c))),
 )
 split_by s acts t c (Held p) = inr (
   refl,
   refl,
-  where_it_may (may_preempt s acts t c (Held p)) (burst_class s.table (so_far s acts) t (owner_of s.table p.thread))
-      (burst_high s.table (so_far s acts) t (owner_of s.table p.thread)),
+  where_it_may (may_preempt s acts t c (Held p)) (preempt_class s.table (so_far s acts) t (owner_of s.table p.thread))
+      (preempt_high s.table (so_far s acts) t (owner_of s.table p.thread)),
 )
 split_by s acts t c (Leaving p cause) = inl (refl, refl, tt)
 
 split_class : (free taken : CoreSet) (s : Setting) (acts : List Action) (t c : ℕ) → has free c ≡ is_free (holder_of (so_far s acts) c) →
     has taken c ≡ not (is_free (holder_of (so_far s acts) c)) → Splits (class_of s acts t c) (class_among free s acts t c) (class_among taken s acts t c)
 split_class free taken s acts t c e f =
-    let class : Option ℕ = class_of s acts t c in
+    let class : Option CoreClass = class_of s acts t c in
     let P : Bool → Type 0 = λ a. Splits class (cond a class None) (cond (has taken c) class None) in
     let Q : Bool → Type 0 = λ b. Splits class (cond (is_free (holder_of (so_far s acts) c)) class None) (cond b class None) in
     subst P (sym e) (subst Q (sym f) (split_by s acts t c (holder_of (so_far s acts) c)))
@@ -167,14 +189,14 @@ in_taken b s acts st sorts c lt = let at = sorts c lt in at.taken ∙ ap (λ a. 
 
 -- the choice is that among the free cores, where there is one, else that among the others
 pub choice_joins : (b : Board) (s : Setting) (acts : List Action) (t n : ℕ) → n ≤ 128 → Stands b s acts → Sorts (holder_in b.holding) b.sets →
-    best_below nat_lt (class_of s acts t) n ≡ option_or (best_below nat_lt (class_among b.sets.free s acts t) n) (best_below nat_lt (class_among b.sets.taken s acts t) n)
+    best_below comes_before (class_of s acts t) n ≡ option_or (best_below comes_before (class_among b.sets.free s acts t) n) (best_below comes_before (class_among b.sets.taken s acts t) n)
 choice_joins b s acts t n few st sorts =
     let j = joins (class_of s acts t) (class_among b.sets.free s acts t) (class_among b.sets.taken s acts t) n
     (λ c lt. split_class b.sets.free b.sets.taken s acts t c (in_free b s acts st sorts c (omega (arith, lt, few))) (in_taken b s acts st sorts c (omega (arith, lt, few)))) in
     j.first
 
 -- the same ranks give the same best
-best_same : (beats : ℕ → ℕ → Bool) (f g : ℕ → Option ℕ) (n : ℕ) → ((c : ℕ) → c < n → f c ≡ g c) → best_below beats f n ≡ best_below beats g n
+best_same : {R : Type 0} (beats : R → R → Bool) (f g : ℕ → Option R) (n : ℕ) → ((c : ℕ) → c < n → f c ≡ g c) → best_below beats f n ≡ best_below beats g n
 best_same beats f g zero e = refl
 best_same beats f g (suc n) e = rw (best_same beats f g n (λ c lt. e c (omega (arith, lt))), e n (omega arith)) refl
 
@@ -199,8 +221,8 @@ idle_class_of b s acts t c lt st sorts opens =
 -- so the choice among those that are free and not banned is that among the free ones
 pub idle_choice : (b : Board) (s : Setting) (acts : List Action) (t n : ℕ) → n ≤ 128 → Stands b s acts → Sorts (holder_in b.holding) b.sets →
     Opens (holder_in b.holding) b.sets.banned b.open_cores →
-    best_below nat_lt (class_among b.open_cores.idle s acts t) n ≡ best_below nat_lt (class_among b.sets.free s acts t) n
-idle_choice b s acts t n few st sorts opens = best_same nat_lt (class_among b.open_cores.idle s acts t) (class_among b.sets.free s acts t) n
+    best_below comes_before (class_among b.open_cores.idle s acts t) n ≡ best_below comes_before (class_among b.sets.free s acts t) n
+idle_choice b s acts t n few st sorts opens = best_same comes_before (class_among b.open_cores.idle s acts t) (class_among b.sets.free s acts t) n
     (λ c lt. idle_class_of b s acts t c (omega (arith, lt, few)) st sorts opens)
 
 -- a test fails where two of its parts do
@@ -214,11 +236,11 @@ parts_fail true true true d e = e
 none_by : (s : Setting) (acts : List Action) (t c : ℕ) (h : Holder) → (is_latency_critical s.table t && none_leaves_for s (so_far s acts) t) ≡ false →
     cond (not (is_free h)) (class_by s acts t c h) None ≡ None
 none_by s acts t c Free e = refl
-none_by s acts t c (Held p) e = ap (λ b. cond b (burst_class s.table (so_far s acts) t (owner_of s.table p.thread)) None)
+none_by s acts t c (Held p) e = ap (λ b. cond b (preempt_class s.table (so_far s acts) t (owner_of s.table p.thread)) None)
     (parts_fail (is_latency_critical s.table t) (is_held_with_room s (Held p)) (not (is_granted_in acts c)) (none_leaves_for s (so_far s acts) t) e)
 none_by s acts t c (Leaving p cause) e = refl
 
 pub none_taken : (b : Board) (s : Setting) (acts : List Action) (t n : ℕ) → n ≤ 128 → Stands b s acts → Sorts (holder_in b.holding) b.sets →
-    (is_latency_critical s.table t && none_leaves_for s (so_far s acts) t) ≡ false → best_below nat_lt (class_among b.sets.taken s acts t) n ≡ None
-none_taken b s acts t n few st sorts e = best_none nat_lt (class_among b.sets.taken s acts t) n
+    (is_latency_critical s.table t && none_leaves_for s (so_far s acts) t) ≡ false → best_below comes_before (class_among b.sets.taken s acts t) n ≡ None
+none_taken b s acts t n few st sorts e = best_none comes_before (class_among b.sets.taken s acts t) n
     (λ c lt. ap (λ w. cond w (class_of s acts t c) None) (in_taken b s acts st sorts c (omega (arith, lt, few))) ∙ none_by s acts t c (holder_of (so_far s acts) c) e)

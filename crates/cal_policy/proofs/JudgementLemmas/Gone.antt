@@ -31,7 +31,8 @@ use Rattle.cal_policy.specs.Pass.{pass_of, followed, IsLegal}
 use Rattle.cal_policy.specs.Pass.Frees.{has_left, shows_left, free_at, frees}
 use Rattle.cal_policy.specs.Pass.Bans.{unbans, bans}
 use Rattle.cal_policy.specs.Pass.Bandwidth.{bandwidth_part}
-use Rattle.cal_policy.specs.Pass.Grants.{critical_grants, best_effort_grants}
+use Rattle.cal_machine.specs.declared.task.Kind.TheVariants as kinds
+use Rattle.cal_policy.specs.Pass.Grants.{grants_of_kind}
 use Rattle.cal_policy.specs.Setting.{Setting, setting, so_far, kept_now}
 use Rattle.cal_policy.proofs.HistoryLemmas.OneMore.{kept_push, holder_push, sent_push, sent_grows}
 use Rattle.cal_policy.proofs.JudgementLemmas.OneByOne.{only_faults_are_refused}
@@ -204,9 +205,9 @@ frees_in_pass s a is =
     let unbanned = followed freed (unbans s) in
     let banned = followed unbanned (bans s) in
     let bounded = followed banned (bandwidth_part s) in
-    let granted = followed bounded (critical_grants s) in
-    Contains-append_left granted (best_effort_grants s granted) a
-    (Contains-append_left bounded (critical_grants s bounded) a
+    let granted = followed bounded (grants_of_kind kinds.LatencyCritical s) in
+    Contains-append_left granted (grants_of_kind kinds.BestEffort s granted) a
+    (Contains-append_left bounded (grants_of_kind kinds.LatencyCritical s bounded) a
     (Contains-append_left banned (bandwidth_part s banned) a
     (Contains-append_left unbanned (bans s unbanned) a
     (Contains-append_left freed (unbans s freed) a is))))

@@ -55,28 +55,28 @@ lowest_passes p zero k e = cc
 lowest_passes p (suc n) k e = lowest_step p n k (lowest_below p n) (lowest_passes p n k) (p n) refl e
 
 -- a number below n with its rank
-abbrev pub IsRanked : (ℕ → Option ℕ) → ℕ → Candidate → Type 0
+abbrev pub IsRanked : {R : Type 0} → (ℕ → Option R) → ℕ → Candidate R → Type 0
 IsRanked rank n best = (best.number < n) × (rank best.number ≡ Some best.rank)
 
-ranked_more : (rank : ℕ → Option ℕ) (n : ℕ) (best : Candidate) → IsRanked rank n best → IsRanked rank (suc n) best
+ranked_more : {R : Type 0} (rank : ℕ → Option R) (n : ℕ) (best : Candidate R) → IsRanked rank n best → IsRanked rank (suc n) best
 ranked_more rank n best e = (omega (arith, e.0), e.1)
 
-ranked_new : (rank : ℕ → Option ℕ) (n s : ℕ) (best : Candidate) → rank n ≡ Some s → Some (record { rank = s; number = n }) ≡ Some best → IsRanked rank (suc n) best
-ranked_new rank n s best r f = let made : Candidate = record { rank = s; number = n } in let same : made ≡ best = cc in rw (← same) (omega arith, r)
+ranked_new : {R : Type 0} (rank : ℕ → Option R) (n : ℕ) (s : R) (best : Candidate R) → rank n ≡ Some s → Some (record { rank = s; number = n }) ≡ Some best → IsRanked rank (suc n) best
+ranked_new {R} rank n s best r f = let made : Candidate R = record { rank = s; number = n } in let same : made ≡ best = cc in rw (← same) (omega arith, r)
 
-ranked_duel : (rank : ℕ → Option ℕ) (n : ℕ) (o best : Candidate) (s : ℕ) → rank n ≡ Some s → (Some o ≡ Some best → IsRanked rank n best) → (w : Bool) →
+ranked_duel : {R : Type 0} (rank : ℕ → Option R) (n : ℕ) (o best : Candidate R) (s : R) → rank n ≡ Some s → (Some o ≡ Some best → IsRanked rank n best) → (w : Bool) →
     cond w (Some (record { rank = s; number = n })) (Some o) ≡ Some best → IsRanked rank (suc n) best
 ranked_duel rank n o best s r h true f = ranked_new rank n s best r f
 ranked_duel rank n o best s r h false f = ranked_more rank n best (h f)
 
-ranked_step : (beats : ℕ → ℕ → Bool) (rank : ℕ → Option ℕ) (n : ℕ) (best : Candidate) → (o : Option Candidate) → (o ≡ Some best → IsRanked rank n best) →
-    (r : Option ℕ) → rank n ≡ r → better beats o r n ≡ Some best → IsRanked rank (suc n) best
+ranked_step : {R : Type 0} (beats : R → R → Bool) (rank : ℕ → Option R) (n : ℕ) (best : Candidate R) → (o : Option (Candidate R)) → (o ≡ Some best → IsRanked rank n best) →
+    (r : Option R) → rank n ≡ r → better beats o r n ≡ Some best → IsRanked rank (suc n) best
 ranked_step beats rank n best None h None r f = cc
 ranked_step beats rank n best (Some o) h None r f = ranked_more rank n best (h f)
 ranked_step beats rank n best None h (Some s) r f = ranked_new rank n s best r f
 ranked_step beats rank n best (Some o) h (Some s) r f = ranked_duel rank n o best s r h (beats s o.rank) f
 
 -- the best has its rank
-pub best_ranked : (beats : ℕ → ℕ → Bool) (rank : ℕ → Option ℕ) (n : ℕ) (best : Candidate) → best_below beats rank n ≡ Some best → IsRanked rank n best
+pub best_ranked : {R : Type 0} (beats : R → R → Bool) (rank : ℕ → Option R) (n : ℕ) (best : Candidate R) → best_below beats rank n ≡ Some best → IsRanked rank n best
 best_ranked beats rank zero best e = cc
 best_ranked beats rank (suc n) best e = ranked_step beats rank n best (best_below beats rank n) (best_ranked beats rank n best) (rank n) refl e

@@ -10,7 +10,7 @@ count_more p n = rw (add-one n) refl
 pub greatest_more : (f : ℕ → ℕ) (n most next : ℕ) → most ≡ greatest_below f n → next ≡ f n → max most next ≡ greatest_below f (n + 1)
 greatest_more f n most next e g = rw (add-one n, e, g) refl
 
-pub best_more : (beats : ℕ → ℕ → Bool) (f : ℕ → Option ℕ) (n : ℕ) (best : Option Candidate) (rank : Option ℕ) →
+pub best_more : {R : Type 0} (beats : R → R → Bool) (f : ℕ → Option R) (n : ℕ) (best : Option (Candidate R)) (rank : Option R) →
     best ≡ best_below beats f n → rank ≡ f n → better beats best rank n ≡ best_below beats f (n + 1)
 best_more beats f n best rank e g = rw (add-one n, e, g) refl
 

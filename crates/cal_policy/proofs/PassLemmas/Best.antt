@@ -7,16 +7,16 @@ use Rattle.cal_policy.specs.Pass.Choice.{better, best_below, IsBest}
 use Rattle.cal_policy.specs.declared.pass.choice.Candidate.{Candidate}
 
 -- the best, or that no number has a rank
-abbrev pub BestOrNone : (ℕ → ℕ → Bool) → (ℕ → Option ℕ) → ℕ → Option Candidate → Type 0
+abbrev pub BestOrNone : {R : Type 0} → (R → R → Bool) → (ℕ → Option R) → ℕ → Option (Candidate R) → Type 0
 BestOrNone beats rank n found = MatchOption found ((k : ℕ) → k < n → rank k ≡ None) (IsBest beats rank n)
 
-irreflexive : (beats : ℕ → ℕ → Bool) → IsStrictWeakOrder beats → (r : ℕ) → beats r r ≡ false
+irreflexive : {R : Type 0} (beats : R → R → Bool) → IsStrictWeakOrder beats → (r : R) → beats r r ≡ false
 irreflexive beats o r = ⊎_elim (λ t. o.one_way r r t) (λ f. f) (cases_Bool (beats r r))
 
 pub cases_eq_lt : (k n : ℕ) → k < suc n → (k < n) ⊎ (k ≡ n)
 cases_eq_lt k n lt = ⊎_elim (λ l. inl l) (λ g. inr (omega arith)) (cases_lt k n)
 
-challenge : (beats : ℕ → ℕ → Bool) (rank : ℕ → Option ℕ) (o : IsStrictWeakOrder beats) (n : ℕ) (best : Candidate) (s : ℕ) →
+challenge : {R : Type 0} (beats : R → R → Bool) (rank : ℕ → Option R) (o : IsStrictWeakOrder beats) (n : ℕ) (best : Candidate R) (s : R) →
     rank n ≡ Some s → IsBest beats rank n best → (b : Bool) → beats s best.rank ≡ b →
     BestOrNone beats rank (suc n) (cond b (Some (record { rank = s; number = n })) (Some best))
 challenge beats rank o n best s e h true won = record {
@@ -34,7 +34,7 @@ challenge beats rank o n best s e h false lost = record {
   first = h.first;
 }
 
-best_step : (beats : ℕ → ℕ → Bool) (rank : ℕ → Option ℕ) (o : IsStrictWeakOrder beats) (n : ℕ) (found : Option Candidate) (next : Option ℕ) →
+best_step : {R : Type 0} (beats : R → R → Bool) (rank : ℕ → Option R) (o : IsStrictWeakOrder beats) (n : ℕ) (found : Option (Candidate R)) (next : Option R) →
     rank n ≡ next → BestOrNone beats rank n found → BestOrNone beats rank (suc n) (better beats found next n)
 best_step beats rank o n None None e h = λ k lt. ⊎_elim (λ l. h k l) (λ q. rw q e) (cases_eq_lt k n lt)
 best_step beats rank o n (Some best) None e h = record {
@@ -52,6 +52,6 @@ best_step beats rank o n None (Some s) e h = record {
 best_step beats rank o n (Some best) (Some s) e h = challenge beats rank o n best s e h (beats s best.rank) refl
 
 -- of the numbers with a rank best_below is the one that no other beats, the least of those
-pub best_is_best : (beats : ℕ → ℕ → Bool) (rank : ℕ → Option ℕ) → IsStrictWeakOrder beats → (n : ℕ) → BestOrNone beats rank n (best_below beats rank n)
+pub best_is_best : {R : Type 0} (beats : R → R → Bool) (rank : ℕ → Option R) → IsStrictWeakOrder beats → (n : ℕ) → BestOrNone beats rank n (best_below beats rank n)
 best_is_best beats rank o zero = λ k lt. absurd (omega arith)
 best_is_best beats rank o (suc n) = best_step beats rank o n (best_below beats rank n) (rank n) refl (best_is_best beats rank o n)

@@ -12,6 +12,9 @@ use Rattle.cal_policy.specs.declared.history.action.Cause.{Cause}
 use Rattle.cal_policy.specs.declared.history.action.Cause.TheVariants as causes
 use Rattle.cal_policy.specs.declared.board.bans.BannedFor.{BannedFor}
 use Rattle.cal_policy.specs.declared.pass.choice.Candidate.{Candidate}
+use Rattle.cal_policy.specs.declared.history.core_class.CoreClass.{CoreClass}
+use Rattle.cal_policy.specs.History.CoreClasses.{is_idle, comes_before}
+use Rattle.cal_policy.specs.declared.history.core_class.CoreClass.TheVariants as classes
 use Rattle.cal_policy.specs.declared.board.holders.Placement as placements
 use Rattle.cal_policy.specs.declared.board.holders.Holder.{Holder}
 use Rattle.cal_policy.specs.declared.board.holders.Holder.TheVariants as holders
@@ -21,7 +24,7 @@ use Rattle.cal_policy.specs.Setting.{Setting, so_far, kept_now, has_room, is_hel
 use Rattle.cal_policy.specs.Pass.Frees.{shows_left}
 use Rattle.cal_policy.specs.Pass.Bans.{too_long_on, may_ban_beside, may_be_emptied, ban_due}
 use Rattle.cal_policy.specs.Pass.Bandwidth.{can_lose, victim_rank, is_capped}
-use Rattle.cal_policy.specs.Pass.Grants.{class_of, class_by, idle_class, burst_class, may_preempt, is_thread_for, choice_of, thread_choice, thread_rank, thread_delay}
+use Rattle.cal_policy.specs.Pass.Grants.{class_of, class_by, idle_class, preempt_class, may_preempt, is_thread_for, choice_of, thread_choice, thread_rank, thread_delay}
 use Rattle.cal_policy.specs.Judgement.Orderly.{fits_state, names_table}
 use Rattle.cal_policy.specs.Board.{placement_of}
 use Rattle.cal_policy.specs.Pass.Made.{IsMade, IsFreed, IsUnbanned, IsBanned, IsRevokedForBan, IsPreempted, IsCapCut, IsCapRise, IsGranted, IsCut}
@@ -124,53 +127,53 @@ held_for_held table t holders.Free e = cc
 held_for_held table t (holders.Held p) e = refl
 held_for_held table t (holders.Leaving p cause) e = cc
 
-pub cut_held : (s : Setting) (acts : List Action) (victim : Candidate) (core : ℕ) → IsCut s acts victim core → (core < s.table.cores) × (is_held (holder_of (so_far s acts) core) ≡ true)
+pub cut_held : (s : Setting) (acts : List Action) (victim : Candidate ℕ) (core : ℕ) → IsCut s acts victim core → (core < s.table.cores) × (is_held (holder_of (so_far s acts) core) ≡ true)
 cut_held s acts victim core m =
     let x : List Action = so_far s acts in
     let there = highest_passes (can_lose s x victim.number) s.table.cores core m.highest in
     let both = and_parts (is_held_for s.table victim.number (holder_of x core)) (is_held_with_room s (holder_of x core)) there.1 in
     (there.0, held_for_held s.table victim.number (holder_of x core) both.0)
 
--- a class below 4 is that of a free core, another that of a held one
-idle_low : (table : Table) (t : ℕ) (beside : Holder) (last : Option ℕ) → nat_lt (idle_class table t beside last) 4 ≡ true
+-- an idle class is that of a free core, another that of a held one
+idle_low : (table : Table) (t : ℕ) (beside : Holder) (last : Option ℕ) → is_idle (idle_class table t beside last) ≡ true
 idle_low table t beside last = choose (is_held_for table t beside) (is_thread_for table t last)
   where
-    choose : (a b : Bool) → nat_lt (cond a 1 (cond b 2 3)) 4 ≡ true
+    choose : (a b : Bool) → is_idle (cond a classes.Sibling (cond b classes.RecentlyUsed classes.OtherIdle)) ≡ true
     choose true b = refl
     choose false true = refl
     choose false false = refl
 
-burst_high : (table : Table) (x : List Action) (t other r : ℕ) → burst_class table x t other ≡ Some r → nat_lt r 4 ≡ false
-burst_high table x t other r e = choose (not (is_latency_critical table other)) (nat_lt (booked_by table x t) (guaranteed_of table t) && not (eqb other t) && is_over table x other) e
+preempt_high : (table : Table) (x : List Action) (t other : ℕ) (r : CoreClass) → preempt_class table x t other ≡ Some r → is_idle r ≡ false
+preempt_high table x t other r e = choose (not (is_latency_critical table other)) (nat_lt (booked_by table x t) (guaranteed_of table t) && not (eqb other t) && is_over table x other) e
   where
-    at : (n : ℕ) → nat_lt n 4 ≡ false → Some n ≡ Some r → nat_lt r 4 ≡ false
-    at n f e = let same : n ≡ r = cc in let P : ℕ → Type 0 = λ m. nat_lt m 4 ≡ false in subst P same f
+    at : (n : CoreClass) → is_idle n ≡ false → Some n ≡ Some r → is_idle r ≡ false
+    at n f e = let same : n ≡ r = cc in let P : CoreClass → Type 0 = λ m. is_idle m ≡ false in subst P same f
 
-    choose : (a b : Bool) → cond a (Some 4) (cond b (Some 5) None) ≡ Some r → nat_lt r 4 ≡ false
-    choose true b e = at 4 refl e
-    choose false true e = at 5 refl e
+    choose : (a b : Bool) → cond a (Some classes.BestEffortBurstable) (cond b (Some classes.LatencyCriticalBurstable) None) ≡ Some r → is_idle r ≡ false
+    choose true b e = at classes.BestEffortBurstable refl e
+    choose false true e = at classes.LatencyCriticalBurstable refl e
     choose false false e = cc
 
-pub class_free : (s : Setting) (acts : List Action) (t c r : ℕ) (h : Holder) → class_by s acts t c h ≡ Some r → nat_lt r 4 ≡ true → is_free h ≡ true
+pub class_free : (s : Setting) (acts : List Action) (t c : ℕ) (r : CoreClass) (h : Holder) → class_by s acts t c h ≡ Some r → is_idle r ≡ true → is_free h ≡ true
 class_free s acts t c r holders.Free e low = refl
 class_free s acts t c r (holders.Held p) e low =
-    let there = some_then (may_preempt s acts t c (holders.Held p)) (burst_class s.table (so_far s acts) t (owner_of s.table p.thread)) r e in
-    let high = burst_high s.table (so_far s acts) t (owner_of s.table p.thread) r there.1 in cc
+    let there = some_then (may_preempt s acts t c (holders.Held p)) (preempt_class s.table (so_far s acts) t (owner_of s.table p.thread)) r e in
+    let high = preempt_high s.table (so_far s acts) t (owner_of s.table p.thread) r there.1 in cc
 class_free s acts t c r (holders.Leaving p cause) e low = cc
 
-pub class_held : (s : Setting) (acts : List Action) (t c r : ℕ) (h : Holder) → class_by s acts t c h ≡ Some r → nat_lt r 4 ≡ false → is_held h ≡ true
+pub class_held : (s : Setting) (acts : List Action) (t c : ℕ) (r : CoreClass) (h : Holder) → class_by s acts t c h ≡ Some r → is_idle r ≡ false → is_held h ≡ true
 class_held s acts t c r holders.Free e high =
     let x : List Action = so_far s acts in
     let there = some_else (is_banned x c) (Some (idle_class s.table t (holder_of x (sibling_of c)) (last_thread x c))) r e in
     let same : Some (idle_class s.table t (holder_of x (sibling_of c)) (last_thread x c)) ≡ Some r = there.1 in
     let equal : idle_class s.table t (holder_of x (sibling_of c)) (last_thread x c) ≡ r = cc in
-    let low : nat_lt r 4 ≡ true = (let P : ℕ → Type 0 = λ m. nat_lt m 4 ≡ true in subst P equal (idle_low s.table t (holder_of x (sibling_of c)) (last_thread x c))) in cc
+    let low : is_idle r ≡ true = (let P : CoreClass → Type 0 = λ m. is_idle m ≡ true in subst P equal (idle_low s.table t (holder_of x (sibling_of c)) (last_thread x c))) in cc
 class_held s acts t c r (holders.Held p) e high = refl
 class_held s acts t c r (holders.Leaving p cause) e high = cc
 
-pub choice_facts : (s : Setting) (acts : List Action) (t : ℕ) (core : Candidate) → choice_of s acts t ≡ Some core →
+pub choice_facts : (s : Setting) (acts : List Action) (t : ℕ) (core : Candidate CoreClass) → choice_of s acts t ≡ Some core →
     (core.number < s.table.cores) × (class_by s acts t core.number (holder_of (so_far s acts) core.number) ≡ Some core.rank)
-choice_facts s acts t core e = best_ranked nat_lt (class_of s acts t) s.table.cores core e
+choice_facts s acts t core e = best_ranked comes_before (class_of s acts t) s.table.cores core e
 
 preempt_held : (s : Setting) (acts : List Action) (core t : ℕ) → IsPreempted s acts core t → (core < s.table.cores) × (is_held (holder_of (so_far s acts) core) ≡ true)
 preempt_held s acts core t m =
@@ -219,7 +222,7 @@ pub record ThreadFacts (s : Setting) (x : List Action) (t thread : ℕ) : Type 0
   pub on_none : eqb (cores_of_thread s.table x thread) 0 ≡ true
   pub room : has_room s thread ≡ true
 
-pub thread_facts : (s : Setting) (x : List Action) (t : ℕ) (chosen : Candidate) → t < length s.table.tasks → thread_choice s x t ≡ Some chosen →
+pub thread_facts : (s : Setting) (x : List Action) (t : ℕ) (chosen : Candidate ℕ) → t < length s.table.tasks → thread_choice s x t ≡ Some chosen →
     ThreadFacts s x t (thread_of s.table t chosen.number)
 thread_facts s x t chosen lt e =
     let best = best_ranked (λ rank best. nat_lt best rank) (λ j. thread_rank s x (thread_of s.table t j)) (limit_of s.table t) chosen e in

@@ -10,7 +10,8 @@ use Rattle.cal_policy.specs.Setting.{Setting, so_far}
 use Rattle.cal_policy.specs.Pass.Frees.{frees}
 use Rattle.cal_policy.specs.Pass.Bans.{unbans, bans, NoPairBanned}
 use Rattle.cal_policy.specs.Pass.Bandwidth.{bandwidth_part}
-use Rattle.cal_policy.specs.Pass.Grants.{critical_grants, best_effort_grants}
+use Rattle.cal_machine.specs.declared.task.Kind.TheVariants as kinds
+use Rattle.cal_policy.specs.Pass.Grants.{grants_of_kind}
 use Rattle.cal_policy.specs.Pass.{pass_of, followed}
 use Rattle.cal_policy.specs.Board.{Agrees, HasGranted, KeepingAgrees, KeepsBefore, Stands, AgreesAfter}
 use Rattle.cal_policy.proofs.PassLemmas.Apart.{frees_apart}
@@ -22,9 +23,9 @@ follows part acts now next e f = f ∙ ap (λ o. o ++ part o) e
 
 -- the parts, end to end, are the pass
 pub parts_pass : (s : Setting) (o0 o1 o2 o3 o4 o5 o6 : List Action) → o0 ≡ [] → o1 ≡ o0 ++ frees s o0 → o2 ≡ o1 ++ unbans s o1 → o3 ≡ o2 ++ bans s o2 →
-    o4 ≡ o3 ++ bandwidth_part s o3 → o5 ≡ o4 ++ critical_grants s o4 → o6 ≡ o5 ++ best_effort_grants s o5 → o6 ≡ pass_of s
+    o4 ≡ o3 ++ bandwidth_part s o3 → o5 ≡ o4 ++ grants_of_kind kinds.LatencyCritical s o4 → o6 ≡ o5 ++ grants_of_kind kinds.BestEffort s o5 → o6 ≡ pass_of s
 parts_pass s o0 o1 o2 o3 o4 o5 o6 e0 e1 e2 e3 e4 e5 e6 =
-    follows (best_effort_grants s) _ o5 o6 (follows (critical_grants s) _ o4 o5 (follows (bandwidth_part s) _ o3 o4 (follows (bans s) _ o2 o3
+    follows (grants_of_kind kinds.BestEffort s) _ o5 o6 (follows (grants_of_kind kinds.LatencyCritical s) _ o4 o5 (follows (bandwidth_part s) _ o3 o4 (follows (bans s) _ o2 o3
     (follows (unbans s) _ o1 o2 (follows (frees s) [] o0 o1 e0 e1) e2) e3) e4) e5) e6
 
 -- no pair is banned after the frees

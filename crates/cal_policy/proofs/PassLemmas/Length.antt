@@ -5,6 +5,8 @@ use Rattle.cal_machine.specs.Machine.{sibling_of}
 use Rattle.cal_machine.specs.Table.{Table, IsTable}
 use Rattle.cal_policy.specs.declared.board.bans.BannedFor.{BannedFor}
 use Rattle.cal_policy.specs.declared.pass.choice.Candidate.{Candidate}
+use Rattle.cal_policy.specs.declared.history.core_class.CoreClass.{CoreClass}
+use Rattle.cal_policy.specs.History.CoreClasses.{class_number, is_idle}
 use Rattle.cal_policy.specs.declared.history.action.Action.{Action}
 use Rattle.cal_policy.specs.declared.history.action.Action.TheVariants.{Free, Unban, Ban, Revoke, Grant}
 use Rattle.cal_policy.specs.declared.history.action.Cause.TheVariants as causes
@@ -14,7 +16,8 @@ use Rattle.cal_policy.specs.Pass.Bans.{NoPairBanned, still_shows, unban_for, unb
 use Rattle.cal_policy.specs.Pass.Choice.{lowest_below}
 use Rattle.cal_policy.specs.Board.Counts.{is_held}
 use Rattle.cal_policy.specs.Pass.Frees.{shows_left, free_at, frees}
-use Rattle.cal_policy.specs.Pass.Grants.{is_congested, may_book, thread_choice, choice_of, grant_of, grant_at, grant_critical_at, grant_best_effort_at, critical_grants, best_effort_grants}
+use Rattle.cal_machine.specs.declared.task.Kind.TheVariants as kinds
+use Rattle.cal_policy.specs.Pass.Grants.{is_congested, may_book, thread_choice, choice_of, grant_of, grant_at, grant_of_kind_at, grants_of_kind}
 use Rattle.cal_policy.specs.History.{actions_of, holder_of, ban_of}
 use Rattle.cal_policy.specs.History.Lists.{in_turn, in_pair}
 use Rattle.cal_policy.specs.Pass.{pass_of, IsLegal}
@@ -93,7 +96,7 @@ cut_two : (s : Setting) (x : List Action) (t : ℕ) (core : Option ℕ) → leng
 cut_two s x t None = omega arith
 cut_two s x t (Some core) = omega arith
 
-victim_two : (s : Setting) (x : List Action) (victim : Option Candidate) → length (cut_of s x victim) ≤ 2
+victim_two : (s : Setting) (x : List Action) (victim : Option (Candidate ℕ)) → length (cut_of s x victim) ≤ 2
 victim_two s x None = omega arith
 victim_two s x (Some victim) = cut_two s x victim.number (core_to_lose s x victim.number)
 
@@ -117,10 +120,10 @@ one_either : (b : Bool) (a c : Action) → length (if b then a ∷ [] else c ∷
 one_either true a c = omega arith
 one_either false a c = omega arith
 
-chosen_one : (s : Setting) (t : ℕ) (thread core : Option Candidate) → length (grant_of s t thread core) ≤ 1
+chosen_one : (s : Setting) (t : ℕ) (thread : Option (Candidate ℕ)) (core : Option (Candidate CoreClass)) → length (grant_of s t thread core) ≤ 1
 chosen_one s t None core = omega arith
 chosen_one s t (Some thread) None = omega arith
-chosen_one s t (Some thread) (Some core) = one_either (nat_lt core.rank 4) (Grant core.number (thread_of s.table t thread.number) core.rank) (Revoke core.number (causes.Preempt t))
+chosen_one s t (Some thread) (Some core) = one_either (is_idle core.rank) (Grant core.number (thread_of s.table t thread.number) (class_number core.rank)) (Revoke core.number (causes.Preempt t))
 
 one_when : (b : Bool) (l : List Action) → length l ≤ 1 → length (if b then l else []) ≤ 1
 one_when true l h = h
@@ -138,13 +141,13 @@ one_kind : (critical : Bool) (l m : List Action) → length l ≤ 1 → length m
 one_kind true l m h g = omega arith
 one_kind false l m h g = omega arith
 
-grants_most : (s : Setting) (a b : List Action) (n : ℕ) → length (in_turn (grant_critical_at s) a n) + length (in_turn (grant_best_effort_at s) b n) ≤ n
+grants_most : (s : Setting) (a b : List Action) (n : ℕ) → length (in_turn (grant_of_kind_at kinds.LatencyCritical s) a n) + length (in_turn (grant_of_kind_at kinds.BestEffort s) b n) ≤ n
 grants_most s a b zero = omega arith
 grants_most s a b (suc n) =
-    let x = in_turn (grant_critical_at s) a n in
-    let y = in_turn (grant_best_effort_at s) b n in
+    let x = in_turn (grant_of_kind_at kinds.LatencyCritical s) a n in
+    let y = in_turn (grant_of_kind_at kinds.BestEffort s) b n in
     let one = one_kind (is_latency_critical s.table n) (grant_at s (a ++ x) n) (grant_at s (b ++ y) n) (grant_one s (a ++ x) n) (grant_one s (b ++ y) n) in
-    omega (arith, grants_most s a b n, length-append x (grant_critical_at s (a ++ x) n), length-append y (grant_best_effort_at s (b ++ y) n))
+    omega (arith, grants_most s a b n, length-append x (grant_of_kind_at kinds.LatencyCritical s (a ++ x) n), length-append y (grant_of_kind_at kinds.BestEffort s (b ++ y) n))
 
 -- a pass
 pass_most : (s : Setting) → IsTable s.table → NoPairBanned (actions_of s.history) → length (pass_of s) ≤ 338
@@ -157,7 +160,7 @@ pass_most s ok apart =
     let unbanned = freed ++ unbans s freed in
     let banned = unbanned ++ bans s unbanned in
     let bounded = banned ++ bandwidth_part s banned in
-    let granted = bounded ++ critical_grants s bounded in
+    let granted = bounded ++ grants_of_kind kinds.LatencyCritical s bounded in
     let start : NoPairBanned (so_far s []) = subst NoPairBanned (sym (append-nil (actions_of s.history))) apart in
     omega (
       arith,
@@ -169,8 +172,8 @@ pass_most s ok apart =
       length-append freed (unbans s freed),
       length-append unbanned (bans s unbanned),
       length-append banned (bandwidth_part s banned),
-      length-append bounded (critical_grants s bounded),
-      length-append granted (best_effort_grants s granted),
+      length-append bounded (grants_of_kind kinds.LatencyCritical s bounded),
+      length-append granted (grants_of_kind kinds.BestEffort s granted),
     )
 
 -- a pass of a legal history has at most 338 actions

@@ -7,6 +7,8 @@ use Rattle.cal_policy.specs.declared.history.action.Action.TheVariants.{Free, Un
 use Rattle.cal_policy.specs.declared.history.action.Cause.TheVariants as causes
 use Rattle.cal_policy.specs.declared.board.bans.BannedFor.{BannedFor}
 use Rattle.cal_policy.specs.declared.pass.choice.Candidate.{Candidate}
+use Rattle.cal_policy.specs.declared.history.core_class.CoreClass.{CoreClass}
+use Rattle.cal_policy.specs.History.CoreClasses.{class_number, is_idle}
 use Rattle.cal_policy.specs.History.{holder_of, ban_of}
 use Rattle.cal_policy.specs.Board.Counts.{is_held}
 use Rattle.cal_policy.specs.Pass.Choice.{lowest_below}
@@ -14,7 +16,8 @@ use Rattle.cal_policy.specs.Setting.{Setting, so_far, kept_now}
 use Rattle.cal_policy.specs.Pass.Frees.{shows_left, free_at, frees}
 use Rattle.cal_policy.specs.Pass.Bans.{still_shows, unban_for, unban_at, unbans, ban_due, ban_for, bans_at, bans}
 use Rattle.cal_policy.specs.Pass.Bandwidth.{victim_of, core_to_lose, cut_at, cut_of, rise_of, is_capped, bandwidth_part}
-use Rattle.cal_policy.specs.Pass.Grants.{is_congested, may_book, thread_choice, choice_of, grant_of, grant_at, grant_critical_at, grant_best_effort_at, critical_grants, best_effort_grants}
+use Rattle.cal_machine.specs.declared.task.Kind.TheVariants as kinds
+use Rattle.cal_policy.specs.Pass.Grants.{is_congested, may_book, thread_choice, choice_of, grant_of, grant_at, grant_of_kind_at, grants_of_kind}
 use Rattle.cal_policy.specs.Pass.{pass_of}
 use Rattle.cal_policy.specs.Pass.Made.{EachAfter, IsMade, IsCut, IsChosen}
 use Rattle.cal_policy.proofs.ListLemmas.EachAfter.{each_append, each_in_turn}
@@ -52,7 +55,7 @@ ban_made s acts c lt (Some thread) e = (
 pub bans_made : (s : Setting) (acts : List Action) → EachAfter (IsMade s) acts (bans s acts)
 bans_made s acts = each_in_turn (IsMade s) (bans_at s) acts s.table.cores (λ now c lt. ban_made s now c lt (ban_due s (so_far s now) c) refl)
 
-cut_core_made : (s : Setting) (acts : List Action) → nat_lt s.table.bandwidth_limit s.input.bandwidth ≡ true → (v : Candidate) → victim_of s (so_far s acts) ≡ Some v →
+cut_core_made : (s : Setting) (acts : List Action) → nat_lt s.table.bandwidth_limit s.input.bandwidth ≡ true → (v : Candidate ℕ) → victim_of s (so_far s acts) ≡ Some v →
     (o : Option ℕ) → core_to_lose s (so_far s acts) v.number ≡ o → EachAfter (IsMade s) acts (cut_at s (so_far s acts) v.number o)
 cut_core_made s acts over v e None f = tt
 cut_core_made s acts over v e (Some core) f =
@@ -61,7 +64,7 @@ cut_core_made s acts over v e (Some core) f =
       (record { earlier = acts; victim = v; just_before = refl; cut = cut }, tt),
     )
 
-cut_made : (s : Setting) (acts : List Action) → nat_lt s.table.bandwidth_limit s.input.bandwidth ≡ true → (o : Option Candidate) → victim_of s (so_far s acts) ≡ o →
+cut_made : (s : Setting) (acts : List Action) → nat_lt s.table.bandwidth_limit s.input.bandwidth ≡ true → (o : Option (Candidate ℕ)) → victim_of s (so_far s acts) ≡ o →
     EachAfter (IsMade s) acts (cut_of s (so_far s acts) o)
 cut_made s acts over None e = tt
 cut_made s acts over (Some v) e = cut_core_made s acts over v e (core_to_lose s (so_far s acts) v.number) refl
@@ -79,29 +82,29 @@ bandwidth_by s acts false e = rise_made s acts e (lowest_below (is_capped s (so_
 pub bandwidth_made : (s : Setting) (acts : List Action) → EachAfter (IsMade s) acts (bandwidth_part s acts)
 bandwidth_made s acts = bandwidth_by s acts (nat_lt s.table.bandwidth_limit s.input.bandwidth) refl
 
-chosen_made : (s : Setting) (acts : List Action) (t : ℕ) (thread core : Candidate) → IsChosen s acts t thread core → (b : Bool) → nat_lt core.rank 4 ≡ b →
-    EachAfter (IsMade s) acts (if b then Grant core.number (thread_of s.table t thread.number) core.rank ∷ [] else Revoke core.number (causes.Preempt t) ∷ [])
+chosen_made : (s : Setting) (acts : List Action) (t : ℕ) (thread : Candidate ℕ) (core : Candidate CoreClass) → IsChosen s acts t thread core → (b : Bool) → is_idle core.rank ≡ b →
+    EachAfter (IsMade s) acts (if b then Grant core.number (thread_of s.table t thread.number) (class_number core.rank) ∷ [] else Revoke core.number (causes.Preempt t) ∷ [])
 chosen_made s acts t thread core e true is = (record { task = t; chosen_thread = thread; choice = core; core_chosen = refl; thread_chosen = refl; class_chosen = refl; granted = is; chosen = e }, tt)
 chosen_made s acts t thread core e false is = (record { thread = thread; choice = core; number = refl; class = is; chosen = e }, tt)
 
 grant_of_made : (s : Setting) (acts : List Action) (t : ℕ) → t < length s.table.tasks → is_congested s t ≡ true → may_book s (so_far s acts) t ≡ true →
-    (thread core : Option Candidate) → thread_choice s (so_far s acts) t ≡ thread → choice_of s acts t ≡ core → EachAfter (IsMade s) acts (grant_of s t thread core)
+    (thread : Option (Candidate ℕ)) (core : Option (Candidate CoreClass)) → thread_choice s (so_far s acts) t ≡ thread → choice_of s acts t ≡ core → EachAfter (IsMade s) acts (grant_of s t thread core)
 grant_of_made s acts t lt congested room None core e f = tt
 grant_of_made s acts t lt congested room (Some thread) None e f = tt
 grant_of_made s acts t lt congested room (Some thread) (Some core) e f =
-    chosen_made s acts t thread core (record { task = lt; congested = congested; room = room; longest = e; least = f }) (nat_lt core.rank 4) refl
+    chosen_made s acts t thread core (record { task = lt; congested = congested; room = room; longest = e; least = f }) (is_idle core.rank) refl
 
 grant_made : (s : Setting) (acts : List Action) (t : ℕ) → t < length s.table.tasks → EachAfter (IsMade s) acts (grant_at s acts t)
 grant_made s acts t lt = each_if (IsMade s) acts (is_congested s t && may_book s (so_far s acts) t) (grant_of s t (thread_choice s (so_far s acts) t) (choice_of s acts t))
     (λ e. let both = and_parts (is_congested s t) (may_book s (so_far s acts) t) e in
     grant_of_made s acts t lt both.0 both.1 (thread_choice s (so_far s acts) t) (choice_of s acts t) refl refl)
 
-pub critical_grants_made : (s : Setting) (acts : List Action) → EachAfter (IsMade s) acts (critical_grants s acts)
-critical_grants_made s acts = each_in_turn (IsMade s) (grant_critical_at s) acts (length s.table.tasks) (λ now t lt.
+pub critical_grants_made : (s : Setting) (acts : List Action) → EachAfter (IsMade s) acts (grants_of_kind kinds.LatencyCritical s acts)
+critical_grants_made s acts = each_in_turn (IsMade s) (grant_of_kind_at kinds.LatencyCritical s) acts (length s.table.tasks) (λ now t lt.
     each_if (IsMade s) now (is_latency_critical s.table t) (grant_at s now t) (λ e. grant_made s now t lt))
 
-pub best_effort_grants_made : (s : Setting) (acts : List Action) → EachAfter (IsMade s) acts (best_effort_grants s acts)
-best_effort_grants_made s acts = each_in_turn (IsMade s) (grant_best_effort_at s) acts (length s.table.tasks) (λ now t lt.
+pub best_effort_grants_made : (s : Setting) (acts : List Action) → EachAfter (IsMade s) acts (grants_of_kind kinds.BestEffort s acts)
+best_effort_grants_made s acts = each_in_turn (IsMade s) (grant_of_kind_at kinds.BestEffort s) acts (length s.table.tasks) (λ now t lt.
     each_unless (IsMade s) now (is_latency_critical s.table t) (grant_at s now t) (λ e. grant_made s now t lt))
 
 then_made : (s : Setting) (acts more : List Action) → EachAfter (IsMade s) [] acts → EachAfter (IsMade s) acts more → EachAfter (IsMade s) [] (acts ++ more)

@@ -13,6 +13,8 @@ use Rattle.cal_policy.specs.declared.history.action.Cause.{Cause}
 use Rattle.cal_policy.specs.declared.history.action.Cause.TheVariants as causes
 use Rattle.cal_policy.specs.declared.board.bans.BannedFor.{BannedFor}
 use Rattle.cal_policy.specs.declared.pass.choice.Candidate.{Candidate}
+use Rattle.cal_policy.specs.declared.history.core_class.CoreClass.{CoreClass}
+use Rattle.cal_policy.specs.History.CoreClasses.{class_number, is_idle}
 use Rattle.cal_policy.specs.declared.board.holders.Placement as placements
 use Rattle.cal_policy.specs.declared.board.holders.Holder.{Holder}
 use Rattle.cal_policy.specs.declared.board.holders.Holder.TheVariants as holders
@@ -24,7 +26,8 @@ use Rattle.cal_policy.specs.Setting.{Setting, so_far, kept_now}
 use Rattle.cal_policy.specs.Pass.Frees.{shows_left, free_at, frees}
 use Rattle.cal_policy.specs.Pass.Bans.{still_shows, unban_for, unban_at, unbans, ban_due, ban_for, bans_at, bans}
 use Rattle.cal_policy.specs.Pass.Bandwidth.{victim_of, core_to_lose, cut_at, cut_of, rise_of, is_capped, bandwidth_part}
-use Rattle.cal_policy.specs.Pass.Grants.{is_congested, may_book, thread_choice, choice_of, grant_of, grant_at, grant_critical_at, grant_best_effort_at, critical_grants, best_effort_grants}
+use Rattle.cal_machine.specs.declared.task.Kind.TheVariants as kinds
+use Rattle.cal_policy.specs.Pass.Grants.{is_congested, may_book, thread_choice, choice_of, grant_of, grant_at, grant_of_kind_at, grants_of_kind}
 use Rattle.cal_policy.specs.Pass.{pass_of}
 use Rattle.cal_policy.specs.Board.{placement_of}
 use Rattle.cal_policy.specs.Pass.Made.{EachAfter}
@@ -141,7 +144,7 @@ cut_at_none : (s : Setting) (x : List Action) (t : ℕ) (o : Option ℕ) → Eve
 cut_at_none s x t None = tt
 cut_at_none s x t (Some core) = (tt, (tt, tt))
 
-cut_none : (s : Setting) (x : List Action) (o : Option Candidate) → Every FreesNone (cut_of s x o)
+cut_none : (s : Setting) (x : List Action) (o : Option (Candidate ℕ)) → Every FreesNone (cut_of s x o)
 cut_none s x None = tt
 cut_none s x (Some victim) = cut_at_none s x victim.number (core_to_lose s x victim.number)
 
@@ -155,23 +158,23 @@ bandwidth_none s acts =
     every_if FreesNone (nat_lt s.table.bandwidth_limit s.input.bandwidth) (cut_of s x (victim_of s x)) (rise_of s x (lowest_below (is_capped s x) (length s.table.tasks)))
     (cut_none s x (victim_of s x)) (rise_none s x (lowest_below (is_capped s x) (length s.table.tasks)))
 
-chosen_none : (s : Setting) (t : ℕ) (thread core : Option Candidate) → Every FreesNone (grant_of s t thread core)
+chosen_none : (s : Setting) (t : ℕ) (thread : Option (Candidate ℕ)) (core : Option (Candidate CoreClass)) → Every FreesNone (grant_of s t thread core)
 chosen_none s t None core = tt
 chosen_none s t (Some thread) None = tt
 chosen_none s t (Some thread) (Some core) =
-    every_if FreesNone (nat_lt core.rank 4) (Grant core.number (thread_of s.table t thread.number) core.rank ∷ []) (Revoke core.number (causes.Preempt t) ∷ []) (tt, tt) (tt, tt)
+    every_if FreesNone (is_idle core.rank) (Grant core.number (thread_of s.table t thread.number) (class_number core.rank) ∷ []) (Revoke core.number (causes.Preempt t) ∷ []) (tt, tt) (tt, tt)
 
 grant_none : (s : Setting) (acts : List Action) (t : ℕ) → Every FreesNone (grant_at s acts t)
 grant_none s acts t =
     let x = so_far s acts in
     every_if FreesNone (is_congested s t && may_book s x t) (grant_of s t (thread_choice s x t) (choice_of s acts t)) [] (chosen_none s t (thread_choice s x t) (choice_of s acts t)) tt
 
-critical_none : (s : Setting) (acts : List Action) → Every FreesNone (critical_grants s acts)
-critical_none s acts = every_in_turn FreesNone (grant_critical_at s) acts (length s.table.tasks) (λ now t.
+critical_none : (s : Setting) (acts : List Action) → Every FreesNone (grants_of_kind kinds.LatencyCritical s acts)
+critical_none s acts = every_in_turn FreesNone (grant_of_kind_at kinds.LatencyCritical s) acts (length s.table.tasks) (λ now t.
     every_if FreesNone (is_latency_critical s.table t) (grant_at s now t) [] (grant_none s now t) tt)
 
-best_effort_none : (s : Setting) (acts : List Action) → Every FreesNone (best_effort_grants s acts)
-best_effort_none s acts = every_in_turn FreesNone (grant_best_effort_at s) acts (length s.table.tasks) (λ now t.
+best_effort_none : (s : Setting) (acts : List Action) → Every FreesNone (grants_of_kind kinds.BestEffort s acts)
+best_effort_none s acts = every_in_turn FreesNone (grant_of_kind_at kinds.BestEffort s) acts (length s.table.tasks) (λ now t.
     every_if FreesNone (is_latency_critical s.table t) [] (grant_at s now t) tt (grant_none s now t))
 
 -- a pass frees cores first

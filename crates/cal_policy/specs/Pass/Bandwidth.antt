@@ -40,7 +40,7 @@ victim_rank s x t = if not (is_latency_critical s.table t) && is_some (core_to_l
     then Some (task_misses s t) else None
 
 -- the victim: the task with the most misses, of those with as many the one with the least number
-abbrev pub victim_of : Setting → List Action → Option Candidate
+abbrev pub victim_of : Setting → List Action → Option (Candidate ℕ)
 victim_of s x = best_below (λ rank best. nat_lt best rank) (victim_rank s x) (length s.table.tasks)
 
 -- the victim's cap is one below what it holds, and its highest core is revoked
@@ -48,7 +48,7 @@ abbrev pub cut_at : Setting → List Action → ℕ → Option ℕ → List Acti
 cut_at s x t None = []
 cut_at s x t (Some core) = Cap t (held_by s.table x t - 1) ∷ Revoke core causes.Bandwidth ∷ []
 
-abbrev pub cut_of : Setting → List Action → Option Candidate → List Action
+abbrev pub cut_of : Setting → List Action → Option (Candidate ℕ) → List Action
 cut_of s x None = []
 cut_of s x (Some victim) = cut_at s x victim.number (core_to_lose s x victim.number)
 

@@ -34,7 +34,8 @@ lowest_below p zero = None
 lowest_below p (suc n) = first_or (lowest_below p n) (p n) n
 
 -- the one so far, unless the next beats it
-abbrev pub better : (ℕ → ℕ → Bool) → Option Candidate → Option ℕ → ℕ → Option Candidate
+abbrev pub better : {R : Type 0} → (R → R → Bool) → Option (Candidate R) → Option R → ℕ →
+    Option (Candidate R)
 better beats best None n = best
 better beats None (Some rank) n = Some (record { rank = rank; number = n })
 better beats (Some best) (Some rank) n =
@@ -42,15 +43,15 @@ better beats (Some best) (Some rank) n =
 
 -- of the numbers below n that have a rank, the one whose rank no other beats, and of those with
 -- that rank the least
-abbrev pub best_below : (ℕ → ℕ → Bool) → (ℕ → Option ℕ) → ℕ → Option Candidate
+abbrev pub best_below : {R : Type 0} → (R → R → Bool) → (ℕ → Option R) → ℕ → Option (Candidate R)
 best_below beats rank zero = None
 best_below beats rank (suc n) = better beats (best_below beats rank n) (rank n) n
 
 -- what the best is: it has that rank, no other's rank beats it, and it beats that of each lesser
 -- number
-pub record IsBest (beats : ℕ → ℕ → Bool) (rank : ℕ → Option ℕ) (n : ℕ)
-    (best : Candidate) : Type 0 where
+pub record IsBest {R : Type 0} (beats : R → R → Bool) (rank : ℕ → Option R) (n : ℕ)
+    (best : Candidate R) : Type 0 where
   pub below : best.number < n
   pub ranked : rank best.number ≡ Some best.rank
-  pub unbeaten : (k r : ℕ) → k < n → rank k ≡ Some r → beats r best.rank ≡ false
-  pub first : (k r : ℕ) → k < best.number → rank k ≡ Some r → beats best.rank r ≡ true
+  pub unbeaten : (k : ℕ) (r : R) → k < n → rank k ≡ Some r → beats r best.rank ≡ false
+  pub first : (k : ℕ) (r : R) → k < best.number → rank k ≡ Some r → beats best.rank r ≡ true

@@ -5,6 +5,8 @@ use Rattle.std.specs.Prelude.{ℕ, ◌-◌, ◌==◌, ◌&&◌, ◌||◌, Bool, 
 use Rattle.std.specs.Prelude.{List, [], ◌∷◌, length, Option, Some, None, if◌then◌else◌}
 use Rattle.std.specs.Option.{is_some}
 use Rattle.cal_signal.specs.declared.record.Record.{Record}
+use Rattle.cal_machine.specs.declared.task.Kind.{Kind}
+use Rattle.cal_machine.specs.declared.task.Kind.TheVariants as kinds
 use Rattle.cal_machine.specs.Table.{Table}
 use Rattle.cal_machine.specs.TableTasks.{owner_of, thread_of, limit_of, guaranteed_of}
 use Rattle.cal_machine.specs.TableTasks.{delay_of, is_latency_critical}
@@ -15,6 +17,9 @@ use Rattle.cal_policy.specs.declared.history.action.Cause.TheVariants as causes
 use Rattle.cal_policy.specs.declared.board.holders.Holder.{Holder}
 use Rattle.cal_policy.specs.declared.board.holders.Holder.TheVariants as holders
 use Rattle.cal_policy.specs.declared.pass.choice.Candidate.{Candidate}
+use Rattle.cal_policy.specs.declared.history.core_class.CoreClass.{CoreClass}
+use Rattle.cal_policy.specs.declared.history.core_class.CoreClass.TheVariants as classes
+use Rattle.cal_policy.specs.History.CoreClasses.{class_number, is_idle, comes_before}
 use Rattle.cal_policy.specs.Pass.Choice.{count_below, greatest_below, best_below}
 use Rattle.cal_policy.specs.History.Lists.{in_turn}
 use Rattle.cal_policy.specs.History.{holder_of, last_thread, is_banned}
@@ -58,7 +63,7 @@ thread_rank s x k = if (cores_of_thread s.table x k == 0) && has_room s k
 
 -- the thread of task t with the greatest delay, of those with as great a one the first; counted
 -- from the task's first
-abbrev pub thread_choice : Setting → List Action → ℕ → Option Candidate
+abbrev pub thread_choice : Setting → List Action → ℕ → Option (Candidate ℕ)
 thread_choice s x t = best_below (λ rank best. nat_lt best rank)
     (λ j. thread_rank s x (thread_of s.table t j)) (limit_of s.table t)
 
@@ -83,22 +88,25 @@ abbrev pub is_thread_for : Table → ℕ → Option ℕ → Bool
 is_thread_for table t None = false
 is_thread_for table t (Some thread) = owner_of table thread == t
 
--- the class of a core that is free and not banned: 1 beside a core held by a thread of t, 2 last
--- granted to a thread of t, else 3
-abbrev pub idle_class : Table → ℕ → Holder → Option ℕ → ℕ
+-- the class of a core that is free and not banned: Sibling beside a core held by a thread of t,
+-- RecentlyUsed where the last grant went to a thread of t, else OtherIdle
+abbrev pub idle_class : Table → ℕ → Holder → Option ℕ → CoreClass
 idle_class table t beside last =
-    if is_held_for table t beside then 1 else if is_thread_for table t last then 2 else 3
+    if is_held_for table t beside then classes.Sibling
+    else if is_thread_for table t last then classes.RecentlyUsed else classes.OtherIdle
 
--- the class of a core that another task holds, as far as that task goes: 4 of a best-effort task; 5
--- of a latency-critical one that is over, where t has booked less than it is guaranteed
-abbrev pub burst_class : Table → List Action → ℕ → ℕ → Option ℕ
-burst_class table x t other =
-    if not (is_latency_critical table other) then Some 4
+-- the class of a core that another task holds, as far as that task goes: BestEffortBurstable of a
+-- best-effort task; LatencyCriticalBurstable of a latency-critical one that is over, where t has
+-- booked less than it is guaranteed
+abbrev pub preempt_class : Table → List Action → ℕ → ℕ → Option CoreClass
+preempt_class table x t other =
+    if not (is_latency_critical table other) then Some classes.BestEffortBurstable
     else if nat_lt (booked_by table x t)
-    (guaranteed_of table t) && not (other == t) && is_over table x other then Some 5
+    (guaranteed_of table t) && not (other == t) && is_over table x other
+    then Some classes.LatencyCriticalBurstable
     else None
 
--- a held core may be revoked for task t: t is latency-critical, the holder's ring has room, the
+-- a held core may be preempted for task t: t is latency-critical, the holder's ring has room, the
 -- core was not granted in this pass, and no core is being left for t
 abbrev pub may_preempt : Setting → List Action → ℕ → ℕ → Holder → Bool
 may_preempt s acts t c holder =
@@ -106,31 +114,32 @@ may_preempt s acts t c holder =
     && none_leaves_for s (so_far s acts) t
 
 -- the class of a core by its holder
-abbrev pub class_by : Setting → List Action → ℕ → ℕ → Holder → Option ℕ
+abbrev pub class_by : Setting → List Action → ℕ → ℕ → Holder → Option CoreClass
 class_by s acts t c holders.Free =
     if is_banned (so_far s acts) c then None
     else Some (idle_class s.table t (holder_of (so_far s acts) (sibling_of c))
     (last_thread (so_far s acts) c))
 class_by s acts t c (holders.Held placement) =
     if may_preempt s acts t c (holders.Held placement)
-    then burst_class s.table (so_far s acts) t (owner_of s.table placement.thread) else None
+    then preempt_class s.table (so_far s acts) t (owner_of s.table placement.thread) else None
 class_by s acts t c (holders.Leaving placement cause) = None
 
 -- the class of core c for task t: the first that applies, if any
-abbrev pub class_of : Setting → List Action → ℕ → ℕ → Option ℕ
+abbrev pub class_of : Setting → List Action → ℕ → ℕ → Option CoreClass
 class_of s acts t c = class_by s acts t c (holder_of (so_far s acts) c)
 
 -- the choice for task t: the core of the least class, of those with that class the lowest
-abbrev pub choice_of : Setting → List Action → ℕ → Option Candidate
-choice_of s acts t = best_below nat_lt (class_of s acts t) s.table.cores
+abbrev pub choice_of : Setting → List Action → ℕ → Option (Candidate CoreClass)
+choice_of s acts t = best_below comes_before (class_of s acts t) s.table.cores
 
--- what was chosen: of class 1 to 3 a grant, else a revocation
-abbrev pub grant_of : Setting → ℕ → Option Candidate → Option Candidate → List Action
+-- what was chosen: an idle core is granted, another revoked
+abbrev pub grant_of : Setting → ℕ → Option (Candidate ℕ) → Option (Candidate CoreClass) →
+    List Action
 grant_of s t None core = []
 grant_of s t (Some thread) None = []
 grant_of s t (Some thread) (Some core) =
-    if nat_lt core.rank 4
-    then Grant core.number (thread_of s.table t thread.number) core.rank ∷ []
+    if is_idle core.rank
+    then Grant core.number (thread_of s.table t thread.number) (class_number core.rank) ∷ []
     else Revoke core.number (causes.Preempt t) ∷ []
 
 -- a congested task that may book one more core gets what is chosen for it
@@ -140,21 +149,22 @@ grant_at s acts t =
     then grant_of s t (thread_choice s (so_far s acts) t) (choice_of s acts t)
     else []
 
--- the same, of a latency-critical task alone, or of a best-effort one alone
-abbrev pub grant_critical_at : Setting → List Action → ℕ → List Action
-grant_critical_at s acts t = if is_latency_critical s.table t then grant_at s acts t else []
+-- the same, of a task of this kind alone
+abbrev pub grant_of_kind_at : Kind → Setting → List Action → ℕ → List Action
+grant_of_kind_at kinds.LatencyCritical s acts t =
+    if is_latency_critical s.table t then grant_at s acts t else []
+grant_of_kind_at kinds.BestEffort s acts t =
+    if is_latency_critical s.table t then [] else grant_at s acts t
 
-abbrev pub grant_best_effort_at : Setting → List Action → ℕ → List Action
-grant_best_effort_at s acts t = if is_latency_critical s.table t then [] else grant_at s acts t
+-- the tasks of this kind by number
+abbrev pub grants_of_kind : Kind → Setting → List Action → List Action
+grants_of_kind kind s acts = in_turn (grant_of_kind_at kind s) acts (length s.table.tasks)
 
--- the latency-critical tasks by number
-abbrev pub critical_grants : Setting → List Action → List Action
-critical_grants s acts = in_turn (grant_critical_at s) acts (length s.table.tasks)
+-- task t is of this kind
+abbrev pub is_of_kind : Kind → Table → ℕ → Bool
+is_of_kind kinds.LatencyCritical table t = is_latency_critical table t
+is_of_kind kinds.BestEffort table t = not (is_latency_critical table t)
 
--- the best-effort tasks by number
-abbrev pub best_effort_grants : Setting → List Action → List Action
-best_effort_grants s acts = in_turn (grant_best_effort_at s) acts (length s.table.tasks)
-
--- how many best-effort tasks there are: so many actions their grants have at most
-abbrev pub best_effort_tasks : Table → ℕ
-best_effort_tasks table = count_below (λ t. not (is_latency_critical table t)) (length table.tasks)
+-- how many tasks of this kind there are: so many actions their grants have at most
+abbrev pub tasks_of_kind : Kind → Table → ℕ
+tasks_of_kind kind table = count_below (is_of_kind kind table) (length table.tasks)

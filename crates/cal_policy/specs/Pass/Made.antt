@@ -10,6 +10,8 @@ use Rattle.cal_policy.specs.declared.history.action.Action.TheVariants.{Revoke, 
 use Rattle.cal_policy.specs.declared.history.action.Cause.TheVariants as causes
 use Rattle.cal_policy.specs.declared.board.bans.BannedFor.{BannedFor}
 use Rattle.cal_policy.specs.declared.pass.choice.Candidate.{Candidate}
+use Rattle.cal_policy.specs.declared.history.core_class.CoreClass.{CoreClass}
+use Rattle.cal_policy.specs.History.CoreClasses.{class_number, is_idle}
 use Rattle.cal_policy.specs.History.{holder_of, ban_of}
 use Rattle.cal_policy.specs.Board.Counts.{is_held, held_by, cap_of}
 use Rattle.cal_policy.specs.Pass.Choice.{lowest_below}
@@ -41,7 +43,7 @@ pub record IsBanDue (s : Setting) (acts : List Action) (c thread : ℕ) : Type 0
   pub due : ban_due s (so_far s acts) c ≡ Some thread
 
 -- the bandwidth is over the limit, the task is the victim, and this is the core that it loses
-pub record IsCut (s : Setting) (acts : List Action) (victim : Candidate) (core : ℕ) : Type 0 where
+pub record IsCut (s : Setting) (acts : List Action) (victim : Candidate ℕ) (core : ℕ) : Type 0 where
   pub over : nat_lt s.table.bandwidth_limit s.input.bandwidth ≡ true
   pub greatest : victim_of s (so_far s acts) ≡ Some victim
   pub highest : core_to_lose s (so_far s acts) victim.number ≡ Some core
@@ -54,7 +56,7 @@ pub record IsRaised (s : Setting) (acts : List Action) (t : ℕ) : Type 0 where
 -- the task is congested, may book one more core, and these are the thread and the core that were
 -- chosen for it
 pub record IsChosen (s : Setting) (acts : List Action) (t : ℕ)
-    (thread core : Candidate) : Type 0 where
+    (thread : Candidate ℕ) (core : Candidate CoreClass) : Type 0 where
   pub task : t < length s.table.tasks
   pub congested : is_congested s t ≡ true
   pub room : may_book s (so_far s acts) t ≡ true
@@ -81,22 +83,22 @@ pub record IsRevokedForBan (s : Setting) (acts : List Action) (core by : ℕ) : 
 -- the action just before is the cap of the victim, which loses this core
 pub record IsRevokedForBandwidth (s : Setting) (acts : List Action) (core : ℕ) : Type 0 where
   pub earlier : List Action
-  pub victim : Candidate
+  pub victim : Candidate ℕ
   pub just_before : acts ≡ earlier
       ++ Cap victim.number (held_by s.table (so_far s earlier) victim.number - 1) ∷ []
   pub cut : IsCut s earlier victim core
 
--- the core was chosen for task t in a class that is revoked, 4 or 5
+-- the core was chosen for task t in a class that is revoked: a core that is not idle
 pub record IsPreempted (s : Setting) (acts : List Action) (core t : ℕ) : Type 0 where
-  pub thread : Candidate
-  pub choice : Candidate
+  pub thread : Candidate ℕ
+  pub choice : Candidate CoreClass
   pub number : core ≡ choice.number
-  pub class : nat_lt choice.rank 4 ≡ false
+  pub class : is_idle choice.rank ≡ false
   pub chosen : IsChosen s acts t thread choice
 
 -- the cap is the victim's, one below what it holds
 pub record IsCapCut (s : Setting) (acts : List Action) (t cap : ℕ) : Type 0 where
-  pub victim : Candidate
+  pub victim : Candidate ℕ
   pub core : ℕ
   pub number : t ≡ victim.number
   pub below : cap ≡ held_by s.table (so_far s acts) victim.number - 1
@@ -107,16 +109,16 @@ pub record IsCapRise (s : Setting) (acts : List Action) (t cap : ℕ) : Type 0 w
   pub above : cap ≡ cap_of s.table (so_far s acts) t + 1
   pub raised : IsRaised s acts t
 
--- the core was chosen for a task in a class that is granted, 1 to 3, and the thread is the one that
--- was chosen
+-- the core was chosen for a task in a class that is granted: an idle core; and the thread is the
+-- one that was chosen
 pub record IsGranted (s : Setting) (acts : List Action) (core thread class : ℕ) : Type 0 where
   pub task : ℕ
-  pub chosen_thread : Candidate
-  pub choice : Candidate
+  pub chosen_thread : Candidate ℕ
+  pub choice : Candidate CoreClass
   pub core_chosen : core ≡ choice.number
   pub thread_chosen : thread ≡ thread_of s.table task chosen_thread.number
-  pub class_chosen : class ≡ choice.rank
-  pub granted : nat_lt choice.rank 4 ≡ true
+  pub class_chosen : class ≡ class_number choice.rank
+  pub granted : is_idle choice.rank ≡ true
   pub chosen : IsChosen s acts task chosen_thread choice
 
 -- the action is one that a pass makes at this place, after the actions acts of it

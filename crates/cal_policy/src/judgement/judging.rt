@@ -161,7 +161,7 @@ fn is_as_judged(board: &Board, cores: u8, k: usize, look: Seen) -> bool
 }
 
 /// Whether each look says what is judged of it.
-fn each_as_judged(board: &Board, cores: u8, seen: &[Seen]) -> bool
+pub fn each_as_judged(board: &Board, cores: u8, seen: &[Seen]) -> bool
     requires cores { cores ≤ MOST_CORES }
     requires looks { length seen.now ≤ MOST_THREADS }
     ensures { (x : List Action) → Agrees board.now x →
@@ -174,19 +174,6 @@ fn each_as_judged(board: &Board, cores: u8, seen: &[Seen]) -> bool
         }
     }
     true
-}
-
-/// Whether an input is one that a pass may be given.
-pub fn fits(board: &Board, config: &Config, input: &Input) -> bool
-    ensures fits { (h : List PassEntry) → Agrees board.now (actions_of h) →
-        KeepingAgrees board.now.keeping (looks_of h) →
-        IsTrue result ↔ IsInput config.now h input.entry.now }
-    ensures sizes { IsTrue result → HasSizes config.now input.entry.now }
-{
-    if !looks_fit(&board.keeping, config, input) {
-        return false;
-    }
-    each_as_judged(board, config.machine().cores(), input.seen.as_slice())
 }
 
 /// The judgement of a look at thread `k` after a history: a whole record that acknowledges more
@@ -209,5 +196,5 @@ pub fn is_input(config: &Config, history: &[PassEntry], input: &Input) -> bool
     ensures { IsTrue result ↔ IsInput config.now history.now input.entry.now }
 {
     let board = board_of(config, history);
-    fits(&board, config, input)
+    board.fits(config, input)
 }

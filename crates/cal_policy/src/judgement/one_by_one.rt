@@ -1,19 +1,10 @@
 //! Looks taken one by one: why a look is refused, and what is taken in its place.
 
-ghost use Rattle.std.specs.Prelude.{◌≡◌, ◌<◌, ◌≤◌, List, if◌then◌else◌};
+ghost use Rattle.std.specs.Prelude.{◌≡◌, if◌then◌else◌};
 ghost use Rattle.std.specs.Option.{is_some};
-ghost use Rattle.cal_machine.specs.declared.machine.TheConstants.{MOST_CORES};
-ghost use Rattle.cal_machine.specs.declared.numbering.TheConstants.{MOST_THREADS};
-ghost use Rattle.cal_policy.specs.declared.history.entry.PassEntry.{PassEntry};
-ghost use Rattle.cal_policy.specs.declared.history.look.Seen.{Seen};
-ghost use Rattle.cal_policy.specs.Board.{Agrees, KeepingAgrees};
-ghost use Rattle.cal_policy.specs.History.{actions_of, looks_of};
-ghost use Rattle.cal_policy.specs.History.Looks.{last_shown};
 ghost use Rattle.cal_policy.specs.Judgement.OneByOne as rules;
 
-use crate::board::Board;
 use crate::history::look::Seen;
-use crate::judgement::judging::judged_by;
 use crate::judgement::look_fault::LookFault;
 use crate::judgement::open_input::FoundLook;
 use cal_signal::{Look, Record, Shown, is_busy_pair, may_follow, shaped};
@@ -39,7 +30,7 @@ fn misfit_of_record(last: &Shown, number: u64, rec: Record) -> Option<LookFault>
 }
 
 /// Why a look does not fit what its thread showed last.
-fn misfit_of(last: &Shown, look: Look) -> Option<LookFault>
+pub fn misfit_of(last: &Shown, look: Look) -> Option<LookFault>
     ensures { result ≡ rules.misfit_of last.now look }
 {
     match look {
@@ -55,35 +46,13 @@ fn misfit_of(last: &Shown, look: Look) -> Option<LookFault>
 }
 
 /// Why a judged look is not kept, if that is its thread's doing.
-fn fault_judged(seen: Seen) -> Option<LookFault>
+pub fn fault_judged(seen: Seen) -> Option<LookFault>
     ensures { result ≡ rules.fault_judged seen }
 {
     match seen {
         Seen::Whole { .. } | Seen::Busy { .. } => None,
         Seen::Ahead { .. } => Some(LookFault::Ahead),
         Seen::Foreign { .. } => Some(LookFault::Foreign),
-    }
-}
-
-/// Why a look at thread `k` does not fit what was shown of the thread before.
-pub fn misfit_by(board: &Board, k: usize, look: Look) -> Option<LookFault>
-    requires { k < MOST_THREADS }
-    ensures { (looks : List (List Seen)) → KeepingAgrees board.now.keeping looks →
-        result ≡ rules.misfit_of (last_shown looks k) look }
-{
-    misfit_of(&board.keeping.shown[k], look)
-}
-
-/// Why a look at thread `k` is refused.
-pub fn fault_by(board: &Board, cores: u8, k: usize, look: Look) -> Option<LookFault>
-    requires cores { cores ≤ MOST_CORES }
-    requires thread { k < MOST_THREADS }
-    ensures { (h : List PassEntry) → Agrees board.now (actions_of h) →
-        KeepingAgrees board.now.keeping (looks_of h) → result ≡ rules.fault_of cores h k look }
-{
-    match misfit_by(board, k, look) {
-        Some(fault) => Some(fault),
-        None => fault_judged(judged_by(board, cores, k, look)),
     }
 }
 

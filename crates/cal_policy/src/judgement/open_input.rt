@@ -5,11 +5,10 @@ ghost use Rattle.cal_machine.specs.Table.{Table};
 ghost use Rattle.cal_machine.specs.TableTasks.{threads_of_table};
 ghost use Rattle.cal_policy.specs.declared.history.entry.PassEntry.{PassEntry};
 ghost use Rattle.cal_policy.specs.declared.judgement.open_input.FoundLook.{FoundLook};
-ghost use Rattle.cal_policy.specs.Board.{HasSizes};
-ghost use Rattle.cal_policy.specs.Book.{AgreesWith};
+ghost use Rattle.cal_policy.specs.Board.{HasSizes, IsStateAfter};
 ghost use Rattle.cal_policy.specs.Judgement.OpenInput.{judged_input, IsOfFound};
 
-use crate::book::Book;
+use crate::board::Board;
 use crate::history::input::{Input, Rooms};
 use crate::history::look::{Seen, SeenList};
 use cal_machine::Config;
@@ -97,18 +96,18 @@ impl OpenInput {
         })
     }
 
-    /// Takes what was found of the next thread, with the look as the book judges it. It takes no
+    /// Takes what was found of the next thread, with the look as the state judges it. It takes no
     /// memory.
-    pub fn look(&mut self, config: &Config, book: &Book, found: FoundLook)
+    pub fn look(&mut self, config: &Config, board: &Board, found: FoundLook)
         requires table { self.old.threads ≡ threads_of_table config.now }
         requires next { length self.old.seen < self.old.threads }
         ensures threads { self.new.threads ≡ self.old.threads }
         ensures one { length self.new.seen ≡ length self.old.seen + 1 }
-        ensures found { (h : List PassEntry) (looks : List FoundLook) → AgreesWith book.now h →
+        ensures found { (h : List PassEntry) (looks : List FoundLook) → IsStateAfter board.now h →
             IsOfFound config.now h looks self.old →
             IsOfFound config.now h (looks ++ found ∷ []) self.new }
     {
-        let seen = book.judge(config, self.seen.len(), found.look);
+        let seen = board.judge(config, self.seen.len(), found.look);
         self.seen.push_reserved(seen);
         self.rooms.push_reserved(found.room);
     }

@@ -1,66 +1,27 @@
 //! Whether each action of a history fits the state before it.
 
-ghost use Rattle.std.specs.Prelude.{◌≡◌, ◌<◌, ◌==◌, ◌&&◌, not, ◌++◌};
+ghost use Rattle.std.specs.Prelude.{◌≡◌, ◌<◌, ◌&&◌, not, ◌++◌};
 ghost use Rattle.std.specs.Prelude.{◌∷◌, [], ◌↔◌, List, IsTrue};
 ghost use Rattle.cal_machine.specs.Machine.{sibling_of};
-ghost use Rattle.cal_machine.specs.declared.machine.TheConstants.{MOST_CORES};
 ghost use Rattle.cal_machine.specs.declared.task_table.TheConstants.{MOST_TASKS};
 ghost use Rattle.cal_policy.specs.declared.history.action.Action.{Action};
 ghost use Rattle.cal_policy.specs.declared.history.action.Action.TheVariants.{Free, Unban, Ban};
 ghost use Rattle.cal_policy.specs.declared.history.action.Action.TheVariants.{Revoke, Cap, Grant};
 ghost use Rattle.cal_policy.specs.declared.history.entry.PassEntry.{PassEntry};
-ghost use Rattle.cal_policy.specs.History.{actions_of, looks_of, holder_of};
+ghost use Rattle.cal_policy.specs.History.{actions_of, looks_of};
 ghost use Rattle.cal_policy.specs.History as history;
-ghost use Rattle.cal_policy.specs.Board.Counts as counts;
-ghost use Rattle.cal_policy.specs.Board.Counts.{cores_of_thread};
 ghost use Rattle.cal_policy.specs.Judgement.Orderly as order;
 ghost use Rattle.cal_policy.specs.Judgement.Orderly.{fits_state, FitInTurn, IsOrderlyEntry};
 ghost use Rattle.cal_policy.specs.Judgement.Orderly.{IsOrderly};
 ghost use Rattle.cal_policy.specs.Board.{Agrees, KeepingAgrees, IsReady, NamesTable};
 
 use crate::board::Board;
+use crate::board::cores::{has_no_core, is_banned, is_free, is_held};
 use crate::board::replay::step;
 use crate::history::action::{Action, Cause};
 use crate::history::entry::PassEntry;
 use crate::judgement::judging::looks_fit;
 use cal_machine::Config;
-
-/// Whether a core is free.
-fn is_free(board: &Board, core: u8) -> bool
-    requires { core < MOST_CORES }
-    ensures { (x : List Action) → Agrees board.now x → result ≡ counts.is_free (holder_of x core) }
-{
-    board.holding.holders[core as usize].is_free()
-}
-
-/// Whether a core is held.
-pub fn is_held(board: &Board, core: u8) -> bool
-    requires { core < MOST_CORES }
-    ensures { (x : List Action) → Agrees board.now x → result ≡ counts.is_held (holder_of x core) }
-{
-    board.holding.holders[core as usize].is_held()
-}
-
-/// Whether a core is banned.
-pub fn is_banned(board: &Board, core: u8) -> bool
-    requires { core < MOST_CORES }
-    ensures { (x : List Action) → Agrees board.now x → result ≡ history.is_banned x core }
-{
-    board.bans.bans[core as usize].is_some()
-}
-
-/// Whether thread `k` holds and leaves no core.
-fn has_no_core(config: &Config, board: &Board, k: u8) -> bool
-    ensures { (x : List Action) → Agrees board.now x →
-        result ≡ (cores_of_thread config.now x k == 0) }
-{
-    for core in 0..config.machine().cores() {
-        if board.holding.holders[core as usize].is_with(k) {
-            return false;
-        }
-    }
-    true
-}
 
 /// Whether a cause names a core or task of the table.
 fn names_table(config: &Config, cause: Cause) -> bool

@@ -137,7 +137,7 @@ impl Pass<'_> {
     }
 
     /// The task with the most misses, of those with as many the one with the least number.
-    fn victim(&self, highest: &[Option<u8>; MOST_TASKS]) -> Option<Candidate>
+    fn victim(&self, highest: &[Option<u8>; MOST_TASKS]) -> Option<Candidate<u128>>
         requires at_hand { IsAtHand self.now }
         ensures victim { (h : List PassEntry) (acts : List Action) → StandsIn self.now h acts →
             let s = setting_in self.now h in
@@ -147,7 +147,7 @@ impl Pass<'_> {
         ensures task { IfSome result (λ best.
             best.number < length self.now.config.now.tasks) }
     {
-        let mut best: Option<Candidate> = None;
+        let mut best: Option<Candidate<u128>> = None;
         for t in 0..self.config.tasks() {
             let rank = self.victim_rank(highest, t);
             best = greater(best, rank, t as u8);

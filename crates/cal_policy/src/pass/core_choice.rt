@@ -1,6 +1,6 @@
 //! Which core a task is to have.
 
-ghost use Rattle.std.specs.Prelude.{◌≡◌, ◌<◌, ◌≤◌, ◌&&◌, not, nat_lt, ℕ, false};
+ghost use Rattle.std.specs.Prelude.{◌≡◌, ◌<◌, ◌&&◌, not, nat_lt, ℕ, false};
 ghost use Rattle.std.specs.Prelude.{List, length, Option, Some, None, if◌then◌else◌};
 ghost use Rattle.std.specs.Option.{IfSome, is_some, option_map};
 ghost use Rattle.cal_machine.specs.Machine.{sibling_of};
@@ -8,6 +8,7 @@ ghost use Rattle.cal_policy.specs.declared.history.action.Action.{Action};
 ghost use Rattle.cal_policy.specs.declared.history.entry.PassEntry.{PassEntry};
 ghost use Rattle.cal_machine.specs.TableTasks as tasks;
 ghost use Rattle.cal_machine.specs.TableTasks.{threads_of_table};
+ghost use Rattle.cal_policy.specs.History.CoreClasses.{comes_before};
 ghost use Rattle.cal_policy.specs.Setting.{so_far, has_room};
 ghost use Rattle.cal_policy.specs.History.{holder_of, last_thread, is_banned};
 ghost use Rattle.cal_policy.specs.Pass.Grants as grants;
@@ -22,39 +23,40 @@ use crate::board::core_sets::next_core;
 use crate::board::counts::holds_for;
 use crate::board::holders::{Holder, Placement};
 use crate::board::survey::survey_of;
+use crate::history::core_class::CoreClass;
 use crate::pass::Pass;
-use crate::pass::choice::{Candidate, lesser};
+use crate::pass::choice::{Candidate, first_class};
 use cal_machine::{Config, CoreSet};
 
-/// The class of a core that is free and not banned: 1 beside a core that the task holds, 2 last
-/// granted to the task, else 3.
-fn idle_class(config: &Config, task: usize, beside: Holder, last: Option<Placement>) -> u128
+/// The class of a core that is free and not banned: `Sibling` beside a core that the task holds,
+/// `RecentlyUsed` where it was last granted to the task, else `OtherIdle`.
+fn idle_class(config: &Config, task: usize, beside: Holder, last: Option<Placement>) -> CoreClass
     requires beside { IfSome (placement_of beside)
         (λ placement. placement.thread < threads_of_table config.now) }
     requires last { IfSome last (λ placement. placement.thread < threads_of_table config.now) }
-    ensures class { result ≡ grants.idle_class config.now task beside
+    ensures { result ≡ grants.idle_class config.now task beside
         (option_map (λ placement. placement.thread) last) }
-    ensures few { result ≤ 3 }
 {
     if holds_for(config, task, beside) {
-        return 1;
+        return CoreClass::Sibling;
     }
     match last {
-        Some(placement) if config.task_of(placement.thread as usize) == task => 2,
-        _ => 3,
+        Some(placement) if config.task_of(placement.thread as usize) == task => {
+            CoreClass::RecentlyUsed
+        }
+        _ => CoreClass::OtherIdle,
     }
 }
 
 impl Pass<'_> {
     /// The class of a core that nobody has, unless it is banned.
-    fn free_class(&self, task: usize, core: u8) -> Option<u128>
+    fn free_class(&self, task: usize, core: u8) -> Option<CoreClass>
         requires at_hand { IsAtHand self.now }
         requires core { core < self.now.config.now.cores }
-        ensures class { (x : List Action) → Agrees self.now.board.now x →
+        ensures { (x : List Action) → Agrees self.now.board.now x →
             result ≡ (if is_banned x core then None
             else Some (grants.idle_class self.now.config.now task (holder_of x (sibling_of core))
             (last_thread x core))) }
-        ensures few { IfSome result (λ class. class ≤ 5) }
     {
         match self.board.bans.bans[core as usize] {
             Some(_) => None,
@@ -67,33 +69,32 @@ impl Pass<'_> {
         }
     }
 
-    /// The class of a core that another task holds, as far as that task goes: 4 of a best-effort
-    /// one, 5 of a latency-critical one that is over, where the task has booked less than it is
-    /// guaranteed.
-    fn burst_class(&self, task: usize, other: usize) -> Option<u128>
+    /// The class of a core that another task holds, as far as that task goes: `BestEffortBurstable`
+    /// of a best-effort one, `LatencyCriticalBurstable` of a latency-critical one that is over,
+    /// where the task has booked less than it is guaranteed.
+    fn preempt_class(&self, task: usize, other: usize) -> Option<CoreClass>
         requires at_hand { IsAtHand self.now }
         requires task { task < length self.now.config.now.tasks }
         requires other { other < length self.now.config.now.tasks }
-        ensures class { (x : List Action) → Agrees self.now.board.now x →
-            result ≡ grants.burst_class self.now.config.now x task other }
-        ensures few { IfSome result (λ class. class ≤ 5) }
+        ensures { (x : List Action) → Agrees self.now.board.now x →
+            result ≡ grants.preempt_class self.now.config.now x task other }
     {
         if !self.config.is_latency_critical(other) {
-            return Some(4);
+            return Some(CoreClass::BestEffortBurstable);
         }
         let survey = survey_of(self.config, self.board);
         let is_short = survey.booked[task] < self.config.task(task).guaranteed;
         let is_over = self.config.task(other).guaranteed < survey.held[other];
         if is_short && other != task && is_over {
-            Some(5)
+            Some(CoreClass::LatencyCriticalBurstable)
         } else {
             None
         }
     }
 
-    /// Whether a core may be revoked for the task at all: it is latency-critical, and no core is
+    /// Whether a core may be preempted for the task at all: it is latency-critical, and no core is
     /// being left for it.
-    fn may_have_revoked(&self, task: usize) -> bool
+    fn may_preempt_any(&self, task: usize) -> bool
         requires at_hand { IsAtHand self.now }
         requires task { task < length self.now.config.now.tasks }
         ensures { (h : List PassEntry) (acts : List Action) →
@@ -107,7 +108,7 @@ impl Pass<'_> {
         is_critical && awaits_none
     }
 
-    /// Whether a core that `thread` holds may be revoked for the task: one may be at all, the
+    /// Whether a core that `thread` holds may be preempted for the task: one may be at all, the
     /// thread's ring has room, and the core was not granted in this pass.
     fn may_preempt(&self, task: usize, core: u8, thread: u8) -> bool
         requires at_hand { IsAtHand self.now }
@@ -119,7 +120,7 @@ impl Pass<'_> {
             result ≡ (tasks.is_latency_critical self.now.config.now task && has_room s thread
             && not (is_granted_in acts core) && none_leaves_for s (so_far s acts) task) }
     {
-        if !self.may_have_revoked(task) {
+        if !self.may_preempt_any(task) {
             return false;
         }
         let has_room = self.input.rooms.as_slice()[thread as usize];
@@ -127,21 +128,20 @@ impl Pass<'_> {
     }
 
     /// The class of a core by its holder.
-    fn class_by_holder(&self, task: usize, core: u8, holder: Holder) -> Option<u128>
+    fn class_by_holder(&self, task: usize, core: u8, holder: Holder) -> Option<CoreClass>
         requires at_hand { IsAtHand self.now }
         requires task { task < length self.now.config.now.tasks }
         requires core { core < self.now.config.now.cores }
         requires holder { IfSome (placement_of holder)
             (λ placement. placement.thread < threads_of_table self.now.config.now) }
-        ensures class { (h : List PassEntry) (acts : List Action) → StandsIn self.now h acts →
+        ensures { (h : List PassEntry) (acts : List Action) → StandsIn self.now h acts →
             result ≡ class_by (setting_in self.now h) acts task core holder }
-        ensures few { IfSome result (λ class. class ≤ 5) }
     {
         match holder {
             Holder::Free => self.free_class(task, core),
             Holder::Held(placement) => {
                 if self.may_preempt(task, core, placement.thread) {
-                    self.burst_class(task, self.config.task_of(placement.thread as usize))
+                    self.preempt_class(task, self.config.task_of(placement.thread as usize))
                 } else {
                     None
                 }
@@ -152,51 +152,50 @@ impl Pass<'_> {
 
     /// The core of the least class for the task among those of a set, of those with that class the
     /// lowest.
-    fn choose_among(&self, task: usize, cores: &CoreSet) -> Option<Candidate>
+    fn choose_among(&self, task: usize, cores: &CoreSet) -> Option<Candidate<CoreClass>>
         requires at_hand { IsAtHand self.now }
         requires task { task < length self.now.config.now.tasks }
         ensures choice { (h : List PassEntry) (acts : List Action) → StandsIn self.now h acts →
-            result ≡ best_below nat_lt (class_among cores.now (setting_in self.now h) acts task)
-            self.now.config.now.cores }
-        ensures below { IfSome result (λ best.
-            (best.number < self.now.config.now.cores) × (best.rank < 256)) }
+            result ≡ best_below comes_before
+            (class_among cores.now (setting_in self.now h) acts task) self.now.config.now.cores }
+        ensures below { IfSome result (λ best. best.number < self.now.config.now.cores) }
     {
-        let mut best: Option<Candidate> = None;
+        let mut best: Option<Candidate<CoreClass>> = None;
         let mut first = 0;
         while let Some(core) = next_core(self.config, cores, first) {
             let holder = self.board.holding.holders[core as usize];
             let class = self.class_by_holder(task, core, holder);
-            best = lesser(best, class, core);
+            best = first_class(best, class, core);
             first = core + 1;
         }
         best
     }
 
-    /// Whether the other task may lose a core to this one: it holds one, and what it holds has a
-    /// class for this one.
-    fn may_lose(&self, task: usize, other: usize) -> bool
+    /// Whether the other task may be preempted for this one: it holds a core, and what it holds has
+    /// a class for this one.
+    fn may_be_preempted(&self, task: usize, other: usize) -> bool
         requires at_hand { IsAtHand self.now }
         requires task { task < length self.now.config.now.tasks }
         requires other { other < length self.now.config.now.tasks }
         ensures { (x : List Action) → Agrees self.now.board.now x →
             result ≡ (nat_lt 0 (held_by self.now.config.now x other)
-            && is_some (grants.burst_class self.now.config.now x task other)) }
+            && is_some (grants.preempt_class self.now.config.now x task other)) }
     {
-        let class = self.burst_class(task, other);
+        let class = self.preempt_class(task, other);
         survey_of(self.config, self.board).held[other] > 0 && class.is_some()
     }
 
-    /// Whether some task may lose a core to this one.
-    fn some_may_lose(&self, task: usize) -> bool
+    /// Whether some task may be preempted for this one.
+    fn some_may_be_preempted(&self, task: usize) -> bool
         requires at_hand { IsAtHand self.now }
         requires task { task < length self.now.config.now.tasks }
         ensures none { result ≡ false → (x : List Action) → Agrees self.now.board.now x →
             (other : ℕ) → other < length self.now.config.now.tasks →
             (nat_lt 0 (held_by self.now.config.now x other)
-            && is_some (grants.burst_class self.now.config.now x task other)) ≡ false }
+            && is_some (grants.preempt_class self.now.config.now x task other)) ≡ false }
     {
         for other in 0..self.config.tasks() {
-            if self.may_lose(task, other) {
+            if self.may_be_preempted(task, other) {
                 return true;
             }
         }
@@ -205,22 +204,21 @@ impl Pass<'_> {
 
     /// The core of the least class for the task, of those with that class the lowest. A free core
     /// that is not banned is of a lesser class than any that is held, so those that are taken are
-    /// gone over only where there is none, and some task may lose one.
-    pub fn choose_core(&self, task: usize) -> Option<Candidate>
+    /// gone over only where there is none, and some task may be preempted.
+    pub fn choose_core(&self, task: usize) -> Option<Candidate<CoreClass>>
         requires at_hand { IsAtHand self.now }
         requires task { task < length self.now.config.now.tasks }
         ensures choice { (h : List PassEntry) (acts : List Action) → StandsIn self.now h acts →
             result ≡ grants.choice_of (setting_in self.now h) acts task }
-        ensures below { IfSome result (λ best.
-            (best.number < self.now.config.now.cores) × (best.rank < 256)) }
+        ensures below { IfSome result (λ best. best.number < self.now.config.now.cores) }
     {
         if let Some(idle) = self.choose_among(task, &self.board.open_cores.idle) {
             return Some(idle);
         }
-        if !self.may_have_revoked(task) {
+        if !self.may_preempt_any(task) {
             return None;
         }
-        if !self.some_may_lose(task) {
+        if !self.some_may_be_preempted(task) {
             return None;
         }
         self.choose_among(task, &self.board.sets.taken)

@@ -18,9 +18,9 @@ use crate::history::input::Input;
 use crate::pass::bandwidth::keep_bandwidth;
 use crate::pass::bans::ban_siblings;
 use crate::pass::frees::free_left;
-use crate::pass::grants::{best_effort_grants, critical_grants};
+use crate::pass::grants::grants_of_kind;
 use crate::pass::unbans::end_bans;
-use cal_machine::Config;
+use cal_machine::{Config, Kind};
 
 /// Begins a pass with the looks of its input, which fit those before.
 fn begin(board: &mut Board, input: &Input)
@@ -48,8 +48,8 @@ fn make_parts(config: &Config, input: &Input, board: &mut Board, out: &mut Actio
     end_bans(config, input, board, out);
     ban_siblings(config, input, board, out);
     keep_bandwidth(config, input, board, out);
-    critical_grants(config, input, board, out);
-    best_effort_grants(config, input, board, out);
+    grants_of_kind(config, input, board, out, Kind::LatencyCritical);
+    grants_of_kind(config, input, board, out, Kind::BestEffort);
 }
 
 /// Appends the actions of the next pass, on this input, which fits, to an empty list, and brings the

@@ -22,9 +22,9 @@ fn waited(clock: u64, there: bool, came: u64) -> u64
     }
 }
 
-/// The delay that a record shows: that of its oldest queued request or of its suspended one, the
-/// greater.
-fn record_delay(clock: u64, rec: &Record) -> u64
+/// The delay that a record shows by this clock: that of its oldest queued request or of its
+/// suspended one, the greater.
+pub fn record_delay(clock: u64, rec: &Record) -> u64
     ensures { result ≡ grants.record_delay clock rec.now }
 {
     let queued = waited(clock, rec.queued > 0, rec.oldest);

@@ -1,18 +1,16 @@
 //! The last part of a pass: each congested task gets a core, or has one revoked for it.
 
-ghost use Rattle.std.specs.Prelude.{◌≡◌, ◌+◌, ◌<◌, ◌≤◌, ◌++◌, not, List};
+ghost use Rattle.std.specs.Prelude.{◌≡◌, ◌+◌, ◌<◌, ◌≤◌, ◌++◌, List};
 ghost use Rattle.std.specs.Prelude.{length, option_to_list, if◌then◌else◌};
 ghost use Rattle.std.specs.Option.{IfSome};
 ghost use Rattle.cal_policy.specs.declared.history.action_list.TheConstants.{MOST_ACTIONS};
-ghost use Rattle.cal_machine.specs.declared.task_table.TheConstants.{MOST_TASKS};
 ghost use Rattle.cal_policy.specs.declared.history.action.Action.{Action};
 ghost use Rattle.cal_policy.specs.declared.history.entry.PassEntry.{PassEntry};
-ghost use Rattle.cal_machine.specs.TableTasks as tasks;
 ghost use Rattle.cal_machine.specs.TableTasks.{limit_of};
 ghost use Rattle.cal_policy.specs.Setting.{setting, so_far};
 ghost use Rattle.cal_policy.specs.Pass.Grants as rules;
-ghost use Rattle.cal_policy.specs.Pass.Grants.{grant_of, grant_at, grant_critical_at};
-ghost use Rattle.cal_policy.specs.Pass.Grants.{grant_best_effort_at, best_effort_tasks};
+ghost use Rattle.cal_policy.specs.Pass.Grants.{grant_of, grant_at, grant_of_kind_at};
+ghost use Rattle.cal_policy.specs.Pass.Grants.{tasks_of_kind};
 ghost use Rattle.cal_policy.specs.Board.{Stands, IsReady, IsOfTable, NamesTable};
 ghost use Rattle.cal_policy.specs.Pass.AtHand.{IsAtHand, StandsIn, setting_in};
 
@@ -21,11 +19,12 @@ use crate::board::counts::cap_of;
 use crate::board::survey::survey_of;
 use crate::history::action::{Action, Cause};
 use crate::history::action_list::Actions;
+use crate::history::core_class::CoreClass;
 use crate::history::input::Input;
 use crate::pass::Pass;
 use crate::pass::appending::make;
 use crate::pass::choice::Candidate;
-use cal_machine::Config;
+use cal_machine::{Config, Kind};
 
 impl Pass<'_> {
     /// Whether the task may book one more core: it books fewer than its limit and, if it is
@@ -42,20 +41,23 @@ impl Pass<'_> {
         booked < self.config.task(task).limit && below_cap
     }
 
-    /// What was chosen for the task: a core of class 1 to 3 is granted, one of another class is
-    /// revoked for it.
-    fn chosen(&self, task: usize, thread: Candidate, core: Option<Candidate>) -> Option<Action>
+    /// What was chosen for the task: an idle core is granted, another is revoked for it.
+    fn chosen(
+        &self,
+        task: usize,
+        thread: Candidate<u128>,
+        core: Option<Candidate<CoreClass>>,
+    ) -> Option<Action>
         requires at_hand { IsAtHand self.now }
         requires task { task < length self.now.config.now.tasks }
         requires thread { thread.number < limit_of self.now.config.now task }
-        requires core { IfSome core (λ best.
-            (best.number < self.now.config.now.cores) × (best.rank < 256)) }
+        requires core { IfSome core (λ best. best.number < self.now.config.now.cores) }
         ensures chosen { (h : List PassEntry) →
             option_to_list result ≡ grant_of (setting_in self.now h) task (Some thread) core }
         ensures names { IfSome result (NamesTable self.now.config.now) }
     {
         let core = core?;
-        if core.rank >= 4 {
+        if !core.rank.is_idle() {
             let cause = Cause::Preempt { task: task as u8 };
             return Some(Action::Revoke {
                 core: core.number,
@@ -66,7 +68,7 @@ impl Pass<'_> {
         Some(Action::Grant {
             core: core.number,
             thread: first as u8 + thread.number,
-            class: core.rank as u8,
+            class: core.rank.number(),
         })
     }
 
@@ -93,52 +95,39 @@ impl Pass<'_> {
     }
 }
 
-/// Gives a latency-critical task what it gets, and another nothing.
-fn grant_critical(config: &Config, input: &Input, board: &mut Board, out: &mut Actions, task: usize)
-    requires of_table { IsOfTable config.now input.now board.old }
-    requires task { task < length config.now.tasks }
-    requires room { length out.old + (if tasks.is_latency_critical config.now task then 1 else 0)
-        ≤ MOST_ACTIONS }
-    ensures acts { (h : List PassEntry) →
-        Stands board.old (setting config.now h input.entry.now) out.old →
-        (out.new ≡ out.old ++ grant_critical_at (setting config.now h input.entry.now) out.old task)
-        × Stands board.new (setting config.now h input.entry.now) out.new }
-    ensures ready { IsReady config.now board.new }
-    ensures length { length out.new
-        ≤ length out.old + (if tasks.is_latency_critical config.now task then 1 else 0) }
+/// Whether the task is of this kind.
+fn is_of_kind(config: &Config, kind: Kind, task: usize) -> bool
+    requires { task < length config.now.tasks }
+    ensures { result ≡ rules.is_of_kind kind config.now task }
 {
-    if config.is_latency_critical(task) {
-        let pass = Pass {
-            config,
-            input,
-            board,
-        };
-        let action = pass.grant_due(task);
-        make(config, board, out, action);
+    match kind {
+        Kind::LatencyCritical => config.is_latency_critical(task),
+        Kind::BestEffort => !config.is_latency_critical(task),
     }
 }
 
-/// Gives a best-effort task what it gets, and another nothing.
-fn grant_best_effort(
+/// Gives a task of this kind what it gets, and another nothing.
+fn grant_of_kind(
     config: &Config,
     input: &Input,
     board: &mut Board,
     out: &mut Actions,
+    kind: Kind,
     task: usize,
 )
     requires of_table { IsOfTable config.now input.now board.old }
     requires task { task < length config.now.tasks }
-    requires room { length out.old + (if not (tasks.is_latency_critical config.now task) then 1
-        else 0) ≤ MOST_ACTIONS }
+    requires room { length out.old + (if rules.is_of_kind kind config.now task then 1 else 0)
+        ≤ MOST_ACTIONS }
     ensures acts { (h : List PassEntry) →
         Stands board.old (setting config.now h input.entry.now) out.old →
-        (out.new ≡ out.old ++ grant_best_effort_at (setting config.now h input.entry.now) out.old
+        (out.new ≡ out.old ++ grant_of_kind_at kind (setting config.now h input.entry.now) out.old
         task) × Stands board.new (setting config.now h input.entry.now) out.new }
     ensures ready { IsReady config.now board.new }
     ensures length { length out.new
-        ≤ length out.old + (if not (tasks.is_latency_critical config.now task) then 1 else 0) }
+        ≤ length out.old + (if rules.is_of_kind kind config.now task then 1 else 0) }
 {
-    if !config.is_latency_critical(task) {
+    if is_of_kind(config, kind, task) {
         let pass = Pass {
             config,
             input,
@@ -149,35 +138,24 @@ fn grant_best_effort(
     }
 }
 
-/// Gives each latency-critical task, by number, what it gets. Room is left for the best-effort
-/// ones.
-pub fn critical_grants(config: &Config, input: &Input, board: &mut Board, out: &mut Actions)
+/// Gives each task of this kind, by number, what it gets.
+pub fn grants_of_kind(
+    config: &Config,
+    input: &Input,
+    board: &mut Board,
+    out: &mut Actions,
+    kind: Kind,
+)
     requires of_table { IsOfTable config.now input.now board.old }
-    requires room { length out.old + MOST_TASKS ≤ MOST_ACTIONS }
+    requires room { length out.old + tasks_of_kind kind config.now ≤ MOST_ACTIONS }
     ensures acts { (h : List PassEntry) →
         Stands board.old (setting config.now h input.entry.now) out.old →
-        (out.new ≡ out.old ++ rules.critical_grants (setting config.now h input.entry.now) out.old)
-        × Stands board.new (setting config.now h input.entry.now) out.new }
-    ensures ready { IsReady config.now board.new }
-    ensures length { length out.new + best_effort_tasks config.now ≤ length out.old + MOST_TASKS }
-{
-    for task in 0..config.tasks() {
-        grant_critical(config, input, board, out, task);
-    }
-}
-
-/// Gives each best-effort task, by number, what it gets.
-pub fn best_effort_grants(config: &Config, input: &Input, board: &mut Board, out: &mut Actions)
-    requires of_table { IsOfTable config.now input.now board.old }
-    requires room { length out.old + best_effort_tasks config.now ≤ MOST_ACTIONS }
-    ensures acts { (h : List PassEntry) →
-        Stands board.old (setting config.now h input.entry.now) out.old →
-        (out.new ≡ out.old ++ rules.best_effort_grants (setting config.now h input.entry.now)
+        (out.new ≡ out.old ++ rules.grants_of_kind kind (setting config.now h input.entry.now)
         out.old) × Stands board.new (setting config.now h input.entry.now) out.new }
     ensures ready { IsReady config.now board.new }
-    ensures length { length out.new ≤ length out.old + best_effort_tasks config.now }
+    ensures length { length out.new ≤ length out.old + tasks_of_kind kind config.now }
 {
     for task in 0..config.tasks() {
-        grant_best_effort(config, input, board, out, task);
+        grant_of_kind(config, input, board, out, kind, task);
     }
 }

@@ -35,7 +35,7 @@ impl Pass<'_> {
 
     /// The task's thread with the greatest delay, of those that may be granted a core; of those
     /// with as great a delay the first. It is counted from the task's first thread.
-    pub fn choose_thread(&self, task: usize) -> Option<Candidate>
+    pub fn choose_thread(&self, task: usize) -> Option<Candidate<u128>>
         requires at_hand { IsAtHand self.now }
         requires task { task < length self.now.config.now.tasks }
         ensures choice { (h : List PassEntry) (acts : List Action) → StandsIn self.now h acts →
@@ -44,7 +44,7 @@ impl Pass<'_> {
         ensures below { IfSome result (λ best. best.number < limit_of self.now.config.now task) }
     {
         let (first, _) = self.config.threads_of(task);
-        let mut best: Option<Candidate> = None;
+        let mut best: Option<Candidate<u128>> = None;
         for j in 0..self.config.task(task).limit {
             let rank = self.thread_rank(first + j as usize);
             best = greater(best, rank, j);

@@ -31,7 +31,7 @@ fn steps(guard: &mut Guard, config: &Config, passes: &[PassEntry], answers: &[An
     ensures { IsGuardOf config.now guard.new }
 {
     for (k, pass) in passes.iter().enumerate() {
-        if !guard.fits(config, &pass.input) {
+        if !guard.board().fits(config, &pass.input) {
             return false;
         }
         let answer = stepped(guard, config, &pass.input, pass.actions.as_slice());
@@ -69,7 +69,7 @@ fn offers(
     requires { IsGuardOf config.now guard.old }
     ensures { IsGuardOf config.now guard.new }
 {
-    if !guard.fits(config, input) {
+    if !guard.board().fits(config, input) {
         return false;
     }
     begun(guard, config, input);

@@ -6,16 +6,17 @@ use Rattle.cal_machine.specs.Table.{Table, IsTable}
 use Rattle.cal_machine.specs.Tasks.{no_task}
 use Rattle.cal_machine.specs.TableTasks.{owner_of, is_latency_critical, guaranteed_of, limit_of, threads_of_table}
 use Rattle.cal_policy.specs.Board.Counts.{is_free, is_held, is_held_for, booked_by, cores_of_thread, is_over}
-use Rattle.cal_policy.specs.Pass.Grants.{class_by, class_of, choice_of, is_thread_for, may_preempt}
 use Rattle.cal_policy.specs.History.{holder_of, last_thread, is_banned}
 use Rattle.cal_policy.specs.Judgement.Judging.{IsFitLook}
-use Rattle.cal_policy.specs.Laws.{LegalIsSound, LegalIsShort, ChosenIsOfLeastClass, IsOfLeastClass}
+use Rattle.cal_policy.specs.Laws.{LegalIsSound, LegalIsShort}
 use Rattle.cal_policy.specs.Pass.Made.{IsGranted}
 use Rattle.cal_policy.specs.Judgement.Orderly.{names_table}
 use Rattle.cal_policy.specs.Pass.{IsLegal}
 use Rattle.cal_policy.specs.Setting.{Setting, setting_of, so_far}
 use Rattle.cal_policy.specs.Pass.Steady.{IsSound}
-use Rattle.cal_policy.specs.declared.pass.choice.Candidate.{Candidate}
+use Rattle.cal_policy.specs.History.CoreClasses.{class_number}
+use Rattle.cal_policy.specs.declared.history.core_class.CoreClass.{CoreClass}
+use Rattle.cal_policy.specs.declared.history.core_class.CoreClass.TheVariants as classes
 use Rattle.cal_policy.specs.declared.board.holders.Holder.{Holder}
 use Rattle.cal_policy.specs.declared.board.holders.Holder.TheVariants as holders
 use Rattle.cal_policy.specs.declared.history.look.Seen.{Seen}
@@ -37,39 +38,16 @@ look_ranges last (seen.Ahead number rec) h = h.0
 look_ranges last (seen.Foreign number rec) h = h.0
 look_ranges last (seen.Busy first second) h = h
 
--- a class is 1 at least
-idle_least : (banned beside last : Bool) (n : ℕ) → (if banned then None else Some (if beside then 1 else if last then 2 else 3)) ≡ Some n → 1 ≤ n
-idle_least true beside last n h = cc
-idle_least false true last n h = let e : 1 ≡ n = cc in omega arith
-idle_least false false true n h = let e : 2 ≡ n = cc in omega arith
-idle_least false false false n h = let e : 3 ≡ n = cc in omega arith
+-- the number of a class
+class_range : (class : CoreClass) → (1 ≤ class_number class) × (class_number class ≤ 5)
+class_range classes.Sibling = (omega arith, omega arith)
+class_range classes.RecentlyUsed = (omega arith, omega arith)
+class_range classes.OtherIdle = (omega arith, omega arith)
+class_range classes.BestEffortBurstable = (omega arith, omega arith)
+class_range classes.LatencyCriticalBurstable = (omega arith, omega arith)
 
-burst_least : (may best over : Bool) (n : ℕ) → (if may then (if best then Some 4 else if over then Some 5 else None) else None) ≡ Some n → 1 ≤ n
-burst_least true true over n h = let e : 4 ≡ n = cc in omega arith
-burst_least true false true n h = let e : 5 ≡ n = cc in omega arith
-burst_least true false false n h = cc
-burst_least false best over n h = cc
-
-class_least : (s : Setting) (acts : List Action) (t c : ℕ) (holder : Holder) (n : ℕ) → class_by s acts t c holder ≡ Some n → 1 ≤ n
-class_least s acts t c holders.Free n h =
-    idle_least (is_banned (so_far s acts) c) (is_held_for s.table t (holder_of (so_far s acts) (sibling_of c))) (is_thread_for s.table t (last_thread (so_far s acts) c)) n h
-class_least s acts t c (holders.Held placement) n h =
-    let other = owner_of s.table placement.thread in
-    burst_least (may_preempt s acts t c (holders.Held placement)) (not (is_latency_critical s.table other))
-    (nat_lt (booked_by s.table (so_far s acts) t) (guaranteed_of s.table t) && not (other == t) && is_over s.table (so_far s acts) other) n h
-class_least s acts t c (holders.Leaving placement cause) n h = cc
-
-at_some : (o : Option Candidate) (P : Type 0) (Q : Candidate → Type 0) (x : Candidate) → MatchOption o P Q → o ≡ Some x → Q x
-at_some None P Q x h e = cc
-at_some (Some y) P Q x h e = let same : y ≡ x = cc in subst Q same h
-
-grant_class : ChosenIsOfLeastClass → (s : Setting) (acts : List Action) (core thread class : ℕ) → IsGranted s acts core thread class → (1 ≤ class) × (class ≤ 5)
-grant_class least s acts core thread class g =
-    let best = at_some (choice_of s acts g.task) ((c : ℕ) → c < s.table.cores → class_of s acts g.task c ≡ None) (IsOfLeastClass s acts g.task) g.choice (least s acts g.task) g.chosen.least in
-    let some : 1 ≤ g.choice.rank = class_least s acts g.task g.choice.number (holder_of (so_far s acts) g.choice.number) g.choice.rank best.class in
-    let few : g.choice.rank < 4 = ltb-true g.choice.rank 4 g.granted in
-    let same = g.class_chosen in
-    (omega arith, omega arith)
+grant_class : (s : Setting) (acts : List Action) (core thread class : ℕ) → IsGranted s acts core thread class → (1 ≤ class) × (class ≤ 5)
+grant_class s acts core thread class g = let range = class_range g.choice.rank in let same = g.class_chosen in (omega (arith, range.0, same), omega (arith, range.1, same))
 
 cause_ranges : (table : Table) (cause : Cause) → names_table table cause ≡ true → IsCauseInRange (extent_of table) cause
 cause_ranges table (causes.Ban by) h = ltb-true by table.cores h
@@ -77,29 +55,29 @@ cause_ranges table causes.Bandwidth h = tt
 cause_ranges table (causes.Preempt task) h = ltb-true task (length table.tasks) h
 
 -- an action that is made at its place and fits the state there
-action_ranges : ChosenIsOfLeastClass → (s : Setting) (acts : List Action) (action : Action) → IsTable s.table → IsSound s acts action → IsActionInRange (extent_of s.table) action
-action_ranges least s acts (Free core) ok sound = ltb-true core s.table.cores (and_parts (nat_lt core s.table.cores) (not (is_free (holder_of (so_far s acts) core))) sound.fits).0
-action_ranges least s acts (Unban core) ok sound = ltb-true core s.table.cores (and_parts (nat_lt core s.table.cores) (is_banned (so_far s acts) core) sound.fits).0
-action_ranges least s acts (Ban core thread started) ok sound =
+action_ranges : (s : Setting) (acts : List Action) (action : Action) → IsTable s.table → IsSound s acts action → IsActionInRange (extent_of s.table) action
+action_ranges s acts (Free core) ok sound = ltb-true core s.table.cores (and_parts (nat_lt core s.table.cores) (not (is_free (holder_of (so_far s acts) core))) sound.fits).0
+action_ranges s acts (Unban core) ok sound = ltb-true core s.table.cores (and_parts (nat_lt core s.table.cores) (is_banned (so_far s acts) core) sound.fits).0
+action_ranges s acts (Ban core thread started) ok sound =
     let p = and_four (nat_lt core s.table.cores) (nat_lt thread (threads_of_table s.table)) (not (is_banned (so_far s acts) core)) (not (is_banned (so_far s acts) (sibling_of core))) sound.fits in
     (ltb-true core s.table.cores p.0, ltb-true thread (threads_of_table s.table) p.1)
-action_ranges least s acts (Revoke core cause) ok sound =
+action_ranges s acts (Revoke core cause) ok sound =
     let p = and_three (nat_lt core s.table.cores) (names_table s.table cause) (is_held (holder_of (so_far s acts) core)) sound.fits in
     (ltb-true core s.table.cores p.0, cause_ranges s.table cause p.1)
-action_ranges least s acts (Cap task cap) ok sound =
+action_ranges s acts (Cap task cap) ok sound =
     let p = and_parts (nat_lt task (length s.table.tasks)) (nat_le cap (limit_of s.table task)) sound.fits in
     let lt = ltb-true task (length s.table.tasks) p.0 in
     let within = leb-true cap (limit_of s.table task) p.1 in
     let limit : limit_of s.table task ≤ 16 = (ok.each task no_task lt).limit in
     (lt, omega arith)
-action_ranges least s acts (Grant core thread class) ok sound =
+action_ranges s acts (Grant core thread class) ok sound =
     let p = and_four (nat_lt core s.table.cores) (nat_lt thread (threads_of_table s.table)) (is_free (holder_of (so_far s acts) core)) (cores_of_thread s.table (so_far s acts) thread == 0) sound.fits in
-    let c = grant_class least s acts core thread class sound.made in
+    let c = grant_class s acts core thread class sound.made in
     (ltb-true core s.table.cores p.0, ltb-true thread (threads_of_table s.table) p.1, c.0, c.1)
 
-entry_ranges : LegalIsSound → ChosenIsOfLeastClass → LegalIsShort → (table : Table) (history : List PassEntry) → IsTable table → IsLegal table history → (p : ℕ) (entry : PassEntry)
+entry_ranges : LegalIsSound → LegalIsShort → (table : Table) (history : List PassEntry) → IsTable table → IsLegal table history → (p : ℕ) (entry : PassEntry)
     → slice_get history p ≡ Some entry → HasWords entry → IsEntryInRange (extent_of table) entry
-entry_ranges sound least short table history ok legal p entry is words =
+entry_ranges sound short table history ok legal p entry is words =
     let looks = (legal.passes p entry is).input.looks in
     record {
       looks = looks.looks;
@@ -107,13 +85,13 @@ entry_ranges sound least short table history ok legal p entry is words =
       most = short table history ok legal p entry is;
       words = words;
       seen = record { at = λ k look e. look_ranges _ look (looks.fit k look e) };
-      actions = record { at = λ i action e. action_ranges least (setting_of table (take p history) entry) (take i entry.actions) action ok (sound table history ok legal p entry is i action e) };
+      actions = record { at = λ i action e. action_ranges (setting_of table (take p history) entry) (take i entry.actions) action ok (sound table history ok legal p entry is i action e) };
     }
 
 -- a legal history that a file can hold is in range
-pub legal_in_range : LegalIsSound → ChosenIsOfLeastClass → LegalIsShort → (table : Table) (history : List PassEntry) → IsTable table → IsLegal table history → IsSized history
+pub legal_in_range : LegalIsSound → LegalIsShort → (table : Table) (history : List PassEntry) → IsTable table → IsLegal table history → IsSized history
     → IsInRange (extent_of table) history
-legal_in_range sound least short table history ok legal sized = record {
+legal_in_range sound short table history ok legal sized = record {
   passes = sized.passes;
-  each = record { at = λ p entry is. entry_ranges sound least short table history ok legal p entry is (sized.words.at p entry is) };
+  each = record { at = λ p entry is. entry_ranges sound short table history ok legal p entry is (sized.words.at p entry is) };
 }

@@ -1,6 +1,6 @@
 //! The action rows of a history.
 
-ghost use Rattle.std.specs.Prelude.{◌≡◌};
+ghost use Rattle.std.specs.Prelude.{◌≡◌, ◌&&◌, nat_le};
 ghost use Rattle.cal_trace.specs.History.ActionRows.{action_form, action_row, core_row, ban_row};
 ghost use Rattle.cal_trace.specs.History.ActionRows.{revoke_row, cap_row, grant_row};
 ghost use Rattle.cal_trace.specs.History.ActionRows.{is_revocation, later_action_form};
@@ -11,7 +11,7 @@ ghost use Rattle.csv.specs.Records.{field_at, fields_of};
 use crate::fault::FaultKind;
 use crate::rows::fields::{has_numbers, is_number_at, is_row, is_word_at, number_at};
 use cal_machine::MOST_LIMIT;
-use cal_policy::{Action, Cause};
+use cal_policy::{Action, Cause, CoreClass};
 use csv::ByteRecord;
 
 /// What an action row is, by its first field, its cause and its number of fields.
@@ -204,6 +204,13 @@ fn cap_row(row: &ByteRecord, extent: Extent) -> Result<Action, FaultKind>
     })
 }
 
+/// Whether a class has this number.
+fn is_class(number: u64) -> bool
+    ensures { result ≡ (nat_le 1 number && nat_le number 5) }
+{
+    CoreClass::from_number(number).is_some()
+}
+
 fn grant_row(row: &ByteRecord, extent: Extent) -> Result<Action, FaultKind>
     ensures { result ≡ grant_row extent (fields_of row.now) }
 {
@@ -213,7 +220,7 @@ fn grant_row(row: &ByteRecord, extent: Extent) -> Result<Action, FaultKind>
     let core = number_at(row, 1);
     let thread = number_at(row, 2);
     let class = number_at(row, 3);
-    if core >= extent.cores as u64 || thread >= extent.threads as u64 || class < 1 || class > 5 {
+    if core >= extent.cores as u64 || thread >= extent.threads as u64 || !is_class(class) {
         return Err(FaultKind::Range);
     }
     Ok(Action::Grant {

@@ -10,7 +10,9 @@ ghost use Rattle.caladan_c.specs.Passing.{StandsAfter};
 
 use super::Scheduler;
 use crate::found::Found;
-use crate::told::facts::{MachineFacts, TaskRow, ThreadState, tell_machine, tell_shown, tell_task};
+use crate::told::facts::{
+    MachineFacts, TaskRow, ThreadState, row_of_task, state_of_thread, tell_machine, tell_shown,
+};
 use cal_policy::{gone_frees_its_cores, gone_is_kept};
 
 impl Scheduler {
@@ -26,11 +28,7 @@ impl Scheduler {
         ensures there { is_some result ≡ nat_lt task (length self.now.table.tasks) }
         ensures row { IfSome result (λ row. row ≡ row_of self.now.table task) }
     {
-        if task < self.config.tasks() {
-            Some(tell_task(&self.config, task))
-        } else {
-            None
-        }
+        row_of_task(&self.config, task)
     }
 
     /// A thread's task, how many commands were sent to it, and how many of them its kept record
@@ -40,16 +38,7 @@ impl Scheduler {
         ensures state { IfSome result (λ state. (h : List PassEntry) → StandsAfter self.now h →
             state ≡ state_of self.now.table h thread) }
     {
-        if thread < self.config.threads() {
-            self.config.limits();
-            Some(ThreadState {
-                task: self.config.task_of(thread) as u8,
-                sent: self.book.sent(&self.config, thread),
-                taken: self.book.kept(&self.config, thread).taken,
-            })
-        } else {
-            None
-        }
+        state_of_thread(&self.config, self.book.board(), thread)
     }
 
     /// The look at the page of a thread that is gone; None where no page can show it.
@@ -63,7 +52,7 @@ impl Scheduler {
         self.config.limits();
         gone_is_kept();
         gone_frees_its_cores();
-        match self.book.gone(&self.config, thread) {
+        match self.book.board().gone(&self.config, thread) {
             Some(shown) => Some(tell_shown(shown)),
             None => None,
         }

@@ -1,11 +1,16 @@
 //! What the table says, and what was sent to a thread, as C is told.
 
-ghost use Rattle.std.specs.Prelude.{◌≡◌, ◌<◌, length};
-ghost use Rattle.caladan_c.specs.Facts.{machine_of, row_of, kind_number, found_shown};
+ghost use Rattle.std.specs.Prelude.{◌≡◌, ◌<◌, List, length, nat_lt};
+ghost use Rattle.std.specs.Option.{is_some, IfSome};
+ghost use Rattle.cal_machine.specs.TableTasks.{threads_of_table};
+ghost use Rattle.cal_policy.specs.declared.history.entry.PassEntry.{PassEntry};
+ghost use Rattle.cal_policy.specs.Board.{IsStateAfter};
+ghost use Rattle.caladan_c.specs.Facts.{machine_of, row_of, state_of, kind_number, found_shown};
 
 use crate::found::Found;
 use cal_machine::{Config, Kind};
 use cal_policy::Shown;
+use cal_policy::state::Board;
 
 /// What the table says of the machine.
 #[repr(C)]
@@ -75,7 +80,7 @@ pub fn tell_machine(config: &Config) -> MachineFacts
 }
 
 /// A task of the table, in numbers.
-pub fn tell_task(config: &Config, task: usize) -> TaskRow
+fn tell_task(config: &Config, task: usize) -> TaskRow
     requires { task < length config.now.tasks }
     ensures { result ≡ row_of config.now task }
 {
@@ -89,6 +94,37 @@ pub fn tell_task(config: &Config, task: usize) -> TaskRow
         first_thread: first as u8,
         delay: row.delay,
         request: row.request,
+    }
+}
+
+/// What the table says of a task, where it has it.
+pub fn row_of_task(config: &Config, task: usize) -> Option<TaskRow>
+    ensures there { is_some result ≡ nat_lt task (length config.now.tasks) }
+    ensures row { IfSome result (λ row. row ≡ row_of config.now task) }
+{
+    if task < config.tasks() {
+        Some(tell_task(config, task))
+    } else {
+        None
+    }
+}
+
+/// A thread's task, how many commands were sent to it, and how many of them its kept record
+/// acknowledges, where the table has the thread.
+pub fn state_of_thread(config: &Config, board: &Board, thread: usize) -> Option<ThreadState>
+    ensures there { is_some result ≡ nat_lt thread (threads_of_table config.now) }
+    ensures state { IfSome result (λ state. (h : List PassEntry) → IsStateAfter board.now h →
+        state ≡ state_of config.now h thread) }
+{
+    if thread < config.threads() {
+        config.limits();
+        Some(ThreadState {
+            task: config.task_of(thread) as u8,
+            sent: board.sent(config, thread),
+            taken: board.kept(config, thread).taken,
+        })
+    } else {
+        None
     }
 }
 

@@ -1,8 +1,14 @@
 //! Who has a core, as C is told.
 
-ghost use Rattle.std.specs.Prelude.{◌≡◌};
+ghost use Rattle.std.specs.Prelude.{◌≡◌, List, nat_lt};
+ghost use Rattle.std.specs.Option.{is_some, IfSome};
+ghost use Rattle.cal_policy.specs.declared.history.entry.PassEntry.{PassEntry};
+ghost use Rattle.cal_policy.specs.Board.{IsStateAfter, kept_holder};
+ghost use Rattle.cal_policy.specs.History.{actions_of, holder_of};
 ghost use Rattle.caladan_c.specs.Told.{cause_of, told_holder_of};
 
+use cal_machine::Config;
+use cal_policy::state::Board;
 use cal_policy::{Cause, Holder};
 
 /// Who has a core.
@@ -56,5 +62,19 @@ pub fn tell_holder(holder: Holder) -> ToldHolder
                 cause_of: named,
             }
         }
+    }
+}
+
+/// Who has a core, where the table has it.
+pub fn holder_on(config: &Config, board: &Board, core: u8) -> Option<Holder>
+    ensures there { is_some result ≡ nat_lt core config.now.cores }
+    ensures holder { IfSome result (λ holder. (h : List PassEntry) → IsStateAfter board.now h →
+        holder ≡ kept_holder (holder_of (actions_of h) core)) }
+{
+    config.limits();
+    if core < config.machine().cores() {
+        Some(board.holder(core))
+    } else {
+        None
     }
 }

@@ -11,7 +11,7 @@ use Rattle.cal_policy.specs.Laws.{HasWaitedLongest}
 use Rattle.cal_policy.proofs.PassLemmas.Best.{BestOrNone, best_is_best}
 use Rattle.cal_policy.proofs.laws.chosen_has_waited_longest.Goals as goal
 
-in_words : (s : Setting) (x : List Action) (t : ℕ) (o : Option Candidate) →
+in_words : (s : Setting) (x : List Action) (t : ℕ) (o : Option (Candidate ℕ)) →
     BestOrNone (λ rank best. nat_lt best rank) (λ j. thread_rank s x (thread_of s.table t j)) (limit_of s.table t) o →
     MatchOption o ((j : ℕ) → j < limit_of s.table t → thread_rank s x (thread_of s.table t j) ≡ None) (HasWaitedLongest s x t)
 in_words s x t None b = b

@@ -10,7 +10,7 @@ use Rattle.cal_policy.specs.Laws.{HasMostMisses}
 use Rattle.cal_policy.proofs.PassLemmas.Best.{BestOrNone, best_is_best}
 use Rattle.cal_policy.proofs.laws.victim_has_most_misses.Goals as goal
 
-in_words : (s : Setting) (x : List Action) (o : Option Candidate) →
+in_words : (s : Setting) (x : List Action) (o : Option (Candidate ℕ)) →
     BestOrNone (λ rank best. nat_lt best rank) (victim_rank s x) (length s.table.tasks) o →
     MatchOption o ((t : ℕ) → t < length s.table.tasks → victim_rank s x t ≡ None) (HasMostMisses s x)
 in_words s x None b = b

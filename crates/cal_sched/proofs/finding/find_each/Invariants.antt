@@ -1,7 +1,7 @@
 use Rattle.std.proofs.Common.{◌≡◌, List, length}
 use Rattle.cal_policy.specs.declared.judgement.open_input.FoundLook.{FoundLook}
 use Rattle.cal_policy.specs.declared.history.entry.PassEntry.{PassEntry}
-use Rattle.cal_policy.specs.Book.{AgreesWith}
+use Rattle.cal_policy.specs.Board.{IsStateAfter}
 use Rattle.cal_policy.specs.Judgement.OpenInput.{IsOfFound}
 use Rattle.cal_sched.proofs.Found.{FoundBelow}
 use Rattle.cal_sched.proofs.finding.find_each.Given as goal
@@ -12,5 +12,5 @@ invariant-loop-k l = record {
   count : length l.input.seen ≡ l.k;
   found : (found : List FoundLook)
       × FoundBelow l.k l.initial.observers l.observers l.initial.senders l.senders found
-      × ((h : List PassEntry) → AgreesWith l.book h → IsOfFound l.config h found l.input);
+      × ((h : List PassEntry) → IsStateAfter l.board h → IsOfFound l.config h found l.input);
 }

@@ -3,7 +3,6 @@ use Rattle.std.proofs.lemmas.Option.{slice_get-get_or, slice_get_read}
 use Rattle.cal_command.specs.Rings.{SenderView, HasRoom}
 use Rattle.cal_policy.specs.declared.history.action.Action.{Action}
 use Rattle.cal_policy.specs.declared.history.action.Action.TheVariants.{Free}
-use Rattle.cal_policy.specs.declared.history.entry.PassEntry.{PassEntry}
 use Rattle.cal_policy.specs.Book.{IsSentBy}
 use Rattle.cal_policy.specs.History.{actions_of}
 use Rattle.cal_machine.specs.TableTasks.{threads_of_table}

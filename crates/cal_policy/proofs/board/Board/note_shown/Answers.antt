@@ -1,6 +1,5 @@
 -- Only the set is another.
-use Rattle.std.proofs.Common.{◌≡◌, ℕ, ◌⊎◌, inl, inr, false, ⊎_elim}
-use Rattle.cal_machine.specs.CoreSet.{has}
+use Rattle.std.proofs.Common.{inl, inr, ⊎_elim}
 use Rattle.cal_policy.specs.Board.{holder_in}
 use Rattle.cal_policy.specs.Board.KeepingSets.{kept_in}
 use Rattle.cal_policy.specs.Board.Unshown.{IsShownOn}

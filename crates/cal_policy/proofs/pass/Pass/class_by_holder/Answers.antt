@@ -1,17 +1,17 @@
 -- The class of a held core, by whether it may be revoked.
 use Rattle.std.proofs.Common.{ap, ◌∙◌}
 use Rattle.cal_policy.specs.Setting.{so_far}
-use Rattle.cal_policy.specs.Pass.Grants.{burst_class}
+use Rattle.cal_policy.specs.Pass.Grants.{preempt_class}
 use Rattle.cal_policy.proofs.PassLemmas.Branches.{when_true, when_false}
 use Rattle.cal_policy.specs.Pass.AtHand.{setting_in}
 use Rattle.cal_policy.proofs.pass.Pass.class_by_holder.Goals as goal
 
-pub returns-then-may_preempt-clause-class : goal.returns-then-may_preempt-clause-class
-returns-then-may_preempt-clause-class c = λ h acts s.
+pub returns-then-may_preempt : goal.returns-then-may_preempt
+returns-then-may_preempt c = λ h acts s.
     let at = setting_in c.args.self.now h in
-    rw c.in-Held.is (c.burst_class.ensures.class (so_far at acts) s.agrees
-    ∙ ap (burst_class c.args.self.now.config.now (so_far at acts) c.args.task) c.task_of.ensures.task
+    rw c.in-Held.is (c.preempt_class.ensures (so_far at acts) s.agrees
+    ∙ ap (preempt_class c.args.self.now.config.now (so_far at acts) c.args.task) c.task_of.ensures.task
     ∙ when_true _ _ _ (c.if-may_preempt.ensures h acts s))
 
-pub returns-else-may_preempt-clause-class : goal.returns-else-may_preempt-clause-class
-returns-else-may_preempt-clause-class c = λ h acts s. rw c.in-Held.is (when_false _ _ _ (c.if-may_preempt.ensures h acts s))
+pub returns-else-may_preempt : goal.returns-else-may_preempt
+returns-else-may_preempt c = λ h acts s. rw c.in-Held.is (when_false _ _ _ (c.if-may_preempt.ensures h acts s))

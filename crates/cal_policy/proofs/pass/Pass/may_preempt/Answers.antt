@@ -7,11 +7,11 @@ use Rattle.cal_policy.specs.Pass.AtHand.{setting_in}
 use Rattle.cal_policy.proofs.PassLemmas.Branches.{outer_hold, outer_fail}
 use Rattle.cal_policy.proofs.pass.Pass.may_preempt.Goals as goal
 
-pub returns-then-not-may_have_revoked : goal.returns-then-not-may_have_revoked
-returns-then-not-may_have_revoked c = λ h acts s.
+pub returns-then-not-may_preempt_any : goal.returns-then-not-may_preempt_any
+returns-then-not-may_preempt_any c = λ h acts s.
     let at = setting_in c.args.self.now h in
     outer_fail (is_latency_critical at.table c.args.task) (has_room at c.args.thread) (not (is_granted_in acts c.args.core))
-    (none_leaves_for at (so_far at acts) c.args.task) (c.if-not-may_have_revoked.ensures h acts s.agrees)
+    (none_leaves_for at (so_far at acts) c.args.task) (c.if-not-may_preempt_any.ensures h acts s.agrees)
 
 pub returns-then-has_room : goal.returns-then-has_room
 returns-then-has_room c = λ h acts s.
@@ -22,4 +22,4 @@ returns-then-has_room c = λ h acts s.
     let fresh = not (is_granted_in acts c.args.core) in
     ap not (c.has.ensures ∙ s.fresh.fresh c.args.core low) ∙ sym (ap (λ room. room && fresh) fits)
     ∙ outer_hold (is_latency_critical at.table c.args.task) (has_room at c.args.thread) fresh
-    (none_leaves_for at (so_far at acts) c.args.task) (c.if-not-may_have_revoked.ensures h acts s.agrees)
+    (none_leaves_for at (so_far at acts) c.args.task) (c.if-not-may_preempt_any.ensures h acts s.agrees)

@@ -16,6 +16,6 @@ returns c =
     let cores : s.table.cores ≡ c.args.self.now.table.cores = ap (λ (v : SchedulerView). v.table.cores) is in
     let asked : c.args.core < c.args.self.now.table.cores = c.requires in
     let low : c.args.core < s.table.cores = omega (arith, cores, asked) in
-    c.holder.ensures s.history c.self.invariant.1
+    c.holder.ensures s.history (c.board.ensures.agrees s.history c.self.invariant.1)
     ∙ holder_kept s.table s.history c.limits.ensures c.self.invariant.0.legal c.args.core low c.self.invariant.0.few c.threads_are_sent_one_command.ensures c.holders_are_of_their_last_run.ensures
     ∙ ap (λ (v : SchedulerView). holder_of (actions_of v.history) c.args.core) is

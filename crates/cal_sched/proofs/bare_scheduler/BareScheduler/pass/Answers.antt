@@ -52,7 +52,7 @@ entered c =
     let finds : HaveFound s.observers looked s.senders asked found = rw (pages, rings) at c.find_each.ensures.found.1 in
     let input : Input = c.finish-input.result in
     let same : input ≡ judged_input s.table s.history c.args.now c.args.bandwidth found =
-    c.finish-input.ensures.judged s.table s.history found (c.find_each.ensures.found.2 s.history agrees) in
+    c.finish-input.ensures.judged s.table s.history found (c.find_each.ensures.found.2 s.history (c.board.ensures.agrees s.history agrees)) in
     let fits : IsInput s.table s.history input =
     subst (IsInput s.table s.history) (sym same) (is_input s c.args.now c.args.bandwidth looked asked found kept finds) in
     let acts : c.step.new.out ≡ pass_of (setting s.table s.history input) = c.step.ensures.acts s.history kept.legal agrees fits in

@@ -10,8 +10,8 @@ returns-in-Some-clause-some c =
     let g : Gated = record { table = c.self.inside.config; guard = c.self.inside.guard } in
     let view : g ≡ c.args.self.now = c.self.view_is in
     let whole : (h : List PassEntry) → GuardsAfter g h → IsGuardedLookOfGone g.table h c.args.thread c.tell_shown.result = λ h after. record {
-      is = c.tell_shown.ensures ∙ ap (λ (s : Shown). found_shown s) (c.in-Some.ensures.some h after.keeps);
-      kept = c.permitted_gone_is_kept.ensures g.table h c.args.thread after.permitted (sym (c.in-Some.ensures.none h after.keeps));
+      is = c.tell_shown.ensures ∙ ap (λ (s : Shown). found_shown s) (c.in-Some.ensures.some h (c.board.ensures.agrees h after.keeps));
+      kept = c.permitted_gone_is_kept.ensures g.table h c.args.thread after.permitted (sym (c.in-Some.ensures.none h (c.board.ensures.agrees h after.keeps)));
       may = λ input seen core placement lt there own. c.gone_may_be_freed.ensures g.table h c.args.thread input after.permitted seen core placement lt there own;
     } in
     subst (λ (old : Gated). (h : List PassEntry) → GuardsAfter old h → IsGuardedLookOfGone old.table h c.args.thread c.tell_shown.result) view whole

@@ -23,7 +23,7 @@ returns-clause-through c =
     let new : Gated = record { table = g.table; guard = c.step.new.self } in
     let count = length-map c.args.given.looks.now found_of ∙ c.requires.count ∙ sym (ap (λ (o : Gated). threads_of_table o.table) view) in
     let whole : (h : List PassEntry) → GuardsAfter g h → WentThrough g h (input_of_each g.table h c.args.given.now c.args.given.bandwidth c.args.given.looks.now) c.args.told.now new = λ h after.
-    let same = c.in_ok-input.ensures.input h after.keeps in
+    let same = c.in_ok-input.ensures.input h (c.board.ensures.agrees h after.keeps) in
     let is : IsInput g.table h input = subst (IsInput g.table h) (sym same) (c.taken_input_fits.ensures g.table h c.args.given.now c.args.given.bandwidth (map found_of c.args.given.looks.now) count) in
     went_through g h input (input_of_each g.table h c.args.given.now c.args.given.bandwidth c.args.given.looks.now) chosen c.args.told.now c.step.new.self told
     same is ((c.in_default.ensures.exact h after.permitted after.keeps).0 refl)
@@ -40,7 +40,7 @@ returns-in-Err-clause-stopped c =
     let told : map told_of chosen ≡ c.args.told.now = ap (λ (xs : List Action). map told_of xs) items ∙ c.in_ok-read_actions.ensures.actions in
     let count = length-map c.args.given.looks.now found_of ∙ c.requires.count ∙ sym (ap (λ (o : Gated). threads_of_table o.table) view) in
     let whole : (h : List PassEntry) → GuardsAfter g h → WasStopped g h (input_of_each g.table h c.args.given.now c.args.given.bandwidth c.args.given.looks.now) c.args.told.now c.in-Err.refused = λ h after.
-    let same = c.in_ok-input.ensures.input h after.keeps in
+    let same = c.in_ok-input.ensures.input h (c.board.ensures.agrees h after.keeps) in
     let is : IsInput g.table h input = subst (IsInput g.table h) (sym same) (c.taken_input_fits.ensures g.table h c.args.given.now c.args.given.bandwidth (map found_of c.args.given.looks.now) count) in
     was_stopped g h input (input_of_each g.table h c.args.given.now c.args.given.bandwidth c.args.given.looks.now) chosen c.args.told.now c.in-Err.refused told
     same is (c.in-Err.ensures.first h after.permitted after.keeps) in

@@ -11,8 +11,8 @@ returns-in-Some-clause-some c =
     let s : Standing = record { table = c.self.inside.config; book = c.self.inside.book; made = c.self.inside.made } in
     let view : s ≡ c.args.self.now = c.self.view_is in
     let whole : (h : List PassEntry) → StandsAfter s h → IsLookOfGone s.table h c.args.thread c.tell_shown.result = λ h after. record {
-      is = c.tell_shown.ensures ∙ ap (λ (it : Shown). found_shown it) (c.in-Some.ensures.some h after.agrees);
-      kept = c.gone_is_kept.ensures s.table h c.args.thread after.legal (sym (c.in-Some.ensures.none h after.agrees));
+      is = c.tell_shown.ensures ∙ ap (λ (it : Shown). found_shown it) (c.in-Some.ensures.some h (c.board.ensures.agrees h after.agrees));
+      kept = c.gone_is_kept.ensures s.table h c.args.thread after.legal (sym (c.in-Some.ensures.none h (c.board.ensures.agrees h after.agrees)));
       frees = λ input seen core placement lt there own. c.gone_frees_its_cores.ensures s.table h c.args.thread input c.limits.ensures after.legal seen core placement lt there own;
     } in
     subst (λ (old : Standing). (h : List PassEntry) → StandsAfter old h → IsLookOfGone old.table h c.args.thread c.tell_shown.result) view whole

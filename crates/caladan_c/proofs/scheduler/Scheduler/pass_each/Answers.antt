@@ -19,7 +19,7 @@ returns-clause-passed c =
     let view : s ≡ c.args.self.now = c.self.view_is in
     let input : Input = c.in_ok-input.input in
     let whole : (h : List PassEntry) → StandsAfter s h → IsPassed s h (input_of_each s.table h c.args.given.now c.args.given.bandwidth c.args.given.looks.now) new = λ h stands.
-    let same = c.in_ok-input.ensures.input h stands.agrees in
+    let same = c.in_ok-input.ensures.input h (c.board.ensures.agrees h stands.agrees) in
     let fits : IsInput s.table h (input_of_each s.table h c.args.given.now c.args.given.bandwidth c.args.given.looks.now) =
     c.taken_input_fits.ensures s.table h c.args.given.now c.args.given.bandwidth (map found_of c.args.given.looks.now) (length-map c.args.given.looks.now found_of ∙ c.requires.count ∙ sym (ap (λ (o : Standing). threads_of_table o.table) view)) in
     let is : IsInput s.table h input = subst (IsInput s.table h) (sym same) fits in

@@ -1,0 +1,8 @@
+use Rattle.cal_policy.specs.Setting.{setting}
+use Rattle.cal_policy.proofs.PassLemmas.FromParts.{Stands_end}
+use Rattle.cal_guard.proofs.group_laws.passes_are_kept.Goals as goal
+
+pub returns : goal.returns
+returns c = λ guard table history input acts within.
+    let after = Stands_end (setting table history input) guard.passing.value.board acts within.inside.stands in
+    record { actions = after.actions; looks = after.looks }

@@ -1,0 +1,19 @@
+use Rattle.std.proofs.Common.{◌≡◌, ℕ, ◌<◌, List, Some, length, take, slice_get}
+use Rattle.cal_policy.specs.Board.{IsStateAfter}
+use Rattle.cal_policy.specs.Judgement.OneByOne.{fault_of}
+use Rattle.cal_machine.specs.TableTasks.{threads_of_table}
+use Rattle.cal_policy.specs.declared.history.entry.PassEntry.{PassEntry}
+use Rattle.caladan_c.specs.Found.{look_in}
+use Rattle.caladan_c.specs.OneByOne.{IsTakenOf, said_of}
+use Rattle.caladan_c.specs.declared.found.Found.{Found}
+use Rattle.caladan_c.proofs.input.take_looks.Given as goal
+
+abbrev pub invariant-loop-k : goal.invariant-loop-k
+invariant-loop-k l = record {
+  threads : l.open.threads ≡ threads_of_table l.config;
+  size : length l.open.seen ≡ l.k;
+  room : length l.judged ≡ length l.fn.judged;
+  taken : (h : List PassEntry) → IsStateAfter l.board h → IsTakenOf l.config h (take l.k l.given.looks.now) l.open;
+  said : (h : List PassEntry) → IsStateAfter l.board h → (j : ℕ) (o : Found) → j < l.k → slice_get l.given.looks.now j ≡ Some o →
+      slice_get l.judged j ≡ Some (said_of (fault_of l.config.cores h j (look_in o)) (look_in o));
+}
