@@ -17,6 +17,7 @@ use crate::comparing::sheet::comparison_sheet;
 use crate::comparing::tables::read_tables;
 use crate::comparing::varying::varied_tables;
 use crate::measuring::RunNumbers;
+use crate::sheet::NumberForm;
 use cal_engine::{RunFault, read_input, read_parts};
 use cal_machine::Config;
 use std::alloc::Global;
@@ -92,16 +93,11 @@ fn compared_text(
     alloc: Global,
     input: &[u8],
     variation: Option<Variation<'_>>,
-    csv: bool,
+    form: NumberForm,
 ) -> Result<String, ComparisonFault> {
     let comparison = comparison_of(alloc, input, variation)?;
     let sheet = comparison_sheet(alloc, variation, &comparison)?;
-    let text = if csv {
-        sheet.csv(alloc)?
-    } else {
-        sheet.text(alloc)?
-    };
-    Ok(text)
+    Ok(sheet.written(alloc, form)?)
 }
 
 /// Reads an input of tables and arrivals to its end, makes a whole run of each table on one thread,
@@ -112,7 +108,7 @@ pub fn compare<R: Read + Drop, W: Write>(
     alloc: Global,
     mut reader: R,
     variation: Option<Variation<'_>>,
-    csv: bool,
+    form: NumberForm,
     writer: &mut W,
 ) -> Result<(), ComparisonFault>
     // Nothing is written before the runs were made.
@@ -120,7 +116,7 @@ pub fn compare<R: Read + Drop, W: Write>(
         fault.fault ≢ RunFault.Write → writer.new ≡ writer.old) }
 {
     let input = read_input(alloc, &mut reader)?;
-    let text = compared_text(alloc, input.as_slice(), variation, csv)?;
+    let text = compared_text(alloc, input.as_slice(), variation, form)?;
     match writer.write_all(text.as_bytes()) {
         Ok(()) => Ok(()),
         Err(_) => Err(ComparisonFault::from(RunFault::Write)),

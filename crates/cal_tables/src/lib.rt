@@ -14,3 +14,4 @@ pub use comparing::fault::ComparisonFault;
 pub use comparing::{Comparison, Variation, compare, compared, compared_values};
 pub use courses::{Courses, RunCourse, TaskCourse, courses_of, courses_of_values, run_course};
 pub use measuring::{RunNumbers, measure, measured_run};
+pub use sheet::NumberForm;

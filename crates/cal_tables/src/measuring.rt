@@ -9,6 +9,7 @@ ghost use Rattle.cal_trace.specs.Arrivals.FitsTable.{FitsTable};
 ghost use Rattle.cal_tables.specs.Measured.{AreCoresOfTasks, AreNumbersOf, IsMeasuredRun};
 
 use crate::core_rows::put_core_rows;
+use crate::sheet::NumberForm;
 use crate::writing::sheet_of;
 use cal_engine::{RunFault, read_input, run_input};
 use cal_machine::Config;
@@ -97,17 +98,12 @@ pub fn measured_run(
 }
 
 /// What is written of the run on an input, in memory.
-fn measured_text(alloc: Global, input: &[u8], csv: bool) -> Result<String, RunFault> {
+fn measured_text(alloc: Global, input: &[u8], form: NumberForm) -> Result<String, RunFault> {
     let (config, arrivals) = run_input(alloc, input)?;
     let numbers = measured_run(alloc, &config, &arrivals)?;
     let mut sheet = sheet_of(alloc, &config, numbers.requests.as_slice())?;
     put_core_rows(alloc, &mut sheet, &numbers, config.machine().cores())?;
-    let text = if csv {
-        sheet.csv(alloc)?
-    } else {
-        sheet.text(alloc)?
-    };
-    Ok(text)
+    Ok(sheet.written(alloc, form)?)
 }
 
 /// Reads an input of a task table and arrivals to its end, makes a whole run of them on one thread,
@@ -118,14 +114,14 @@ fn measured_text(alloc: Global, input: &[u8], csv: bool) -> Result<String, RunFa
 pub fn measure<R: Read + Drop, W: Write>(
     alloc: Global,
     mut reader: R,
-    csv: bool,
+    form: NumberForm,
     writer: &mut W,
 ) -> Result<(), RunFault>
     // Nothing is written before the run was made.
     ensures untouched { IfErr result (λ fault. fault ≢ RunFault.Write → writer.new ≡ writer.old) }
 {
     let input = read_input(alloc, &mut reader)?;
-    let text = measured_text(alloc, input.as_slice(), csv)?;
+    let text = measured_text(alloc, input.as_slice(), form)?;
     match writer.write_all(text.as_bytes()) {
         Ok(()) => Ok(()),
         Err(_) => Err(RunFault::Write),

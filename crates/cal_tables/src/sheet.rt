@@ -2,6 +2,15 @@
 
 use std::alloc::{AllocError, Global};
 
+/// As what numbers are written.
+#[derive(Clone, Copy, Debug, PartialEq, Eq)]
+pub enum NumberForm {
+    /// In columns that line up.
+    Columns,
+    /// As a CSV file.
+    Csv,
+}
+
 /// Rows of cells. The first cell of a row says what the others are. A row may have fewer cells than
 /// another.
 #[derive(Drop)]
@@ -93,8 +102,16 @@ impl Sheet {
         Ok(())
     }
 
+    /// The rows in this form. Fails only when out of memory.
+    pub fn written(&self, alloc: Global, form: NumberForm) -> Result<String, AllocError> {
+        match form {
+            NumberForm::Columns => self.in_columns(alloc),
+            NumberForm::Csv => self.csv(alloc),
+        }
+    }
+
     /// The rows in columns that line up. Fails only when out of memory.
-    pub fn text(&self, alloc: Global) -> Result<String, AllocError> {
+    fn in_columns(&self, alloc: Global) -> Result<String, AllocError> {
         let mut text = String::new(alloc);
         for row in self.rows.as_slice() {
             put_row(&mut text, self.rows.as_slice(), row.as_slice())?;
@@ -103,7 +120,7 @@ impl Sheet {
     }
 
     /// The rows as a CSV file. Fails only when out of memory.
-    pub fn csv(&self, alloc: Global) -> Result<String, AllocError> {
+    fn csv(&self, alloc: Global) -> Result<String, AllocError> {
         let mut text = String::new(alloc);
         let columns = columns(self.rows.as_slice());
         for row in self.rows.as_slice() {

@@ -1,2 +1,4 @@
 pub mod Counting
 pub mod Recording
+pub mod Standing
+pub mod Walking

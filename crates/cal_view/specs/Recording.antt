@@ -1,5 +1,5 @@
 -- What is written of a run that was decided.
-use Rattle.std.specs.Prelude.{◌++◌, ℕ, List, [], Bool, true, false, codes}
+use Rattle.std.specs.Prelude.{◌++◌, ℕ, List, [], codes}
 use Rattle.std.specs.Prelude.{Option, Some, None, Result, Ok, Err}
 use Rattle.std.specs.Io.KnownBytes.{Appends}
 use Rattle.cal_engine.specs.Input.{input_parts}
@@ -8,29 +8,31 @@ use Rattle.cal_engine.specs.Runs.{Run}
 use Rattle.cal_engine.specs.declared.fault.RunFault.{RunFault}
 use Rattle.cal_policy.specs.declared.history.entry.PassEntry.{PassEntry}
 use Rattle.cal_trace.specs.History.Text.{history_text}
+use Rattle.cal_view.specs.declared.jobs.recording.Front.{Front}
+use Rattle.cal_view.specs.declared.jobs.recording.Front.TheVariants as fronts
 
 -- the task table of an input, and the line after it
 abbrev pub table_text : Option (List ℕ × List ℕ) → List ℕ
 table_text None = []
 table_text (Some parts) = parts.0 ++ codes "---\n"
 
--- what stands before a history: the table, where it is asked for
-abbrev pub front_of : Bool → List ℕ → List ℕ
-front_of false input = []
-front_of true input = table_text (input_parts input)
+-- what stands before a history
+abbrev pub front_of : Front → List ℕ → List ℕ
+front_of fronts.Nothing input = []
+front_of fronts.Table input = table_text (input_parts input)
 
 -- what is written of a history
-abbrev pub recorded_text : Bool → List ℕ → List PassEntry → List ℕ
-recorded_text table input history = front_of table input ++ history_text history
+abbrev pub recorded_text : Front → List ℕ → List PassEntry → List ℕ
+recorded_text front input history = front_of front input ++ history_text history
 
 -- there is a run, and it was written
-abbrev pub Recorded : Bool → List ℕ → Result Run RunFault →
+abbrev pub Recorded : Front → List ℕ → Result Run RunFault →
     Option (List ℕ) → Option (List ℕ) → Type 0
-Recorded table input (Err f) old new = ⊥
-Recorded table input (Ok run) old new = Appends old new (recorded_text table input run.history)
+Recorded front input (Err f) old new = ⊥
+Recorded front input (Ok run) old new = Appends old new (recorded_text front input run.history)
 
 -- the run of an input was written and nothing else, or the fault says what it must of the input
-abbrev pub Records : {T : Type 0} → Result T RunFault → Bool → List ℕ → Result Run RunFault →
+abbrev pub Records : {T : Type 0} → Result T RunFault → Front → List ℕ → Result Run RunFault →
     Option (List ℕ) → Option (List ℕ) → Type 0
-Records (Ok _) table input outcome old new = Recorded table input outcome old new
-Records (Err f) table input outcome old new = Failed f outcome
+Records (Ok _) front input outcome old new = Recorded front input outcome old new
+Records (Err f) front input outcome old new = Failed f outcome

@@ -5,14 +5,15 @@
 #![tactic(auto)]
 
 mod command_words;
-mod counting;
+mod fault;
+mod jobs;
 mod picture;
-mod recording;
+mod program;
 mod story;
 mod timeline;
 
 pub use command_words::command_line::{Form, Job, words};
-pub use command_words::program::{run_program, say_help};
+pub use jobs::recording::{Front, record};
 pub use picture::draw_picture;
-pub use recording::record;
+pub use program::{run_program, say_help};
 pub use timeline::write_timeline;

@@ -13,7 +13,7 @@ pub mod style;
 pub mod tasks;
 pub mod telling;
 
-use crate::counting::count_passes;
+use crate::jobs::counting::count_passes;
 use crate::picture::axis::{draw_axis, draw_grid};
 use crate::picture::bandwidth::draw_bandwidth;
 use crate::picture::cores::draw_cores;

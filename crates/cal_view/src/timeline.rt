@@ -3,122 +3,27 @@
 //! Clocks stand as microseconds, since the format knows no ticks. Cores are the tracks of one
 //! group, bans those of a second; the counters of tasks and of bandwidth are a third.
 
-ghost use Rattle.cal_trace.specs.History.Reading.{IsOpen};
+pub mod events;
+pub mod figures;
+pub mod slices;
 
-use crate::counting::count_passes;
-use crate::picture::telling::{kind_word, tell_ban, tell_span};
-use crate::story::clocks::{ClockedBan, ClockedSpan};
-use crate::story::walk::{Row, SpanAndBan, Walk, is_critical, task_of};
+ghost use Rattle.cal_machine.specs.Table.{Table};
+ghost use Rattle.cal_trace.specs.History.Reading.{IsOpen};
+ghost use Rattle.cal_view.specs.Walking.{IsWalkOf};
+
+use crate::jobs::counting::count_passes;
+use crate::story::standing::Row;
+use crate::story::walk::Walk;
+use crate::timeline::events::{BANS, CORES, COUNTERS, Events, Name, Named};
+use crate::timeline::figures::{put_figure, put_row};
+use crate::timeline::slices::put_ended;
 use cal_engine::{RunFault, recorded_passes};
-use cal_machine::{Config, MOST_TASKS};
+use cal_machine::Config;
 use cal_picture::Page;
-use cal_policy::{Action, Cause, PassEntry};
+use cal_policy::{Action, PassEntry};
 use cal_trace::HistoryRows;
-use serde::Serialize;
 use std::alloc::Global;
 use std::io::Write;
-
-const CORES: u64 = 1;
-
-const BANS: u64 = 2;
-
-const COUNTERS: u64 = 3;
-
-/// The name of a group or of a track.
-#[derive(Drop, Serialize)]
-struct Named<'a> {
-    name: &'a str,
-    ph: &'a str,
-    pid: u64,
-    tid: u64,
-    args: Name<'a>,
-}
-
-#[derive(Drop, Serialize)]
-struct Name<'a> {
-    name: &'a str,
-}
-
-/// Something that takes its time on a track.
-#[derive(Drop, Serialize)]
-struct Slice<'a> {
-    name: &'a str,
-    cat: &'a str,
-    ph: &'a str,
-    ts: u64,
-    dur: u64,
-    pid: u64,
-    tid: u64,
-    args: Story<'a>,
-}
-
-/// What the report says of it.
-#[derive(Drop, Serialize)]
-struct Story<'a> {
-    told: &'a str,
-    thread: u8,
-    from_pass: usize,
-    to_pass: Option<usize>,
-}
-
-/// What a task has, from this clock on.
-#[derive(Drop, Serialize)]
-struct TaskCounter<'a> {
-    name: &'a str,
-    ph: &'a str,
-    ts: u64,
-    pid: u64,
-    args: TaskFigures,
-}
-
-#[derive(Drop, Serialize)]
-struct TaskFigures {
-    held: u8,
-    leaving: u8,
-}
-
-/// A figure, from this clock on.
-#[derive(Drop, Serialize)]
-struct Counter<'a> {
-    name: &'a str,
-    ph: &'a str,
-    ts: u64,
-    pid: u64,
-    args: Figure,
-}
-
-#[derive(Drop, Serialize)]
-struct Figure {
-    value: u64,
-}
-
-/// Events one after the other, with commas between, on a page.
-#[derive(Drop)]
-struct Events {
-    alloc: Global,
-    page: Page,
-    first: bool,
-}
-
-impl Events {
-    fn new(alloc: Global) -> Events {
-        Events {
-            alloc,
-            page: Page::new(alloc),
-            first: true,
-        }
-    }
-
-    /// Puts one event, as the text that serde_json makes of it.
-    fn put<T: Serialize>(&mut self, event: &T) {
-        self.page.put(if self.first { "\n" } else { ",\n" });
-        self.first = false;
-        match serde_json::to_string(self.alloc, event) {
-            Ok(text) => self.page.put(text.as_str()),
-            Err(_) => self.page.refuse(),
-        }
-    }
-}
 
 /// Writes the history of an input as trace events. It takes any history. It keeps no pass, and
 /// writes nothing of an input that is refused.
@@ -185,7 +90,7 @@ fn put_passes<W: Write>(
 ) -> Result<(), RunFault>
     requires { IsOpen history }
 {
-    let mut told = Told::new(config);
+    let mut told = Told::new();
     while let Some(entry) = history.next()? {
         told.pass(config, &entry, events);
         events.page.send(writer)?;
@@ -207,9 +112,11 @@ struct Told {
 
 impl Told {
     /// Before the first pass.
-    fn new(config: &Config) -> Told {
+    fn new() -> Told
+        ensures ready { (table : Table) → IsWalkOf table result.walk }
+    {
         Told {
-            walk: Walk::new(config),
+            walk: Walk::new(),
             row: None,
             now: 0,
             passes: 0,
@@ -217,9 +124,12 @@ impl Told {
     }
 
     /// Goes on by one pass, and puts what it changes and ends.
-    fn pass(&mut self, config: &Config, entry: &PassEntry, events: &mut Events) {
+    fn pass(&mut self, config: &Config, entry: &PassEntry, events: &mut Events)
+        requires ready { IsWalkOf config.now self.old.walk }
+        ensures ready { IsWalkOf config.now self.new.walk }
+    {
         self.now = entry.input.now;
-        self.walk.take_looks(entry.input.seen.as_slice());
+        self.walk.take_looks(config, &entry.input);
         self.note(config, entry.actions.as_slice(), events);
         let row = self.walk.row(config, self.now);
         put_row(config, self.now, &row, self.row, events);
@@ -229,9 +139,12 @@ impl Told {
     }
 
     /// What the actions of a pass end.
-    fn note(&mut self, config: &Config, actions: &[Action], events: &mut Events) {
+    fn note(&mut self, config: &Config, actions: &[Action], events: &mut Events)
+        requires ready { IsWalkOf config.now self.old.walk }
+        ensures ready { IsWalkOf config.now self.new.walk }
+    {
         for action in actions {
-            let ended = self.walk.note(self.passes, self.now, *action);
+            let ended = self.walk.note(config, self.passes, self.now, *action);
             put_ended(config, self.now, ended, events);
         }
     }
@@ -242,195 +155,4 @@ impl Told {
             put_ended(config, self.now, self.walk.open(core), events);
         }
     }
-}
-
-/// A span and a ban that end by this clock, where there are such.
-fn put_ended(config: &Config, end: u64, ended: SpanAndBan, events: &mut Events) {
-    if let Some(clocked) = ended.span {
-        put_span(config, end, &clocked, events);
-        put_leaving(end, &clocked, events);
-    }
-    if let Some(clocked) = ended.ban {
-        put_ban(config, end, &clocked, events);
-    }
-}
-
-/// The figures of the tasks that are others than before.
-fn put_row(config: &Config, now: u64, row: &Row, last: Option<Row>, events: &mut Events) {
-    for task in 0..config.tasks() {
-        if changes(row, last, task) {
-            put_task(config, now, row, task, events);
-        }
-    }
-}
-
-fn changes(row: &Row, last: Option<Row>, task: usize) -> bool {
-    match last {
-        Some(last) if task < MOST_TASKS => {
-            last.held[task] != row.held[task]
-                || last.booked[task] != row.booked[task]
-                || last.caps[task] != row.caps[task]
-        }
-        _ => true,
-    }
-}
-
-/// What a task holds and leaves, and the cap of a best-effort one.
-fn put_task(config: &Config, now: u64, row: &Row, task: usize, events: &mut Events) {
-    if task >= MOST_TASKS {
-        return;
-    }
-    let held = row.held[task];
-    let figures = TaskFigures {
-        held,
-        leaving: row.booked[task].saturating_sub(held),
-    };
-    put_task_figures(kind_word(config, task), now, task, figures, events);
-    if !is_critical(config, task) {
-        put_cap(now, task, row.caps[task], events);
-    }
-}
-
-fn put_task_figures(kind: &str, now: u64, task: usize, figures: TaskFigures, events: &mut Events) {
-    let mut page = Page::new(events.alloc);
-    page.fill("task {} (", &[task as u64]);
-    page.put(kind);
-    page.put(")");
-    match page.whole() {
-        Ok(name) => events.put(&TaskCounter {
-            name,
-            ph: "C",
-            ts: now,
-            pid: COUNTERS,
-            args: figures,
-        }),
-        Err(_) => events.page.refuse(),
-    }
-}
-
-fn put_cap(now: u64, task: usize, cap: u8, events: &mut Events) {
-    let mut page = Page::new(events.alloc);
-    page.fill("cap of task {}", &[task as u64]);
-    match page.whole() {
-        Ok(name) => put_figure(name, now, u64::from(cap), events),
-        Err(_) => events.page.refuse(),
-    }
-}
-
-fn put_figure(name: &str, ts: u64, value: u64, events: &mut Events) {
-    events.put(&Counter {
-        name,
-        ph: "C",
-        ts,
-        pid: COUNTERS,
-        args: Figure { value },
-    });
-}
-
-/// Where and when a slice stands.
-#[derive(Clone, Copy)]
-struct Place {
-    cat: &'static str,
-    pid: u64,
-    core: u8,
-    thread: u8,
-    from: usize,
-    to: Option<usize>,
-    /// The clocks at which it begins and ends.
-    start: u64,
-    end: u64,
-}
-
-/// Puts a slice, under a name and with what is told of it.
-fn put_slice<'a>(place: Place, name: &'a Page, told: &'a Page, events: &mut Events) {
-    match (name.whole(), told.whole()) {
-        (Ok(name), Ok(told)) => events.put(&Slice {
-            name,
-            cat: place.cat,
-            ph: "X",
-            ts: place.start,
-            dur: place.end.saturating_sub(place.start),
-            pid: place.pid,
-            tid: u64::from(place.core),
-            args: Story {
-                told,
-                thread: place.thread,
-                from_pass: place.from,
-                to_pass: place.to,
-            },
-        }),
-        _ => events.page.refuse(),
-    }
-}
-
-/// A span: a slice of its core.
-fn put_span(config: &Config, end: u64, clocked: &ClockedSpan, events: &mut Events) {
-    let span = clocked.span;
-    let mut told = Page::new(events.alloc);
-    tell_span(config, clocked, &mut told);
-    let mut name = Page::new(events.alloc);
-    name.fill("thread {}", &[u64::from(span.thread)]);
-    if let Some(task) = task_of(config, span.thread) {
-        name.fill(" of task {}", &[task as u64]);
-    }
-    let place = Place {
-        cat: "span",
-        pid: CORES,
-        core: span.core,
-        thread: span.thread,
-        from: span.from,
-        to: span.to,
-        start: clocked.granted,
-        end,
-    };
-    put_slice(place, &name, &told, events);
-}
-
-/// The time in which a span's core is being left, by its cause: a slice within that of the span.
-fn put_leaving(end: u64, clocked: &ClockedSpan, events: &mut Events) {
-    let span = clocked.span;
-    let Some(left) = span.left else {
-        return;
-    };
-    let mut name = Page::new(events.alloc);
-    name_cause(left.cause, &mut name);
-    let place = Place {
-        cat: "leaving",
-        pid: CORES,
-        core: span.core,
-        thread: span.thread,
-        from: left.pass,
-        to: span.to,
-        start: clocked.revoked,
-        end,
-    };
-    put_slice(place, &name, &name, events);
-}
-
-fn name_cause(cause: Cause, page: &mut Page) {
-    match cause {
-        Cause::Ban { by } => page.fill("leaving: ban by core {}", &[by as u64]),
-        Cause::Bandwidth => page.put("leaving: bandwidth"),
-        Cause::Preempt { task } => page.fill("leaving: for task {}", &[task as u64]),
-    }
-}
-
-/// A ban: a slice of its core, in the group of bans.
-fn put_ban(config: &Config, end: u64, clocked: &ClockedBan, events: &mut Events) {
-    let ban = clocked.ban;
-    let mut told = Page::new(events.alloc);
-    tell_ban(config, clocked, &mut told);
-    let mut name = Page::new(events.alloc);
-    name.fill("banned for thread {}", &[u64::from(ban.thread)]);
-    let place = Place {
-        cat: "ban",
-        pid: BANS,
-        core: ban.core,
-        thread: ban.thread,
-        from: ban.from,
-        to: ban.to,
-        start: clocked.banned,
-        end,
-    };
-    put_slice(place, &name, &told, events);
 }

@@ -1,7 +1,9 @@
 //! What the words of a command line ask for.
 
 use crate::command_words::help_texts;
+use crate::jobs::recording::Front;
 use cal_engine::VERSION;
+use cal_tables::NumberForm;
 use clap::error::ErrorKind;
 use clap::{Arg, ArgAction, ArgMatches, Command, Error};
 use std::alloc::{AllocError, Global};
@@ -11,8 +13,8 @@ use std::alloc::{AllocError, Global};
 pub enum Job<'a> {
     /// Write the history that signals lead to, with the task table in front or without it.
     History {
-        /// Whether the table goes in front.
-        table: bool,
+        /// What goes in front.
+        front: Front,
     },
     /// Draw passes of a history.
     Picture {
@@ -25,8 +27,8 @@ pub enum Job<'a> {
     Timeline,
     /// Make a run on arrivals, and write its numbers.
     Measure {
-        /// Whether they are written as CSV.
-        csv: bool,
+        /// As what they are written.
+        form: NumberForm,
     },
     /// Make runs of several tables on the same arrivals, and show them side by side.
     Compare {
@@ -42,10 +44,8 @@ pub enum Job<'a> {
 /// As what several runs are shown.
 #[derive(Clone, Copy, Debug, PartialEq, Eq)]
 pub enum Form {
-    /// Numbers in columns that line up.
-    Text,
-    /// Numbers as CSV.
-    Csv,
+    /// Numbers.
+    Numbers(NumberForm),
     /// A picture.
     Picture,
 }
@@ -165,7 +165,7 @@ fn passes_word<'a>(alloc: Global) -> Arg<'a> {
 fn job_of<'a>(matches: &ArgMatches<'a>) -> Option<Job<'a>> {
     let job = match matches.subcommand() {
         Some((name, own)) if name == "history" => Job::History {
-            table: own.get_flag("table"),
+            front: front_of(own.get_flag("table")),
         },
         Some((name, own)) if name == "picture" => Job::Picture {
             from: number(own, "from"),
@@ -173,7 +173,7 @@ fn job_of<'a>(matches: &ArgMatches<'a>) -> Option<Job<'a>> {
         },
         Some((name, _)) if name == "timeline" => Job::Timeline,
         Some((name, own)) if name == "measure" => Job::Measure {
-            csv: own.get_flag("csv"),
+            form: number_form_of(own.get_flag("csv")),
         },
         Some((name, own)) if name == "compare" => Job::Compare {
             vary: own.get_str("vary"),
@@ -184,12 +184,26 @@ fn job_of<'a>(matches: &ArgMatches<'a>) -> Option<Job<'a>> {
     Some(job)
 }
 
+/// What the flag `--table` asks for.
+fn front_of(table: bool) -> Front {
+    if table { Front::Table } else { Front::Nothing }
+}
+
+/// What the flag `--csv` asks for.
+fn number_form_of(csv: bool) -> NumberForm {
+    if csv {
+        NumberForm::Csv
+    } else {
+        NumberForm::Columns
+    }
+}
+
+/// What the flags `--csv` and `--picture` ask for; nothing where both are given.
 fn form_of(csv: bool, picture: bool) -> Option<Form> {
     match (csv, picture) {
-        (false, false) => Some(Form::Text),
-        (true, false) => Some(Form::Csv),
-        (false, true) => Some(Form::Picture),
         (true, true) => None,
+        (false, true) => Some(Form::Picture),
+        (_, false) => Some(Form::Numbers(number_form_of(csv))),
     }
 }
 

@@ -4,7 +4,7 @@ use crate::picture::layout::{Ground, Sizes, digits};
 use crate::picture::sheet::Sheet;
 use crate::picture::telling::{draw_box, tell_ban, tell_span};
 use crate::story::clocks::{ClockedBan, ClockedSpan};
-use crate::story::walk::task_of;
+use crate::story::numbers::task_of;
 use crate::story::window::LEFT;
 use cal_picture::Page;
 use cal_policy::Cause;

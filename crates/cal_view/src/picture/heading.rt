@@ -3,8 +3,7 @@
 
 use crate::picture::sheet::Sheet;
 use crate::picture::telling::{ending, kind_word};
-use crate::story::Sums;
-use crate::story::walk::is_critical;
+use crate::story::sums::Sums;
 use cal_picture::Page;
 
 /// A number, and a word for as many.
@@ -25,7 +24,7 @@ pub fn tell_machine(sheet: &Sheet<'_>, page: &mut Page) {
 fn critical_tasks(sheet: &Sheet<'_>) -> u64 {
     let mut critical = 0u64;
     for task in 0..sheet.config.tasks() {
-        if is_critical(sheet.config, task) {
+        if sheet.config.is_latency_critical(task) {
             critical = critical.saturating_add(1);
         }
     }
@@ -70,7 +69,7 @@ fn tell_revocations(sums: Sums, page: &mut Page) {
     );
 }
 
-/// Which passes are shown, and what is cut.
+/// Which passes are shown, what is cut, and from which pass on the history is not orderly.
 pub fn tell_window(sheet: &Sheet<'_>, page: &mut Page) {
     let window = sheet.window;
     if window.count == 0 {
@@ -89,6 +88,12 @@ pub fn tell_window(sheet: &Sheet<'_>, page: &mut Page) {
     page.fill(", clock {} to {}.", &[from, to]);
     if window.count < window.all {
         tell_cut(first as u64, window.after() as u64, page);
+    }
+    if let Some(pass) = sheet.story.disorderly_from {
+        page.fill(
+            " Not orderly from pass {} on: lanes of cores and tasks may disagree.",
+            &[pass as u64],
+        );
     }
 }
 
@@ -115,11 +120,9 @@ pub fn tell_end(sheet: &Sheet<'_>, page: &mut Page) {
 
 /// What a task holds and leaves after the last pass.
 fn tell_held_at_end(sheet: &Sheet<'_>, task: usize, page: &mut Page) {
-    if task >= 16 {
-        return;
-    }
-    let held = u64::from(sheet.story.last.held[task]);
-    let booked = u64::from(sheet.story.last.booked[task]);
+    let figures = sheet.story.last.of(task);
+    let held = u64::from(figures.held);
+    let booked = u64::from(figures.booked);
     page.fill(" task {} ", &[task as u64]);
     page.put(kind_word(sheet.config, task));
     page.fill(" held {} leaving {}", &[held, booked.saturating_sub(held)]);

@@ -1,7 +1,6 @@
 //! What each sign means.
 
 use crate::picture::sheet::Sheet;
-use crate::story::walk::is_critical;
 use cal_picture::Page;
 
 /// Writes the legend, in three columns: spans, marks and lines. Its samples are grey: the colours
@@ -53,7 +52,7 @@ fn draw_span_signs(sheet: &Sheet<'_>, x: u64, y: u64, page: &mut Page) {
 /// The first latency-critical task, whose diamond stands for all.
 fn first_critical(sheet: &Sheet<'_>) -> u64 {
     for task in 0..sheet.config.tasks() {
-        if is_critical(sheet.config, task) {
+        if sheet.config.is_latency_critical(task) {
             return task as u64;
         }
     }

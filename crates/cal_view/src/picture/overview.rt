@@ -3,9 +3,16 @@
 use crate::picture::layout::BAND;
 use crate::picture::sheet::Sheet;
 use crate::picture::telling::draw_box;
-use crate::story::Slot;
+use crate::story::slots::Slot;
 use crate::story::window::LEFT;
 use cal_picture::{Page, scaled};
+
+/// Whose cores are drawn.
+#[derive(Clone, Copy)]
+enum Tasks {
+    All,
+    LatencyCritical,
+}
 
 /// Writes the whole run in one strip, where it is not shown whole: how many cores each kind of task
 /// holds, where the bandwidth was over its limit, and a box round the window.
@@ -17,9 +24,9 @@ pub fn draw_overview(sheet: &Sheet<'_>, page: &mut Page) {
     page.put("<path class='n' d='");
     draw_box(LEFT, top, sheet.columns.width(), BAND, page);
     page.put("'/><path class='o2' d='");
-    draw_cores_held(sheet, top, false, page);
+    draw_cores_held(sheet, top, Tasks::All, page);
     page.put("'/><path class='o1' d='");
-    draw_cores_held(sheet, top, true, page);
+    draw_cores_held(sheet, top, Tasks::LatencyCritical, page);
     page.put("'/><path class='i' d='");
     draw_over_limit(sheet, top, page);
     page.put("'/><path class='win' d='");
@@ -71,9 +78,12 @@ fn draw_key(sign: &str, high: u64, foot: u64, words: &str, page: &mut Page) {
 }
 
 /// How high a piece of the overview stands.
-fn height_of_slot(sheet: &Sheet<'_>, slot: &Slot, critical: bool) -> u64 {
+fn height_of_slot(sheet: &Sheet<'_>, slot: &Slot, tasks: Tasks) -> u64 {
     let cores = u64::from(sheet.config.machine().cores());
-    let sum = if critical { slot.critical } else { slot.held };
+    let sum = match tasks {
+        Tasks::All => slot.held,
+        Tasks::LatencyCritical => slot.critical,
+    };
     scaled(BAND, sum, cores.saturating_mul(slot.passes)).min(BAND)
 }
 
@@ -85,14 +95,14 @@ fn x_of_slot(sheet: &Sheet<'_>, slot: usize) -> u64 {
 }
 
 /// How many cores are held piece by piece, all of them or the latency-critical tasks' alone.
-fn draw_cores_held(sheet: &Sheet<'_>, top: u64, critical: bool, page: &mut Page) {
+fn draw_cores_held(sheet: &Sheet<'_>, top: u64, tasks: Tasks, page: &mut Page) {
     let base = top.saturating_add(BAND);
     let right = sheet.columns.right;
     let slots = sheet.story.slots.as_slice();
     page.fill("M{} {}", &[LEFT, base]);
     for slot in 0..slots.len() {
         let x = x_of_slot(sheet, slot);
-        let y = base.saturating_sub(height_of_slot(sheet, &slots[slot], critical));
+        let y = base.saturating_sub(height_of_slot(sheet, &slots[slot], tasks));
         page.fill("H{}V{}", &[x, y]);
     }
     page.fill("H{}V{}z", &[right, base]);

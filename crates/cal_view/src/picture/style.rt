@@ -1,7 +1,7 @@
 //! The rules of a picture's style sheet, and the patterns and signs that it draws with.
 
 use crate::picture::sheet::Sheet;
-use crate::story::walk::is_critical;
+use crate::story::numbers::is_critical;
 use cal_machine::Config;
 use cal_picture::{Page, Paper, Scheme, Shade, paper_of, shade_of};
 

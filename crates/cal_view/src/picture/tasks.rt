@@ -3,9 +3,8 @@
 use crate::picture::layout::TaskLane;
 use crate::picture::sheet::Sheet;
 use crate::picture::telling::{draw_box, ending, kind_word};
-use crate::story::walk::{Row, is_critical};
+use crate::story::standing::Row;
 use crate::story::window::LEFT;
-use cal_machine::MOST_TASKS;
 use cal_picture::Page;
 
 /// What is drawn of a task as steps.
@@ -18,14 +17,12 @@ enum Figure {
 }
 
 fn figure_of(row: &Row, task: usize, figure: Figure) -> u64 {
-    if task >= MOST_TASKS {
-        return 0;
-    }
+    let figures = row.of(task);
     match figure {
-        Figure::Held => u64::from(row.held[task]),
-        Figure::Booked => u64::from(row.booked[task]),
-        Figure::Cap => u64::from(row.caps[task]),
-        Figure::Late => u64::from(row.late[task]),
+        Figure::Held => u64::from(figures.held),
+        Figure::Booked => u64::from(figures.booked),
+        Figure::Cap => u64::from(figures.cap),
+        Figure::Late => u64::from(figures.late),
     }
 }
 
@@ -284,7 +281,7 @@ fn draw_lines(sheet: &Sheet<'_>, task: usize, lane: &TaskLane, page: &mut Page) 
     if row.guaranteed > 0 {
         draw_guarantee(sheet, lane, row.guaranteed as u64, page);
     }
-    if !is_critical(sheet.config, task) {
+    if !sheet.config.is_latency_critical(task) {
         draw_cap(sheet, task, lane, page);
     }
     draw_delay(sheet, task, lane, row.delay, page)

@@ -2,7 +2,7 @@
 
 use crate::picture::sheet::Sheet;
 use crate::story::clocks::{ClockedBan, ClockedSpan};
-use crate::story::walk::{is_critical, task_of};
+use crate::story::numbers::{is_critical, task_of};
 use cal_machine::Config;
 use cal_picture::Page;
 use cal_policy::{Action, Cause, Seen};

@@ -1,6 +1,6 @@
 use Rattle.cal_trace.specs.History.Reading.{IsOpen, rows_left}
 use Rattle.cal_view.proofs.Counted.{IsCounting}
-use Rattle.cal_view.proofs.counting.count_passes.Given as goal
+use Rattle.cal_view.proofs.jobs.counting.count_passes.Given as goal
 
 abbrev pub invariant-loop-history : goal.invariant-loop-history
 invariant-loop-history l = record {

@@ -2,8 +2,9 @@
 
 ghost use Rattle.std.specs.Prelude.{◌≡◌, ◌≢◌, IfErr, IfSome, OnOk};
 ghost use Rattle.std.specs.Io.KnownBytes.{Appends};
+ghost use Rattle.cal_engine.specs.Input.{input_parts};
 ghost use Rattle.cal_engine.specs.Runs.{decided_run_of, within_limit};
-ghost use Rattle.cal_view.specs.Recording.{Records, front_of, recorded_text};
+ghost use Rattle.cal_view.specs.Recording.{Records, front_of, recorded_text, table_text};
 
 use cal_engine::{RunFault, decided_run, read_input, split_input};
 use cal_policy::PassEntry;
@@ -12,43 +13,52 @@ use std::alloc::Global;
 use std::io;
 use std::io::{Read, Write};
 
+/// What is written before a history.
+#[derive(Clone, Copy, Debug, PartialEq, Eq)]
+pub enum Front {
+    /// Nothing.
+    Nothing,
+    /// The task table and the line `---`, so that it is an input.
+    Table,
+}
+
 /// Reads an input of a task table and a signal trace to its end, decides each of its passes, and
-/// writes them as a history, with the table and the line `---` in front where `table` asks for it.
-/// Nothing is written before the whole input was read and accepted.
+/// writes them as a history, with this in front of it. Nothing is written before the whole input
+/// was read and accepted.
 ///
 /// The faults are those of `cal_engine::decide`, in the same order.
 pub fn record<R: Read + Drop, W: Write>(
     alloc: Global,
     mut reader: R,
-    table: bool,
+    front: Front,
     writer: &mut W,
 ) -> Result<(), RunFault>
     // The history that the input asks for was written and nothing else, or the fault is the input's
     // first.
     ensures exact { IfSome (R.remaining reader) (λ input.
-        Records result table input (within_limit input (decided_run_of input))
+        Records result front input (within_limit input (decided_run_of input))
         (W.contents writer.old) (W.contents writer.new)) }
     // Nothing is written before the input was accepted.
     ensures untouched { IfErr result (λ fault. fault ≢ RunFault.Write → writer.new ≡ writer.old) }
 {
     let input = read_input(alloc, &mut reader)?;
     let (_config, history) = decided_run(alloc, input.as_slice())?;
-    write_recorded(table, input.as_slice(), history.as_slice(), writer)
+    write_recorded(front, input.as_slice(), history.as_slice(), writer)
 }
 
 /// Writes a history, with what stands before it. The fault is `Write`, if the writer returns an
 /// error; how much was written is unspecified.
 fn write_recorded<W: Write>(
-    table: bool,
+    front: Front,
     input: &[u8],
     history: &[PassEntry],
     writer: &mut W,
 ) -> Result<(), RunFault>
     ensures text { OnOk result (Appends (W.contents writer.old) (W.contents writer.new)
-        (recorded_text table input.now history.now)) }
+        (recorded_text front input.now history.now)) }
     ensures kind { IfErr result (λ fault. fault ≡ RunFault.Write) }
 {
-    if write_front(table, input, writer).is_err() {
+    if write_front(front, input, writer).is_err() {
         return Err(RunFault::Write);
     }
     match write_history(history, writer) {
@@ -57,19 +67,26 @@ fn write_recorded<W: Write>(
     }
 }
 
-/// Writes the task table of an input as it is there and the line after it, where they are asked
-/// for.
-fn write_front<W: Write>(table: bool, input: &[u8], writer: &mut W) -> io::Result<()>
+/// Writes what stands before the history of an input.
+fn write_front<W: Write>(front: Front, input: &[u8], writer: &mut W) -> io::Result<()>
     ensures { OnOk result (Appends (W.contents writer.old) (W.contents writer.new)
-        (front_of table input.now)) }
+        (front_of front input.now)) }
 {
-    if !table {
-        return Ok(());
+    match front {
+        Front::Nothing => Ok(()),
+        Front::Table => write_table(input, writer),
     }
+}
+
+/// Writes the task table of an input as it is there and the line after it.
+fn write_table<W: Write>(input: &[u8], writer: &mut W) -> io::Result<()>
+    ensures { OnOk result (Appends (W.contents writer.old) (W.contents writer.new)
+        (table_text (input_parts input.now))) }
+{
     match split_input(input) {
         None => Ok(()),
-        Some((front, _)) => {
-            writer.write_all(front)?;
+        Some((table, _)) => {
+            writer.write_all(table)?;
             writer.write_all(b"---\n")
         }
     }

@@ -2,7 +2,7 @@ use Rattle.std.proofs.Common.{◌≡◌, Err, rules}
 use Rattle.cal_engine.proofs.Reading.{refused}
 use Rattle.cal_engine.specs.Runs.{decided_run_of}
 use Rattle.cal_view.proofs.RecordedRuns.{recorded}
-use Rattle.cal_view.proofs.recording.record.Goals as goal
+use Rattle.cal_view.proofs.jobs.recording.record.Goals as goal
 
 pub returns-in_err-_config-clause-exact : goal.returns-in_err-_config-clause-exact
 returns-in_err-_config-clause-exact g c =
@@ -12,7 +12,7 @@ returns-in_err-_config-clause-exact g c =
 
 pub returns-clause-exact : goal.returns-clause-exact
 returns-clause-exact g c =
-    recorded (g.R.Read.remaining c.args.reader) (g.R.Read.remaining c.read_input.new.reader) c.in_ok-input.input.items _ c.args.table c.write_recorded.result
+    recorded (g.R.Read.remaining c.args.reader) (g.R.Read.remaining c.read_input.new.reader) c.in_ok-input.input.items _ c.args.front c.write_recorded.result
     (g.W.Write.contents c.args.writer.now) (g.W.Write.contents c.write_recorded.new.writer)
     c.in_ok-input.ensures.all c.in_ok-input.ensures.end c.in_ok-input.ensures.short (rw c.as_slice.ensures.value at c.in_ok-_config.ensures.exact)
     (rw (c.as_slice-2.ensures.value, c.as_slice-3.ensures.value) at c.write_recorded.ensures.text) c.write_recorded.ensures.kind

@@ -4,7 +4,7 @@ use Rattle.cal_trace.specs.History.Reading.{extent_of}
 use Rattle.cal_engine.specs.Runs.{recorded_run_of}
 use Rattle.cal_engine.specs.declared.fault.RunFault.TheVariants as fault
 use Rattle.cal_view.proofs.Counted.{all_counted, no_passes, one_more, refused_rows}
-use Rattle.cal_view.proofs.counting.count_passes.Goals as goal
+use Rattle.cal_view.proofs.jobs.counting.count_passes.Goals as goal
 
 pub loop-history-init : goal.loop-history-init
 loop-history-init c = record {

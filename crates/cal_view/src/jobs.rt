@@ -1,0 +1,6 @@
+//! What the words of the program ask for: a history recorded, drawn or compared.
+
+pub mod comparing;
+pub mod counting;
+pub mod drawing;
+pub mod recording;

@@ -1,0 +1,70 @@
+//! The runs of an input compared, as numbers or as a picture.
+
+use crate::command_words::command_line::Form;
+use crate::command_words::variation::{key_of, values_of};
+use crate::fault::end_comparison;
+use cal_engine::RunFault;
+use cal_picture::draw_comparison;
+use cal_tables::{ComparisonFault, Variation, compare};
+use std::alloc::Global;
+use std::io::{BufWriter, Read, Write};
+
+/// Compares the runs of an input, of its tables or, with a key and values, of those that its table
+/// gives with each of them, and answers the exit status.
+pub fn answer_compare<R: Read + Drop, W: Write, E: Write>(
+    alloc: Global,
+    reader: R,
+    vary: Option<&str>,
+    form: Form,
+    output: &mut W,
+    errors: &mut E,
+) -> Result<u8, RunFault> {
+    let Some(vary) = vary else {
+        return Ok(answer_comparison(alloc, reader, None, form, output, errors));
+    };
+    let values = values_of(alloc, vary)?;
+    let key = key_of(vary);
+    let variation = Variation {
+        key,
+        values: values.as_slice(),
+    };
+    Ok(answer_comparison(alloc, reader, Some(variation), form, output, errors))
+}
+
+/// Compares the runs of an input, and answers the exit status: its faults name the table or the
+/// value that has them.
+fn answer_comparison<R: Read + Drop, W: Write, E: Write>(
+    alloc: Global,
+    reader: R,
+    variation: Option<Variation<'_>>,
+    form: Form,
+    output: &mut W,
+    errors: &mut E,
+) -> u8 {
+    match write_comparison(alloc, reader, variation, form, output) {
+        Ok(()) => 0,
+        Err(fault) => end_comparison(&fault, variation, errors),
+    }
+}
+
+/// Compares the runs of an input. What is written goes through a buffer.
+fn write_comparison<R: Read + Drop, W: Write>(
+    alloc: Global,
+    reader: R,
+    variation: Option<Variation<'_>>,
+    form: Form,
+    output: &mut W,
+) -> Result<(), ComparisonFault> {
+    let mut buffer = match BufWriter::new(alloc, output) {
+        Ok(buffer) => buffer,
+        Err(_) => return Err(ComparisonFault::from(RunFault::Memory)),
+    };
+    match form {
+        Form::Numbers(form) => compare(alloc, reader, variation, form, &mut buffer)?,
+        Form::Picture => draw_comparison(alloc, reader, variation, &mut buffer)?,
+    }
+    match buffer.flush() {
+        Ok(()) => Ok(()),
+        Err(_) => Err(ComparisonFault::from(RunFault::Write)),
+    }
+}

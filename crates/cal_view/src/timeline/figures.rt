@@ -1,0 +1,81 @@
+//! The counters of the tasks and of the bandwidth.
+
+use crate::picture::telling::kind_word;
+use crate::story::numbers::is_critical;
+use crate::story::standing::{Figures, Row};
+use crate::timeline::events::{COUNTERS, Counter, Events, Figure, TaskCounter, TaskFigures};
+use cal_machine::Config;
+use cal_picture::Page;
+
+/// The figures of the tasks that are others than before.
+pub fn put_row(config: &Config, now: u64, row: &Row, last: Option<Row>, events: &mut Events) {
+    for task in 0..config.tasks() {
+        if changes(row, last, task) {
+            put_task(config, now, row, task, events);
+        }
+    }
+}
+
+/// Whether what a task holds, leaves or may book is another than before.
+fn changes(row: &Row, last: Option<Row>, task: usize) -> bool {
+    let Some(last) = last else {
+        return true;
+    };
+    let (before, after) = (last.of(task), row.of(task));
+    before.held != after.held || before.booked != after.booked || before.cap != after.cap
+}
+
+/// What a task holds and leaves, and the cap of a best-effort one.
+fn put_task(config: &Config, now: u64, row: &Row, task: usize, events: &mut Events) {
+    let Figures {
+        held,
+        booked,
+        cap,
+        ..
+    } = row.of(task);
+    let figures = TaskFigures {
+        held,
+        leaving: booked.saturating_sub(held),
+    };
+    put_task_figures(kind_word(config, task), now, task, figures, events);
+    if !is_critical(config, task) {
+        put_cap(now, task, cap, events);
+    }
+}
+
+fn put_task_figures(kind: &str, now: u64, task: usize, figures: TaskFigures, events: &mut Events) {
+    let mut page = Page::new(events.alloc);
+    page.fill("task {} (", &[task as u64]);
+    page.put(kind);
+    page.put(")");
+    match page.whole() {
+        Ok(name) => events.put(&TaskCounter {
+            name,
+            ph: "C",
+            ts: now,
+            pid: COUNTERS,
+            args: figures,
+        }),
+        Err(_) => events.page.refuse(),
+    }
+}
+
+fn put_cap(now: u64, task: usize, cap: u8, events: &mut Events) {
+    let mut page = Page::new(events.alloc);
+    page.fill("cap of task {}", &[task as u64]);
+    match page.whole() {
+        Ok(name) => put_figure(name, now, u64::from(cap), events),
+        Err(_) => events.page.refuse(),
+    }
+}
+
+/// A figure of this name.
+pub fn put_figure(name: &str, ts: u64, value: u64, events: &mut Events) {
+    events.put(&Counter {
+        name,
+        ph: "C",
+        ts,
+        pid: COUNTERS,
+        args: Figure { value },
+    });
+}

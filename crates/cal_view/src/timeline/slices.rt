@@ -1,0 +1,129 @@
+//! The slices of spans and of bans.
+
+use crate::picture::telling::{tell_ban, tell_span};
+use crate::story::clocks::{ClockedBan, ClockedSpan};
+use crate::story::numbers::task_of;
+use crate::story::walk::SpanAndBan;
+use crate::timeline::events::{BANS, CORES, Events, Slice, Story};
+use cal_machine::Config;
+use cal_picture::Page;
+use cal_policy::Cause;
+
+/// A span and a ban that end by this clock, where there are such.
+pub fn put_ended(config: &Config, end: u64, ended: SpanAndBan, events: &mut Events) {
+    if let Some(clocked) = ended.span {
+        put_span(config, end, &clocked, events);
+        put_leaving(end, &clocked, events);
+    }
+    if let Some(clocked) = ended.ban {
+        put_ban(config, end, &clocked, events);
+    }
+}
+
+/// Where and when a slice stands.
+#[derive(Clone, Copy)]
+struct Place {
+    cat: &'static str,
+    pid: u64,
+    core: u8,
+    thread: u8,
+    from: usize,
+    to: Option<usize>,
+    /// The clocks at which it begins and ends.
+    start: u64,
+    end: u64,
+}
+
+/// Puts a slice, under a name and with what is told of it.
+fn put_slice<'a>(place: Place, name: &'a Page, told: &'a Page, events: &mut Events) {
+    match (name.whole(), told.whole()) {
+        (Ok(name), Ok(told)) => events.put(&Slice {
+            name,
+            cat: place.cat,
+            ph: "X",
+            ts: place.start,
+            dur: place.end.saturating_sub(place.start),
+            pid: place.pid,
+            tid: u64::from(place.core),
+            args: Story {
+                told,
+                thread: place.thread,
+                from_pass: place.from,
+                to_pass: place.to,
+            },
+        }),
+        _ => events.page.refuse(),
+    }
+}
+
+/// A span: a slice of its core.
+fn put_span(config: &Config, end: u64, clocked: &ClockedSpan, events: &mut Events) {
+    let span = clocked.span;
+    let mut told = Page::new(events.alloc);
+    tell_span(config, clocked, &mut told);
+    let mut name = Page::new(events.alloc);
+    name.fill("thread {}", &[u64::from(span.thread)]);
+    if let Some(task) = task_of(config, span.thread) {
+        name.fill(" of task {}", &[task as u64]);
+    }
+    let place = Place {
+        cat: "span",
+        pid: CORES,
+        core: span.core,
+        thread: span.thread,
+        from: span.from,
+        to: span.to,
+        start: clocked.granted,
+        end,
+    };
+    put_slice(place, &name, &told, events);
+}
+
+/// The time in which a span's core is being left, by its cause: a slice within that of the span.
+fn put_leaving(end: u64, clocked: &ClockedSpan, events: &mut Events) {
+    let span = clocked.span;
+    let Some(left) = span.left else {
+        return;
+    };
+    let mut name = Page::new(events.alloc);
+    name_cause(left.cause, &mut name);
+    let place = Place {
+        cat: "leaving",
+        pid: CORES,
+        core: span.core,
+        thread: span.thread,
+        from: left.pass,
+        to: span.to,
+        start: clocked.revoked,
+        end,
+    };
+    put_slice(place, &name, &name, events);
+}
+
+fn name_cause(cause: Cause, page: &mut Page) {
+    match cause {
+        Cause::Ban { by } => page.fill("leaving: ban by core {}", &[by as u64]),
+        Cause::Bandwidth => page.put("leaving: bandwidth"),
+        Cause::Preempt { task } => page.fill("leaving: for task {}", &[task as u64]),
+    }
+}
+
+/// A ban: a slice of its core, in the group of bans.
+fn put_ban(config: &Config, end: u64, clocked: &ClockedBan, events: &mut Events) {
+    let ban = clocked.ban;
+    let mut told = Page::new(events.alloc);
+    tell_ban(config, clocked, &mut told);
+    let mut name = Page::new(events.alloc);
+    name.fill("banned for thread {}", &[u64::from(ban.thread)]);
+    let place = Place {
+        cat: "ban",
+        pid: BANS,
+        core: ban.core,
+        thread: ban.thread,
+        from: ban.from,
+        to: ban.to,
+        start: clocked.banned,
+        end,
+    };
+    put_slice(place, &name, &told, events);
+}
