@@ -1,12 +1,12 @@
-//! The tests of the program's engines, in a crate of their own, since a crate with tests is proved
-//! twice: readers that fail or never end, writers that fail, and what the program then ends with.
-//! Its words, worked inputs, long ones and runs in threads are examples/, which `tools/examples`
+//! The tests of both programs, in a crate of their own, since a crate with tests is proved twice:
+//! whole runs of `caladan_sim` and `caladan_view` in memory, the ends of their engines, and the
+//! spans of worked histories.
+//!
+//! Their words, worked inputs, long ones and runs in threads are examples/, which `tools/examples`
 //! runs; refused memory is `tools/refusals`.
 #![tactic(auto)]
 
 #[cfg(test)]
-mod ends;
+mod engine;
 #[cfg(test)]
-mod given;
-#[cfg(test)]
-mod programs;
+mod viewer;

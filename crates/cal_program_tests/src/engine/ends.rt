@@ -1,6 +1,6 @@
 //! Readers that never end or fail, and a writer that fails.
 
-use crate::given::{INPUT, REPORT};
+use crate::engine::given::{INPUT, REPORT};
 use cal_engine::{RunFault, decide, fault_line, status};
 use std::alloc::Global;
 use std::io;

@@ -1,6 +1,6 @@
 //! Whole runs of the program: what it writes on its two outputs, and its exit status.
 
-use crate::given::{HISTORY, TABLE};
+use crate::viewer::given::{DISORDERLY, HISTORY, TABLE};
 use cal_view::run_program;
 use serde_json::Value;
 use std::process::Abort;
@@ -61,6 +61,19 @@ fn a_picture_tells_each_span_once(rt: HostRuntime) -> Result<(), Fail> {
     assert_eq!(rt; count(text, b"; still held"), 2);
     let end = b" At the end: task 0 lc held 1 leaving 0; task 1 be held 1 leaving 0. The report ";
     assert_eq!(rt; count(text, end), 1);
+    Ok(())
+}
+
+// In the heading, and in what the picture is in words.
+#[test]
+fn a_picture_tells_where_order_ends(rt: HostRuntime) -> Result<(), Fail> {
+    for (history, times) in [(HISTORY, 0), (DISORDERLY, 2)] {
+        let input = format!(in rt.alloc(); "{TABLE}---\n{history}")?;
+        let ran = run(&rt, &["picture"], input.as_str())?;
+        assert_eq!(rt; ran.status, 0);
+        let told = b" Not orderly from pass 1 on";
+        assert_eq!(rt; count(ran.output.as_slice(), told), times);
+    }
     Ok(())
 }
 
