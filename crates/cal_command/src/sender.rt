@@ -50,8 +50,8 @@ impl Sender {
         !self.producer.is_full()
     }
 
-    /// Sends a command, for which room is to be known; a Run's core is to be below `MOST_CORES`. It cannot
-    /// fail.
+    /// Sends a command, for which room is to be known; a Run's core is to be below `MOST_CORES`. It
+    /// cannot fail.
     pub fn send(&mut self, command: Command)
         requires room { HasRoom self.old }
         requires core { IsSendable command }

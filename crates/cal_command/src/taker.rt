@@ -32,9 +32,9 @@ impl Model for Taker {
 }
 
 impl Taker {
-    /// The next command, with its number from 1; a Run's core is below `MOST_CORES`. None where no command
-    /// was seen on the ring, and then nothing has changed. That a command on the ring is seen is no
-    /// promise beside a sender.
+    /// The next command, with its number from 1; a Run's core is below `MOST_CORES`. None where no
+    /// command was seen on the ring, and then nothing has changed. That a command on the ring is
+    /// seen is no promise beside a sender.
     pub fn take(&mut self) -> Option<(u64, Command)>
         ensures ring { self.new.ring ≡ self.old.ring }
         ensures none { IfNone result (self.new ≡ self.old) }

@@ -44,8 +44,8 @@ impl Guard {
         Ok(Guard { passing })
     }
 
-    /// The state that the history leaves. Within a pass it has the pass's looks too, and the actions
-    /// that were taken.
+    /// The state that the history leaves. Within a pass it has the pass's looks too, and the
+    /// actions that were taken.
     pub fn board(&self) -> &Board
         ensures agrees { (h : List PassEntry) → Keeps self.now h → IsStateAfter result.now h }
         ensures ready { (table : Table) → IsGuardOf table self.now → IsReady table result.now }

@@ -109,7 +109,8 @@ provided now answer theft t =
     then begins now (next_of t.front answer) theft (without_next answer t) else (t, None)
 
 -- The current request loses one of its work, and its misses are added to the thread's count, which
--- stops at MOST_MISSES. A request with no work left is served. A thread that found none gives up its core.
+-- stops at MOST_MISSES. A request with no work left is served. A thread that found none gives up
+-- its core.
 abbrev pub current_worked : Current → Option Current
 current_worked current = if nat_le current.remaining 1 then None
     else Some (record current { remaining = current.remaining - 1 })

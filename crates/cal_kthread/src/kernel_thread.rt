@@ -17,8 +17,8 @@ use std::marker::Model;
 /// The most entries of a journal.
 pub const MOST_ENTRIES: usize = 1_048_576;
 
-/// How many entries must fit before a turn begins: one of each kind. A turn adds at most five, since
-/// none both serves a request and gives up its core; so one place is spare.
+/// How many entries must fit before a turn begins: one of each kind. A turn adds at most five,
+/// since none both serves a request and gives up its core; so one place is spare.
 pub const TURN_ENTRIES: usize = 6;
 
 /// A kernel thread. It may be moved to a thread of its own; no call of it waits.

@@ -16,8 +16,8 @@ const _: () = prove!(MOST_CORES <= u8::MAX as usize);
 /// The most pairs of sibling cores.
 pub const MOST_PAIRS: usize = MOST_CORES / 2;
 
-/// A machine: cores `0 .. n-1`, where `n` is even, 2 to `MOST_CORES`. The scheduler's own core is not
-/// counted.
+/// A machine: cores `0 .. n-1`, where `n` is even, 2 to `MOST_CORES`. The scheduler's own core is
+/// not counted.
 ///
 /// Contracts see it as its number of cores.
 #[derive(Clone, Copy, Debug, PartialEq, Eq)]

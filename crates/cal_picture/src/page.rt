@@ -29,8 +29,8 @@ impl Page {
         }
     }
 
-    /// Puts words that may have any letters in them, so that they stay words: `&` and `<` have their
-    /// names, and what has no place in a picture is a blank.
+    /// Puts words that may have any letters in them, so that they stay words: `&` and `<` have
+    /// their names, and what has no place in a picture is a blank.
     pub fn put_escaped(&mut self, words: &str) {
         for letter in words.chars() {
             match letter {

@@ -5,10 +5,10 @@ use Rattle.cal_machine.specs.declared.machine.TheConstants.{MOST_CORES}
 use Rattle.cal_signal.specs.declared.record.Record.{Record}
 use Rattle.cal_signal.specs.declared.record.TheConstants.{MOST_MISSES}
 use Rattle.cal_signal.specs.declared.shown.Shown.{Shown}
-use Rattle.cal_signal.specs.Records.{IsLater, IsShaped}
+use Rattle.cal_signal.specs.Records.{IsLater, IsShaped, is_same}
 use Rattle.cal_signal.specs.Looks.{IsBusyPair}
 use Rattle.cal_signal.specs.Shown.{IsShownAfter}
-use Rattle.cal_signal.specs.Tests.{is_shaped, is_later, is_same, is_shown_after, is_busy_pair}
+use Rattle.cal_signal.specs.Tests.{is_shaped, is_later, is_shown_after, is_busy_pair}
 
 equal : (a b : ℕ) → (a == b) ≡ true → a ≡ b
 equal a b e = grind arith

@@ -1,11 +1,12 @@
 -- What a contract sees of the ends of a page, and what the fields of each end keep.
-use Rattle.std.specs.Prelude.{◌≡◌, ℕ, ◌+◌, ◌*◌, ◌%◌, ◌<◌, ◌≤◌}
+use Rattle.std.specs.Prelude.{◌≡◌, ℕ, ◌+◌, ◌*◌, ◌%◌, ◌≤◌}
 use Rattle.std.specs.Prelude.{true, false, List, [], length, take}
 use Rattle.atomic_table.specs.Seated.{TableId}
 use Rattle.atomic_table.specs.declared.shared.Seat.{Seat}
 use Rattle.cal_signal.specs.declared.view.View.{View}
 use Rattle.cal_signal.specs.declared.publisher.TheConstants.{LAST_PLACE}
 use Rattle.cal_signal.specs.declared.record.Record.{Record}
+use Rattle.cal_signal.specs.declared.record.TheConstants.{WORDS}
 use Rattle.cal_signal.specs.Records.{words_of, MayFollow}
 use Rattle.cal_signal.specs.Pages.{last_published, floor_of}
 use Rattle.cal_signal.specs.Rule.{sees, parts_of}
@@ -49,7 +50,7 @@ observer_view s = record { page = s.table_id; loads = s.me.0.loads; looks = s.me
 -- a seat at the page z
 pub record Sits (s : PageSeat) (z : TableId) : Type 0 where
   pub table : s.table_id ≡ z
-  pub words : z.words ≡ 10
+  pub words : z.words ≡ WORDS + 1
   pub empty : s.me.1 ≡ []
 
 -- its seat has the publisher's part and no other
@@ -68,7 +69,7 @@ pub record IsOpen (s : PageSeat) (z : TableId) (place : ℕ) (pending : Record)
   pub sits : Sits s z
   pub part : parts_of s.me.0 ≡ (true, false, false)
   pub version : s.me.0.version ≡ 2 * place + 1
-  pub some_left : count ≤ 9
+  pub some_left : count ≤ WORDS
   pub stored : s.me.0.stored ≡ take count (words_of pending)
   pub placed : place ≡ length s.me.0.published
   pub bound : place + 1 ≤ LAST_PLACE
@@ -88,6 +89,6 @@ pub record IsLooking (s : PageSeat) (z : TableId) (floor first : ℕ) (words : L
   pub low : floor ≡ floor_of s.me.0.looks
   pub even : first % 2 ≡ 0
   pub begun : s.me.0.first ≡ first
-  pub wide : length words ≡ 9
-  pub some_left : count ≤ 9
+  pub wide : length words ≡ WORDS
+  pub some_left : count ≤ WORDS
   pub read : s.me.0.read ≡ take count words

@@ -1,5 +1,5 @@
--- The limits of records and pages, Doranjei's, and the number of each. The other definitions cite the
--- constants of the code alone.
+-- The limits of records and pages, Doranjei's, and the number of each. The other definitions cite
+-- the constants of the code alone.
 use Rattle.std.specs.Prelude.{◌≡◌, ◌-◌, ◌^◌, refl}
 use Rattle.cal_signal.specs.declared.record.TheConstants.{MOST_MISSES}
 use Rattle.cal_signal.specs.declared.publisher.TheConstants.{LAST_PLACE}

@@ -1,9 +1,10 @@
 -- Which records there may be, which may follow which, and the words that a record is kept as.
-use Rattle.std.specs.Prelude.{ℕ, ◌+◌, ◌≤◌, ◌==◌, Bool, List, [], ◌∷◌, slice_index}
+use Rattle.std.specs.Prelude.{◌≡◌, ℕ, ◌+◌, ◌≤◌, ◌==◌, ◌&&◌, Bool, List, [], ◌∷◌, length}
+use Rattle.std.specs.Prelude.{slice_index, refl}
 use Rattle.std.specs.Prelude.{Option, Some, None}
 use Rattle.cal_machine.specs.declared.machine.TheConstants.{MOST_CORES}
 use Rattle.cal_signal.specs.declared.record.Record.{Record}
-use Rattle.cal_signal.specs.declared.record.TheConstants.{MOST_MISSES}
+use Rattle.cal_signal.specs.declared.record.TheConstants.{MOST_MISSES, WORDS}
 
 -- b may stand after a: none of these three words falls
 abbrev pub IsLater : Record → Record → Type 0
@@ -41,11 +42,23 @@ zero_record = record {
   since = 0;
 }
 
--- its nine words, in order
+-- the records are the same in all their words, as a test
+abbrev pub is_same : Record → Record → Bool
+is_same a b =
+    (a.taken == b.taken) && (a.running == b.running) && (a.queued == b.queued)
+    && (a.oldest == b.oldest)
+    && (a.started == b.started) && (a.misses == b.misses) && (a.stamp == b.stamp)
+    && (a.paused == b.paused) && (a.since == b.since)
+
+-- its words, in order
 abbrev pub words_of : Record → List ℕ
 words_of a =
     a.taken ∷ a.running ∷ a.queued ∷ a.oldest ∷ a.started ∷ a.misses ∷ a.stamp ∷ a.paused
     ∷ a.since ∷ []
+
+-- there are so many of them
+pub words-are : (a : Record) → length (words_of a) ≡ WORDS
+words-are a = refl
 
 -- the record that these words make
 abbrev pub record_of : List ℕ → Record

@@ -4,6 +4,7 @@ use Rattle.std.specs.Prelude.{◌==◌, ◌&&◌, ◌||◌, ◌%◌, nat_le, nat
 use Rattle.cal_machine.specs.declared.machine.TheConstants.{MOST_CORES}
 use Rattle.cal_signal.specs.declared.record.Record.{Record}
 use Rattle.cal_signal.specs.declared.record.TheConstants.{MOST_MISSES}
+use Rattle.cal_signal.specs.Records.{is_same}
 use Rattle.cal_signal.specs.declared.shown.Shown.{Shown}
 
 -- `IsShaped`
@@ -13,14 +14,6 @@ is_shaped rec = nat_le rec.running MOST_CORES && nat_le rec.misses MOST_MISSES
 -- `IsLater`
 abbrev pub is_later : Record → Record → Bool
 is_later a b = nat_le a.taken b.taken && nat_le a.misses b.misses && nat_le a.stamp b.stamp
-
--- the records are the same in all nine words
-abbrev pub is_same : Record → Record → Bool
-is_same a b =
-    (a.taken == b.taken) && (a.running == b.running) && (a.queued == b.queued)
-    && (a.oldest == b.oldest)
-    && (a.started == b.started) && (a.misses == b.misses) && (a.stamp == b.stamp)
-    && (a.paused == b.paused) && (a.since == b.since)
 
 -- `IsShownAfter`
 abbrev pub is_shown_after : Shown → Shown → Bool

@@ -6,9 +6,9 @@ ghost use Rattle.cal_signal.specs.Found.{Found, RefusedAtOnce};
 
 use crate::look::Look;
 use crate::open_look::OpenLook;
-use crate::record::Record;
+use crate::record::{Record, WORDS};
 use crate::rule::{FirstLoad, PageSeat, PageTable, SecondLoad};
-use crate::words::{WORDS, load_words};
+use crate::words::load_words;
 use std::marker::Model;
 use std::sync::Arc;
 
@@ -42,8 +42,8 @@ impl Observer {
         self.floor
     }
 
-    /// One look: a version load, nine word loads and a second version load; an odd first version
-    /// ends it at once. Waits for nobody.
+    /// One look: a version load, a load of each word and a second version load; an odd first
+    /// version ends it at once. Waits for nobody.
     ///
     /// `Whole` gives the record at place `number`, which is not below the floor and is the new
     /// floor. `Busy` leaves the floor.

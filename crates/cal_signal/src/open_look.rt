@@ -5,9 +5,8 @@ ghost use Rattle.cal_signal.specs.Looks.{whole_of};
 
 use crate::look::Look;
 use crate::observer::Observer;
-use crate::record::Record;
+use crate::record::{Record, WORDS};
 use crate::rule::{PageSeat, PageTable, SecondLoad, WordLoad};
-use crate::words::WORDS;
 use std::marker::Model;
 use std::sync::Arc;
 
@@ -44,17 +43,17 @@ impl Model for OpenLook {
 }
 
 impl OpenLook {
-    /// How many words are loaded, 0 to 9.
+    /// How many words are loaded, 0 to `WORDS`.
     pub fn loaded(&self) -> u8
         ensures { result ≡ self.now.loaded }
     {
         self.count
     }
 
-    /// Loads the next word, in the record's order. Asks that fewer than nine are loaded. Waits for
-    /// nobody.
+    /// Loads the next word, in the record's order. Asks that fewer than `WORDS` are loaded. Waits
+    /// for nobody.
     pub fn load_next(&mut self)
-        requires { self.old.loaded < 9 }
+        requires { self.old.loaded < WORDS }
         ensures { self.new ≡ record self.old { loaded = self.old.loaded + 1 } }
     {
         let index = self.count as usize;
@@ -66,9 +65,9 @@ impl OpenLook {
     }
 
     /// The second version load: answers as `Observer::observe` does, and hands the observer back.
-    /// Asks that all nine words are loaded. Waits for nobody.
+    /// Asks that all words are loaded. Waits for nobody.
     pub fn finish(self) -> (Look, Observer)
-        requires { self.loaded ≡ 9 }
+        requires { self.loaded ≡ WORDS }
         ensures page { result.1.page ≡ self.page }
         ensures looks { result.1.looks ≡ self.looks ++ whole_of result.0 }
         ensures found { Finished self result.1 result.0 }

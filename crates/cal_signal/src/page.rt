@@ -6,9 +6,8 @@ use crate::look::Look;
 use crate::observer::Observer;
 use crate::publication::OpenPage;
 use crate::publisher::Publisher;
-use crate::record::Record;
+use crate::record::{Record, WORDS};
 use crate::rule::{Comparison, OpenLooking, PageTable, Parts, ReadingBack, WatcherPart};
-use crate::words::WORDS;
 use std::alloc::{AllocError, Global};
 use std::sync::Arc;
 

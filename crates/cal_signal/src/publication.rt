@@ -2,9 +2,8 @@
 ghost use Rattle.std.specs.Prelude.{◌≡◌, ◌+◌, ◌<◌, ◌++◌, [], ◌∷◌};
 
 use crate::publisher::Publisher;
-use crate::record::Record;
+use crate::record::{Record, WORDS};
 use crate::rule::{ClosingStore, PageSeat, PageTable, WordStore};
-use crate::words::words;
 use std::marker::Model;
 use std::sync::Arc;
 
@@ -39,31 +38,31 @@ impl Model for OpenPage {
 }
 
 impl OpenPage {
-    /// How many words are stored, 0 to 9.
+    /// How many words are stored, 0 to `WORDS`.
     pub fn stored(&self) -> u8
         ensures { result ≡ self.now.stored }
     {
         self.count
     }
 
-    /// Stores the next word, in the record's order. Asks that fewer than nine are stored. Waits for
-    /// nobody.
+    /// Stores the next word, in the record's order. Asks that fewer than `WORDS` are stored. Waits
+    /// for nobody.
     pub fn store_next(&mut self)
-        requires { self.old.stored < 9 }
+        requires { self.old.stored < WORDS }
         ensures { self.new ≡ record self.old { stored = self.old.stored + 1 } }
     {
         let index = self.count as usize;
-        let word = words(&self.pending)[index];
+        let word = self.pending.words()[index];
         self.table
             .shared
             .store::<WordStore>(&mut self.seat, index + 1, word);
         self.count += 1;
     }
 
-    /// Stores the even version: the record is published. Asks that all nine words are stored. Waits
-    /// for nobody.
+    /// Stores the even version: the record is published. Asks that all words are stored. Waits for
+    /// nobody.
     pub fn finish(self) -> Publisher
-        requires { self.stored ≡ 9 }
+        requires { self.stored ≡ WORDS }
         ensures { result ≡ record {
           page = self.page;
           published = self.published ++ self.pending ∷ [];

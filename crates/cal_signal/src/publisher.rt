@@ -7,7 +7,7 @@ use crate::fault::PublishFault;
 use crate::publication::OpenPage;
 use crate::record::{Record, later, shaped};
 use crate::rule::{ClosingStore, OpenStore, PageSeat, PageTable};
-use crate::words::{store_words, words};
+use crate::words::store_words;
 use std::marker::Model;
 use std::sync::Arc;
 
@@ -82,7 +82,7 @@ impl Publisher {
         self.table
             .shared
             .store::<OpenStore>(&mut self.seat, 0, version + 1);
-        store_words(&self.table, &mut self.seat, words(&rec));
+        store_words(&self.table, &mut self.seat, rec.words());
         self.table
             .shared
             .store::<ClosingStore>(&mut self.seat, 0, version + 2);

@@ -1,7 +1,7 @@
 //! The record that a kernel thread publishes.
 ghost use Rattle.std.specs.Prelude.{◌≡◌, ◌↔◌, IsTrue};
 ghost use Rattle.cal_signal.specs.Records as records;
-ghost use Rattle.cal_signal.specs.Records.{IsLater, IsShaped, record_of, shows_on};
+ghost use Rattle.cal_signal.specs.Records.{IsLater, IsShaped, record_of, shows_on, words_of};
 ghost use Rattle.cal_signal.specs.Tests.{is_later, is_shaped};
 
 use cal_machine::MOST_CORES;
@@ -10,9 +10,14 @@ use cal_machine::MOST_CORES;
 /// sum.
 pub const MOST_MISSES: u64 = 1 << 56;
 
-/// What a kernel thread shows of itself, nine words in this order.
+/// How many words a record has. A page has them after its version word; signals and histories have
+/// them in this order.
+pub const WORDS: usize = 9;
+
+/// What a kernel thread shows of itself, `WORDS` words in this order.
 ///
 /// Times are clock ticks as given.
+#[repr(C)]
 #[derive(Clone, Copy, Debug, PartialEq, Eq)]
 pub struct Record {
     /// Commands taken so far.
@@ -49,8 +54,25 @@ impl Record {
         since: 0,
     };
 
-    /// The record of these nine words, in their order.
-    pub fn from_words(words: [u64; 9]) -> Record
+    /// The record's words, in order.
+    pub fn words(&self) -> [u64; WORDS]
+        ensures { result ≡ words_of self.now }
+    {
+        [
+            self.taken,
+            self.running,
+            self.queued,
+            self.oldest,
+            self.started,
+            self.misses,
+            self.stamp,
+            self.paused,
+            self.since,
+        ]
+    }
+
+    /// The record of these words, in their order.
+    pub fn from_words(words: [u64; WORDS]) -> Record
         ensures { result ≡ record_of words }
     {
         Record {

@@ -14,14 +14,16 @@ use std::alloc::Global;
 /// A seat at a page. It has no bytes.
 pub type PageSeat = Seat<(), View<Record>>;
 
-/// The version word and the nine words of a page.
+/// The version word and the words of a page.
 pub type PageTable = Table<(), View<Record>, (), PageRule, Global>;
 
 /// What holds of a page between any two steps.
 pub struct PageRule;
 
 impl TableRule<(), View<Record>, ()> for PageRule {
-    ghost holds = { λ _. Kept words_of 9 MayFollow zero_record };
+    ghost use Rattle.cal_signal.specs.declared.record.TheConstants.{WORDS};
+
+    ghost holds = { λ _. Kept words_of WORDS MayFollow zero_record };
 
     ghost first = { λ _. opening_view };
 }

@@ -1,34 +1,13 @@
-//! A record as the nine words of a page.
-ghost use Rattle.std.specs.Prelude.{◌≡◌, ◌%◌, true, []};
-ghost use Rattle.cal_signal.specs.Records.{words_of};
+//! The words of a record, to a page and from it.
+ghost use Rattle.std.specs.Prelude.{◌≡◌, ◌+◌, ◌%◌, true, []};
 
-use crate::record::Record;
+use crate::record::WORDS;
 use crate::rule::{PageSeat, PageTable, WordLoad, WordStore};
-
-/// The words of a record.
-pub const WORDS: usize = 9;
-
-/// The record's words, in order.
-pub fn words(rec: &Record) -> [u64; WORDS]
-    ensures { result ≡ words_of rec.now }
-{
-    [
-        rec.taken,
-        rec.running,
-        rec.queued,
-        rec.oldest,
-        rec.started,
-        rec.misses,
-        rec.stamp,
-        rec.paused,
-        rec.since,
-    ]
-}
 
 /// Stores the words one after the other, while the version is odd.
 pub fn store_words(table: &PageTable, seat: &mut PageSeat, words: [u64; WORDS])
     requires own { (seat.old.table_id ≡ table.now.shared.table_id)
-        × (seat.old.table_id.words ≡ 10) }
+        × (seat.old.table_id.words ≡ WORDS + 1) }
     requires open { (seat.old.me.0.publishes ≡ true) × (seat.old.me.0.version % 2 ≡ 1)
         × (seat.old.me.0.stored ≡ []) }
     ensures same { (seat.new.table_id ≡ seat.old.table_id) × (seat.new.id ≡ seat.old.id) }
@@ -42,7 +21,7 @@ pub fn store_words(table: &PageTable, seat: &mut PageSeat, words: [u64; WORDS])
 /// Loads the words one after the other, just after the first version load of a look.
 pub fn load_words(table: &PageTable, seat: &mut PageSeat) -> [u64; WORDS]
     requires own { (seat.old.table_id ≡ table.now.shared.table_id)
-        × (seat.old.table_id.words ≡ 10) }
+        × (seat.old.table_id.words ≡ WORDS + 1) }
     requires fresh { seat.old.me.0.read ≡ [] }
     ensures same { (seat.new.table_id ≡ seat.old.table_id) × (seat.new.id ≡ seat.old.id) }
     ensures view { seat.new.me ≡ (record seat.old.me.0 { read = result }, seat.old.me.1) }

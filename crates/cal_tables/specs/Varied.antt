@@ -1,5 +1,6 @@
 -- A task table with another value at one of its keys.
-use Rattle.std.specs.Prelude.{◌≡◌, ◌||◌, bytes_eq, ℕ, zero, suc, Bool, false, List, [], ◌∷◌, length, map, codes}
+use Rattle.std.specs.Prelude.{◌≡◌, ◌||◌, bytes_eq, ℕ, zero, suc, Bool, false, List, [], ◌∷◌}
+use Rattle.std.specs.Prelude.{length, map, codes}
 use Rattle.std.specs.Prelude.{decimal, Result, Ok, Err, if◌then◌else◌}
 use Rattle.std.specs.List.{concat}
 use Rattle.cal_engine.specs.Runs.{parts_of}

@@ -156,7 +156,8 @@ fn placed_course(
     }
 }
 
-/// What each table's run on the arrivals that a text tells goes through, in the order of the tables.
+/// What each table's run on the arrivals that a text tells goes through, in the order of the
+/// tables.
 fn courses_on(
     alloc: Global,
     tables: &[Config],

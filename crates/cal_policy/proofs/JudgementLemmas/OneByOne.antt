@@ -11,9 +11,9 @@ use Rattle.cal_signal.specs.declared.shown.Shown.{Shown}
 use Rattle.cal_signal.specs.declared.look.Look.{Look}
 use Rattle.cal_signal.specs.declared.look.Look.TheVariants as found
 use Rattle.std.proofs.lemmas.Bool.{le-leb, lt-ltb, eq-eqb}
-use Rattle.cal_signal.specs.Records.{IsLater}
+use Rattle.cal_signal.specs.Records.{IsLater, is_same}
 use Rattle.cal_signal.specs.Shown.{IsFitShown, IsShownAfter}
-use Rattle.cal_signal.specs.Tests.{is_shaped, is_later, is_same, is_shown_after, is_busy_pair}
+use Rattle.cal_signal.specs.Tests.{is_shaped, is_later, is_shown_after, is_busy_pair}
 use Rattle.cal_signal.proofs.Testing.{shaped_holds, shaped_test, follows_holds, pair_holds, pair_test}
 use Rattle.cal_policy.specs.declared.history.look.Seen.{Seen}
 use Rattle.cal_policy.specs.declared.history.look.Seen.TheVariants.{Whole, Busy, Ahead, Foreign}

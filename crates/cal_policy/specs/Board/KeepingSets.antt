@@ -24,9 +24,9 @@ shown_in r k = slice_index_or r.shown k nothing_shown
 abbrev pub shows_waiting : Record → Bool
 shows_waiting rec = nat_lt 0 rec.queued || nat_lt 0 rec.paused
 
--- of each thread that has not moved the misses before are those of its kept record, the threads that
--- wait are those whose kept record shows it, and of those that are settled the kept record is the
--- one last shown
+-- of each thread that has not moved the misses before are those of its kept record, the threads
+-- that wait are those whose kept record shows it, and of those that are settled the kept record is
+-- the one last shown
 pub record KeepsSets (r : Keeping) : Type 0 where
   pub still : (k : ℕ) → k < MOST_THREADS → has_thread r.moved k ≡ false →
       slice_index r.before k ≡ (kept_in r k).misses

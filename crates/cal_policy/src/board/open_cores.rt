@@ -17,8 +17,8 @@ use crate::board::holders::Holding;
 use crate::history::action::Action;
 use cal_machine::{Config, CoreSet};
 
-/// The cores that a grant or a ban may come to, as far as holders and bans go, of all `MOST_CORES` that a
-/// table can have.
+/// The cores that a grant or a ban may come to, as far as holders and bans go, of all `MOST_CORES`
+/// that a table can have.
 #[derive(Drop)]
 pub struct OpenCores {
     /// The cores that nobody has and that are not banned.

@@ -52,9 +52,9 @@ fn make_parts(config: &Config, input: &Input, board: &mut Board, out: &mut Actio
     grants_of_kind(config, input, board, out, Kind::BestEffort);
 }
 
-/// Appends the actions of the next pass, on this input, which fits, to an empty list, and brings the
-/// board up to that pass: of the plain one from the board of its whole history, and of a Book's from
-/// the board that it keeps.
+/// Appends the actions of the next pass, on this input, which fits, to an empty list, and brings
+/// the board up to that pass: of the plain one from the board of its whole history, and of a Book's
+/// from the board that it keeps.
 pub fn decide(config: &Config, input: &Input, board: &mut Board, out: &mut Actions)
     requires ready { IsReady config.now board.old }
     requires sizes { HasSizes config.now input.now }

@@ -21,8 +21,8 @@ use std::alloc::{AllocError, Global};
 pub const MOST_ROUNDS: usize = 1024;
 
 /// The parts of a run on these arrivals: a scheduler, a worker for each kernel thread of the table,
-/// and a watch for as many rounds as passes, `MOST_ROUNDS` at most. None of them did anything yet. Fails
-/// only when out of memory.
+/// and a watch for as many rounds as passes, `MOST_ROUNDS` at most. None of them did anything yet.
+/// Fails only when out of memory.
 pub fn open_parts(alloc: Global, config: &Config, arrivals: &Arrivals) -> Result<Parts, SimFault>
     requires fits { FitsTable config.now arrivals.now }
     ensures parts { IfOk result (λ parts. AreParts config.now arrivals.now 0 0 0 parts) }

@@ -6,7 +6,8 @@ ghost use Rattle.std.specs.List.{concat};
 ghost use Rattle.cal_engine.specs.Outcome.{ConfigDecided};
 ghost use Rattle.cal_trace.specs.Rows.Text.{numbered};
 ghost use Rattle.cal_tables.specs.Varied.{AreVaried, any_below, field_key, field_line, has_key};
-ghost use Rattle.cal_tables.specs.Varied.{is_field, key_line, kind_text, task_text, varied, varied_text};
+ghost use Rattle.cal_tables.specs.Varied.{is_field, key_line, kind_text, task_text, varied};
+ghost use Rattle.cal_tables.specs.Varied.{varied_text};
 
 use crate::comparing::fault::{ComparisonFault, fault_of};
 use cal_engine::RunFault;
