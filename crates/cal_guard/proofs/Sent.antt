@@ -1,6 +1,7 @@
 -- Which threads were sent a command in a pass, one action more.
-use Rattle.std.proofs.Common.{◌≡◌, ℕ, ◌+◌, ◌<◌, ◌≤◌, Bool, true, false, cond, ◌||◌, eqb, ltb, List, [], ◌∷◌, ◌++◌, length, Option, Some, None, refl, sym, ap, ◌∙◌, arith, append_assoc}
-use Rattle.std.specs.Option.{option_map}
+use Rattle.std.proofs.Common.{◌≡◌, ℕ, ◌+◌, ◌<◌, ◌≤◌, Bool, true, false, cond, ◌||◌, eqb, ltb, List, [], ◌∷◌, ◌++◌, length, Option, Some, None, refl, sym, ap, subst, ◌∙◌, arith, append_assoc}
+use Rattle.std.specs.Option.{option_map, IfSome}
+use Rattle.std.proofs.lemmas.Bool.{eqb-true, eq-eqb}
 use Rattle.std.proofs.lemmas.Bool.Decides.{nat_tests}
 use Rattle.std.proofs.lemmas.List.{append-nil}
 use Rattle.cal_machine.specs.declared.command.Command.{Command}
@@ -8,11 +9,11 @@ use Rattle.cal_machine.specs.declared.command.Command.TheVariants.{Run, Park}
 use Rattle.cal_machine.specs.declared.thread_set.ThreadSet.{ThreadSet}
 use Rattle.cal_machine.specs.ThreadSet.{has_thread}
 use Rattle.cal_policy.specs.declared.history.action.Action.{Action}
-use Rattle.cal_policy.specs.declared.history.action.Action.TheVariants.{Grant, Revoke}
+use Rattle.cal_policy.specs.declared.history.action.Action.TheVariants.{Free, Unban, Ban, Revoke, Cap, Grant}
 use Rattle.cal_policy.specs.declared.history.action.Cause.{Cause}
 use Rattle.cal_policy.specs.declared.board.holders.Placement as placements
-use Rattle.cal_policy.specs.History.{actions_of, sends, sent_to, command_to, last_thread, last_placement}
-use Rattle.cal_policy.specs.Board.{kept_placement}
+use Rattle.cal_policy.specs.History.{actions_of, addressed_to, sends, sent_to, command_to, last_thread, last_placement}
+use Rattle.cal_policy.specs.Board.{kept_placement, NamesCores}
 use Rattle.cal_policy.specs.Setting.{Setting, so_far}
 use Rattle.cal_policy.proofs.HistoryLemmas.OneMore.{sent_push, sent_grows, last_thread_placement}
 use Rattle.cal_guard.specs.Refusals.{was_sent, is_core}
@@ -46,20 +47,60 @@ some_sent : (b : Bool) (command : Command) → ltb 0 (length (cond b (command �
 some_sent true command = refl
 some_sent false command = refl
 
-pub to_granted : (x : List Action) (core thread class k : ℕ) → ltb 0 (length (sends k x (Grant core thread class))) ≡ is_core k (Some thread)
-to_granted x core thread class k = some_sent (eqb thread k) (Run core)
+-- a command goes to the thread that it is addressed to, and to no other
+pub to_addressed : (o : Option (ℕ × Command)) (k : ℕ) → ltb 0 (length (addressed_to k o)) ≡ is_core k (option_map (λ (p : ℕ × Command). p.0) o)
+to_addressed None k = refl
+to_addressed (Some sent) k = some_sent (eqb sent.0 k) sent.1
 
-to_last : (o : Option ℕ) (k : ℕ) → ltb 0 (length (command_to k o Park)) ≡ is_core k o
-to_last None k = refl
-to_last (Some thread) k = some_sent (eqb thread k) Park
+-- one command reaches thread k as another does: it is k's
+reaches : (b : Bool) (c d : Command) → c ∷ [] ≡ cond b (d ∷ []) [] → b ≡ true
+reaches true c d e = refl
+reaches false c d e = absurd (cc)
 
--- a revocation sends to the thread of the last grant, as it is kept
-pub to_revoked : (x : List Action) (core : ℕ) (cause : Cause) (o : Option placements.Placement) → o ≡ option_map kept_placement (last_placement x core) →
-    (k : ℕ) → ltb 0 (length (sends k x (Revoke core cause))) ≡ is_core k (option_map (λ (p : placements.Placement). p.thread) o)
-to_revoked x core cause o e k =
-    let last : last_thread x core ≡ option_map (λ (p : placements.Placement). p.thread) o =
-    last_thread_placement x core ∙ sym (thread_as_kept (last_placement x core)) ∙ ap (λ o. option_map (λ (p : placements.Placement). p.thread) o) (sym e) in
-    ap (λ o. ltb 0 (length (command_to k o Park))) last ∙ to_last (option_map (λ (p : placements.Placement). p.thread) o) k
+reached : (k thread : ℕ) (c d : Command) → command_to k (Some k) c ≡ command_to k (Some thread) d → thread ≡ k
+reached k thread c d e = eqb-true thread k (reaches (eqb thread k) c d (ap (λ b. cond b (c ∷ []) []) (sym (eq-eqb k k refl)) ∙ e))
+
+unreached : (k : ℕ) (c : Command) → command_to k (Some k) c ≡ [] → ⊥
+unreached k c e = let no : c ∷ [] ≡ [] = ap (λ b. cond b (c ∷ []) []) (sym (eq-eqb k k refl)) ∙ e in absurd (cc)
+
+-- actions after which the last grant of the core went to this thread, if to any
+abbrev before_last : Option ℕ → ℕ → List Action
+before_last None core = []
+before_last (Some thread) core = Grant core thread 1 ∷ []
+
+is_last : (granted : Option ℕ) (core : ℕ) → granted ≡ last_thread (before_last granted core) core
+is_last None core = refl
+is_last (Some thread) core = rw (eq-eqb core core refl) refl
+
+revoked_below : (threads k : ℕ) (c : Command) (granted : Option ℕ) → IfSome granted (λ thread. thread < threads) → command_to k (Some k) c ≡ command_to k granted Park → k < threads
+revoked_below threads k c None kept e = absurd (unreached k c e)
+revoked_below threads k c (Some thread) kept e = subst (λ (n : ℕ). n < threads) (reached k thread c Park e) kept
+
+-- an action that names threads below this number, of a core whose last grant went to one of them,
+-- sends to one of them
+pub sent_below : (cores threads : ℕ) (granted : Option ℕ) (sent : ℕ × Command) (action : Action) → NamesCores cores threads action
+    → ((core : ℕ) (cause : Cause) → action ≡ Revoke core cause → IfSome granted (λ thread. thread < threads))
+    → ((x : List Action) → ((core : ℕ) (cause : Cause) → action ≡ Revoke core cause → granted ≡ last_thread x core) → (k : ℕ) → addressed_to k (Some sent) ≡ sends k x action)
+    → sent.0 < threads
+sent_below cores threads granted sent (Free core) names kept is = absurd (unreached sent.0 sent.1 (is [] (λ c cause e. absurd (cc)) sent.0))
+sent_below cores threads granted sent (Unban core) names kept is = absurd (unreached sent.0 sent.1 (is [] (λ c cause e. absurd (cc)) sent.0))
+sent_below cores threads granted sent (Ban core thread started) names kept is = absurd (unreached sent.0 sent.1 (is [] (λ c cause e. absurd (cc)) sent.0))
+sent_below cores threads granted sent (Cap task cap) names kept is = absurd (unreached sent.0 sent.1 (is [] (λ c cause e. absurd (cc)) sent.0))
+sent_below cores threads granted sent (Grant core thread class) names kept is =
+    subst (λ (n : ℕ). n < threads) (reached sent.0 thread sent.1 (Run core) (is [] (λ c cause e. absurd (cc)) sent.0)) names.1
+sent_below cores threads granted sent (Revoke core cause) names kept is =
+    let x = before_last granted core in
+    revoked_below threads sent.0 sent.1 granted (kept core cause refl)
+    (is x (λ c other e. let same : core ≡ c = cc in is_last granted core ∙ ap (last_thread x) same) sent.0 ∙ ap (λ o. command_to sent.0 o Park) (sym (is_last granted core)))
+
+pub thread_below : (threads : ℕ) (o : Option placements.Placement) → IfSome o (λ placement. placement.thread < threads) → IfSome (option_map (λ (p : placements.Placement). p.thread) o) (λ thread. thread < threads)
+thread_below threads None kept = kept
+thread_below threads (Some placement) kept = kept
+
+-- the thread of the last grant, as it is kept
+pub granted_last : (x : List Action) (core : ℕ) (o : Option placements.Placement) → o ≡ option_map kept_placement (last_placement x core) →
+    option_map (λ (p : placements.Placement). p.thread) o ≡ last_thread x core
+granted_last x core o e = ap (λ o. option_map (λ (p : placements.Placement). p.thread) o) e ∙ thread_as_kept (last_placement x core) ∙ sym (last_thread_placement x core)
 
 pub inserted : (set new : ThreadSet) (thread : ℕ) → ((c : ℕ) → has_thread new c ≡ (eqb c thread || has_thread set c)) → (k : ℕ) → k < 128 → has_thread new k ≡ (is_core k (Some thread) || has_thread set k)
 inserted set new thread is k lt = is k ∙ ap (λ b. b || has_thread set k) (eqb_swap k thread)

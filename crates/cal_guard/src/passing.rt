@@ -23,8 +23,8 @@ ghost use Rattle.cal_guard.specs.Passing.{IsSetOfSent, IsInside};
 use crate::refusal::{Refused, Why};
 use cal_machine::{Config, ThreadSet};
 use cal_policy::state::{
-    Board, Holder, cap_of, held_by, holds_for, is_banned, is_fit, is_held, is_left, is_over,
-    survey_of,
+    Board, Holder, cap_of, command_for, core_changed_by, held_by, holds_for, is_banned, is_fit,
+    is_held, is_left, is_over, survey_of,
 };
 use cal_policy::{Action, Input, MOST_ACTIONS, Seen};
 
@@ -272,17 +272,9 @@ fn note_sent(config: &Config, board: &Board, sent: &mut ThreadSet, action: Actio
         IsSetOfSent sent.old s acts → IsSetOfSent sent.new s (acts ++ action ∷ []) }
 {
     let _ = config;
-    match action {
-        Action::Grant { thread, .. } => sent.insert(thread as usize),
-        Action::Revoke { core, .. } => {
-            if let Some(placement) = board.holding.granted[core as usize] {
-                sent.insert(placement.thread as usize);
-            }
-        }
-        Action::Free { .. } => {}
-        Action::Unban { .. } => {}
-        Action::Ban { .. } => {}
-        Action::Cap { .. } => {}
+    let core = core_changed_by(action);
+    if let Some((thread, _)) = command_for(action, board.holding.thread_granted(core)) {
+        sent.insert(thread as usize);
     }
 }
 

@@ -1,38 +1,43 @@
-use Rattle.std.proofs.Common.{Some, None, refl, sym, ◌∙◌, arith, slice_index_or, subst, ◌<◌}
-use Rattle.cal_policy.specs.Board.{NamesTable}
-use Rattle.cal_policy.specs.declared.history.action.Action.TheVariants.{Free, Unban, Ban, Revoke, Cap, Grant}
+use Rattle.std.proofs.Common.{◌<◌, Some, None, refl, sym, ap, subst, ◌∙◌, arith, ltb, length}
+use Rattle.std.specs.Option.{option_map, IfSome}
+use Rattle.cal_machine.specs.TableTasks.{threads_of_table}
+use Rattle.cal_policy.specs.Board.{core_changed, granted_in, NamesTable}
+use Rattle.cal_policy.specs.History.{addressed_to}
 use Rattle.cal_policy.specs.Setting.{so_far}
-use Rattle.cal_guard.proofs.Sent.{noted, to_granted, to_revoked, inserted, not_some}
+use Rattle.cal_guard.specs.Refusals.{is_core}
+use Rattle.cal_guard.proofs.Sent.{noted, to_addressed, granted_last, inserted, sent_below, thread_below}
 use Rattle.cal_guard.proofs.passing.note_sent.Goals as goal
 
-pub returns-in-Grant : goal.returns-in-Grant
-returns-in-Grant c = λ s acts agrees was.
-    let a = c.in-Grant in
-    rw c.in-Grant.is (noted c.args.sent.now c.insert.new.self s acts (Grant a.core a.thread a.class) (Some a.thread) (to_granted (so_far s acts) a.core a.thread a.class) was
-    (inserted c.args.sent.now c.insert.new.self a.thread c.insert.ensures))
+pub insert-requires : goal.insert-requires
+insert-requires c =
+    let threads = threads_of_table c.args.config.now in
+    let below = sent_below c.args.config.now.cores threads c.thread_granted.result (c.in-Some.thread, c.in-Some.field-0-1) c.args.action c.requires.names
+    (λ core cause is. subst (λ o. IfSome o (λ thread. thread < threads)) (sym (c.thread_granted.ensures core (c.core_changed_by-core.ensures.changed ∙ ap core_changed is)))
+    (thread_below threads (granted_in c.args.board.now.holding core) (c.requires.ready.own.holding.granted core)))
+    (λ x granted k. ap (addressed_to k) (sym c.in-Some.is) ∙ c.command_for.ensures x granted k) in
+    let most = c.requires.table.threads in
+    omega (arith, below, most)
 
 pub returns-in-Some : goal.returns-in-Some
 returns-in-Some c = λ s acts agrees was.
-    let a = c.in-Revoke in
-    let kept = sym c.in-Some.is ∙ agrees.holding.granted a.core (let low : a.core < c.args.config.now.cores = subst (NamesTable c.args.config.now) a.is c.requires.names in omega arith) in
-    rw c.in-Revoke.is (noted c.args.sent.now c.insert-in-Some.new.self s acts (Revoke a.core a.cause) (Some c.in-Some.placement.thread)
-    (to_revoked (so_far s acts) a.core a.cause (Some c.in-Some.placement) kept) was (inserted c.args.sent.now c.insert-in-Some.new.self c.in-Some.placement.thread c.insert-in-Some.ensures))
+    let x = so_far s acts in
+    noted c.args.sent.now c.insert.new.self s acts c.args.action (Some c.in-Some.thread)
+    (λ k. ap (λ l. ltb 0 (length l)) (sym (c.command_for.ensures x
+    (λ core cause is.
+    let low : core < c.args.config.now.cores = subst (NamesTable c.args.config.now) is c.requires.names in
+    c.thread_granted.ensures core (c.core_changed_by-core.ensures.changed ∙ ap core_changed is)
+    ∙ granted_last x core (granted_in c.args.board.now.holding core) (agrees.holding.granted core (omega arith))) k))
+    ∙ to_addressed c.command_for.result k ∙ ap (λ o. is_core k (option_map (λ p. p.0) o)) c.in-Some.is)
+    was (inserted c.args.sent.now c.insert.new.self c.in-Some.thread c.insert.ensures)
 
 pub returns-in_default : goal.returns-in_default
 returns-in_default c = λ s acts agrees was.
-    let a = c.in-Revoke in
-    let kept = sym (not_some (slice_index_or c.args.board.now.holding.granted a.core None) c.in_default.not-Some) ∙ agrees.holding.granted a.core (let low : a.core < c.args.config.now.cores = subst (NamesTable c.args.config.now) a.is c.requires.names in omega arith) in
-    rw c.in-Revoke.is (noted c.args.sent.now c.args.sent.now s acts (Revoke a.core a.cause) None (to_revoked (so_far s acts) a.core a.cause None kept) was (λ k lt. refl))
-
-pub returns-in-Free : goal.returns-in-Free
-returns-in-Free c = λ s acts agrees was. rw c.in-Free.is (noted c.args.sent.now c.args.sent.now s acts (Free c.in-Free.core) None (λ k. refl) was (λ k lt. refl))
-
-pub returns-in-Unban : goal.returns-in-Unban
-returns-in-Unban c = λ s acts agrees was. rw c.in-Unban.is (noted c.args.sent.now c.args.sent.now s acts (Unban c.in-Unban.core) None (λ k. refl) was (λ k lt. refl))
-
-pub returns-in-Ban : goal.returns-in-Ban
-returns-in-Ban c = λ s acts agrees was.
-    rw c.in-Ban.is (noted c.args.sent.now c.args.sent.now s acts (Ban c.in-Ban.core c.in-Ban.thread c.in-Ban.started) None (λ k. refl) was (λ k lt. refl))
-
-pub returns-in-Cap : goal.returns-in-Cap
-returns-in-Cap c = λ s acts agrees was. rw c.in-Cap.is (noted c.args.sent.now c.args.sent.now s acts (Cap c.in-Cap.task c.in-Cap.cap) None (λ k. refl) was (λ k lt. refl))
+    let x = so_far s acts in
+    noted c.args.sent.now c.args.sent.now s acts c.args.action None
+    (λ k. ap (λ l. ltb 0 (length l)) (sym (c.command_for.ensures x
+    (λ core cause is.
+    let low : core < c.args.config.now.cores = subst (NamesTable c.args.config.now) is c.requires.names in
+    c.thread_granted.ensures core (c.core_changed_by-core.ensures.changed ∙ ap core_changed is)
+    ∙ granted_last x core (granted_in c.args.board.now.holding core) (agrees.holding.granted core (omega arith))) k))
+    ∙ to_addressed c.command_for.result k ∙ ap (λ o. is_core k (option_map (λ p. p.0) o)) c.in_default.is)
+    was (λ k lt. refl)
