@@ -5,6 +5,7 @@ use Rattle.std.specs.Prelude.{Option, Some, None, if◌then◌else◌}
 use Rattle.cal_machine.specs.Table.{Table}
 use Rattle.cal_policy.specs.Board.Counts.{is_held_for}
 use Rattle.cal_policy.specs.History.{ban_of, holder_of}
+use Rattle.cal_policy.specs.History.CoreClasses.{class_number}
 use Rattle.cal_policy.specs.History.Lists.{each_of}
 use Rattle.cal_machine.specs.TableTasks.{owner_of}
 use Rattle.cal_policy.specs.declared.board.bans.BannedFor.{BannedFor}
@@ -13,6 +14,8 @@ use Rattle.cal_policy.specs.declared.history.action.Action.TheVariants.{Free, Un
 use Rattle.cal_policy.specs.declared.history.action.Action.TheVariants.{Revoke, Cap, Grant}
 use Rattle.cal_policy.specs.declared.history.action.Cause.{Cause}
 use Rattle.cal_policy.specs.declared.history.action.Cause.TheVariants as causes
+use Rattle.cal_policy.specs.declared.history.core_class.CoreClass.{CoreClass}
+use Rattle.cal_policy.specs.declared.history.core_class.CoreClass.TheVariants as classes
 use Rattle.cal_measure.specs.declared.actions.LossKind.{LossKind}
 use Rattle.cal_measure.specs.declared.actions.LossKind.TheVariants as kinds
 use Rattle.cal_measure.specs.declared.cores.TaskActions.{TaskActions}
@@ -26,8 +29,9 @@ abbrev pub many_of : (List Action → Action → Bool) → List Action → ℕ
 many_of such x = length (each_of (if_such such) x)
 
 -- it grants a thread of task t a core, for this class
-abbrev pub is_grant : Table → ℕ → ℕ → List Action → Action → Bool
-is_grant table t n before (Grant core thread class) = (owner_of table thread == t) && (class == n)
+abbrev pub is_grant : Table → ℕ → CoreClass → List Action → Action → Bool
+is_grant table t n before (Grant core thread class) =
+    (owner_of table thread == t) && (class == class_number n)
 is_grant table t n before (Free core) = false
 is_grant table t n before (Unban core) = false
 is_grant table t n before (Ban core thread started) = false
@@ -100,9 +104,9 @@ is_ban table t before (Grant core thread class) = false
 -- the numbers are those of what these actions did to the cores of task t
 pub record AreActionsOf (table : Table) (t : ℕ) (x : List Action)
     (numbers : TaskActions) : Type 0 where
-  pub grants_beside : numbers.grants_beside ≡ many_of (is_grant table t 1) x
-  pub grants_again : numbers.grants_again ≡ many_of (is_grant table t 2) x
-  pub grants_other : numbers.grants_other ≡ many_of (is_grant table t 3) x
+  pub grants_beside : numbers.grants_beside ≡ many_of (is_grant table t classes.Sibling) x
+  pub grants_again : numbers.grants_again ≡ many_of (is_grant table t classes.RecentlyUsed) x
+  pub grants_other : numbers.grants_other ≡ many_of (is_grant table t classes.OtherIdle) x
   pub lost_to_bans : numbers.lost_to_bans ≡ many_of (is_loss table t kinds.Ban) x
   pub lost_to_bandwidth : numbers.lost_to_bandwidth ≡ many_of (is_loss table t kinds.Bandwidth) x
   pub lost_to_tasks : numbers.lost_to_tasks ≡ many_of (is_loss table t kinds.Task) x

@@ -14,7 +14,7 @@ ghost use Rattle.cal_measure.specs.Actions.{AreActionsOf};
 use crate::cores::TaskActions;
 use cal_machine::Config;
 use cal_policy::state::{Board, holds_for};
-use cal_policy::{Action, Cause};
+use cal_policy::{Action, Cause, CoreClass};
 
 /// For what a core was lost.
 #[derive(Clone, Copy, Debug, PartialEq, Eq)]
@@ -28,7 +28,7 @@ pub enum LossKind {
 }
 
 /// Whether an action grants a thread of a task a core, for this class.
-fn is_grant(config: &Config, task: usize, class: u8, action: Action) -> bool
+fn is_grant(config: &Config, task: usize, class: CoreClass, action: Action) -> bool
     requires { NamesTable config.now action }
     ensures { (x : List Action) → result ≡ acts.is_grant config.now task class x action }
 {
@@ -37,7 +37,7 @@ fn is_grant(config: &Config, task: usize, class: u8, action: Action) -> bool
             thread,
             class: made,
             ..
-        } => config.task_of(thread as usize) == task && made == class,
+        } => config.task_of(thread as usize) == task && made == class.number(),
         Action::Free { .. } => false,
         Action::Unban { .. } => false,
         Action::Ban { .. } => false,
@@ -202,9 +202,9 @@ fn with_one(
     let by_task = is_loss(config, board, task, LossKind::Task, action);
     let by_others = is_loss_by_others(config, board, task, action);
     TaskActions {
-        grants_beside: plus(numbers.grants_beside, is_grant(config, task, 1, action)),
-        grants_again: plus(numbers.grants_again, is_grant(config, task, 2, action)),
-        grants_other: plus(numbers.grants_other, is_grant(config, task, 3, action)),
+        grants_beside: plus(numbers.grants_beside, is_grant(config, task, CoreClass::Sibling, action)),
+        grants_again: plus(numbers.grants_again, is_grant(config, task, CoreClass::RecentlyUsed, action)),
+        grants_other: plus(numbers.grants_other, is_grant(config, task, CoreClass::OtherIdle, action)),
         lost_to_bans: plus(numbers.lost_to_bans, by_ban),
         lost_to_bandwidth: plus(numbers.lost_to_bandwidth, by_bandwidth),
         lost_to_tasks: plus(numbers.lost_to_tasks, by_task),

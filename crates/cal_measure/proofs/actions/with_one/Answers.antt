@@ -1,3 +1,4 @@
+use Rattle.cal_policy.specs.declared.history.core_class.CoreClass.TheVariants as classes
 use Rattle.cal_measure.specs.Actions as acts
 use Rattle.cal_measure.specs.declared.actions.LossKind.TheVariants as kinds
 use Rattle.cal_measure.proofs.Counting.{counted}
@@ -9,9 +10,9 @@ returns c = λ x low a n.
     let t = c.args.task in
     let action = c.args.action in
     record {
-      grants_beside = counted (acts.is_grant table t 1) x action c.args.numbers.now.grants_beside _ c.is_grant.result low n.grants_beside (c.is_grant.ensures x) c.plus.ensures;
-      grants_again = counted (acts.is_grant table t 2) x action c.args.numbers.now.grants_again _ c.is_grant-2.result low n.grants_again (c.is_grant-2.ensures x) c.plus-2.ensures;
-      grants_other = counted (acts.is_grant table t 3) x action c.args.numbers.now.grants_other _ c.is_grant-3.result low n.grants_other (c.is_grant-3.ensures x) c.plus-3.ensures;
+      grants_beside = counted (acts.is_grant table t classes.Sibling) x action c.args.numbers.now.grants_beside _ c.is_grant.result low n.grants_beside (c.is_grant.ensures x) c.plus.ensures;
+      grants_again = counted (acts.is_grant table t classes.RecentlyUsed) x action c.args.numbers.now.grants_again _ c.is_grant-2.result low n.grants_again (c.is_grant-2.ensures x) c.plus-2.ensures;
+      grants_other = counted (acts.is_grant table t classes.OtherIdle) x action c.args.numbers.now.grants_other _ c.is_grant-3.result low n.grants_other (c.is_grant-3.ensures x) c.plus-3.ensures;
       lost_to_bans = counted (acts.is_loss table t kinds.Ban) x action c.args.numbers.now.lost_to_bans _ c.is_loss-by_ban.result low n.lost_to_bans (c.is_loss-by_ban.ensures x a) c.plus-4.ensures;
       lost_to_bandwidth = counted (acts.is_loss table t kinds.Bandwidth) x action c.args.numbers.now.lost_to_bandwidth _ c.is_loss-by_bandwidth.result low n.lost_to_bandwidth (c.is_loss-by_bandwidth.ensures x a) c.plus-5.ensures;
       lost_to_tasks = counted (acts.is_loss table t kinds.Task) x action c.args.numbers.now.lost_to_tasks _ c.is_loss-by_task.result low n.lost_to_tasks (c.is_loss-by_task.ensures x a) c.plus-6.ensures;
