@@ -6,4 +6,5 @@ pub mod Lines
 pub mod PlainRows
 pub mod ReadBack
 pub mod ReadInRange
+pub mod RecordRows
 pub mod RowsTaken

@@ -12,7 +12,8 @@ use Rattle.cal_policy.specs.declared.history.action.Action.{Action}
 use Rattle.cal_policy.specs.declared.history.action_list.TheConstants.{MOST_ACTIONS}
 use Rattle.cal_policy.specs.declared.history.entry.PassEntry.{PassEntry}
 use Rattle.cal_trace.specs.History.ActionRows.{action_form, action_row}
-use Rattle.cal_trace.specs.Rows.RowFields.{is_row, record_fields}
+use Rattle.cal_trace.specs.Rows.RowFields.{is_row}
+use Rattle.cal_trace.specs.Rows.Version.{record_fields}
 use Rattle.cal_trace.specs.Rows.Header.{header_of}
 use Rattle.cal_trace.specs.Rows.LookRows.{check, whole_row, busy_row}
 use Rattle.cal_trace.specs.Rows.Reading.{read_under}

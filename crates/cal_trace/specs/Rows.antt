@@ -9,6 +9,7 @@ pub mod RowFields
 pub mod Shown
 pub mod SoFar
 pub mod Text
+pub mod Version
 use Rattle.std.specs.Prelude.{◌≡◌, ◌+◌, ◌<◌, ◌^◌, ℕ, List, [], ◌∷◌, Bool, true, false, length}
 use Rattle.std.specs.Prelude.{Option, Some, None}
 use Rattle.csv.specs.Machine.{ends_at_end}

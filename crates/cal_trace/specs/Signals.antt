@@ -8,7 +8,8 @@ use Rattle.std.specs.Prelude.{if◌then◌else◌}
 use Rattle.std.specs.Option.{option_and_then, unwrap_or}
 use Rattle.cal_signal.specs.declared.look.Look.{Look}
 use Rattle.cal_signal.specs.declared.look.Look.TheVariants as look
-use Rattle.cal_trace.specs.Rows.RowFields.{is_row, record_fields}
+use Rattle.cal_trace.specs.Rows.RowFields.{is_row}
+use Rattle.cal_trace.specs.Rows.Version.{record_fields}
 use Rattle.cal_trace.specs.Rows.Header.{header_of}
 use Rattle.cal_trace.specs.Rows.LookRows.{check, whole_row, busy_row}
 use Rattle.cal_trace.specs.Rows.Reading.{read_under}

@@ -3,6 +3,7 @@ use Rattle.std.proofs.Common.{◌≡◌, ◌<◌, ◌+◌, ℕ, List, [], ◌∷
 use Rattle.std.specs.List.{flat_map, list_any}
 use Rattle.csv.specs.Reading.{strip_bom}
 use Rattle.csv.specs.Writing.{default_writer, needs_byte}
+use Rattle.cal_signal.specs.Records.{words_of}
 use Rattle.cal_signal.specs.declared.record.Record.{Record}
 use Rattle.cal_policy.specs.declared.history.look.Seen.{Seen}
 use Rattle.cal_policy.specs.declared.history.look.Seen.TheVariants as seen
@@ -15,10 +16,12 @@ use Rattle.cal_trace.specs.History.Text.{room_number, record_fields, look_fields
 use Rattle.cal_trace.specs.History.Ranges.{Each, IsWord, AreWords, HasLookWords, HasActionWord, IsCauseInRange, IsActionInRange, IsEntryInRange, IsInRange}
 use Rattle.cal_trace.specs.Rows.{rows_of}
 use Rattle.cal_trace.specs.Rows.Text.{numbered}
+use Rattle.cal_trace.specs.Rows.Version.{version_word}
+use Rattle.cal_trace.specs.declared.rows.version.TheConstants.Version.{WRITTEN}
 use Rattle.cal_trace.specs.declared.history.action_rows.Extent.{Extent}
 use Rattle.cal_trace.proofs.ListLemmas.EachOne.{each_first, each_other}
 use Rattle.cal_trace.proofs.HistoryLemmas.Extents.{IsExtent, byte_word}
-use Rattle.cal_trace.proofs.RowLemmas.LinesRead.{IsPlainRow, ArePlainRows, plain_rows-append, text_read}
+use Rattle.cal_trace.proofs.RowLemmas.LinesRead.{ArePlain, IsPlainRow, ArePlainRows, plain_rows-append, text_read}
 use Rattle.cal_trace.proofs.RowLemmas.Spelled.{IsPlain, spelled}
 
 number : (n : ℕ) → IsWord n → IsPlain (decimal n)
@@ -31,36 +34,14 @@ pub room_word : (room : Bool) → IsWord (room_number room)
 room_word true = omega arith
 room_word false = omega arith
 
+words_plain : (words : List ℕ) → Each IsWord words → ArePlain (map decimal words)
+words_plain [] each = tt
+words_plain (w ∷ words) each = (number w (each_first IsWord w words each), words_plain words (each_other IsWord w words each))
+
 record_plain : (name : List ℕ) (thread : ℕ) (room : Bool) (place : ℕ) (rec : Record) → IsPlain name → IsWord thread → IsWord place → AreWords rec
     → IsPlainRow (record_fields name thread room place rec)
-record_plain name thread room place rec plain is_thread is_place w = (
-  plain,
-  (
-    number thread is_thread,
-    (
-      number (room_number room) (room_word room),
-      (
-        number place is_place,
-        (
-          number rec.taken w.taken,
-          (
-            number rec.running w.running,
-            (
-              number rec.queued w.queued,
-              (
-                number rec.oldest w.oldest,
-                (
-                  number rec.started w.started,
-                  (number rec.misses w.misses, (number rec.stamp w.stamp, (number rec.paused w.paused, (number rec.since w.since, tt)))),
-                ),
-              ),
-            ),
-          ),
-        ),
-      ),
-    ),
-  ),
-)
+record_plain name thread room place rec plain is_thread is_place each =
+    (plain, (number thread is_thread, (number (room_number room) (room_word room), (number place is_place, words_plain (words_of rec) each))))
 
 look_plain : (thread : ℕ) (room : Bool) (look : Seen) → IsWord thread → HasLookWords look → IsPlainRow (look_fields thread room look)
 look_plain thread room (seen.Whole place rec) is_thread w = record_plain (codes "whole") thread room place rec (word 119 (codes "hole") (omega arith) refl) is_thread w.0 w.1
@@ -138,10 +119,13 @@ entries_plain extent (entry ∷ history) few r =
     plain_rows-append (entry_rows entry) (flat_map entry_rows history) (entry_plain extent entry few (each_first (IsEntryInRange extent) entry history r))
     (entries_plain extent history few (each_other (IsEntryInRange extent) entry history r))
 
+version_plain : IsPlain (version_word WRITTEN)
+version_plain = word _ _ (omega arith) refl
+
 rows_plain : (extent : Extent) (history : List PassEntry) → IsExtent extent → IsInRange extent history → ArePlainRows (history_rows history)
 rows_plain extent history few r =
     let most = r.passes in (
-      (word 99 (codes "aladan-history") (omega arith) refl, (word 50 [] (omega arith) refl, tt)),
+      (word 99 (codes "aladan-history") (omega arith) refl, (version_plain, tt)),
       plain_rows-append (flat_map entry_rows history) (end_fields (length history) ∷ []) (entries_plain extent history few r.each)
           ((word 101 (codes "nd") (omega arith) refl, (number (length history) (omega arith), tt)), tt),
     )

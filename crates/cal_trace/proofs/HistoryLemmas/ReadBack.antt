@@ -16,7 +16,7 @@ use Rattle.cal_trace.specs.Rows.Reading.{read_from, read_under}
 use Rattle.cal_trace.specs.Rows.{Fields, rows_of}
 use Rattle.cal_trace.specs.Rows.Text.{numbered}
 use Rattle.cal_trace.specs.declared.history.action_rows.Extent.{Extent}
-use Rattle.cal_trace.specs.declared.rows.version.Version.TheVariants as version
+use Rattle.cal_trace.specs.declared.rows.version.TheConstants.Version.{WRITTEN}
 use Rattle.cal_trace.proofs.ListLemmas.EachOne.{each_first, each_other}
 use Rattle.cal_trace.proofs.RowLemmas.Readings.{one_row, ends}
 use Rattle.cal_trace.proofs.HistoryLemmas.Extents.{IsExtent, byte_word}
@@ -25,12 +25,12 @@ use Rattle.cal_trace.proofs.HistoryLemmas.RowsTaken.{within, ended, pass_taken, 
 
 -- these rows, after what the rows before have given, are read as this history
 record IsReadAs (extent : Extent) (so_far : SoFar PassEntry) (rows : List Fields) (history : List PassEntry) : Type 0 where
-  pub from : (row : ℕ) → read_from (take_row extent version.Two) whole so_far row rows ≡ Ok history
+  pub from : (row : ℕ) → read_from (take_row extent WRITTEN) whole so_far row rows ≡ Ok history
 
-row_more : (extent : Extent) (so_far next : SoFar PassEntry) (fields : Fields) (rows : List Fields) (history : List PassEntry) → take_row extent version.Two so_far fields ≡ Ok next
+row_more : (extent : Extent) (so_far next : SoFar PassEntry) (fields : Fields) (rows : List Fields) (history : List PassEntry) → take_row extent WRITTEN so_far fields ≡ Ok next
     → IsReadAs extent next rows history → IsReadAs extent so_far (fields ∷ rows) history
 row_more extent so_far next fields rows history takes more = record {
-  from = λ row. one_row (take_row extent version.Two) whole so_far row next fields rows takes ∙ more.from (row + 1);
+  from = λ row. one_row (take_row extent WRITTEN) whole so_far row next fields rows takes ∙ more.from (row + 1);
 }
 
 -- a pass with these looks and no actions yet
@@ -107,7 +107,7 @@ entries_more : (extent : Extent) (so_far : SoFar PassEntry) (history : List Pass
     → count ≡ length (passes_of so_far) + length history → count ≤ MOST_PASSES → Each (IsEntryInRange extent) history
     → IsReadAs extent so_far (flat_map entry_rows history ++ end_fields count ∷ []) (passes_of so_far ++ history)
 entries_more extent so_far [] count few between is most ranges =
-    let done : IsReadAs extent (ended (passes_of so_far)) [] (passes_of so_far) = record { from = λ row. ends (take_row extent version.Two) whole (ended (passes_of so_far)) row } in
+    let done : IsReadAs extent (ended (passes_of so_far)) [] (passes_of so_far) = record { from = λ row. ends (take_row extent WRITTEN) whole (ended (passes_of so_far)) row } in
     subst (λ (history : List PassEntry). IsReadAs extent so_far (end_fields count ∷ []) history) (sym (append-nil (passes_of so_far)))
     (row_more extent so_far _ (end_fields count) [] (passes_of so_far) (end_taken extent so_far count between (omega arith) (omega arith)) done)
 entries_more extent so_far (entry ∷ history) count few between is most ranges =
@@ -120,7 +120,7 @@ entries_more extent so_far (entry ∷ history) count few between is most ranges 
     subst (λ (rows : List Fields). IsReadAs extent so_far rows (passes_of so_far ++ entry ∷ history)) (sym (append_assoc (entry_rows entry) (flat_map entry_rows history) (end_fields count ∷ [])))
     (entry_more extent so_far entry (flat_map entry_rows history ++ end_fields count ∷ []) (passes_of so_far ++ entry ∷ history) few between (omega arith) r all)
 
-header_taken : (rest : List Fields) → header_of (codes "caladan-history") (header_row ∷ rest) ≡ Ok (version.Two, rest)
+header_taken : (rest : List Fields) → header_of (codes "caladan-history") (header_row ∷ rest) ≡ Ok (WRITTEN, rest)
 unfolding field_at
 header_taken rest = refl
 

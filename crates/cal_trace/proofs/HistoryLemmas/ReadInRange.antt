@@ -1,6 +1,7 @@
 -- A history that was read is in range.
-use Rattle.std.proofs.Common.{◌≡◌, ◌<◌, ◌≤◌, ◌+◌, ◌-◌, ◌*◌, ◌^◌, ◌==◌, ◌&&◌, not, ℕ, List, [], ◌∷◌, ◌++◌, length, codes, Bool, true, false, Option, Some, None, Result, Ok, Err, nat_lt, nat_le, option_and_then, option_map, option_to_list, if◌then◌else◌, refl, sym, subst, arith, append-nil, length-append, unwrap_or}
+use Rattle.std.proofs.Common.{◌≡◌, ◌<◌, ◌≤◌, ◌+◌, ◌-◌, ◌*◌, ◌^◌, ◌==◌, ◌&&◌, not, ℕ, zero, suc, List, [], ◌∷◌, ◌++◌, length, map, codes, Bool, true, false, Option, Some, None, Result, Ok, Err, nat_lt, nat_le, option_and_then, option_map, option_to_list, if◌then◌else◌, refl, sym, subst, arith, append-nil, length-append, unwrap_or}
 use Rattle.std.specs.Char.{is_ascii_digit}
+use Rattle.std.specs.List.{range_with_len}
 use Rattle.std.proofs.lemmas.Bool.{and_parts, ltb-true, leb-true, eqb-true}
 use Rattle.csv.specs.Records.{field_at}
 use Rattle.cal_policy.specs.declared.history.look.Seen.{Seen}
@@ -24,6 +25,7 @@ use Rattle.cal_trace.specs.Rows.Shown.{record_of}
 use Rattle.cal_signal.specs.Looks.{IsBusyPair}
 use Rattle.cal_signal.specs.Records.{IsShaped}
 use Rattle.cal_signal.specs.Tests.{is_shaped, is_busy_pair}
+use Rattle.cal_signal.specs.declared.record.TheConstants.{WORDS}
 use Rattle.cal_signal.proofs.Testing.{shaped_holds, pair_holds}
 use Rattle.cal_trace.specs.declared.history.action_rows.ActionForm.{ActionForm}
 use Rattle.cal_trace.specs.declared.history.action_rows.ActionForm.TheVariants as act
@@ -40,7 +42,7 @@ use Rattle.cal_trace.specs.declared.rows.look_rows.BusyRow.{BusyRow}
 use Rattle.cal_trace.specs.declared.rows.look_rows.PassRow.{PassRow}
 use Rattle.cal_trace.proofs.RowLemmas.Conjunctions.{and_four}
 use Rattle.cal_trace.proofs.RowLemmas.Checks.{same_ok, check_one, check_two, check_three}
-use Rattle.cal_trace.proofs.ListLemmas.EachOne.{each_none, each_push}
+use Rattle.cal_trace.proofs.ListLemmas.EachOne.{each_none, each_cons, each_push}
 use Rattle.cal_trace.proofs.RowLemmas.Readings.{kept_under}
 
 -- a number that a field spells is below 2 ^ 64
@@ -92,18 +94,12 @@ record IsWhole (row : WholeRow) : Type 0 where
 abbrev whole_of : Fields → WholeRow
 whole_of fields = record { room = number_at fields 2 == 1; shown = record { number = number_at fields 3; rec = record_of fields } }
 
+words_from : (f : ℕ → ℕ) (first count : ℕ) → ((k : ℕ) → IsWord (f k)) → Each IsWord (map f (range_with_len first count))
+words_from f first zero h = each_none IsWord
+words_from f first (suc count) h = each_cons IsWord (f first) (map f (range_with_len (first + 1) count)) (h first) (words_from f (first + 1) count h)
+
 record_words : (fields : Fields) → AreWords (record_of fields)
-record_words fields = record {
-  taken = word_at fields 4;
-  running = word_at fields 5;
-  queued = word_at fields 6;
-  oldest = word_at fields 7;
-  started = word_at fields 8;
-  misses = word_at fields 9;
-  stamp = word_at fields 10;
-  paused = word_at fields 11;
-  since = word_at fields 12;
-}
+record_words fields = words_from (number_at fields) 4 WORDS (word_at fields)
 
 whole_fits : (thread : ℕ) (fields : Fields) (row : WholeRow) → whole_row thread fields ≡ Ok row → IsWhole row
 whole_fits thread fields row h =

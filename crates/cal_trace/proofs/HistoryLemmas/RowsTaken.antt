@@ -15,11 +15,11 @@ use Rattle.cal_trace.specs.Rows.SoFar.{SoFar, passes_of, is_between, next_thread
 use Rattle.cal_trace.specs.History.{form_of, take_row, take_form, take_look, seen_row, judged_row, busy_look, add_look, add_action, begun, with_look, with_action, looks_in}
 use Rattle.cal_policy.specs.declared.history.action_list.TheConstants.{MOST_ACTIONS}
 use Rattle.cal_trace.specs.History.Text.{room_number, record_fields, look_fields, revocation_fields, action_fields, pass_fields, end_fields}
-use Rattle.cal_trace.specs.Rows.LookRows.{check, whole_row, busy_row}
+use Rattle.cal_trace.specs.Rows.LookRows.{check, busy_row}
 use Rattle.cal_policy.specs.declared.history.entry.TheConstants.{MOST_PASSES}
-use Rattle.cal_trace.specs.History.Ranges.{IsWord, AreWords, HasLookWords, HasActionWord, IsLookInRange, IsCauseInRange, IsActionInRange}
+use Rattle.cal_trace.specs.History.Ranges.{IsWord, HasLookWords, HasActionWord, IsLookInRange, IsCauseInRange, IsActionInRange}
 use Rattle.cal_trace.specs.Rows.{Fields}
-use Rattle.cal_signal.specs.Tests.{is_shaped, is_busy_pair}
+use Rattle.cal_signal.specs.Tests.{is_busy_pair}
 use Rattle.cal_signal.proofs.Testing.{shaped_test, pair_test}
 use Rattle.cal_trace.specs.declared.history.action_rows.ActionForm.{ActionForm}
 use Rattle.cal_trace.specs.declared.history.action_rows.ActionForm.TheVariants as act
@@ -32,9 +32,10 @@ use Rattle.cal_trace.specs.declared.history.reading.LookForm.TheVariants as look
 use Rattle.cal_trace.specs.declared.history.reading.SeenRow.{SeenRow}
 use Rattle.cal_trace.specs.declared.rows.look_rows.WholeRow.{WholeRow}
 use Rattle.cal_trace.specs.declared.rows.look_rows.BusyRow.{BusyRow}
-use Rattle.cal_trace.specs.declared.rows.version.Version.TheVariants as version
+use Rattle.cal_trace.specs.declared.rows.version.TheConstants.Version.{WRITTEN}
 use Rattle.cal_trace.proofs.HistoryLemmas.Extents.{IsExtent, byte_word}
 use Rattle.cal_trace.proofs.HistoryLemmas.PlainRows.{room_word}
+use Rattle.cal_trace.proofs.HistoryLemmas.RecordRows.{room_small, room_same, record_read}
 use Rattle.cal_trace.proofs.RowLemmas.Spelled.{IsSpelled, spelled}
 
 -- these passes, and this one at hand
@@ -48,57 +49,25 @@ ended before = record { before = before; at_hand = None; ended = true }
 -- a pass row
 pass_read : (extent : Extent) (so_far : SoFar PassEntry) (a b : List ℕ) (now bandwidth : ℕ) → is_between looks_in extent.threads so_far ≡ true → nat_lt (length (passes_of so_far)) MOST_PASSES ≡ true
     → IsSpelled now a → IsSpelled bandwidth b
-    → take_row extent version.Two so_far (codes "pass" ∷ a ∷ b ∷ []) ≡ Ok (within (passes_of so_far) (begun (record { now = now; bandwidth = bandwidth })))
+    → take_row extent WRITTEN so_far (codes "pass" ∷ a ∷ b ∷ []) ≡ Ok (within (passes_of so_far) (begun (record { now = now; bandwidth = bandwidth })))
 unfolding field_at
 pass_read extent so_far a b now bandwidth between few is_now is_bandwidth = rw (between, few, is_now.number, is_bandwidth.number) refl
 
 pub pass_taken : (extent : Extent) (so_far : SoFar PassEntry) (entry : PassEntry) → is_between looks_in extent.threads so_far ≡ true → length (passes_of so_far) < MOST_PASSES
     → IsWord entry.input.now → IsWord entry.input.bandwidth
-    → take_row extent version.Two so_far (pass_fields entry) ≡ Ok (within (passes_of so_far) (begun (record { now = entry.input.now; bandwidth = entry.input.bandwidth })))
+    → take_row extent WRITTEN so_far (pass_fields entry) ≡ Ok (within (passes_of so_far) (begun (record { now = entry.input.now; bandwidth = entry.input.bandwidth })))
 pass_taken extent so_far entry between few now bandwidth =
     pass_read extent so_far _ _ entry.input.now entry.input.bandwidth between (lt-ltb (length (passes_of so_far)) MOST_PASSES few) (spelled entry.input.now now) (spelled entry.input.bandwidth bandwidth)
 
 -- the end row
 end_read : (extent : Extent) (so_far : SoFar PassEntry) (a : List ℕ) (count : ℕ) → is_between looks_in extent.threads so_far ≡ true → IsSpelled count a → (count == length (passes_of so_far)) ≡ true
-    → take_row extent version.Two so_far (codes "end" ∷ a ∷ []) ≡ Ok (ended (passes_of so_far))
+    → take_row extent WRITTEN so_far (codes "end" ∷ a ∷ []) ≡ Ok (ended (passes_of so_far))
 unfolding field_at
 end_read extent so_far a count between is_count same = rw (between, is_count.number, same) refl
 
 pub end_taken : (extent : Extent) (so_far : SoFar PassEntry) (count : ℕ) → is_between looks_in extent.threads so_far ≡ true → IsWord count → count ≡ length (passes_of so_far)
-    → take_row extent version.Two so_far (end_fields count) ≡ Ok (ended (passes_of so_far))
+    → take_row extent WRITTEN so_far (end_fields count) ≡ Ok (ended (passes_of so_far))
 end_taken extent so_far count between is_count same = end_read extent so_far _ count between (spelled count is_count) (eq-eqb count (length (passes_of so_far)) same)
-
--- whether a ring has room, by its number
-room_small : (room : Bool) → nat_lt (room_number room) 2 ≡ true
-room_small true = refl
-room_small false = refl
-
-room_same : (room : Bool) → (room_number room == 1) ≡ room
-room_same true = refl
-room_same false = refl
-
--- a row of a whole record
-abbrev whole_value : Bool → ℕ → Record → Result WholeRow FaultKind
-whole_value room place rec = Ok (record { room = room; shown = record { number = place; rec = rec } })
-
-whole_read : (thread room place : ℕ) (rec : Record) (name t r p a b c d e f g h i : List ℕ)
-    → IsSpelled thread t → IsSpelled room r → IsSpelled place p
-    → IsSpelled rec.taken a → IsSpelled rec.running b → IsSpelled rec.queued c → IsSpelled rec.oldest d → IsSpelled rec.started e
-    → IsSpelled rec.misses f → IsSpelled rec.stamp g → IsSpelled rec.paused h → IsSpelled rec.since i
-    → (thread == thread) ≡ true → nat_lt room 2 ≡ true → is_shaped rec ≡ true
-    → whole_row thread (name ∷ t ∷ r ∷ p ∷ a ∷ b ∷ c ∷ d ∷ e ∷ f ∷ g ∷ h ∷ i ∷ []) ≡ whole_value (room == 1) place rec
-unfolding field_at
-whole_read thread room place rec name t r p a b c d e f g h i is_t is_r is_p is_a is_b is_c is_d is_e is_f is_g is_h is_i own small shaped =
-    rw (is_t.number, is_r.number, is_p.number, is_a.number, is_b.number, is_c.number, is_d.number, is_e.number, is_f.number, is_g.number, is_h.number, is_i.number, own, small, shaped) refl
-
-record_read : (name : List ℕ) (thread : ℕ) (room : Bool) (place : ℕ) (rec : Record) → IsWord thread → IsWord place → AreWords rec → is_shaped rec ≡ true
-    → whole_row thread (record_fields name thread room place rec) ≡ whole_value room place rec
-record_read name thread room place rec is_thread is_place w shaped =
-    whole_read thread (room_number room) place rec name _ _ _ _ _ _ _ _ _ _ _ _ (spelled thread is_thread) (spelled (room_number room) (room_word room)) (spelled place is_place)
-    (spelled rec.taken w.taken) (spelled rec.running w.running) (spelled rec.queued w.queued) (spelled rec.oldest w.oldest) (spelled rec.started w.started)
-    (spelled rec.misses w.misses) (spelled rec.stamp w.stamp) (spelled rec.paused w.paused) (spelled rec.since w.since)
-    (eq-eqb thread thread refl) (room_small room) shaped
-    ∙ ap (λ (b : Bool). whole_value b place rec) (room_same room)
 
 -- a row of a busy look
 abbrev busy_value : Bool → ℕ → ℕ → Result BusyRow FaultKind
@@ -111,33 +80,33 @@ unfolding field_at
 busy_read thread room first second name t r a b is_t is_r is_a is_b own small pair = rw (is_t.number, is_r.number, is_a.number, is_b.number, own, small, pair) refl
 
 -- what a look row is, by its first field
-record_form : (thread : ℕ) (room : Bool) (place : ℕ) (rec : Record) → form_of version.Two (record_fields (codes "whole") thread room place rec) ≡ Some (form.Look looks.Whole)
+record_form : (thread : ℕ) (room : Bool) (place : ℕ) (rec : Record) → form_of WRITTEN (record_fields (codes "whole") thread room place rec) ≡ Some (form.Look looks.Whole)
 unfolding field_at
 record_form thread room place rec = refl
 
-ahead_form : (thread : ℕ) (room : Bool) (place : ℕ) (rec : Record) → form_of version.Two (record_fields (codes "ahead") thread room place rec) ≡ Some (form.Look looks.Ahead)
+ahead_form : (thread : ℕ) (room : Bool) (place : ℕ) (rec : Record) → form_of WRITTEN (record_fields (codes "ahead") thread room place rec) ≡ Some (form.Look looks.Ahead)
 unfolding field_at
 ahead_form thread room place rec = refl
 
-foreign_form : (thread : ℕ) (room : Bool) (place : ℕ) (rec : Record) → form_of version.Two (record_fields (codes "foreign") thread room place rec) ≡ Some (form.Look looks.Foreign)
+foreign_form : (thread : ℕ) (room : Bool) (place : ℕ) (rec : Record) → form_of WRITTEN (record_fields (codes "foreign") thread room place rec) ≡ Some (form.Look looks.Foreign)
 unfolding field_at
 foreign_form thread room place rec = refl
 
-busy_form : (t r a b : List ℕ) → form_of version.Two (codes "busy" ∷ t ∷ r ∷ a ∷ b ∷ []) ≡ Some (form.Look looks.Busy)
+busy_form : (t r a b : List ℕ) → form_of WRITTEN (codes "busy" ∷ t ∷ r ∷ a ∷ b ∷ []) ≡ Some (form.Look looks.Busy)
 unfolding field_at
 busy_form t r a b = refl
 
 -- a look row, by its form and its value
 look_by : (extent : Extent) (before : List PassEntry) (entry : PassEntry) (look : LookForm) (thread : ℕ) (fields : Fields) (row : SeenRow)
-    → form_of version.Two fields ≡ Some (form.Look look) → next_thread looks_in extent.threads (Some entry) ≡ Ok thread → seen_row look thread fields ≡ Ok row
-    → take_row extent version.Two (within before entry) fields ≡ Ok (within before (with_look row entry))
+    → form_of WRITTEN fields ≡ Some (form.Look look) → next_thread looks_in extent.threads (Some entry) ≡ Ok thread → seen_row look thread fields ≡ Ok row
+    → take_row extent WRITTEN (within before entry) fields ≡ Ok (within before (with_look row entry))
 look_by extent before entry look thread fields row is next value =
     ap (λ f. take_form extent (within before entry) f fields) is ∙ ap (take_look (within before entry) look fields) next ∙ ap (add_look (within before entry)) value
 
 -- the row of a look
 pub look_taken : (extent : Extent) (before : List PassEntry) (entry : PassEntry) (thread : ℕ) (room : Bool) (look : Seen) → next_thread looks_in extent.threads (Some entry) ≡ Ok thread
     → IsWord thread → HasLookWords look → IsLookInRange look
-    → take_row extent version.Two (within before entry) (look_fields thread room look) ≡ Ok (within before (with_look (record { seen = look; room = room }) entry))
+    → take_row extent WRITTEN (within before entry) (look_fields thread room look) ≡ Ok (within before (with_look (record { seen = look; room = room }) entry))
 look_taken extent before entry thread room (seen.Whole place rec) next is_thread w shaped =
     look_by extent before entry looks.Whole thread (look_fields thread room (seen.Whole place rec)) _ (record_form thread room place rec) next
     (ap (judged_row (λ (row : WholeRow). seen.Whole row.shown.number row.shown.rec)) (record_read (codes "whole") thread room place rec is_thread w.0 w.1 (shaped_test rec shaped)))
@@ -186,42 +155,42 @@ unfolding field_at
 grant_read extent core thread class name a b c is_core is_thread is_class below thread_below least most = rw (is_core.number, is_thread.number, is_class.number, below, thread_below, least, most) refl
 
 -- what an action row is, by its first field and its cause
-free_form : (a : List ℕ) → form_of version.Two (codes "free" ∷ a ∷ []) ≡ Some (form.Act act.Free)
+free_form : (a : List ℕ) → form_of WRITTEN (codes "free" ∷ a ∷ []) ≡ Some (form.Act act.Free)
 unfolding field_at
 free_form a = refl
 
-unban_form : (a : List ℕ) → form_of version.Two (codes "unban" ∷ a ∷ []) ≡ Some (form.Act act.Unban)
+unban_form : (a : List ℕ) → form_of WRITTEN (codes "unban" ∷ a ∷ []) ≡ Some (form.Act act.Unban)
 unfolding field_at
 unban_form a = refl
 
-ban_form : (a b c : List ℕ) → form_of version.Two (codes "ban" ∷ a ∷ b ∷ c ∷ []) ≡ Some (form.Act act.Ban)
+ban_form : (a b c : List ℕ) → form_of WRITTEN (codes "ban" ∷ a ∷ b ∷ c ∷ []) ≡ Some (form.Act act.Ban)
 unfolding field_at
 ban_form a b c = refl
 
-revoke_ban_form : (a b : List ℕ) → form_of version.Two (codes "revoke" ∷ a ∷ codes "ban" ∷ b ∷ []) ≡ Some (form.Act act.RevokeForBan)
+revoke_ban_form : (a b : List ℕ) → form_of WRITTEN (codes "revoke" ∷ a ∷ codes "ban" ∷ b ∷ []) ≡ Some (form.Act act.RevokeForBan)
 unfolding field_at
 revoke_ban_form a b = refl
 
-revoke_bandwidth_form : (a : List ℕ) → form_of version.Two (codes "revoke" ∷ a ∷ codes "bandwidth" ∷ []) ≡ Some (form.Act act.RevokeForBandwidth)
+revoke_bandwidth_form : (a : List ℕ) → form_of WRITTEN (codes "revoke" ∷ a ∷ codes "bandwidth" ∷ []) ≡ Some (form.Act act.RevokeForBandwidth)
 unfolding field_at
 revoke_bandwidth_form a = refl
 
-revoke_task_form : (a b : List ℕ) → form_of version.Two (codes "revoke" ∷ a ∷ codes "preempt" ∷ b ∷ []) ≡ Some (form.Act act.RevokeForTask)
+revoke_task_form : (a b : List ℕ) → form_of WRITTEN (codes "revoke" ∷ a ∷ codes "preempt" ∷ b ∷ []) ≡ Some (form.Act act.RevokeForTask)
 unfolding field_at
 revoke_task_form a b = refl
 
-cap_form : (a b : List ℕ) → form_of version.Two (codes "cap" ∷ a ∷ b ∷ []) ≡ Some (form.Act act.Cap)
+cap_form : (a b : List ℕ) → form_of WRITTEN (codes "cap" ∷ a ∷ b ∷ []) ≡ Some (form.Act act.Cap)
 unfolding field_at
 cap_form a b = refl
 
-grant_form : (a b c : List ℕ) → form_of version.Two (codes "grant" ∷ a ∷ b ∷ c ∷ []) ≡ Some (form.Act act.Grant)
+grant_form : (a b c : List ℕ) → form_of WRITTEN (codes "grant" ∷ a ∷ b ∷ c ∷ []) ≡ Some (form.Act act.Grant)
 unfolding field_at
 grant_form a b c = refl
 
 -- the value of an action's row
 record IsActionRow (extent : Extent) (action : Action) (fields : Fields) : Type 0 where
   pub shape : ActionForm
-  pub is : form_of version.Two fields ≡ Some (form.Act shape)
+  pub is : form_of WRITTEN fields ≡ Some (form.Act shape)
   pub value : action_row shape extent fields ≡ Ok action
 
 byte : (n most : ℕ) → n < most → most < 256 → IsSpelled n (decimal n)
@@ -279,9 +248,9 @@ row_of_action extent (Grant core thread class) few w r = record {
 
 -- an action row, by its form and its value
 action_by : (extent : Extent) (before : List PassEntry) (entry : PassEntry) (shape : ActionForm) (fields : Fields) (action : Action)
-    → form_of version.Two fields ≡ Some (form.Act shape) → (length entry.input.seen == extent.threads) ≡ true → action_row shape extent fields ≡ Ok action
+    → form_of WRITTEN fields ≡ Some (form.Act shape) → (length entry.input.seen == extent.threads) ≡ true → action_row shape extent fields ≡ Ok action
     → nat_lt (length entry.actions) MOST_ACTIONS ≡ true
-    → take_row extent version.Two (within before entry) fields ≡ Ok (within before (with_action action entry))
+    → take_row extent WRITTEN (within before entry) fields ≡ Ok (within before (with_action action entry))
 action_by extent before entry shape fields action is full value room =
     ap (λ f. take_form extent (within before entry) f fields) is
     ∙ ap (λ (b : Bool). check b kind.Order (add_action (within before entry) entry (action_row shape extent fields))) full
@@ -291,7 +260,7 @@ action_by extent before entry shape fields action is full value room =
 -- the row of an action
 pub action_taken : (extent : Extent) (before : List PassEntry) (entry : PassEntry) (action : Action) → IsExtent extent → length entry.input.seen ≡ extent.threads
     → length entry.actions < MOST_ACTIONS → HasActionWord action → IsActionInRange extent action
-    → take_row extent version.Two (within before entry) (action_fields action) ≡ Ok (within before (with_action action entry))
+    → take_row extent WRITTEN (within before entry) (action_fields action) ≡ Ok (within before (with_action action entry))
 action_taken extent before entry action few full room w r =
     let row = row_of_action extent action few w r in
     action_by extent before entry row.shape (action_fields action) action row.is (eq-eqb (length entry.input.seen) extent.threads full) row.value (lt-ltb (length entry.actions) MOST_ACTIONS room)

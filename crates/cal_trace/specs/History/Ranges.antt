@@ -13,7 +13,7 @@ use Rattle.cal_policy.specs.declared.history.entry.PassEntry.{PassEntry}
 use Rattle.cal_policy.specs.declared.history.action_list.TheConstants.{MOST_ACTIONS}
 use Rattle.cal_policy.specs.declared.history.entry.TheConstants.{MOST_PASSES}
 use Rattle.cal_signal.specs.Looks.{IsBusyPair}
-use Rattle.cal_signal.specs.Records.{IsShaped}
+use Rattle.cal_signal.specs.Records.{IsShaped, words_of}
 use Rattle.cal_trace.specs.declared.history.action_rows.Extent.{Extent}
 
 -- each member of a list is so
@@ -25,16 +25,8 @@ abbrev pub IsWord : ℕ → Type 0
 IsWord n = n < 2 ^ 64
 
 -- a field can spell each word of a record
-pub record AreWords (rec : Record) : Type 0 where
-  pub taken : IsWord rec.taken
-  pub running : IsWord rec.running
-  pub queued : IsWord rec.queued
-  pub oldest : IsWord rec.oldest
-  pub started : IsWord rec.started
-  pub misses : IsWord rec.misses
-  pub stamp : IsWord rec.stamp
-  pub paused : IsWord rec.paused
-  pub since : IsWord rec.since
+abbrev pub AreWords : Record → Type 0
+AreWords rec = Each IsWord (words_of rec)
 
 -- fields can spell the numbers of a look
 abbrev pub HasLookWords : Seen → Type 0

@@ -1,7 +1,8 @@
--- The text of a history, as it is written: version 2.
+-- The text of a history, as it is written: in the newest version.
 use Rattle.std.specs.Prelude.{ℕ, List, [], ◌∷◌, ◌++◌, length, map, codes, decimal, slice_index_or}
 use Rattle.std.specs.Prelude.{Bool, false, if◌then◌else◌}
 use Rattle.std.specs.List.{flat_map}
+use Rattle.cal_signal.specs.Records.{words_of}
 use Rattle.cal_signal.specs.declared.record.Record.{Record}
 use Rattle.cal_policy.specs.declared.history.look.Seen.{Seen}
 use Rattle.cal_policy.specs.declared.history.look.Seen.TheVariants as seen
@@ -13,22 +14,18 @@ use Rattle.cal_policy.specs.declared.history.action.Cause.TheVariants as causes
 use Rattle.cal_policy.specs.declared.history.entry.PassEntry.{PassEntry}
 use Rattle.cal_trace.specs.Rows.{Fields}
 use Rattle.cal_trace.specs.Rows.Text.{numbered, line_of}
+use Rattle.cal_trace.specs.Rows.Version.{version_word}
+use Rattle.cal_trace.specs.declared.rows.version.TheConstants.Version.{WRITTEN}
 
 -- whether a ring has room, as a number
 abbrev pub room_number : Bool → ℕ
 room_number room = if room then 1 else 0
 
--- the nine words of a record
-abbrev pub words_of : Record → Fields
-words_of rec =
-    decimal rec.taken ∷ decimal rec.running ∷ decimal rec.queued ∷ decimal rec.oldest ∷
-    decimal rec.started
-    ∷ decimal rec.misses ∷ decimal rec.stamp ∷ decimal rec.paused ∷ decimal rec.since ∷ []
-
 -- the row of a look that found a record
 abbrev pub record_fields : List ℕ → ℕ → Bool → ℕ → Record → Fields
 record_fields word thread room number rec =
-    word ∷ decimal thread ∷ decimal (room_number room) ∷ decimal number ∷ words_of rec
+    word ∷ decimal thread ∷ decimal (room_number room) ∷ decimal number
+    ∷ map decimal (words_of rec)
 
 -- the row of a look at a thread
 abbrev pub look_fields : ℕ → Bool → Seen → Fields
@@ -76,7 +73,7 @@ entry_rows entry =
     ++ map action_fields entry.actions
 
 abbrev pub header_row : Fields
-header_row = codes "caladan-history" ∷ codes "2" ∷ []
+header_row = codes "caladan-history" ∷ version_word WRITTEN ∷ []
 
 abbrev pub end_fields : ℕ → Fields
 end_fields passes = codes "end" ∷ decimal passes ∷ []

@@ -1,6 +1,6 @@
 -- The header row of a file.
 use Rattle.std.specs.Prelude.{ℕ, List, [], ◌∷◌, Option, Some, None, Result, Ok, Err}
-use Rattle.cal_trace.specs.Rows.RowFields.{version_of}
+use Rattle.cal_trace.specs.Rows.Version.{version_of}
 use Rattle.cal_trace.specs.Rows.{Fields}
 use Rattle.cal_trace.specs.declared.fault.FaultKind.TheVariants as kind
 use Rattle.cal_trace.specs.declared.fault.TraceFault.{TraceFault}
@@ -20,7 +20,7 @@ header_of name (header ∷ rest) = with_version (version_of name header) rest
 -- the same of a file that has version 1 alone: a row that names another is not its header
 abbrev pub if_one : Version → List Fields → Result (Version × List Fields) TraceFault
 if_one version.One rest = Ok (version.One, rest)
-if_one version.Two rest = Err (record { row = 1; kind = kind.Header })
+if_one other rest = Err (record { row = 1; kind = kind.Header })
 
 abbrev pub in_version_one : Result (Version × List Fields) TraceFault →
     Result (Version × List Fields) TraceFault

@@ -1,13 +1,11 @@
 -- What a row's fields say.
-use Rattle.std.specs.Prelude.{◌==◌, ◌&&◌, ℕ, List, [], ◌∷◌, Bool, true, false, length, codes, drop}
-use Rattle.std.specs.Prelude.{Option, Some, None, if◌then◌else◌}
+use Rattle.std.specs.Prelude.{◌==◌, ◌&&◌, ℕ, List, [], ◌∷◌, Bool, true, false, length, drop}
+use Rattle.std.specs.Prelude.{Option, Some, None}
 use Rattle.std.specs.Option.{is_some, unwrap_or, option_and_then}
 use Rattle.std.specs.Str.{bytes_eq}
 use Rattle.csv.specs.Records.{field_at}
 use Rattle.cal_trace.specs.Rows.Number.{spelled_number}
 use Rattle.cal_trace.specs.Rows.{Fields}
-use Rattle.cal_trace.specs.declared.rows.version.Version.{Version}
-use Rattle.cal_trace.specs.declared.rows.version.Version.TheVariants as version
 
 -- the number that the field at a place spells
 abbrev pub number_in : Fields → ℕ → Option ℕ
@@ -38,15 +36,3 @@ is_word (Some field) word = bytes_eq field word
 -- whether a row begins with this word and has so many fields
 abbrev pub is_row : List ℕ → ℕ → Fields → Bool
 is_row word count fields = (length fields == count) && is_word (field_at fields 0) word
-
--- the version that a file's header row names, where the row is that file's header
-abbrev pub version_of : List ℕ → Fields → Option Version
-version_of name fields =
-    if is_row name 2 fields && is_word (field_at fields 1) (codes "1") then Some version.One
-    else if is_row name 2 fields && is_word (field_at fields 1) (codes "2") then Some version.Two
-    else None
-
--- how many fields a row with a record has: version 1 lacks the record's last two words
-abbrev pub record_fields : Version → ℕ
-record_fields version.One = 11
-record_fields version.Two = 13

@@ -1,18 +1,16 @@
 -- Records as rows give them.
+use Rattle.std.specs.Prelude.{ℕ, List, map}
+use Rattle.std.specs.List.{range_with_len}
+use Rattle.cal_signal.specs.Records as records
 use Rattle.cal_signal.specs.declared.record.Record.{Record}
+use Rattle.cal_signal.specs.declared.record.TheConstants.{WORDS}
 use Rattle.cal_trace.specs.Rows.RowFields.{number_at}
 use Rattle.cal_trace.specs.Rows.{Fields}
 
--- the record of a row, from the field at place 4 on; words that a row of version 1 lacks are 0
+-- the words of a record in its row, from the field at place 4 on; words that the row lacks are 0
+abbrev pub shown_words : Fields → List ℕ
+shown_words fields = map (number_at fields) (range_with_len 4 WORDS)
+
+-- the record of a row
 abbrev pub record_of : Fields → Record
-record_of fields = record {
-  taken = number_at fields 4;
-  running = number_at fields 5;
-  queued = number_at fields 6;
-  oldest = number_at fields 7;
-  started = number_at fields 8;
-  misses = number_at fields 9;
-  stamp = number_at fields 10;
-  paused = number_at fields 11;
-  since = number_at fields 12;
-}
+record_of fields = records.record_of (shown_words fields)

@@ -1,19 +1,20 @@
 //! The text of a history.
 
-ghost use Rattle.std.specs.Prelude.{◌≡◌, OnOk, false, map, slice_index_or};
+ghost use Rattle.std.specs.Prelude.{◌≡◌, OnOk, decimal, false, map, slice_index_or};
 ghost use Rattle.std.specs.List.{flat_map};
 ghost use Rattle.std.specs.Io.KnownBytes.{Appends};
 ghost use Rattle.cal_trace.specs.History.Text.{record_fields, look_fields, revocation_fields};
 ghost use Rattle.cal_trace.specs.History.Text.{action_fields, look_rows, entry_rows, lines_of};
 ghost use Rattle.cal_trace.specs.History.Text.{history_text};
-ghost use Rattle.cal_trace.specs.Rows.Text.{line_of};
+ghost use Rattle.cal_trace.specs.Rows.Text.{after_first, line_of};
 
+use crate::rows::version::Version;
 use crate::write_fault::WriteFault;
 use cal_policy::{Action, Cause, PassEntry, Record, Seen};
 use std::io;
 use std::io::Write;
 
-/// Writes a history, in version 2 of its format.
+/// Writes a history, in the newest version of its format.
 ///
 /// A look for which the entry says nothing of its thread's ring is written with room 0. The error
 /// is what the writer returned; how much was written is unspecified. It takes no memory of its own.
@@ -29,7 +30,8 @@ fn write_rows<W: Write>(history: &[PassEntry], writer: &mut W) -> io::Result<()>
     ensures { OnOk result (Appends (W.contents writer.old) (W.contents writer.new)
         (history_text history.now)) }
 {
-    writeln!(writer, "caladan-history,2")?;
+    let version = Version::WRITTEN.word();
+    writeln!(writer, "caladan-history,{version}")?;
     write_entries(history, writer)?;
     let passes = history.len();
     writeln!(writer, "end,{passes}")
@@ -103,16 +105,19 @@ fn write_record<W: Write>(
         (line_of (record_fields word.now thread room number rec))) }
 {
     let room = u8::from(room);
-    write!(
-        writer,
-        "{word},{thread},{room},{number},{},{},{},{}",
-        rec.taken, rec.running, rec.queued, rec.oldest
-    )?;
-    writeln!(
-        writer,
-        ",{},{},{},{},{}",
-        rec.started, rec.misses, rec.stamp, rec.paused, rec.since
-    )
+    write!(writer, "{word},{thread},{room},{number}")?;
+    write_words(&rec.words(), writer)
+}
+
+/// Writes words with a comma before each, and the end of their line.
+fn write_words<W: Write>(words: &[u64], writer: &mut W) -> io::Result<()>
+    ensures { OnOk result (Appends (W.contents writer.old) (W.contents writer.new)
+        (after_first (map decimal words.now))) }
+{
+    for word in words {
+        write!(writer, ",{word}")?;
+    }
+    writeln!(writer)
 }
 
 fn write_actions<W: Write>(actions: &[Action], writer: &mut W) -> io::Result<()>

@@ -7,6 +7,7 @@ ghost use Rattle.cal_trace.specs.Rows.RowFields.{is_word, is_row};
 ghost use Rattle.csv.specs.Records.{field_at, fields_of};
 
 use crate::rows::number::number;
+use cal_signal::WORDS;
 use csv::ByteRecord;
 
 /// Whether the field at a place is this word.
@@ -61,24 +62,30 @@ pub(crate) fn has_numbers(row: &ByteRecord) -> bool
     true
 }
 
+/// The place of a record's first word in its row, after a word, a thread, a room and a number.
+pub(crate) const FIRST_WORD: usize = 4;
+
+/// How many fields a row has that has all words of a record.
+pub(crate) const RECORD_FIELDS: usize = FIRST_WORD + WORDS;
+
 /// Puts a number at its place, where there is one.
-fn put(numbers: &mut [u64; 13], place: usize, number: u64)
-    ensures { (k : ℕ) → k < 13 → slice_index numbers.new k ≡
+fn put(numbers: &mut [u64; RECORD_FIELDS], place: usize, number: u64)
+    ensures { (k : ℕ) → k < RECORD_FIELDS → slice_index numbers.new k ≡
         (if place == k then number else slice_index numbers.old k) }
 {
-    if place < 13 {
+    if place < RECORD_FIELDS {
         numbers[place] = number;
     }
 }
 
 /// The numbers of a row by place, each read once; none where a field after the first is no number.
-/// Places past the row's end have 0. A row of a record has 13 fields at most.
-pub(crate) fn numbers_of(row: &ByteRecord) -> Option<[u64; 13]>
+/// Places past the row's end have 0. A row of a record has no more than `RECORD_FIELDS` fields.
+pub(crate) fn numbers_of(row: &ByteRecord) -> Option<[u64; RECORD_FIELDS]>
     ensures all { is_some result ≡ has_numbers (fields_of row.now) }
-    ensures each { IfSome result (λ numbers. (k : ℕ) → 1 ≤ k → k < 13 →
+    ensures each { IfSome result (λ numbers. (k : ℕ) → 1 ≤ k → k < RECORD_FIELDS →
         slice_index numbers k ≡ number_at (fields_of row.now) k) }
 {
-    let mut numbers = [0u64; 13];
+    let mut numbers = [0u64; RECORD_FIELDS];
     for place in 1..row.len() {
         match number_in(row, place) {
             None => return None,

@@ -62,7 +62,7 @@ pub(crate) fn take_first_header(rows: &mut Rows, name: &[u8]) -> Result<Version,
 {
     match take_header(rows, name)? {
         Version::One => Ok(Version::One),
-        Version::Two => {
+        _ => {
             Err(TraceFault {
                 row: 1,
                 kind: FaultKind::Header,

@@ -37,7 +37,7 @@ pub(crate) trait PassAtHand: Sized + Drop {
     fn looks(&self) -> usize
         ensures { result ≡ looks_in (pass self.now) };
 
-    /// The pass.
+    /// Ends it, and gives the pass that its rows so far have made.
     fn close(self) -> Self::Pass
         ensures { result ≡ pass self };
 }

@@ -1,7 +1,7 @@
 //! The versions of a file, which its header row names.
 
 ghost use Rattle.std.specs.Prelude.{◌≡◌};
-ghost use Rattle.cal_trace.specs.Rows.RowFields.{version_of, record_fields};
+ghost use Rattle.cal_trace.specs.Rows.Version.{is_header, record_fields, version_of, version_word};
 ghost use Rattle.csv.specs.Records.{fields_of};
 
 use crate::rows::fields::{is_row, is_word_at};
@@ -17,15 +17,33 @@ pub enum Version {
 }
 
 impl Version {
+    /// The version that is written.
+    pub(crate) const WRITTEN: Version = Version::Two;
+
+    /// The word by which a header row names it.
+    pub(crate) fn word(self) -> &'static str
+        ensures { result.now ≡ version_word self }
+    {
+        match self {
+            Version::One => "1",
+            Version::Two => "2",
+        }
+    }
+
+    /// Whether a row is the header of a file of this name and version.
+    fn has_header(self, row: &ByteRecord, name: &[u8]) -> bool
+        ensures { result ≡ is_header name.now self (fields_of row.now) }
+    {
+        is_row(row, name, 2) && is_word_at(row, 1, self.word().as_bytes())
+    }
+
     /// The version that the header row of a file of this name states.
     pub(crate) fn of_header(row: &ByteRecord, name: &[u8]) -> Option<Version>
         ensures { result ≡ version_of name.now (fields_of row.now) }
     {
-        if !is_row(row, name, 2) {
-            None
-        } else if is_word_at(row, 1, b"1".as_slice()) {
+        if Version::One.has_header(row, name) {
             Some(Version::One)
-        } else if is_word_at(row, 1, b"2".as_slice()) {
+        } else if Version::Two.has_header(row, name) {
             Some(Version::Two)
         } else {
             None
