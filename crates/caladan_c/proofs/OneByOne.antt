@@ -1,5 +1,5 @@
 -- The looks of a pass that takes them one by one, one more.
-use Rattle.std.proofs.Common.{◌≡◌, ℕ, zero, suc, ◌+◌, ◌<◌, ◌≤◌, ◌++◌, ◌∷◌, [], true, false, List, Option, Some, None, length, map, take, slice_get, get_or, refl, sym, ap, subst, ◌∙◌, arith, if◌then◌else◌, ◌≢◌, set, inl, inr}
+use Rattle.std.proofs.Common.{◌≡◌, ℕ, zero, suc, ◌+◌, ◌<◌, ◌≤◌, ◌++◌, ◌∷◌, [], true, List, Option, Some, None, length, map, take, slice_get, get_or, refl, sym, ap, subst, ◌∙◌, arith, if◌then◌else◌, ◌≢◌, set, inl, inr}
 use Rattle.std.specs.List.{enumerate_from}
 use Rattle.std.specs.Option.{is_some}
 use Rattle.std.proofs.lemmas.List.{map-append, length-map, take_more, take_all, length-take-le}
@@ -94,19 +94,3 @@ first_one h looks k d lt unfit before =
     let at = slice_get_at looks k lt in
     let same : get_or looks k d ≡ at.0 = get_or_from_slice_get looks k at.0 d at.1 in
     record { one = at.0; there = at.1; unfit = ap (λ (o : Found). is_some (is_unfit h k o)) (sym same) ∙ unfit; first = before }
-
-none_some : {X : Type 0} (o : Option X) → is_some o ≡ false → o ≡ None
-none_some None e = refl
-none_some (Some x) e = cc
-
--- one look more fits
-pub fits_to : (h : List PassEntry) (looks : List Found) (k : ℕ) (d : Found) → is_some (is_unfit h k (get_or looks k d)) ≡ false →
-    ((j : ℕ) (o : Found) → j < k → slice_get looks j ≡ Some o → is_unfit h j o ≡ None) →
-    (j : ℕ) (o : Found) → j < k + 1 → slice_get looks j ≡ Some o → is_unfit h j o ≡ None
-fits_to h looks k d fits before j o low at = elim (eqb_tells j k) [
-  | inl e ↦
-      let there : get_or looks k d ≡ o = get_or_from_slice_get looks k o d (ap (λ m. slice_get looks m) (sym e.1) ∙ at) in
-      let none : is_unfit h k (get_or looks k d) ≡ None = none_some (is_unfit h k (get_or looks k d)) fits in
-      ap (λ m. is_unfit h m o) e.1 ∙ ap (λ (f : Found). is_unfit h k f) (sym there) ∙ none
-  | inr n ↦ let below : j < k = omega (arith, low, n.1) in before j o below at
-]

@@ -66,15 +66,7 @@ found_shown shown = record {
   room = 1;
   number = shown.number;
   second = 0;
-  taken = shown.rec.taken;
-  running = shown.rec.running;
-  queued = shown.rec.queued;
-  oldest = shown.rec.oldest;
-  started = shown.rec.started;
-  misses = shown.rec.misses;
-  stamp = shown.rec.stamp;
-  paused = shown.rec.paused;
-  since = shown.rec.since;
+  rec = shown.rec;
 }
 
 -- the look of a thread that is gone: a pass takes it as it is and keeps it, and every pass with it

@@ -10,20 +10,10 @@ use Rattle.cal_policy.specs.Judgement.OpenInput.{judged_input}
 use Rattle.caladan_c.specs.declared.found.Found.{Found}
 use Rattle.caladan_c.specs.declared.given.Given.{Given}
 
--- the look: busy where `busy` is not 0, else of the nine words
+-- the look: busy where `busy` is not 0, else of the record
 abbrev pub look_in : Found → Look
 look_in found =
-    if not (found.busy == 0) then Busy found.number found.second else Whole found.number (record {
-      taken = found.taken;
-      running = found.running;
-      queued = found.queued;
-      oldest = found.oldest;
-      started = found.started;
-      misses = found.misses;
-      stamp = found.stamp;
-      paused = found.paused;
-      since = found.since;
-    })
+    if not (found.busy == 0) then Busy found.number found.second else Whole found.number found.rec
 
 -- the look, and whether there is room
 abbrev pub found_of : Found → FoundLook

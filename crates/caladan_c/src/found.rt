@@ -18,16 +18,8 @@ pub struct Found {
     pub number: u64,
     /// Of a busy look the second version.
     pub second: u64,
-    /// The record's nine words, in their order on the page. Not read of a busy look.
-    pub taken: u64,
-    pub running: u64,
-    pub queued: u64,
-    pub oldest: u64,
-    pub started: u64,
-    pub misses: u64,
-    pub stamp: u64,
-    pub paused: u64,
-    pub since: u64,
+    /// The record. Not read of a busy look.
+    pub rec: Record,
 }
 
 /// The same, as a pass takes it.
@@ -42,17 +34,7 @@ pub fn found_look(found: &Found) -> FoundLook
     } else {
         Look::Whole {
             number: found.number,
-            rec: Record {
-                taken: found.taken,
-                running: found.running,
-                queued: found.queued,
-                oldest: found.oldest,
-                started: found.started,
-                misses: found.misses,
-                stamp: found.stamp,
-                paused: found.paused,
-                since: found.since,
-            },
+            rec: found.rec,
         }
     };
     FoundLook {

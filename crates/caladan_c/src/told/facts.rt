@@ -137,14 +137,6 @@ pub fn tell_shown(shown: Shown) -> Found
         room: 1,
         number: shown.number,
         second: 0,
-        taken: shown.rec.taken,
-        running: shown.rec.running,
-        queued: shown.rec.queued,
-        oldest: shown.rec.oldest,
-        started: shown.rec.started,
-        misses: shown.rec.misses,
-        stamp: shown.rec.stamp,
-        paused: shown.rec.paused,
-        since: shown.rec.since,
+        rec: shown.rec,
     }
 }
