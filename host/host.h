@@ -27,7 +27,7 @@
 #define HOST_SIGNAL SIGURG /* by default it is ignored: a thread that has no handler for it takes no harm */
 enum { HOST_CORES = CALADAN_MOST_CORES, HOST_TASKS = 16, HOST_THREADS = CALADAN_MOST_THREADS, HOST_LIMIT = 16 };
 
-/* The nine words of a record. */
+/* The words of a record that a runtime fills, by their places. */
 enum { TAKEN, RUNNING, QUEUED, OLDEST, STARTED, MISSES, STAMP, PAUSED, SINCE };
 
 typedef struct host_slot {

@@ -26,13 +26,15 @@
  * Since version 1: nothing that was there has changed. New are caladan_pass_each, caladan_first_unfit,
  * caladan_table, caladan_table_task, caladan_thread, caladan_gone and caladan_revoked, the same of a guard
  * (caladan_guard_pass_each and so on), the judgements from CALADAN_NO_PAIR on, the answer CALADAN_LOST,
- * the texts, CALADAN_MOST_CORES and CALADAN_MOST_THREADS.
+ * the texts, the words of a look as one run (CALADAN_WORDS, caladan_look_words, caladan_look_set_words),
+ * CALADAN_HISTORY_HEADER, CALADAN_MOST_CORES and CALADAN_MOST_THREADS.
  */
 #ifndef CALADAN_H
 #define CALADAN_H
 #include <stdbool.h>
 #include <stddef.h>
 #include <stdint.h>
+#include <string.h>
 
 #ifdef __cplusplus
 extern "C" {
@@ -40,6 +42,9 @@ extern "C" {
 
 /* The version of this interface, which caladan_version answers. */
 #define CALADAN_VERSION 2
+
+/* The first line of a history (docs/FORMATS.md). */
+#define CALADAN_HISTORY_HEADER "caladan-history,2"
 
 /* The most cores of a machine, the most threads of a table, and the most actions that a pass has. */
 #define CALADAN_MOST_CORES 128
@@ -89,7 +94,7 @@ typedef struct caladan_look {
     uint8_t room;    /* not 0: the ring had room */
     uint64_t number; /* the record's place; of a busy look the first version */
     uint64_t second; /* of a busy look the second version */
-    /* the record's nine words, in the order in which they lie on a page; not read of a busy look */
+    /* the record's words, in the order in which they lie on a page, up to the end; not read of a busy look */
     uint64_t taken;   /* commands taken so far */
     uint64_t running; /* 0 off a core, else the core's number plus one */
     uint64_t queued;  /* 0 without a queued request */
@@ -100,6 +105,19 @@ typedef struct caladan_look {
     uint64_t paused;  /* 0 without a suspended request */
     uint64_t since;   /* when the suspended request came */
 } caladan_look;
+
+/* How many words a record has: as many as a look has from `taken` on. */
+enum { CALADAN_WORDS = (sizeof(caladan_look) - offsetof(caladan_look, taken)) / sizeof(uint64_t) };
+
+/* The words of a look, in order [tested]. */
+static inline void caladan_look_words(const caladan_look *look, uint64_t words[CALADAN_WORDS]) {
+    memcpy(words, (const char *)look + offsetof(caladan_look, taken), CALADAN_WORDS * sizeof(uint64_t));
+}
+
+/* Gives a look these words; what else it says is as before [tested]. */
+static inline void caladan_look_set_words(caladan_look *look, const uint64_t words[CALADAN_WORDS]) {
+    memcpy((char *)look + offsetof(caladan_look, taken), words, CALADAN_WORDS * sizeof(uint64_t));
+}
 
 /* What was judged of a look. A record that is ahead (it acknowledges more commands than were sent) or
  * foreign (it shows its thread on a core that the thread was not given) is not kept. The judgements above

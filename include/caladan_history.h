@@ -10,20 +10,31 @@
 #include <inttypes.h>
 #include <stdio.h>
 
-static inline void caladan_history_begin(FILE *out) { fputs("caladan-history,2\n", out); }
+static inline void caladan_history_begin(FILE *out) { fputs(CALADAN_HISTORY_HEADER "\n", out); }
+
+/* A comma and a number; it writes digits itself, since a pass writes many. */
+static inline void caladan_history_number(FILE *out, uint64_t number) {
+    char text[21];
+    size_t at = sizeof text;
+    do text[--at] = (char)('0' + number % 10);
+    while (number /= 10);
+    text[--at] = ',';
+    fwrite(text + at, 1, sizeof text - at, out);
+}
 
 /* One look as it was taken and judged. One that was refused (judged above CALADAN_BUSY by
  * caladan_pass_each) is written as the busy look that was taken. */
 static inline void caladan_history_look(FILE *out, size_t thread, const caladan_look *look, uint8_t judged) {
-    static const char *const words[] = {"", "whole", "busy", "ahead", "foreign"};
+    static const char *const kinds[] = {"", "whole", "busy", "ahead", "foreign"};
     if (look->busy || judged == CALADAN_BUSY || judged > CALADAN_FOREIGN) {
         fprintf(out, "busy,%zu,%d,%" PRIu64 ",%" PRIu64 "\n", thread, look->room != 0, look->number, look->second);
         return;
     }
-    fprintf(out, "%s,%zu,%d,%" PRIu64 ",%" PRIu64 ",%" PRIu64 ",%" PRIu64 ",%" PRIu64, words[judged], thread, look->room != 0,
-            look->number, look->taken, look->running, look->queued, look->oldest);
-    fprintf(out, ",%" PRIu64 ",%" PRIu64 ",%" PRIu64 ",%" PRIu64 ",%" PRIu64 "\n", look->started, look->misses, look->stamp,
-            look->paused, look->since);
+    uint64_t words[CALADAN_WORDS];
+    caladan_look_words(look, words);
+    fprintf(out, "%s,%zu,%d,%" PRIu64, kinds[judged], thread, look->room != 0, look->number);
+    for (int i = 0; i < CALADAN_WORDS; i++) caladan_history_number(out, words[i]);
+    fputc('\n', out);
 }
 
 static inline void caladan_history_action(FILE *out, const caladan_action *it) {

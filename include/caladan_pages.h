@@ -3,7 +3,7 @@
  * THIS C IS NOT PROVED. The pages and rings of the Rattle crates are proved; this follows
  * their steps, and is only tested (clients/c/pages_test.c, clients/c/liar_test.c).
  *
- * A page is ten words of 64 bits: a version, then a record's nine words in the order of caladan_look.
+ * A page is a version, then a record's words in the order of caladan_look, each of 64 bits.
  * The version is odd while a record is written, and twice the record's place when it is there. A page of
  * zeros has the zero record at place 0. A page has one publisher at a time and any number of lookers. A
  * ring has four places, one sender and one taker. Both may lie in memory that processes share; zeros are
@@ -33,7 +33,9 @@
 /* The version of what lies in shared memory, for the segment that has it. */
 #define CALADAN_PAGES_VERSION 2
 
-enum { CALADAN_WORDS = 9, CALADAN_PLACES = 4, CALADAN_PARK = 0, CALADAN_LINE = 128 };
+_Static_assert(sizeof(caladan_look) == offsetof(caladan_look, taken) + CALADAN_WORDS * sizeof(uint64_t), "a look ends with its words");
+
+enum { CALADAN_PLACES = 4, CALADAN_PARK = 0, CALADAN_LINE = 128 };
 
 typedef struct caladan_page {
     _Alignas(CALADAN_LINE) _Atomic uint64_t version;
@@ -61,7 +63,7 @@ static inline uint64_t caladan_publish_end(caladan_publisher *publisher, const u
     for (int i = 0; i < CALADAN_WORDS; i++)
         atomic_store_explicit(&publisher->page->words[i], words[i], memory_order_relaxed);
     publisher->place++;
-    /* release: whoever loads this version finds the nine words */
+    /* release: whoever loads this version finds the words */
     atomic_store_explicit(&publisher->page->version, publisher->place * 2, memory_order_release);
     return publisher->place;
 }
@@ -94,19 +96,11 @@ static inline void caladan_observe(caladan_page *page, caladan_look *look) {
     look->busy = 0;
     look->number = first / 2;
     look->second = 0;
-    look->taken = words[0];
-    look->running = words[1];
-    look->queued = words[2];
-    look->oldest = words[3];
-    look->started = words[4];
-    look->misses = words[5];
-    look->stamp = words[6];
-    look->paused = words[7];
-    look->since = words[8];
+    caladan_look_set_words(look, words);
 }
 
 /* Goes on with a page on which another process published: of the same thread, and gone. Answers the
- * nine words to go on from: taken, misses and stamp of them are not below what the page showed. False where the other one
+ * words to go on from: taken, misses and stamp of them are not below what the page showed. False where the other one
  * was killed while it published: the page stays busy until the next publication, and each word is that of
  * its last record or of the one that was being written; so is each that never falls. */
 static inline bool caladan_adopt(caladan_publisher *publisher, caladan_page *page, uint64_t words[CALADAN_WORDS]) {
@@ -189,8 +183,8 @@ static inline bool caladan_ring_take(caladan_ring *ring, uint64_t *command) {
  * False where a page has no such place (2^63 and above): the look itself may be given to the next pass. */
 static inline bool caladan_bury(caladan_page *page, caladan_ring *ring, const caladan_look *gone) {
     if (gone->number == 0 || gone->number >> 63) return false;
-    const uint64_t words[CALADAN_WORDS] = {gone->taken,  gone->running, gone->queued, gone->oldest, gone->started,
-                                           gone->misses, gone->stamp,   gone->paused, gone->since};
+    uint64_t words[CALADAN_WORDS];
+    caladan_look_words(gone, words);
     caladan_publisher publisher = {page, gone->number - 1};
     caladan_publish(&publisher, words);
     atomic_store_explicit(&ring->taken, gone->taken, memory_order_release);

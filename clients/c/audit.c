@@ -6,7 +6,8 @@
 #include <stdlib.h>
 #include <string.h>
 
-enum { THREADS = CALADAN_MOST_THREADS, FIELDS = 13 };
+/* A look has a word, its thread, its room and its place before the record's words. */
+enum { THREADS = CALADAN_MOST_THREADS, FIRST_WORD = 4, FIELDS = FIRST_WORD + CALADAN_WORDS };
 
 /* A pass as it is read. */
 typedef struct recorded {
@@ -51,9 +52,9 @@ static bool take_look(recorded *pass, const char *const f[FIELDS], uint8_t judge
         look->second = number(f[4]);
         return true;
     }
-    uint64_t *const words[] = {&look->taken, &look->running, &look->queued, &look->oldest, &look->started,
-                               &look->misses, &look->stamp, &look->paused, &look->since};
-    for (int k = 0; k < 9; k++) *words[k] = number(f[4 + k]);
+    uint64_t words[CALADAN_WORDS];
+    for (int k = 0; k < CALADAN_WORDS; k++) words[k] = number(f[FIRST_WORD + k]);
+    caladan_look_set_words(look, words);
     return true;
 }
 

@@ -5,7 +5,8 @@
 #include <stdlib.h>
 #include <string.h>
 
-enum { THREADS = CALADAN_MOST_THREADS, FIELDS = 13 };
+/* A look has its thread, its room and its place before the record's words, of which version 1 has seven. */
+enum { THREADS = CALADAN_MOST_THREADS, FIRST_WORD = 3, FIELDS = FIRST_WORD + CALADAN_WORDS, LEAST_FIELDS = FIRST_WORD + 7 };
 
 static char *read_all(size_t *length) {
     size_t room = 1 << 16, used = 0;
@@ -44,16 +45,8 @@ static bool look_of(char *row, caladan_look *look) {
         look->second = n[3];
         return count == 4;
     }
-    look->taken = n[3];
-    look->running = n[4];
-    look->queued = n[5];
-    look->oldest = n[6];
-    look->started = n[7];
-    look->misses = n[8];
-    look->stamp = n[9];
-    look->paused = n[10];
-    look->since = n[11];
-    return !strcmp(word, "whole") && count >= 10;
+    caladan_look_set_words(look, &n[FIRST_WORD]);
+    return !strcmp(word, "whole") && count >= LEAST_FIELDS;
 }
 
 static void print_action(const caladan_action *it) {

@@ -43,7 +43,7 @@ static void *lie_until_stopped(void *of) {
     caladan_ring *ring = &all->ring[LIAR];
     uint64_t state = 88172645463325252u;
     while (!atomic_load_explicit(&all->stop, memory_order_relaxed)) {
-        uint64_t r = next_random(&state), at = next_random(&state) % 10;
+        uint64_t r = next_random(&state), at = next_random(&state) % (CALADAN_WORDS + 1);
         uint64_t near = atomic_load_explicit(&page->version, memory_order_relaxed) & 0xffffffffff;
         uint64_t low = r % 7;
         if (at == 0) {

@@ -1,9 +1,10 @@
 /* Each kind of lie by itself, through caladan_pass_each: it is refused with its own judgement, the other
  * threads get what they get without it, it leaves no trace, and an audit says that the pass is legal with
- * the look that was taken, and not with one that does not fit. The same before a guard, which judges alike
- * whether it lets the pass through or not. Then threads that are gone, and a process that is killed at each
- * step of a publication, whose page is buried and whose successor gets a core; and the calls of version 2
- * with closed handles, wrong counts and numbers out of range. Prints 'lies: ok'. */
+ * the look that was taken, and not with one that does not fit. Each word of a record counts. The same lies
+ * before a guard, which judges alike whether it lets the pass through or not. Then threads that are gone,
+ * and a process that is killed at each step of a publication, whose page is buried and whose successor gets
+ * a core; and the calls of version 2 with closed handles, wrong counts and numbers out of range. Prints
+ * 'lies: ok'. */
 #define _GNU_SOURCE
 #include "caladan_pages.h"
 #include <signal.h>
@@ -16,7 +17,7 @@
 static const char TABLE[] = "cores = 4\nbandwidth_limit = 1000\n"
                             "[[task]]\nkind = \"lc\"\nguaranteed = 1\nlimit = 2\ndelay = 10\nrequest = 50\n"
                             "[[task]]\nkind = \"be\"\nguaranteed = 0\nlimit = 2\ndelay = 0\nrequest = 0\n";
-enum { THREADS = 4, LIAR = 1, STEPS = 11 };
+enum { THREADS = 4, LIAR = 1, STEPS = CALADAN_WORDS + 2 };
 
 static int failed;
 #define CHECK(is)                                                          \
@@ -172,6 +173,28 @@ static void try_audited_lie(const lie *it) {
     caladan_close(&handle);
 }
 
+/* Each word counts: a record at the last one's place with one other word is another record. */
+static void try_words(void) {
+    caladan handle = open_one();
+    caladan_look looks[THREADS];
+    uint64_t words[CALADAN_WORDS];
+    static passed told;
+    one_waits(looks);
+    pass_each(&handle, 100, looks, &told);
+    caladan_look_words(&looks[LIAR], words);
+    for (int i = 0; i < CALADAN_WORDS; i++) {
+        words[i]++;
+        caladan_look_set_words(&looks[LIAR], words);
+        words[i]--;
+        pass_each(&handle, 101, looks, &told);
+        CHECK(told.answer == CALADAN_DONE && told.judged[LIAR] == CALADAN_CHANGED);
+    }
+    caladan_look_set_words(&looks[LIAR], words);
+    pass_each(&handle, 102, looks, &told);
+    CHECK(told.answer == CALADAN_DONE && told.judged[LIAR] == CALADAN_KEPT);
+    caladan_close(&handle);
+}
+
 /* The same lie before a guard: it is judged alike, whether the pass goes through or not. */
 static void try_guarded_lie(const lie *it) {
     caladan handle = open_one();
@@ -270,7 +293,7 @@ static void die_after(shared *both, int steps) {
     pid_t child = fork();
     if (child == 0) {
         caladan_publisher publisher = {&both->page, 0};
-        uint64_t words[CALADAN_WORDS] = {0, 0, 1, 1, 0, 7, 50, 0, 0};
+        uint64_t words[CALADAN_WORDS] = {[2] = 1, [3] = 1, [5] = 7, [6] = 50};
         caladan_publish(&publisher, words);
         words[5] = 9, words[6] = 60, words[2] = 2;
         if (steps > 0) caladan_publish_begin(&publisher);
@@ -423,6 +446,7 @@ int main(void) {
         try_audited_lie(&LIES[i]);
         try_guarded_lie(&LIES[i]);
     }
+    try_words();
     try_gone();
     try_guarded_gone();
     for (int steps = 0; steps <= STEPS; steps++) {

@@ -45,8 +45,8 @@ static int wrong(const char *what, uint64_t place) {
 }
 
 static int check_whole(const caladan_look *look) {
-    const uint64_t words[CALADAN_WORDS] = {look->taken, look->running, look->queued, look->oldest, look->started,
-                                           look->misses, look->stamp, look->paused, look->since};
+    uint64_t words[CALADAN_WORDS];
+    caladan_look_words(look, words);
     for (int i = 0; i < CALADAN_WORDS; i++)
         if (words[i] != (look->number ? word_at(look->number, i) : 0)) return wrong("a torn record", look->number);
     return 0;
