@@ -88,7 +88,8 @@ def written(library):
         judged, actions = it.run_each(now, 0, [look])
         rows += caladan.written(True, now, 0, [look], judged, actions)
     it.close()
-    want(rows, ["pass,111,0", "busy,0,1,1,1", "pass,112,0", "whole,0,1,1,0,0,1,100,0,0,105,0,0", "grant,0,0,3",
+    rest = ",0" * (len(caladan.WORDS) - 7)  # the words behind stamp
+    want(rows, ["pass,111,0", "busy,0,1,1,1", "pass,112,0", "whole,0,1,1,0,0,1,100,0,0,105" + rest, "grant,0,0,3",
                 "pass,113,0", "busy,0,1,1,1"])
     for more, first in (([], None), (["free,0"], 2)):
         audit = Audit(library, TABLE)

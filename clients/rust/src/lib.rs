@@ -10,6 +10,9 @@ use std::marker::PhantomData;
 /// The most actions that a pass has.
 pub const MOST_ACTIONS: usize = 338;
 
+/// The words of a record, in order.
+pub const WORDS: &[&str] = &["taken", "running", "queued", "oldest", "started", "misses", "stamp", "paused", "since"];
+
 #[repr(C)]
 struct Handle {
     open: bool,
@@ -24,8 +27,8 @@ pub struct Look {
     pub room: u8,
     pub number: u64,
     pub second: u64,
-    /// The record's nine words: taken, running, queued, oldest, started, misses, stamp, paused, since.
-    pub words: [u64; 9],
+    /// The record's words, as `WORDS` names them.
+    pub words: [u64; WORDS.len()],
 }
 
 impl Look {

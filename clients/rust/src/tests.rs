@@ -1,22 +1,26 @@
 //! The calls of the wrapper, once each.
 
-use super::{history_of_each, Action, Audit, Command, Guard, Judged, Look, Machine, NotThrough, Refused, Scheduler, Stopped, Thread, Verdict};
+use super::{history_of_each, Action, Audit, Command, Guard, Judged, Look, Machine, NotThrough, Refused, Scheduler, Stopped, Thread, Verdict, WORDS};
 
 const TABLE: &str = "cores = 2\nbandwidth_limit = 1000\n\n[[task]]\nkind = \"lc\"\nguaranteed = 1\nlimit = 1\ndelay = 10\nrequest = 50\n";
+
+/// The words of a record that has these, and else 0.
+fn words(named: &[(&str, u64)]) -> [u64; WORDS.len()] {
+    std::array::from_fn(|k| named.iter().find(|it| it.0 == WORDS[k]).map_or(0, |it| it.1))
+}
 
 #[test]
 fn one_grant() {
     let mut scheduler = Scheduler::open(TABLE).unwrap();
-    let look = Look { room: 1, number: 1, words: [0, 0, 1, 100, 0, 0, 105, 0, 0], ..Look::default() };
     assert_eq!(scheduler.pass(111, 0, &[]), Err(Refused(13)));
-    let (actions, judged) = scheduler.pass(111, 0, &[look]).unwrap();
+    let (actions, judged) = scheduler.pass(111, 0, &[waits()]).unwrap();
     assert_eq!((actions.len(), actions[0].kind, actions[0].core_class, judged), (1, 6, 3, &[1u8][..]));
     assert_eq!(scheduler.task(0).unwrap().held, 1);
     assert_eq!(scheduler.task(1), None);
 }
 
 fn waits() -> Look {
-    Look { room: 1, number: 1, words: [0, 0, 1, 100, 0, 0, 105, 0, 0], ..Look::default() }
+    Look { room: 1, number: 1, words: words(&[("queued", 1), ("oldest", 100), ("stamp", 105)]), ..Look::default() }
 }
 
 fn grant(class: u8) -> Action {
@@ -26,7 +30,7 @@ fn grant(class: u8) -> Action {
 #[test]
 fn one_lie_stops_nobody() {
     let mut scheduler = Scheduler::open(TABLE).unwrap();
-    let lie = Look { room: 1, number: 1, words: [0, 129, 0, 0, 0, 0, 0, 0, 0], ..Look::default() };
+    let lie = Look { room: 1, number: 1, words: words(&[("running", 129)]), ..Look::default() };
     assert_eq!(scheduler.pass(111, 0, &[lie]), Err(Refused(15)));
     assert_eq!(scheduler.first_unfit(&[lie]), Ok(Some(0)));
     let (actions, judged) = scheduler.pass_each(111, 0, &[lie]).unwrap();
@@ -37,7 +41,7 @@ fn one_lie_stops_nobody() {
     assert_eq!(scheduler.thread(0), Some(Thread { task: 0, sent: 1, taken: 0 }));
     assert_eq!(scheduler.thread(1), None);
     let gone = scheduler.gone(0).unwrap();
-    assert_eq!((gone.number, gone.words), (2, [1, 0, 0, 0, 0, 0, 105, 0, 0]));
+    assert_eq!((gone.number, gone.words), (2, words(&[("taken", 1), ("stamp", 105)])));
     assert_eq!(scheduler.gone(1), Err(Refused(16)));
     let (actions, _) = scheduler.pass_each(113, 0, &[gone]).unwrap();
     assert_eq!(actions[0].kind, 1);
@@ -69,7 +73,7 @@ fn guard_names_the_action() {
 #[test]
 fn one_lie_stops_no_guard() {
     let mut guard = Guard::open(TABLE).unwrap();
-    let lie = Look { room: 1, number: 1, words: [0, 129, 0, 0, 0, 0, 0, 0, 0], ..Look::default() };
+    let lie = Look { room: 1, number: 1, words: words(&[("running", 129)]), ..Look::default() };
     assert_eq!(guard.pass(111, 0, &[lie], &[]), Err(NotThrough::Refused(Refused(15))));
     assert_eq!(guard.first_unfit(&[lie]), Ok(Some(0)));
     let stopped = guard.pass_each(111, 0, &[lie], &[Action { kind: 1, ..Action::default() }]).err();
@@ -83,7 +87,7 @@ fn one_lie_stops_no_guard() {
     let early = guard.pass_each(112, 0, &[waits()], &[free]).err();
     assert_eq!(early, Some(NotThrough::Stopped(Stopped { place: 0, why: 3, names: 0 })));
     let gone = guard.gone(0).unwrap();
-    assert_eq!((gone.number, gone.words), (1, [1, 0, 0, 0, 0, 0, 0, 0, 0]));
+    assert_eq!((gone.number, gone.words), (1, words(&[("taken", 1)])));
     assert_eq!(guard.gone(1), Err(Refused(16)));
     assert_eq!(guard.pass_each(112, 0, &[gone], &[free]).unwrap().collect::<Vec<_>>(), [Judged::Kept]);
     assert_eq!(guard.task(0).unwrap().booked, 0);
@@ -98,7 +102,8 @@ fn texts_and_history() {
     assert_eq!(NotThrough::Stopped(Stopped { place: 3, why: 11, names: 1 }).to_string(), "action 3: a task is over its cap");
     assert_eq!((Judged::PlaceFell.to_string(), Action { cause: 3, ..Action::default() }.cause_text()), ("its place fell".to_string(), "for a task"));
     let rows = history_of_each(112, 7, &[waits(), waits()], [Judged::Kept, Judged::Ahead], &[grant(3)]);
-    assert_eq!(rows, "pass,112,7\nwhole,0,1,1,0,0,1,100,0,0,105,0,0\nbusy,1,1,1,1\ngrant,0,0,3\n");
+    let rest = ",0".repeat(WORDS.len() - 7); // the words behind stamp
+    assert_eq!(rows, format!("pass,112,7\nwhole,0,1,1,0,0,1,100,0,0,105{rest}\nbusy,1,1,1,1\ngrant,0,0,3\n"));
 }
 
 #[test]
