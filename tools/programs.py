@@ -1,8 +1,9 @@
-"""What the scripts of tools/ and bench/ share: which programs they run, how, and what they ask of a run.
+"""What the scripts of tools/ and bench/ share: which programs they run, how, what a program's help says, and what they ask of a run.
 
 A script runs the programs that `make` and `rt ci` leave at crates/NAME/out/NAME. A word NAME=FILE on its command line names
 another file: tools/examples caladan_sim=/tmp/caladan_sim."""
 import collections
+import functools
 import os
 import re
 import subprocess
@@ -13,6 +14,8 @@ TOP = os.path.dirname(os.path.dirname(os.path.abspath(__file__)))
 SECONDS = 120
 # Its exit status, what it wrote on both outputs, seconds of processor and by the clock, and bytes of memory at its peak.
 Measured = collections.namedtuple("Measured", "status wrote said processor clock peak")
+# The run to copy that a word's help shows: its input, whether what it writes varies, and what it writes (None: that is not shown).
+Shown = collections.namedtuple("Shown", "given varies wrote")
 
 
 def named(*names):
@@ -50,6 +53,31 @@ def measure(command, given, answer=subprocess.PIPE):
     clock = time.perf_counter() - begun
     child.returncode = os.waitstatus_to_exitcode(status)
     return Measured(child.returncode, wrote, said, used.ru_utime + used.ru_stime, clock, used.ru_maxrss * 1024)
+
+
+@functools.cache
+def help_of(program, *words):
+    """The help of a program, or of one of its words; nothing where it has none."""
+    asked = run(program, [*words, "--help"])
+    return "" if asked.returncode or asked.stderr else asked.stdout.decode()
+
+
+def listed(text, head):
+    """The names under a heading of a help text, and what each is for."""
+    part = re.search(rf"^{head}:\n((?:  .*\n|\n(?=  ))*)", text + "\n", re.M)
+    return dict(re.findall(r"^ +(?:-\w, )?([\w-]+)(?: +(\S.*))?$", part[1] if part else "", re.M))
+
+
+def words_of(program):
+    """The words that a program has, and what each is for: those that its help lists, but `help`."""
+    words = {it: about for it, about in listed(help_of(program), "Commands").items() if it != "help"}
+    return words or sys.exit(f"{os.path.basename(sys.argv[0])}: the help of {program} lists no words")
+
+
+def shown_run(text, name, word):
+    """The run to copy that the help of a program's word shows; None where it shows none."""
+    found = re.search(rf"^\./{name} {word}(?: > \S+)? <<'END'\n(.*?\n)END\n(?:\nIt (may write|writes):\n\n(.*))?", text, re.S | re.M)
+    return found and Shown(found[1].encode(), found[2] == "may write", found[3] and found[3].encode())
 
 
 def table_of(given):
