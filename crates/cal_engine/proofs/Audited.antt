@@ -12,8 +12,7 @@ use Rattle.cal_trace.specs.declared.history.file.HistoryRows.{HistoryRows}
 use Rattle.cal_trace.proofs.RowLemmas.Refusals.{decided}
 use Rattle.cal_engine.specs.Outcome.{audit_text}
 use Rattle.cal_engine.specs.Recorded.{HasTaken, HasTakenRun, IsAnswerTo}
-use Rattle.cal_engine.specs.Runs.{Run, recorded_on}
-use Rattle.cal_engine.specs.declared.fault.RunFault.{RunFault}
+use Rattle.cal_engine.specs.Runs.{recorded_on}
 use Rattle.cal_engine.specs.declared.fault.RunFault.TheVariants as fault
 use Rattle.cal_engine.specs.declared.jobs.auditing.OpenAudit.{OpenAudit}
 

@@ -1,7 +1,6 @@
 pub mod LinesOf
 pub mod Decided
 pub mod Reading
-pub mod InThreads
 pub mod WrittenRuns
 pub mod CommandWords
 pub mod Reporting

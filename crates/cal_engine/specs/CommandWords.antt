@@ -1,6 +1,7 @@
 -- What the words of a command line ask for.
-use Rattle.std.specs.Prelude.{◌≡◌, ◌⊎◌, ℕ, Bool, true, false, List, [], ◌∷◌, codes, Option, Some}
-use Rattle.std.specs.Prelude.{None, Result, Ok, Err, IsErrAnd}
+use Rattle.std.specs.Prelude.{◌≡◌, ◌⊎◌, ℕ, Bool, true, false, List, [], ◌∷◌, codes, map, fold, find}
+use Rattle.std.specs.Prelude.{Contains, flat_map, bytes_eq, Option, Some, None, option_map}
+use Rattle.std.specs.Prelude.{option_and_then, Result, Ok, Err, IsErrAnd}
 use Rattle.clap.specs.Simple.{App, new_app, new_rule, on_top, with_rule, with_subcommand}
 use Rattle.clap.specs.Values.{bool_text, kind_of}
 use Rattle.clap.specs.Walk.{Row, Rule, Text, one_of}
@@ -11,6 +12,66 @@ use Rattle.cal_engine.specs.declared.command_words.command_line.Job.{Job}
 use Rattle.cal_engine.specs.declared.command_words.command_line.Job.TheVariants as job
 use Rattle.cal_engine.specs.declared.jobs.running.RunAnswer.{RunAnswer}
 use Rattle.cal_engine.specs.declared.jobs.running.RunAnswer.TheVariants.{History, Summary, Report}
+
+-- a word of the program: one that asks for its job alone, or one for a run, whose job has the
+-- answer that the flags after it ask for
+pub data Word : Type 0 where
+  alone : Text → Job → Word
+  for_run : Text → (RunAnswer → Job) → Word
+
+-- the words of the program, in the order of its help
+abbrev pub all_words : List Word
+all_words =
+    alone (codes "decide") job.Decide
+    ∷ for_run (codes "lockstep") job.Lockstep
+    ∷ for_run (codes "sim") job.Sim
+    ∷ alone (codes "audit") job.Audit
+    ∷ []
+
+abbrev pub name_of : Word → Text
+name_of (alone name asked) = name
+name_of (for_run name asked) = name
+
+-- the flags after a word for a run, and the answer that they ask for; nothing where they are two
+abbrev pub flag_ways : List (List Text × Option RunAnswer)
+flag_ways =
+    ([], Some History)
+    ∷ (codes "--summary" ∷ [], Some Summary)
+    ∷ (codes "--report" ∷ [], Some Report)
+    ∷ (codes "--summary" ∷ codes "--report" ∷ [], None)
+    ∷ (codes "--report" ∷ codes "--summary" ∷ [], None)
+    ∷ []
+
+-- each way to ask by a word, and the job; nothing where two answers are asked for at once
+abbrev pub ways : Word → List (List Text × Option Job)
+ways (alone name asked) = (name ∷ [], Some asked) ∷ []
+ways (for_run name asked) = map (λ way. (name ∷ way.0, option_map asked way.1)) flag_ways
+
+-- each way to ask: no words ask for the job of `decide`
+abbrev pub asking : List (List Text × Option Job)
+asking = ([], Some job.Decide) ∷ flat_map ways all_words
+
+-- the words after the program's name stand in that list, with this job or with nothing
+unfoldable pub AsksFor : List (List ℕ) → Option Job → Type 0
+AsksFor words named = Contains asking (words, named)
+
+-- the words after the program's name ask for this job
+abbrev pub Asks : List (List ℕ) → Job → Type 0
+Asks words asked = AsksFor words (Some asked)
+
+-- the words ask for the summary of a run and for its report at once
+abbrev pub AsksTwo : List (List ℕ) → Type 0
+AsksTwo words = AsksFor words None
+
+-- the answer is this job, or memory was refused
+abbrev pub IsJob : Job → Result Job Error → Type 0
+IsJob asked (Ok found) = found ≡ asked
+IsJob asked (Err e) = kind_of e ≡ kind.OutOfMemory
+
+-- the words are refused since their flags conflict, or memory was refused
+abbrev pub IsConflict : Result Job Error → Type 0
+IsConflict result = IsErrAnd result (λ e. (kind_of e ≡ kind.ArgumentConflict)
+    ⊎ (kind_of e ≡ kind.OutOfMemory))
 
 -- the program before it has its subcommands: it has a version, and the first of its words is no
 -- program's name
@@ -28,47 +89,18 @@ abbrev pub report_flag : Rule
 report_flag =
     record (new_rule (codes "report")) { long = Some (codes "report"); action = Some SetTrue }
 
--- a word for a run, after which one of the flags may stand
+-- the subcommand for a run, after which one of the flags may stand
 abbrev pub run_word : Text → App
-run_word word = with_rule (with_rule (new_app word) summary_flag) report_flag
+run_word name = with_rule (with_rule (new_app name) summary_flag) report_flag
 
--- the program with the words that decide or make a run
-abbrev pub program_of_runs : App
-program_of_runs = with_subcommand (with_subcommand (with_subcommand bare_program
-    (new_app (codes "decide")).top) (run_word (codes "lockstep")).top) (run_word (codes "sim")).top
+-- the subcommand of a word
+abbrev pub app_for : Word → App
+app_for (alone name asked) = new_app name
+app_for (for_run name asked) = run_word name
 
 -- the program, with a subcommand for each word
 abbrev pub program : App
-program = with_subcommand program_of_runs (new_app (codes "audit")).top
-
--- the words after the program's name ask for this job
-abbrev pub Asks : List (List ℕ) → Job → Type 0
-Asks words job.Decide = (words ≡ []) ⊎ (words ≡ codes "decide" ∷ [])
-Asks words (job.Lockstep History) = words ≡ codes "lockstep" ∷ []
-Asks words (job.Lockstep Summary) = words ≡ codes "lockstep" ∷ codes "--summary" ∷ []
-Asks words (job.Lockstep Report) = words ≡ codes "lockstep" ∷ codes "--report" ∷ []
-Asks words (job.Sim History) = words ≡ codes "sim" ∷ []
-Asks words (job.Sim Summary) = words ≡ codes "sim" ∷ codes "--summary" ∷ []
-Asks words (job.Sim Report) = words ≡ codes "sim" ∷ codes "--report" ∷ []
-Asks words job.Audit = words ≡ codes "audit" ∷ []
-
--- the words ask for the summary of a run and for its report at once
-abbrev pub AsksTwo : List (List ℕ) → Type 0
-AsksTwo words =
-    (words ≡ codes "lockstep" ∷ codes "--summary" ∷ codes "--report" ∷ [])
-    ⊎ ((words ≡ codes "lockstep" ∷ codes "--report" ∷ codes "--summary" ∷ [])
-    ⊎ ((words ≡ codes "sim" ∷ codes "--summary" ∷ codes "--report" ∷ [])
-    ⊎ (words ≡ codes "sim" ∷ codes "--report" ∷ codes "--summary" ∷ [])))
-
--- the answer is this job, or memory was refused
-abbrev pub IsJob : Job → Result Job Error → Type 0
-IsJob asked (Ok found) = found ≡ asked
-IsJob asked (Err e) = kind_of e ≡ kind.OutOfMemory
-
--- the words are refused since their flags conflict, or memory was refused
-abbrev pub IsConflict : Result Job Error → Type 0
-IsConflict result = IsErrAnd result (λ e. (kind_of e ≡ kind.ArgumentConflict)
-    ⊎ (kind_of e ≡ kind.OutOfMemory))
+program = fold (λ made word. with_subcommand made (app_for word).top) bare_program all_words
 
 -- what the flags of a run ask for; nothing where both are there
 abbrev pub answer_of : Bool → Bool → Option RunAnswer
@@ -77,27 +109,32 @@ answer_of true false = Some Summary
 answer_of false true = Some Report
 answer_of true true = None
 
--- the flag of this name among the arguments of a subcommand says this
-abbrev pub FlagSays : Text → List Row → Bool → Type 0
-FlagSays name rows said = one_of name rows ≡ Some (bool_text said)
+-- what the value of a flag says: that the flag is there, or that it is not
+abbrev pub FlagSays : Option Text → Bool → Type 0
+FlagSays value true = value ≡ Some (bool_text true)
+FlagSays value false = (value ≡ None) ⊎ (value ≡ Some (bool_text false))
 
 -- the flags among the arguments of a subcommand ask for this answer, or for none
 pub record FlagsAsk (rows : List Row) (asked : Option RunAnswer) : Type 0 where
   pub summary : Bool
   pub report : Bool
-  pub says_summary : FlagSays (codes "summary") rows summary
-  pub says_report : FlagSays (codes "report") rows report
+  pub says_summary : FlagSays (one_of (codes "summary") rows) summary
+  pub says_report : FlagSays (one_of (codes "report") rows) report
   pub ask : answer_of summary report ≡ asked
 
--- a subcommand with these arguments, or none at all, names this job
-abbrev pub Names : Option (Text × List Row) → Job → Type 0
-Names None asked = asked ≡ job.Decide
-Names (Some p) job.Decide = p.0 ≡ codes "decide"
-Names (Some p) (job.Lockstep answer) = (p.0 ≡ codes "lockstep") × FlagsAsk p.1 (Some answer)
-Names (Some p) (job.Sim answer) = (p.0 ≡ codes "sim") × FlagsAsk p.1 (Some answer)
-Names (Some p) job.Audit = p.0 ≡ codes "audit"
+-- the job of a word with this answer; nothing where a run has none
+abbrev pub job_with : Option RunAnswer → Word → Option Job
+job_with answer (alone name asked) = Some asked
+job_with answer (for_run name asked) = option_map asked answer
 
--- a subcommand with these arguments is a run of which two answers are asked for
-abbrev pub NamesTwo : Option (Text × List Row) → Type 0
-NamesTwo None = ⊥
-NamesTwo (Some p) = ((p.0 ≡ codes "lockstep") ⊎ (p.0 ≡ codes "sim")) × FlagsAsk p.1 None
+-- the job of the word of this name, with this answer
+abbrev pub job_of : Text → Option RunAnswer → Option Job
+job_of name answer =
+    option_and_then (job_with answer) (find (λ word. bytes_eq name (name_of word)) all_words)
+
+-- a subcommand with these arguments, or none at all, names this job; or none, where its flags ask
+-- for two answers
+abbrev pub Names : Option (Text × List Row) → Option Job → Type 0
+Names None named = named ≡ Some job.Decide
+Names (Some p) named =
+    (answer : Option RunAnswer) × FlagsAsk p.1 answer × (named ≡ job_of p.0 answer)

@@ -202,9 +202,18 @@ fn with_one(
     let by_task = is_loss(config, board, task, LossKind::Task, action);
     let by_others = is_loss_by_others(config, board, task, action);
     TaskActions {
-        grants_beside: plus(numbers.grants_beside, is_grant(config, task, CoreClass::Sibling, action)),
-        grants_again: plus(numbers.grants_again, is_grant(config, task, CoreClass::RecentlyUsed, action)),
-        grants_other: plus(numbers.grants_other, is_grant(config, task, CoreClass::OtherIdle, action)),
+        grants_beside: plus(
+            numbers.grants_beside,
+            is_grant(config, task, CoreClass::Sibling, action),
+        ),
+        grants_again: plus(
+            numbers.grants_again,
+            is_grant(config, task, CoreClass::RecentlyUsed, action),
+        ),
+        grants_other: plus(
+            numbers.grants_other,
+            is_grant(config, task, CoreClass::OtherIdle, action),
+        ),
         lost_to_bans: plus(numbers.lost_to_bans, by_ban),
         lost_to_bandwidth: plus(numbers.lost_to_bandwidth, by_bandwidth),
         lost_to_tasks: plus(numbers.lost_to_tasks, by_task),

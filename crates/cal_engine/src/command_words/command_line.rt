@@ -9,12 +9,12 @@ ghost use Rattle.clap.specs.Values.{kind_of};
 ghost use Rattle.clap.specs.Walk.{rows_of, rule_of};
 ghost use Rattle.clap.specs.declared.error.kind.ErrorKind.TheVariants as kind;
 ghost use Rattle.cal_engine.specs.CommandWords.{Asks, AsksTwo, FlagsAsk, IsConflict, IsJob, Names};
-ghost use Rattle.cal_engine.specs.CommandWords.{NamesTwo, answer_of, bare_program, program};
-ghost use Rattle.cal_engine.specs.CommandWords.{program_of_runs, report_flag, run_word};
-ghost use Rattle.cal_engine.specs.CommandWords.{summary_flag};
+ghost use Rattle.cal_engine.specs.CommandWords.{answer_of, bare_program, job_of, program};
+ghost use Rattle.cal_engine.specs.CommandWords.{report_flag, run_word, summary_flag};
+ghost use Rattle.cal_engine.specs.declared.command_words.command_line.Job.{Job as JobOf};
 ghost use Rattle.cal_engine.specs.declared.jobs.running.RunAnswer.{RunAnswer as RunAnswerOf};
 
-use crate::command_words::help_texts;
+use crate::command_words::help_texts::{self, Help};
 use crate::jobs::running::RunAnswer;
 use clap::error::ErrorKind;
 use clap::{Arg, ArgAction, ArgMatches, Command, Error};
@@ -62,7 +62,7 @@ fn conflict(alloc: Global, matches: &ArgMatches) -> Result<Error, AllocError>
     ensures { IfOk result (λ error. kind_of error ≡ kind.ArgumentConflict) }
 {
     let word = matches.subcommand_name().unwrap_or("caladan_sim");
-    let mut command = run_word(alloc, word, "", "")?;
+    let mut command = run_word(alloc, word, help_texts::NOTHING)?;
     let said = "the argument '--summary' cannot be used with '--report'";
     command.error(ErrorKind::ArgumentConflict, said)
 }
@@ -72,38 +72,34 @@ fn conflict(alloc: Global, matches: &ArgMatches) -> Result<Error, AllocError>
 fn program<'a>(alloc: Global) -> Result<Command<'a>, AllocError>
     ensures { IfOk result (λ command. app_of command ≡ program) }
 {
-    let program = program_of_runs(alloc)?;
-    let about = "Audit a history against the policy";
-    program.subcommand(plain_word(alloc, "audit", about, help_texts::AUDIT))
-}
-
-/// The program with the words that decide or make a run.
-fn program_of_runs<'a>(alloc: Global) -> Result<Command<'a>, AllocError>
-    ensures { IfOk result (λ command. app_of command ≡ program_of_runs) }
-{
-    let about_decide = "Decide the passes of a signal trace";
-    let decide = plain_word(alloc, "decide", about_decide, help_texts::DECIDE);
-    let program = bare_program(alloc).subcommand(decide)?;
-    let about_lockstep = "Make a whole run of arrivals on one thread";
-    let program = with_run(
-        alloc,
-        program,
-        "lockstep",
-        about_lockstep,
-        help_texts::LOCKSTEP,
-    )?;
-    let about_sim = "Make a whole run of arrivals in threads";
-    with_run(alloc, program, "sim", about_sim, help_texts::SIM)
+    let program = bare_program(alloc);
+    let program = with_word(alloc, program, "decide", help_texts::DECIDE)?;
+    let program = with_run(alloc, program, "lockstep", help_texts::LOCKSTEP)?;
+    let program = with_run(alloc, program, "sim", help_texts::SIM)?;
+    let program = with_word(alloc, program, "audit", help_texts::AUDIT)?;
+    Ok(program)
 }
 
 /// The program before it has its words.
 fn bare_program<'a>(alloc: Global) -> Command<'a>
     ensures { app_of result ≡ bare_program }
 {
-    let about = "The core scheduler of Caladan over a task table and a trace on standard input";
-    plain_word(alloc, "caladan_sim", about, help_texts::PROGRAM)
+    plain_word(alloc, "caladan_sim", help_texts::PROGRAM)
         .version(VERSION)
         .no_binary_name(true)
+}
+
+/// The program with one word more, which takes nothing after it.
+fn with_word<'a>(
+    alloc: Global,
+    program: Command<'a>,
+    word: &'a str,
+    help: Help,
+) -> Result<Command<'a>, AllocError>
+    ensures { IfOk result (λ command.
+        app_of command ≡ with_subcommand (app_of program.entry) (new_app word.entry.now).top) }
+{
+    program.subcommand(plain_word(alloc, word, help))
 }
 
 /// The program with one word more, for a run.
@@ -111,36 +107,32 @@ fn with_run<'a>(
     alloc: Global,
     program: Command<'a>,
     word: &'a str,
-    about: &'a str,
-    after: &'a str,
+    help: Help,
 ) -> Result<Command<'a>, AllocError>
     ensures { IfOk result (λ command.
         app_of command ≡ with_subcommand (app_of program.entry) (run_word word.entry.now).top) }
 {
-    let command = run_word(alloc, word, about, after)?;
-    program.subcommand(command)
+    program.subcommand(run_word(alloc, word, help)?)
 }
 
 /// A word that takes nothing after it.
-fn plain_word<'a>(alloc: Global, word: &'a str, about: &'a str, after: &'a str) -> Command<'a>
+fn plain_word<'a>(alloc: Global, word: &'a str, help: Help) -> Command<'a>
     ensures shape { app_of result ≡ new_app word.entry.now }
     ensures local { (out-Command result).has_globals ≡ false }
 {
-    Command::new(alloc, word).about(about).after_help(after)
+    Command::new(alloc, word)
+        .about(help.about)
+        .after_help(help.after)
 }
 
 /// A word for a run, after which the flag for its summary or for its report may stand.
-fn run_word<'a>(
-    alloc: Global,
-    word: &'a str,
-    about: &'a str,
-    after: &'a str,
-) -> Result<Command<'a>, AllocError>
+fn run_word<'a>(alloc: Global, word: &'a str, help: Help) -> Result<Command<'a>, AllocError>
     ensures shape { IfOk result (λ command. app_of command ≡ run_word word.entry.now) }
     ensures local { IfOk result (λ command. (out-Command command).has_globals ≡ false) }
 {
-    let command = plain_word(alloc, word, about, after).arg(summary_flag(alloc))?;
-    command.arg(report_flag(alloc))
+    plain_word(alloc, word, help)
+        .arg(summary_flag(alloc))?
+        .arg(report_flag(alloc))
 }
 
 /// The flag that asks for the summary of a run.
@@ -167,20 +159,30 @@ fn report_flag<'a>(alloc: Global) -> Arg<'a>
 
 /// The job that the subcommand names; none where it is a run of which two answers are asked for.
 fn job_named(matches: &ArgMatches) -> Option<Job>
-    ensures job { (job : Job) → Names (subcommand_rows_of matches.now) job → result ≡ Some job }
-    ensures two { NamesTwo (subcommand_rows_of matches.now) → result ≡ None }
+    ensures { (named : Option JobOf) → Names (subcommand_rows_of matches.now) named →
+        result ≡ named }
 {
-    let Some((word, run)) = matches.subcommand() else {
-        return Some(Job::Decide);
-    };
-    if word == "lockstep" {
-        Some(Job::Lockstep(flags_ask(run)?))
+    match matches.subcommand() {
+        Some((word, flags)) => job_of(word, flags_ask(flags)),
+        None => Some(Job::Decide),
+    }
+}
+
+/// The job of a word, with the answer that its flags ask for; none where they ask for two, or where
+/// it is no word of the program.
+fn job_of(word: &str, answer: Option<RunAnswer>) -> Option<Job>
+    ensures { result ≡ job_of word.now answer }
+{
+    if word == "decide" {
+        Some(Job::Decide)
+    } else if word == "lockstep" {
+        Some(Job::Lockstep(answer?))
     } else if word == "sim" {
-        Some(Job::Sim(flags_ask(run)?))
+        Some(Job::Sim(answer?))
     } else if word == "audit" {
         Some(Job::Audit)
     } else {
-        Some(Job::Decide)
+        None
     }
 }
 

@@ -18,24 +18,43 @@ macro_rules! help_with_a_run {
     };
 }
 
+/// What help says of the program or of a word: what it is for, in a line, and what stands below its
+/// options.
+#[derive(Clone, Copy)]
+pub struct Help {
+    pub about: &'static str,
+    pub after: &'static str,
+}
+
+/// Of a word of which help is not asked.
+pub const NOTHING: Help = Help {
+    about: "",
+    after: "",
+};
+
 /// Of the program as a whole.
-pub const PROGRAM: &str = "\
+pub const PROGRAM: Help = Help {
+    about: "The core scheduler of Caladan over a task table and a trace on standard input",
+    after: "\
 Without a word it runs `decide`. Each word reads one input from the standard input: a task table
 (TOML), the line ---, and a trace (CSV). `caladan_sim WORD --help` describes the trace and the
 output, with a whole input to copy; docs/FORMATS.md describes everything.
 
 Exit status: 0 done, 1 an illegal history, 2 bad words or a refused input, 3 memory, output or a
-thread was refused. A fault is one line on the standard error.";
+thread was refused. A fault is one line on the standard error.",
+};
 
 /// Of the word `decide`.
-pub const DECIDE: &str = help_with_a_run!(
-    "\
+pub const DECIDE: Help = Help {
+    about: "Decide the passes of a signal trace",
+    after: help_with_a_run!(
+        "\
 Standard input: a task table (TOML), the line ---, and signals (CSV): for each pass a row with its
 clock and bandwidth figure, and what was found on the page of each kernel thread.
 Standard output: the report: what each pass did, and what each task has at the end.
 Exit status: 0 done, 2 a refused input, 3 memory or output was refused.",
-    "./caladan_sim decide",
-    "\
+        "./caladan_sim decide",
+        "\
 caladan-signals,2
 pass,111,0
 whole,0,1,1,0,0,1,100,0,0,105,0,0
@@ -48,18 +67,21 @@ pass 0 now 111 bandwidth 0
   grant core 0 to thread 0 class 3
 end 1 passes
 task 0 lc held 1 leaving 0"
-);
+    ),
+};
 
 /// Of the word `lockstep`.
-pub const LOCKSTEP: &str = help_with_a_run!(
-    "\
+pub const LOCKSTEP: Help = Help {
+    about: "Make a whole run of arrivals on one thread",
+    after: help_with_a_run!(
+        "\
 Standard input: a task table (TOML), the line ---, and arrivals (CSV): the clocks of the passes and
 of the kernel threads' turns, and the requests that come to the threads.
 Standard output: the history of the run, which `audit` reads after the table; with --summary, what
 each kernel thread did; with --report, what `audit` writes of that history above its last line.
 Exit status: 0 done, 2 a refused input, 3 memory or output was refused.",
-    "./caladan_sim lockstep",
-    "\
+        "./caladan_sim lockstep",
+        "\
 caladan-arrivals,1
 pass,100,0
 pass,116,0
@@ -78,19 +100,22 @@ pass,116,0
 whole,0,1,1,0,0,1,105,0,0,105,0,0
 grant,0,0,3
 end,2"
-);
+    ),
+};
 
 /// Of the word `sim`.
-pub const SIM: &str = help_with_a_run!(
-    "\
+pub const SIM: Help = Help {
+    about: "Make a whole run of arrivals in threads",
+    after: help_with_a_run!(
+        "\
 Standard input: a task table (TOML), the line ---, and arrivals (CSV): the clocks of the passes and
 of the kernel threads' turns, and the requests that come to the threads.
 Standard output: the history of the run, which `audit` reads after the table; with --summary, what
 each kernel thread did; with --report, what `audit` writes of that history above its last line.
 Threads interleave differently on every run, so the output varies.
 Exit status: 0 done, 2 a refused input, 3 memory, output or a thread was refused.",
-    "./caladan_sim sim",
-    "\
+        "./caladan_sim sim",
+        "\
 caladan-arrivals,1
 pass,100,0
 pass,116,0
@@ -109,18 +134,21 @@ pass,116,0
 whole,0,1,1,0,0,1,105,0,0,105,0,0
 grant,0,0,3
 end,2"
-);
+    ),
+};
 
 /// Of the word `audit`.
-pub const AUDIT: &str = help_with_a_run!(
-    "\
+pub const AUDIT: Help = Help {
+    about: "Audit a history against the policy",
+    after: help_with_a_run!(
+        "\
 Standard input: a task table (TOML), the line ---, and a history (CSV), as `lockstep`, `sim` and
 `caladan_view history` write it.
 Standard output: if every pass is the policy's, the report and the line `legal`; else the one line
 `illegal pass P`, where P is the first pass, from 0, that is not.
 Exit status: 0 legal, 1 illegal, 2 a refused input, 3 memory or output was refused.",
-    "./caladan_sim audit",
-    "\
+        "./caladan_sim audit",
+        "\
 caladan-history,2
 pass,111,0
 whole,0,1,1,0,0,1,100,0,0,105,0,0
@@ -135,4 +163,5 @@ pass 0 now 111 bandwidth 0
 end 1 passes
 task 0 lc held 1 leaving 0
 legal"
-);
+    ),
+};

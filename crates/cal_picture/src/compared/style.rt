@@ -9,7 +9,8 @@ const FIXED: &str =
 font-variant-numeric:tabular-nums}\
 .h{font-size:20px}.h,.b{font-weight:600}.e{text-anchor:end}.m text{text-anchor:middle}\
 .g,.g2,.r{fill:none}.r{stroke-linejoin:round}.r:hover{stroke-width:6px}\
-.g,.g2{pointer-events:none}.a{fill-opacity:.55}.nr.nr{stroke:none;fill-opacity:.85}.da{stroke-dasharray:7 3}\n";
+.g,.g2{pointer-events:none}.a{fill-opacity:.55}.nr.nr{stroke:none;fill-opacity:.85}\
+.da{stroke-dasharray:7 3}\n";
 
 const PRINTED: &str =
     "@media print{svg{width:auto;height:auto;max-width:100%;max-height:100vh}.hint{display:none}";

@@ -6,11 +6,11 @@ use Rattle.cal_engine.proofs.command_words.command_line.run_word.Goals as goal
 
 pub returns : goal.returns
 returns c =
-    let first = c.in_ok-command.ensures in
+    let first = c.in_ok-arg.ensures in
     record {
-      shape = IfOk-weaker c.arg-2.result _ _ (λ whole (adds : AddsArg c.in_ok-command.command c.report_flag.result whole).
+      shape = IfOk-weaker c.arg-2.result _ _ (λ whole (adds : AddsArg c.in_ok-arg.field-0 c.report_flag.result whole).
           adds.shape c.report_flag.ensures.local
           ∙ ap₂ with_rule (first.shape c.summary_flag.ensures.local ∙ ap₂ with_rule c.plain_word.ensures.shape c.summary_flag.ensures.shape) c.report_flag.ensures.shape) c.arg-2.ensures;
-      local = IfOk-weaker c.arg-2.result _ _ (λ whole (adds : AddsArg c.in_ok-command.command c.report_flag.result whole).
+      local = IfOk-weaker c.arg-2.result _ _ (λ whole (adds : AddsArg c.in_ok-arg.field-0 c.report_flag.result whole).
           rw (adds.globals, first.globals, c.plain_word.ensures.local, c.summary_flag.ensures.local, c.report_flag.ensures.local)) c.arg-2.ensures;
     }

@@ -2,8 +2,8 @@ use Rattle.std.proofs.Common.{◌≡◌, List, Option, Some, None, map, inr, Err
 use Rattle.clap.specs.Simple.{App, is_simple, subcommand_of}
 use Rattle.clap.specs.Takes.{takes}
 use Rattle.clap.specs.Walk.{Row, Text}
-use Rattle.cal_engine.specs.CommandWords.{Names, NamesTwo}
-use Rattle.cal_engine.proofs.CommandWords.{asked_is_named, asked_is_taken, program_is_simple, two_are_named, two_are_taken}
+use Rattle.cal_engine.specs.CommandWords.{Names}
+use Rattle.cal_engine.proofs.CommandWords.{asked_is_named, asked_is_taken, program_is_simple}
 use Rattle.cal_engine.proofs.command_words.command_line.words.Goals as goal
 
 pub returns-in-Some-clause-job : goal.returns-in-Some-clause-job
@@ -12,7 +12,7 @@ returns-in-Some-clause-job c =
     let rows = (c.in_ok-matches.ensures.matches (ap is_simple c.in_ok-program.ensures ∙ program_is_simple)).1 in
     let same = rows ∙ ap (λ (a : App). subcommand_of a texts) c.in_ok-program.ensures in
     λ asked asks.
-    let found : Some c.in-Some.job ≡ Some asked = c.in-Some.ensures.job asked (subst (λ (o : Option (Text × List Row)). Names o asked) (sym same) (asked_is_named texts asked asks)) in
+    let found : Some c.in-Some.job ≡ Some asked = c.in-Some.ensures (Some asked) (subst (λ (o : Option (Text × List Row)). Names o (Some asked)) (sym same) (asked_is_named texts (Some asked) asks)) in
     cc
 
 pub returns-in-Some-clause-two : goal.returns-in-Some-clause-two
@@ -21,7 +21,7 @@ returns-in-Some-clause-two c =
     let rows = (c.in_ok-matches.ensures.matches (ap is_simple c.in_ok-program.ensures ∙ program_is_simple)).1 in
     let same = rows ∙ ap (λ (a : App). subcommand_of a texts) c.in_ok-program.ensures in
     λ asks.
-    let no : Some c.in-Some.job ≡ None = c.in-Some.ensures.two (subst (λ (o : Option (Text × List Row)). NamesTwo o) (sym same) (two_are_named texts asks)) in
+    let no : Some c.in-Some.job ≡ None = c.in-Some.ensures None (subst (λ (o : Option (Text × List Row)). Names o None) (sym same) (asked_is_named texts None asks)) in
     absurd (cc)
 
 pub returns-clause-job : goal.returns-clause-job
@@ -30,17 +30,17 @@ returns-clause-job c =
     let rows = (c.in_ok-matches.ensures.matches (ap is_simple c.in_ok-program.ensures ∙ program_is_simple)).1 in
     let same = rows ∙ ap (λ (a : App). subcommand_of a texts) c.in_ok-program.ensures in
     λ asked asks.
-    let no : None ≡ Some asked = c.in-None.ensures.job asked (subst (λ (o : Option (Text × List Row)). Names o asked) (sym same) (asked_is_named texts asked asks)) in
+    let no : None ≡ Some asked = c.in-None.ensures (Some asked) (subst (λ (o : Option (Text × List Row)). Names o (Some asked)) (sym same) (asked_is_named texts (Some asked) asks)) in
     absurd (cc)
 
 pub returns-in_err-matches-clause-job : goal.returns-in_err-matches-clause-job
 returns-in_err-matches-clause-job c =
     let texts : List Text = map (λ (word : Bor Text). word.now) c.args.words.now in
     let fault : c.from_residual-in_err-matches.result ≡ Err c.in_err-matches.field-0.0 = search rules in
-    λ asked asks. rw fault (c.in_err-matches.ensures.passes (ap (λ (a : App). takes a texts) c.in_ok-program.ensures ∙ asked_is_taken texts asked asks))
+    λ asked asks. rw fault (c.in_err-matches.ensures.passes (ap (λ (a : App). takes a texts) c.in_ok-program.ensures ∙ asked_is_taken texts (Some asked) asks))
 
 pub returns-in_err-matches-clause-two : goal.returns-in_err-matches-clause-two
 returns-in_err-matches-clause-two c =
     let texts : List Text = map (λ (word : Bor Text). word.now) c.args.words.now in
     let fault : c.from_residual-in_err-matches.result ≡ Err c.in_err-matches.field-0.0 = search rules in
-    λ asks. rw fault (inr (c.in_err-matches.ensures.passes (ap (λ (a : App). takes a texts) c.in_ok-program.ensures ∙ two_are_taken texts asks)))
+    λ asks. rw fault (inr (c.in_err-matches.ensures.passes (ap (λ (a : App). takes a texts) c.in_ok-program.ensures ∙ asked_is_taken texts None asks)))
