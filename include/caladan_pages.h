@@ -30,8 +30,9 @@
 #include "caladan.h"
 #include <stdatomic.h>
 
-/* The version of what lies in shared memory, for the segment that has it. */
-#define CALADAN_PAGES_VERSION 2
+/* The version of what lies in shared memory, for the segment that has it: the layout's, 2, and above it how many words a
+ * record has, so that sides which were built with other records have other versions. */
+#define CALADAN_PAGES_VERSION (CALADAN_WORDS << 8 | 2)
 
 _Static_assert(sizeof(caladan_look) == offsetof(caladan_look, taken) + CALADAN_WORDS * sizeof(uint64_t), "a look ends with its words");
 

@@ -1,7 +1,9 @@
 //! Which threads of a run are broken, and how.
 
+use cal_signal::WORDS;
+
 /// How the threads of a run are broken. A thread that stops has made so many steps of a publication
-/// as the pass comes, 0 to 10 of its eleven.
+/// as the pass comes, and fewer than all of its `STEPS`.
 #[derive(Clone, Copy)]
 pub enum Broken {
     /// No thread is.
@@ -36,8 +38,8 @@ pub enum Plan {
     Intrude,
 }
 
-/// How many steps a publication has: the odd version, nine words, the even version.
-pub const STEPS: u8 = 11;
+/// How many steps a publication has: the odd version, each word, the even version.
+pub const STEPS: u8 = WORDS as u8 + 2;
 
 /// How many threads a run has.
 const THREADS: u64 = 4;

@@ -3,7 +3,7 @@
 use crate::broken::{Plan, STEPS};
 use cal_command::{Command, Taker};
 use cal_policy::Seen;
-use cal_signal::{OpenPage, Publisher, Record, running_word};
+use cal_signal::{OpenPage, Publisher, Record, WORDS, running_word};
 
 /// A page between two publications, or in the midst of one.
 #[derive(Drop)]
@@ -130,7 +130,7 @@ impl Thread {
     /// step the version.
     fn store(&mut self, open: OpenPage, rec: Record, steps: u8) {
         let open = with_words(open, steps.saturating_sub(1));
-        if steps == STEPS && open.stored() == 9 {
+        if steps == STEPS && open.stored() as usize == WORDS {
             self.page = Some(Page::Closed(open.finish()));
             self.place = self.place.saturating_add(1);
             self.last = rec;
@@ -158,11 +158,11 @@ impl Thread {
     }
 }
 
-/// The page with so many of its words stored, nine at most.
+/// The page with so many of its words stored, all of them at most.
 fn with_words(open: OpenPage, words: u8) -> OpenPage {
     let mut open = open;
-    for _ in 0..9 {
-        if open.stored() < 9 && open.stored() < words {
+    for _ in 0..WORDS {
+        if (open.stored() as usize) < WORDS && open.stored() < words {
             open.store_next();
         }
     }
