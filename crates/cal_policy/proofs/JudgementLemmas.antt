@@ -3,3 +3,6 @@ pub mod Gone
 pub mod Judged
 pub mod OneByOne
 pub mod OpenInput
+pub mod OpenPass
+pub mod Settled
+pub mod Words

@@ -3,5 +3,7 @@ pub mod Gone
 pub mod Judging
 pub mod OneByOne
 pub mod OpenInput
+pub mod OpenPass
 pub mod Orderly
+pub mod Settled
 pub mod Taken

@@ -22,6 +22,11 @@ ghost use Rattle.cal_machine.specs.Table.{Table, IsTable};
 ghost use Rattle.cal_policy.specs.Board.{Agrees, IsReady, HasGranted, KeepingAgrees};
 ghost use Rattle.cal_policy.specs.Board.{KeepsBefore, NamesCores, NamesTable};
 ghost use Rattle.cal_policy.specs.Board.KeepingSets.{FitAfter, KeepsSets};
+ghost use Rattle.cal_policy.specs.declared.history.entry.PassEntry.{PassEntry};
+ghost use Rattle.cal_policy.specs.declared.judgement.open_input.FoundLook.{FoundLook};
+ghost use Rattle.cal_policy.specs.History.{looks_of};
+ghost use Rattle.cal_policy.specs.Judgement.OpenInput.{judged_looks};
+ghost use Rattle.cal_policy.specs.Judgement.OpenPass.{IsOpenAt};
 
 use crate::board::bans::Bans;
 use crate::board::caps::Caps;
@@ -33,6 +38,7 @@ use crate::board::survey::Survey;
 use crate::board::unshown::note_changed;
 use crate::history::action::Action;
 use crate::history::look::Seen;
+use crate::judgement::open_pass::OpenPass;
 use cal_machine::{Config, CoreSet};
 
 /// The state that the actions and looks so far leave. It has no Model; see `Agrees` and
@@ -198,5 +204,21 @@ impl Board {
     {
         self.fresh = CoreSet::empty();
         self.keeping.look_fit(seen, &mut self.unshown);
+    }
+
+    /// Begins a pass with the looks that were noted of it.
+    pub fn begin_noted(&mut self, pass: &OpenPass)
+        requires sets { KeepsSets self.old.keeping }
+        ensures agrees { (x : List Action) → Agrees self.old x → Agrees self.new x }
+        ensures fresh { HasGranted self.new.fresh [] }
+        ensures ready { (table : Table) → IsReady table self.old → IsReady table self.new }
+        ensures keeping { (table : Table) (h : List PassEntry) (looks : List FoundLook) →
+            KeepingAgrees self.old.keeping (looks_of h) → IsOpenAt table h looks pass.now →
+            KeepingAgrees self.new.keeping (looks_of h ++ judged_looks table h looks ∷ []) }
+        ensures before { (looks : List (List Seen)) → KeepingAgrees self.old.keeping looks →
+            KeepsBefore self.new.keeping looks }
+    {
+        self.fresh = CoreSet::empty();
+        self.keeping.look_noted(pass, &mut self.unshown);
     }
 }

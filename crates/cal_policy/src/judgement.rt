@@ -6,4 +6,5 @@ pub mod look_fault;
 pub mod look_laws;
 pub mod one_by_one;
 pub mod open_input;
+pub mod open_pass;
 pub mod orderly;

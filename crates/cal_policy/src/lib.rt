@@ -28,11 +28,13 @@ pub use history::look::{Seen, SeenList};
 pub use judgement::judging::{is_input, judge};
 pub use judgement::look_fault::LookFault;
 pub use judgement::look_laws::{
-    gone_frees_its_cores, gone_is_kept, misfits_do_not_fit, only_faults_are_refused,
-    others_count_as_given, refused_leaves_no_trace, rooms_count_as_given, taken_input_fits,
+    gone_frees_its_cores, gone_is_kept, kept_is_whole, misfits_do_not_fit, only_faults_are_refused,
+    others_count_as_given, refused_leaves_no_trace, rooms_count_as_given, settled_is_no_news,
+    taken_input_fits,
 };
 pub use judgement::one_by_one::taken_of;
 pub use judgement::open_input::{FoundLook, OpenInput};
+pub use judgement::open_pass::{OpenPass, open_pass_fits};
 pub use judgement::orderly::orderly;
 pub use laws::{
     action_is_one_more, chosen_has_waited_longest, chosen_is_of_least_class, commands_begin_alike,

@@ -80,7 +80,7 @@ map_place {X = X} {Y = Y} f xs i y e = go (slice_get xs i) refl
     go None is = let there : None ≡ Some y = sym (slice_get-map f xs i ∙ ap (option_map f) is) ∙ e in cc
 
 -- what a legal history showed last has the right shape
-last_is_shaped : (table : Table) (h : List PassEntry) (k : ℕ) → IsLegal table h → IsShaped (last_shown (looks_of h) k).rec
+pub last_is_shaped : (table : Table) (h : List PassEntry) (k : ℕ) → IsLegal table h → IsShaped (last_shown (looks_of h) k).rec
 last_is_shaped table h k legal = go (last_of (λ before seen. shown_at seen k) (looks_of h)) refl
   where
     go : (o : Option Shown) → last_of (λ before seen. shown_at seen k) (looks_of h) ≡ o → IsShaped (last_shown (looks_of h) k).rec

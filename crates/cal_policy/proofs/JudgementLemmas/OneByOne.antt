@@ -140,10 +140,10 @@ of_number f n (x ∷ xs) (suc k) y e =
     (found.0, found.1, found.2 ∙ ap (λ m. f (m, found.0)) place)
 
 -- the same of a list that is numbered from 0
-from_0 : {X Y : Type 0} (f : ℕ × X → Y) (xs : List X) (k : ℕ) (x : X) → slice_get xs k ≡ Some x → slice_get (map f (enumerate_from 0 xs)) k ≡ Some (f (k, x))
+pub from_0 : {X Y : Type 0} (f : ℕ × X → Y) (xs : List X) (k : ℕ) (x : X) → slice_get xs k ≡ Some x → slice_get (map f (enumerate_from 0 xs)) k ≡ Some (f (k, x))
 from_0 f xs k x e = let zero : 0 + k ≡ k = omega arith in numbered f 0 xs k x e ∙ ap (λ m. Some (f (m, x))) zero
 
-of_from_0 : {X Y : Type 0} (f : ℕ × X → Y) (xs : List X) (k : ℕ) (y : Y) → slice_get (map f (enumerate_from 0 xs)) k ≡ Some y →
+pub of_from_0 : {X Y : Type 0} (f : ℕ × X → Y) (xs : List X) (k : ℕ) (y : Y) → slice_get (map f (enumerate_from 0 xs)) k ≡ Some y →
     (x : X) × (slice_get xs k ≡ Some x) × (y ≡ f (k, x))
 of_from_0 f xs k y e =
     let zero : 0 + k ≡ k = omega arith in

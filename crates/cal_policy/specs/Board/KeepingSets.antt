@@ -31,7 +31,7 @@ pub record KeepsSets (r : Keeping) : Type 0 where
   pub still : (k : ℕ) → k < MOST_THREADS → has_thread r.moved k ≡ false →
       slice_index r.before k ≡ (kept_in r k).misses
   pub waiting : (k : ℕ) → k < MOST_THREADS → has_thread r.waiting k ≡ shows_waiting (kept_in r k)
-  pub settled : (k : ℕ) → k < MOST_THREADS → has_thread r.settled k ≡ true →
+  pub settled : (k : ℕ) → k < MOST_THREADS → slice_index_or r.settled k false ≡ true →
       kept_in r k ≡ (shown_in r k).rec
 
 -- each look fits what was last shown of its thread

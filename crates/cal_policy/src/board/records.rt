@@ -1,7 +1,7 @@
 //! What the looks so far have shown.
 
 ghost use Rattle.std.specs.Prelude.{◌≡◌, ℕ, ◌<◌, ◌≤◌, ◌==◌, ◌++◌, ◌∷◌, [], List, length};
-ghost use Rattle.std.specs.Prelude.{replicate, slice_index, if◌then◌else◌, IsTrue};
+ghost use Rattle.std.specs.Prelude.{false, replicate, slice_index, if◌then◌else◌, IsTrue};
 ghost use Rattle.std.specs.Option.{unwrap_or};
 ghost use Rattle.cal_machine.specs.declared.numbering.TheConstants.{MOST_THREADS};
 ghost use Rattle.cal_policy.specs.declared.history.look.Seen.{Seen};
@@ -15,9 +15,16 @@ ghost use Rattle.cal_policy.specs.Board.Unshown.{Shows};
 ghost use Rattle.cal_policy.specs.declared.board.holders.Holder.{Holder};
 ghost use Rattle.cal_policy.specs.Judgement.Judging.{IsFitLook};
 ghost use Rattle.cal_policy.specs.declared.history.look.Seen.TheVariants.{Whole};
+ghost use Rattle.cal_machine.specs.Table.{Table};
+ghost use Rattle.cal_policy.specs.declared.history.entry.PassEntry.{PassEntry};
+ghost use Rattle.cal_policy.specs.declared.judgement.open_input.FoundLook.{FoundLook};
+ghost use Rattle.cal_policy.specs.History.{looks_of};
+ghost use Rattle.cal_policy.specs.Judgement.OpenInput.{judged_looks};
+ghost use Rattle.cal_policy.specs.Judgement.OpenPass.{IsOpenAt};
 
 use crate::board::unshown::note_left;
 use crate::history::look::Seen;
+use crate::judgement::open_pass::OpenPass;
 use cal_machine::{CoreSet, MOST_THREADS, ThreadSet};
 use cal_signal::{Record, Shown};
 
@@ -35,7 +42,7 @@ pub struct Keeping {
     /// The threads whose kept record shows a request that waits.
     pub waiting: ThreadSet,
     /// Threads whose kept record is the one last shown.
-    pub settled: ThreadSet,
+    pub settled: [bool; MOST_THREADS],
 }
 
 fn zero_records() -> [Record; MOST_THREADS]
@@ -48,6 +55,12 @@ fn none_shown() -> [Shown; MOST_THREADS]
     ensures { result ≡ replicate MOST_THREADS nothing_shown }
 {
     [Shown::NOTHING; MOST_THREADS]
+}
+
+fn none_settled() -> [bool; MOST_THREADS]
+    ensures { result ≡ replicate MOST_THREADS false }
+{
+    [false; MOST_THREADS]
 }
 
 fn no_misses() -> [u64; MOST_THREADS]
@@ -76,7 +89,7 @@ impl Keeping {
             shown: none_shown(),
             moved: ThreadSet::empty(),
             waiting: ThreadSet::empty(),
-            settled: ThreadSet::empty(),
+            settled: none_settled(),
         }
     }
 
@@ -129,7 +142,7 @@ impl Keeping {
         } else {
             self.waiting.remove(k);
         }
-        self.settled.insert(k);
+        self.settled[k] = true;
         self.kept[k] = rec;
         self.shown[k] = Shown { number, rec };
     }
@@ -167,7 +180,7 @@ impl Keeping {
         ensures before { self.new.before ≡ self.old.before }
         ensures sets { KeepsSets self.old → KeepsSets self.new }
     {
-        self.settled.remove(k);
+        self.settled[k] = false;
         self.shown[k] = Shown { number, rec };
     }
 
@@ -180,7 +193,7 @@ impl Keeping {
             (rec ≡ kept_in self.now k)
             × (record { number = number; rec = rec } ≡ shown_in self.now k) }
     {
-        self.settled.has(k) && self.shown[k].number == number
+        self.settled[k] && self.shown[k].number == number
     }
 
     /// Takes one look, at thread `k`.
@@ -260,6 +273,27 @@ impl Keeping {
         self.settle();
         for (k, look) in seen.iter().enumerate() {
             self.take_fit(k, look, unshown);
+        }
+    }
+
+    /// Takes the noted looks of one more pass; what is kept and shown of the other threads stays.
+    pub fn look_noted(&mut self, pass: &OpenPass, unshown: &mut CoreSet)
+        requires sets { KeepsSets self.old }
+        ensures agrees { (table : Table) (h : List PassEntry) (looks : List FoundLook) →
+            KeepingAgrees self.old (looks_of h) → IsOpenAt table h looks pass.now →
+            KeepingAgrees self.new (looks_of h ++ judged_looks table h looks ∷ []) }
+        ensures before { (looks : List (List Seen)) → KeepingAgrees self.old looks →
+            KeepsBefore self.new looks }
+        ensures sets { KeepsSets self.new }
+        ensures shows { (holder : ℕ → Holder) → Shows holder (kept_in self.old) unshown.old →
+            Shows holder (kept_in self.new) unshown.new }
+    {
+        self.settle();
+        let mut first = 0;
+        while let Some(k) = pass.listed.next(first, MOST_THREADS) {
+            let look = pass.noted(k);
+            self.take(k, look, unshown);
+            first = k + 1;
         }
     }
 }

@@ -2,6 +2,7 @@
 //! function that does nothing.
 
 ghost use Rattle.cal_policy.specs.Judgement.Gone.{GoneIsKept, GoneFreesItsCores};
+ghost use Rattle.cal_policy.specs.Judgement.Settled.{KeptIsWhole, SettledIsNoNews};
 ghost use Rattle.cal_policy.specs.Judgement.Taken.{MisfitsDoNotFit, OnlyFaultsAreRefused};
 ghost use Rattle.cal_policy.specs.Judgement.Taken.{TakenInputFits, RefusedLeavesNoTrace};
 ghost use Rattle.cal_policy.specs.Judgement.Taken.{OthersCountAsGiven, RoomsCountAsGiven};
@@ -46,4 +47,15 @@ pub fn gone_is_kept()
 /// leaves.
 pub fn gone_frees_its_cores()
     ensures { GoneFreesItsCores }
+{}
+
+/// A kept record is judged Whole wherever it is found, whatever was sent since it was kept.
+pub fn kept_is_whole()
+    ensures { KeptIsWhole }
+{}
+
+/// Where the kept record of a thread is the one that it showed last, the same look once more fits,
+/// is judged Whole, and changes nothing of what is kept or shown.
+pub fn settled_is_no_news()
+    ensures { SettledIsNoNews }
 {}
