@@ -5,4 +5,4 @@ use Rattle.cal_machine.specs.declared.past.Last.TheVariants.{None, After}
 
 abbrev pub members : {T : Type 0} → Last T → List T
 members None = []
-members (After before one) = before.value ++ one ∷ []
+members (After before one) = before.value ++ one.value ∷ []

@@ -18,7 +18,7 @@ pub struct Past<T> {
 #[cycle(past)]
 enum Last<T> {
     None,
-    After(Snapshot<Past<T>>, T),
+    After(Snapshot<Past<T>>, Snapshot<T>),
 }
 
 impl<T> Model for Past<T> {
@@ -50,16 +50,20 @@ impl<T: Drop> Past<T> {
         }
     }
 
+    /// Adds this one, which stays where it is.
+    pub fn note(&mut self, one: &T)
+        ensures { self.new ≡ self.old ++ one.entry.now ∷ [] }
+    {
+        let last = Last::After(Snapshot::of(self), Snapshot::of(one));
+        self.last = Snapshot::of(&last);
+    }
+
     /// Adds this one, and hands it back.
     pub fn add(&mut self, one: T) -> T
         ensures added { self.new ≡ self.old ++ one ∷ [] }
         ensures same { result ≡ one }
     {
-        let last = Last::After(Snapshot::of(self), one);
-        self.last = Snapshot::of(&last);
-        match last {
-            Last::After(_before, one) => one,
-            Last::None => unreachable!(),
-        }
+        self.note(&one);
+        one
     }
 }

@@ -16,4 +16,5 @@ pub mod NothingDue
 pub mod Pairs
 pub mod PartSoFar
 pub mod RevokedStay
+pub mod Rooms
 pub mod Steady

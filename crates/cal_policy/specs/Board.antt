@@ -195,8 +195,7 @@ pub record HasSizes (table : Table) (input : Input) : Type 0 where
   pub looks : length input.seen ≡ threads_of_table table
   pub rooms : length input.rooms ≡ threads_of_table table
 
--- what a pass is decided by: an accepted table, its board, and an input of its size
-pub record IsOfTable (table : Table) (input : Input) (b : Board) : Type 0 where
+-- what a pass is decided by: an accepted table and its board
+pub record IsOfTable (table : Table) (b : Board) : Type 0 where
   pub accepted : IsTable table
   pub ready : IsReady table b
-  pub sizes : HasSizes table input

@@ -1,9 +1,15 @@
 -- What a pass goes by, and the state in which each of its actions is judged.
-use Rattle.std.specs.Prelude.{ℕ, Bool, false, List, [], ◌∷◌, ◌++◌, slice_index_or}
+use Rattle.std.specs.Prelude.{ℕ, zero, suc, ◌+◌, Bool, false, not, List, [], ◌∷◌, ◌++◌}
+use Rattle.std.specs.Prelude.{slice_index_or}
 use Rattle.cal_signal.specs.declared.record.Record.{Record}
 use Rattle.cal_machine.specs.Table.{Table}
+use Rattle.cal_machine.specs.TableTasks.{threads_of_table}
+use Rattle.cal_machine.specs.ThreadSet.{has_thread}
+use Rattle.cal_machine.specs.declared.thread_set.ThreadSet.{ThreadSet}
 use Rattle.cal_policy.specs.declared.history.action.Action.{Action}
 use Rattle.cal_policy.specs.declared.history.input.Input.{Input}
+use Rattle.cal_policy.specs.declared.history.look.Seen.{Seen}
+use Rattle.cal_policy.specs.declared.pass.terms.Terms.{Terms}
 use Rattle.cal_policy.specs.declared.history.entry.PassEntry.{PassEntry}
 use Rattle.cal_policy.specs.declared.board.holders.Holder.{Holder}
 use Rattle.cal_policy.specs.declared.board.holders.Holder.TheVariants.{Free, Held, Leaving}
@@ -23,6 +29,29 @@ setting table history input = record { table = table; history = history; input =
 -- the setting of an entry after these passes
 abbrev pub setting_of : Table → List PassEntry → PassEntry → Setting
 setting_of table before entry = record { table = table; history = before; input = entry.input }
+
+-- a pass that has begun: the passes before it, and its own looks
+pub record Begun : Type 0 where
+  pub history : List PassEntry
+  pub seen : List Seen
+
+-- for thread k and those after it, n in all, whether its ring has room, where these are full
+abbrev pub rooms_from : ThreadSet → ℕ → ℕ → List Bool
+rooms_from full k zero = []
+rooms_from full k (suc n) = not (has_thread full k) ∷ rooms_from full (k + 1) n
+
+-- the setting of a pass that has begun, on these terms
+abbrev pub setting_at : Table → Terms → Begun → Setting
+setting_at table terms begun = record {
+  table = table;
+  history = begun.history;
+  input = record {
+    now = terms.now;
+    bandwidth = terms.bandwidth;
+    seen = begun.seen;
+    rooms = rooms_from terms.full 0 (threads_of_table table);
+  };
+}
 
 -- all actions so far: those of the passes before, then those already made in this pass
 abbrev pub so_far : Setting → List Action → List Action

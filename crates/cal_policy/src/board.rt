@@ -49,7 +49,7 @@ pub struct Board {
     pub holding: Holding,
     /// How many cores tasks and threads have.
     pub survey: Survey,
-    /// Which cores are free, taken or banned.
+    /// Which cores are taken or banned.
     pub sets: CoreSets,
     /// Which cores grants and bans go over.
     pub open_cores: OpenCores,
@@ -120,7 +120,7 @@ impl Board {
         self.holding.apply(action);
         let after = self.holding.holder_at(core);
         self.survey.add(config, after);
-        self.sets.move_core(core, before, after);
+        self.sets.move_core(core, after);
         note_changed(&mut self.unshown, core);
         self.sets.note_ban(action);
         let banned = self.sets.banned;
@@ -147,7 +147,6 @@ impl Board {
                 awaited: self.survey.awaited,
             },
             sets: CoreSets {
-                free: self.sets.free,
                 taken: self.sets.taken,
                 banned: self.sets.banned,
             },

@@ -8,6 +8,7 @@ ghost use Rattle.cal_policy.specs.declared.judgement.open_input.FoundLook.{Found
 ghost use Rattle.cal_policy.specs.declared.history.entry.PassEntry.{PassEntry};
 ghost use Rattle.cal_policy.specs.History.{actions_of, looks_of};
 ghost use Rattle.cal_policy.specs.Judgement.OpenInput.{judged_input};
+ghost use Rattle.cal_policy.specs.Judgement.OpenPass.{IsOpenAt};
 ghost use Rattle.cal_policy.specs.Judgement.Judging.{judged, IsInput};
 ghost use Rattle.cal_policy.specs.Setting.{setting};
 ghost use Rattle.cal_policy.specs.Pass.{pass_of, IsLegal};
@@ -22,7 +23,8 @@ use crate::history::input::Input;
 use crate::history::look::Seen;
 use crate::history::sending::command_for;
 use crate::judgement::open_input::FoundLook;
-use crate::pass::deciding::decide;
+use crate::judgement::open_pass::OpenPass;
+use crate::pass::deciding::{decide, decide_noted};
 use cal_machine::{Command, Config};
 use cal_signal::Look;
 use std::alloc::{AllocError, Global};
@@ -131,5 +133,38 @@ impl Book {
     {
         config.limits();
         decide(config, input, &mut self.board, out);
+    }
+    /// Appends the actions of the next pass, at this clock and bandwidth figure and on the looks
+    /// that came in, one of each thread, to an empty list, and takes the pass into the book. It is
+    /// `step` on the input that is made of these looks, with no list of looks made.
+    pub fn pass(
+        &mut self,
+        config: &Config,
+        now: u64,
+        bandwidth: u64,
+        looks: &OpenPass,
+        out: &mut Actions,
+    )
+        requires of { IsBookOf config.now self.old }
+        requires all { looks.now.count ≡ threads_of_table config.now }
+        requires empty { out.old ≡ [] }
+        ensures acts { (h : List PassEntry) (found : List FoundLook) → IsLegal config.now h →
+            AgreesWith self.old h → IsOpenAt config.now h found looks.entry.now →
+            out.new ≡ pass_of (setting config.now h (judged_input config.now h now bandwidth
+            found)) }
+        ensures agrees { (h : List PassEntry) (found : List FoundLook) → IsLegal config.now h →
+            AgreesWith self.old h → IsOpenAt config.now h found looks.entry.now →
+            AgreesWith self.new (h ++ record {
+              input = judged_input config.now h now bandwidth found;
+              actions = out.new;
+            } ∷ []) }
+        // The misses of the records kept before this pass's looks are kept too.
+        ensures before { (h : List PassEntry) (found : List FoundLook) → IsLegal config.now h →
+            AgreesWith self.old h → IsOpenAt config.now h found looks.entry.now →
+            KeepsBefore self.new.board.value.keeping (looks_of h) }
+        ensures of { IsBookOf config.now self.new }
+    {
+        config.limits();
+        decide_noted(config, now, bandwidth, looks, &mut self.board, out);
     }
 }

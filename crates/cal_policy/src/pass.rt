@@ -11,18 +11,36 @@ pub mod delays;
 pub mod frees;
 pub mod grants;
 pub mod plain;
+pub mod terms;
 pub mod thread_choice;
 pub mod unbans;
 
+ghost use Rattle.std.specs.Prelude.{◌≡◌, ◌<◌};
+ghost use Rattle.cal_machine.specs.TableTasks.{threads_of_table};
+ghost use Rattle.cal_policy.specs.Setting as rules;
+ghost use Rattle.cal_policy.specs.Setting.{Begun};
+ghost use Rattle.cal_policy.specs.Pass.AtHand.{IsAtHand, setting_in};
+
 use crate::board::Board;
-use crate::history::input::Input;
+use crate::pass::terms::Terms;
 use cal_machine::Config;
 
-/// What each action of a pass is judged by: the task table, the pass's input, and the state as it
-/// stands before the action.
+/// What each action of a pass is judged by: the task table, what the pass goes by beside it, and the
+/// state as it stands before the action.
 #[derive(Clone, Copy)]
 pub struct Pass<'a> {
     pub config: &'a Config,
-    pub input: &'a Input,
+    pub terms: &'a Terms,
     pub board: &'a Board,
+}
+
+impl Pass<'_> {
+    /// Whether the command ring of a thread has room.
+    pub fn has_room(&self, thread: usize) -> bool
+        requires at_hand { IsAtHand self.now }
+        requires thread { thread < threads_of_table self.now.config.now }
+        ensures { (h : Begun) → result ≡ rules.has_room (setting_in self.now h) thread }
+    {
+        !self.terms.full.has(thread)
+    }
 }

@@ -1,5 +1,5 @@
 -- What is asked of a holder does not depend on how numbers of commands are kept.
-use Rattle.std.proofs.Common.{◌≡◌, ℕ, List, Option, Some, None, refl}
+use Rattle.std.proofs.Common.{◌&&◌, ◌≡◌, ℕ, List, Option, Some, None, refl}
 use Rattle.std.specs.Option.{option_map}
 use Rattle.cal_machine.specs.Table.{Table}
 use Rattle.cal_policy.specs.declared.history.action.Action.{Action}
@@ -8,7 +8,8 @@ use Rattle.cal_policy.specs.declared.board.holders.Holder.{Holder}
 use Rattle.cal_policy.specs.declared.board.holders.Holder.TheVariants.{Free, Held, Leaving}
 use Rattle.cal_policy.specs.declared.history.action.Cause.TheVariants.{Ban, Bandwidth, Preempt}
 use Rattle.cal_policy.specs.Board.Counts.{is_held_for, is_booked_for, is_with}
-use Rattle.cal_policy.specs.Setting.{Setting}
+use Rattle.cal_policy.specs.Setting.{Setting, is_held_with_room}
+use Rattle.cal_policy.specs.Pass.Bans.{may_be_emptied}
 use Rattle.cal_policy.specs.Pass.Grants.{leaves_for, idle_class, class_by}
 use Rattle.cal_policy.specs.Board.{kept_placement, kept_holder}
 
@@ -48,3 +49,15 @@ pub class_as_kept : (s : Setting) (acts : List Action) (t c : ℕ) (h : Holder) 
 class_as_kept s acts t c Free = refl
 class_as_kept s acts t c (Held placement) = refl
 class_as_kept s acts t c (Leaving placement cause) = refl
+
+pub emptied_as_kept : (s : Setting) (x : List Action) (h : Holder) → may_be_emptied s x (kept_holder h) ≡ may_be_emptied s x h
+emptied_as_kept s x Free = refl
+emptied_as_kept s x (Held placement) = refl
+emptied_as_kept s x (Leaving placement cause) = refl
+
+-- a holder that can lose its core, as it is kept
+pub loses_as_kept : (s : Setting) (t : ℕ) (h : Holder) →
+    (is_held_for s.table t (kept_holder h) && is_held_with_room s (kept_holder h)) ≡ (is_held_for s.table t h && is_held_with_room s h)
+loses_as_kept s t Free = refl
+loses_as_kept s t (Held placement) = refl
+loses_as_kept s t (Leaving placement cause) = refl

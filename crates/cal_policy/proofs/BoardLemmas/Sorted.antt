@@ -8,12 +8,6 @@ use Rattle.cal_policy.specs.declared.board.core_sets.CoreSets.{CoreSets}
 use Rattle.cal_policy.specs.Board.{holder_in, holder_at}
 use Rattle.cal_policy.specs.Board.CoreSets.{Sorts, IsSorted}
 
--- the core is in the sets that its holder says
-pub sorted_at : (h : Holding) (o : Option ℕ) (sets : CoreSets) → IfSome o (λ c. c < 128) → Sorts (holder_in h) sets →
-    IfSome o (λ c. IsSorted c (holder_at h o) sets)
-sorted_at h None sets lt s = tt
-sorted_at h (Some core) sets lt s = s core lt
-
 -- the sets are kept up with the one holder that changes, if one does
 sorted_one : (h h2 : Holding) (core : ℕ) (old new : CoreSets) → ((c : ℕ) → Some core ≢ Some c → holder_in h2 c ≡ holder_in h c) →
     Sorts (holder_in h) old → IsSorted core (holder_in h2 core) new →

@@ -170,29 +170,28 @@ split_by s acts t c (Held p) = inr (
 )
 split_by s acts t c (Leaving p cause) = inl (refl, refl, tt)
 
-split_class : (free taken : CoreSet) (s : Setting) (acts : List Action) (t c : ℕ) → has free c ≡ is_free (holder_of (so_far s acts) c) →
-    has taken c ≡ not (is_free (holder_of (so_far s acts) c)) → Splits (class_of s acts t c) (class_among free s acts t c) (class_among taken s acts t c)
-split_class free taken s acts t c e f =
+-- the class of core c for task t, if the core is free
+abbrev pub class_if_free : Setting → List Action → ℕ → ℕ → Option CoreClass
+class_if_free s acts t c = cond (is_free (holder_of (so_far s acts) c)) (class_of s acts t c) None
+
+split_class : (taken : CoreSet) (s : Setting) (acts : List Action) (t c : ℕ) →
+    has taken c ≡ not (is_free (holder_of (so_far s acts) c)) → Splits (class_of s acts t c) (class_if_free s acts t c) (class_among taken s acts t c)
+split_class taken s acts t c f =
     let class : Option CoreClass = class_of s acts t c in
-    let P : Bool → Type 0 = λ a. Splits class (cond a class None) (cond (has taken c) class None) in
     let Q : Bool → Type 0 = λ b. Splits class (cond (is_free (holder_of (so_far s acts) c)) class None) (cond b class None) in
-    subst P (sym e) (subst Q (sym f) (split_by s acts t c (holder_of (so_far s acts) c)))
+    subst Q (sym f) (split_by s acts t c (holder_of (so_far s acts) c))
 
--- the board's sets of free and of taken cores are those that the actions give
-in_free : (b : Board) (s : Setting) (acts : List Action) → Stands b s acts → Sorts (holder_in b.holding) b.sets →
-    (c : ℕ) → c < 128 → has b.sets.free c ≡ is_free (holder_of (so_far s acts) c)
-in_free b s acts st sorts c lt = let at = sorts c lt in at.free ∙ ap is_free (st.agrees.holding.holders c lt) ∙ free_kept (holder_of (so_far s acts) c)
-
+-- the board's set of taken cores is the one that the actions give
 pub in_taken : (b : Board) (s : Setting) (acts : List Action) → Stands b s acts → Sorts (holder_in b.holding) b.sets →
     (c : ℕ) → c < 128 → has b.sets.taken c ≡ not (is_free (holder_of (so_far s acts) c))
 in_taken b s acts st sorts c lt = let at = sorts c lt in at.taken ∙ ap (λ a. not (is_free a)) (st.agrees.holding.holders c lt) ∙ ap not (free_kept (holder_of (so_far s acts) c))
 
 -- the choice is that among the free cores, where there is one, else that among the others
 pub choice_joins : (b : Board) (s : Setting) (acts : List Action) (t n : ℕ) → n ≤ 128 → Stands b s acts → Sorts (holder_in b.holding) b.sets →
-    best_below comes_before (class_of s acts t) n ≡ option_or (best_below comes_before (class_among b.sets.free s acts t) n) (best_below comes_before (class_among b.sets.taken s acts t) n)
+    best_below comes_before (class_of s acts t) n ≡ option_or (best_below comes_before (class_if_free s acts t) n) (best_below comes_before (class_among b.sets.taken s acts t) n)
 choice_joins b s acts t n few st sorts =
-    let j = joins (class_of s acts t) (class_among b.sets.free s acts t) (class_among b.sets.taken s acts t) n
-    (λ c lt. split_class b.sets.free b.sets.taken s acts t c (in_free b s acts st sorts c (omega (arith, lt, few))) (in_taken b s acts st sorts c (omega (arith, lt, few)))) in
+    let j = joins (class_of s acts t) (class_if_free s acts t) (class_among b.sets.taken s acts t) n
+    (λ c lt. split_class b.sets.taken s acts t c (in_taken b s acts st sorts c (omega (arith, lt, few)))) in
     j.first
 
 -- the same ranks give the same best
@@ -209,20 +208,19 @@ idle_by s acts t c (Held p) banned e = refl
 idle_by s acts t c (Leaving p cause) banned e = refl
 
 idle_class_of : (b : Board) (s : Setting) (acts : List Action) (t c : ℕ) → c < 128 → Stands b s acts → Sorts (holder_in b.holding) b.sets →
-    Opens (holder_in b.holding) b.sets.banned b.open_cores → class_among b.open_cores.idle s acts t c ≡ class_among b.sets.free s acts t c
+    Opens (holder_in b.holding) b.sets.banned b.open_cores → class_among b.open_cores.idle s acts t c ≡ class_if_free s acts t c
 idle_class_of b s acts t c lt st sorts opens =
     let h = holder_of (so_far s acts) c in
     let class = class_of s acts t c in
     let free : is_free (holder_in b.holding c) ≡ is_free h = ap is_free (st.agrees.holding.holders c lt) ∙ free_kept h in
     ap (λ w. cond w class None) (opens.idle c lt ∙ ap (λ w. w && not (has b.sets.banned c)) free)
     ∙ idle_by s acts t c h (has b.sets.banned c) (st.agrees.banned.banned c lt)
-    ∙ ap (λ w. cond w class None) (sym (in_free b s acts st sorts c lt))
 
 -- so the choice among those that are free and not banned is that among the free ones
 pub idle_choice : (b : Board) (s : Setting) (acts : List Action) (t n : ℕ) → n ≤ 128 → Stands b s acts → Sorts (holder_in b.holding) b.sets →
     Opens (holder_in b.holding) b.sets.banned b.open_cores →
-    best_below comes_before (class_among b.open_cores.idle s acts t) n ≡ best_below comes_before (class_among b.sets.free s acts t) n
-idle_choice b s acts t n few st sorts opens = best_same comes_before (class_among b.open_cores.idle s acts t) (class_among b.sets.free s acts t) n
+    best_below comes_before (class_among b.open_cores.idle s acts t) n ≡ best_below comes_before (class_if_free s acts t) n
+idle_choice b s acts t n few st sorts opens = best_same comes_before (class_among b.open_cores.idle s acts t) (class_if_free s acts t) n
     (λ c lt. idle_class_of b s acts t c (omega (arith, lt, few)) st sorts opens)
 
 -- a test fails where two of its parts do

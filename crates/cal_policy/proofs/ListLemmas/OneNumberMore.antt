@@ -31,6 +31,10 @@ count_within p k (suc n) lt = ⊎_elim
     (λ g. let same : k ≡ n = omega arith in rw same (omega arith))
     (cases_lt k n)
 
+-- of fewer numbers no more pass
+pub count_grows : (p : ℕ → Bool) (k n : ℕ) → k ≤ n → count_below p k ≤ count_below p n
+count_grows p k n le = ⊎_elim (λ l. omega (arith, count_within p k n l)) (λ (g : n ≤ k). let same : k ≡ n = omega (arith, g, le) in rw same (omega arith)) (cases_lt k n)
+
 -- those that pass and those that do not are all
 one_of_two : (b : Bool) → cond b 1 0 + cond (not b) 1 0 ≡ 1
 one_of_two true = refl

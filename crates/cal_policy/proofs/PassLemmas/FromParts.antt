@@ -58,6 +58,13 @@ Stands_end s b acts st =
       before = record { before = st.before };
     }
 
+-- the same said of another name of the setting
+pub decided : (s other : Setting) → s ≡ other → (b : Board) (acts : List Action) → (acts ≡ pass_of s) × Stands b s acts →
+    (acts ≡ pass_of other) × AgreesAfter b other.history (record { input = other.input; actions = acts })
+decided s other e b acts r =
+    let P : Setting → Type 0 = λ one. (acts ≡ pass_of one) × AgreesAfter b one.history (record { input = one.input; actions = acts }) in
+    subst P e (r.0, Stands_end s b acts r.1)
+
 -- one action more, to which the board was brought up
 pub Stands_push : (b b2 : Board) (s : Setting) (acts : List Action) (a : Action) → Agrees b2 (so_far s acts ++ a ∷ []) → HasGranted b2.fresh (acts ++ a ∷ []) →
     b2.keeping ≡ b.keeping → Stands b s acts → Stands b2 s (acts ++ a ∷ [])

@@ -1,10 +1,14 @@
 -- Cores that a part of a pass goes past, since nothing is due for them.
-use Rattle.std.proofs.Common.{◌≡◌, ℕ, ◌+◌, ◌-◌, ◌*◌, ◌<◌, ◌≤◌, Bool, true, false, not, ◌&&◌, ◌||◌, nat_lt, nat_le, max, cond, eqb, List, length, [], ◌∷◌, ◌++◌, Option, Some, None, refl, ap, sym, subst, ◌∙◌, arith}
+use Rattle.std.proofs.Common.{◌≡◌, ℕ, zero, suc, ◌+◌, ◌-◌, ◌*◌, ◌<◌, ◌≤◌, Bool, true, false, not, ◌&&◌, ◌||◌, nat_lt, nat_le, max, cond, eqb, List, length, [], ◌∷◌, ◌++◌, Option, Some, None, refl, ap, sym, subst, ◌∙◌, arith, ⊎_elim}
+use Rattle.std.proofs.lemmas.Bool.{cases_lt}
 use Rattle.std.proofs.lemmas.Bool.Decides.{nat_tests}
 use Rattle.cal_machine.specs.Table.{Table}
 use Rattle.std.proofs.lemmas.List.{append-nil}
 use Rattle.std.specs.Option.{IfSome, is_some}
-use Rattle.cal_machine.proofs.ThreadNumbers.{task_in}
+use Rattle.cal_machine.proofs.ThreadNumbers.{task_in, first_next}
+use Rattle.cal_machine.specs.declared.task.Kind.{Kind}
+use Rattle.cal_machine.specs.declared.task.Kind.TheVariants as kinds
+use Rattle.cal_machine.specs.declared.task.Task.{Task}
 use Rattle.cal_machine.specs.TableTasks.{owner_of, threads_of_table}
 use Rattle.cal_policy.specs.Setting.{has_room}
 use Rattle.cal_policy.proofs.BoardLemmas.StateKept.{held_kept}
@@ -31,9 +35,9 @@ use Rattle.cal_policy.specs.Board.CoreSets.{Sorts}
 use Rattle.cal_policy.specs.Board.KeepingSets.{KeepsSets, kept_in, shows_waiting}
 use Rattle.cal_machine.specs.ThreadSet.{has_thread}
 use Rattle.cal_policy.specs.Board.Unshown.{IsShownOn}
-use Rattle.cal_policy.specs.Pass.Grants.{record_delay, thread_delay, waited}
-use Rattle.cal_machine.specs.Tasks.{first_thread}
-use Rattle.cal_machine.specs.TableTasks.{thread_of}
+use Rattle.cal_policy.specs.Pass.Grants.{record_delay, thread_delay, waited, task_delay, is_congested, grant_at, grant_of_kind_at}
+use Rattle.cal_machine.specs.Tasks.{first_thread, task_at}
+use Rattle.cal_machine.specs.TableTasks.{thread_of, limit_of, delay_of, is_latency_critical}
 use Rattle.cal_policy.specs.Pass.Choice.{greatest_below}
 use Rattle.cal_policy.proofs.BoardLemmas.TwoSets.{in_taken}
 use Rattle.cal_policy.proofs.ListLemmas.OneNumberMore.{greatest_past}
@@ -193,3 +197,53 @@ delays_past b s acts st sets t first n m at low most none =
     ap (greatest_below F) e
     ∙ greatest_past F n (m - n) (λ j x y. no_delay b s acts st sets (first_thread s.table.tasks t + j) (omega (arith, at, most, x, y))
     (none (first_thread s.table.tasks t + j) (omega (arith, at, x)) (omega (arith, at, x, y))))
+
+not_below_0 : (n : ℕ) → nat_lt n 0 ≡ false
+not_below_0 n = grind (arith, nat_tests)
+
+-- a task of whose threads none waits gets nothing
+pub none_waits : (b : Board) (s : Setting) (acts : List Action) → Stands b s acts → KeepsSets b.keeping → (kind : Kind) (t : ℕ) →
+    first_thread s.table.tasks t + limit_of s.table t ≤ 128 →
+    ((j : ℕ) → first_thread s.table.tasks t ≤ j → j < first_thread s.table.tasks t + limit_of s.table t → has_thread b.keeping.waiting j ≡ false) →
+    grant_of_kind_at kind s acts t ≡ []
+none_waits b s acts st sets kind t most none = of_kind kind
+  where
+    first : ℕ
+    first = first_thread s.table.tasks t
+    none_late : task_delay s t ≡ 0
+    none_late = delays_past b s acts st sets t first 0 (limit_of s.table t) refl (omega arith) most (λ j x y. none j (omega (arith, x)) y)
+    calm : is_congested s t ≡ false
+    calm = ap (λ n. nat_lt (delay_of s.table t) n) none_late ∙ not_below_0 (delay_of s.table t)
+    nothing : grant_at s acts t ≡ []
+    nothing = rw calm refl
+    same : (b : Bool) (l : List Action) → cond b l l ≡ l
+    same true l = refl
+    same false l = refl
+    of_kind : (kind : Kind) → grant_of_kind_at kind s acts t ≡ []
+    of_kind kinds.LatencyCritical = rw nothing (same (is_latency_critical s.table t) [])
+    of_kind kinds.BestEffort = rw nothing (same (is_latency_critical s.table t) [])
+
+-- the first threads go up with the tasks
+pub first_upto : (tasks : List Task) (t more : ℕ) → t + more ≤ length tasks → first_thread tasks t ≤ first_thread tasks (t + more)
+first_upto tasks t zero le = let e : t ≡ t + 0 = omega arith in omega (arith, ap (first_thread tasks) e)
+first_upto tasks t (suc more) le =
+    let e : t + more + 1 ≡ t + suc more = omega arith in
+    omega (arith, first_upto tasks t more (omega (arith, le)), first_next tasks (t + more) (omega (arith, le)), ap (first_thread tasks) e)
+
+-- a thread that is none of those below task r is one of task r or of a later one
+pub task_not_before : (tasks : List Task) (r t k : ℕ) → r ≤ length tasks → t < length tasks → first_thread tasks r ≤ k → k < first_thread tasks t + (task_at tasks t).limit → r ≤ t
+task_not_before tasks r t k le lt from below = ⊎_elim
+    (λ early.
+    let e : t + 1 + (r - (t + 1)) ≡ r = omega (arith, early) in
+    absurd (omega (arith, first_upto tasks (t + 1) (r - (t + 1)) (omega (arith, le, early)), ap (first_thread tasks) e, first_next tasks t lt, from, below)))
+    (λ late. late)
+    (cases_lt t r)
+
+-- the tasks from r on below t have all their threads between those of r and those of t
+pub threads_between : (tasks : List Task) (r u t : ℕ) → r ≤ u → u < t → t ≤ length tasks →
+    (first_thread tasks r ≤ first_thread tasks u) × (first_thread tasks u + (task_at tasks u).limit ≤ first_thread tasks t)
+threads_between tasks r u t a b le =
+    let e : r + (u - r) ≡ u = omega (arith, a) in
+    let f : u + 1 + (t - (u + 1)) ≡ t = omega (arith, b) in
+    (omega (arith, first_upto tasks r (u - r) (omega (arith, a, b, le)), ap (first_thread tasks) e),
+    omega (arith, first_upto tasks (u + 1) (t - (u + 1)) (omega (arith, b, le)), ap (first_thread tasks) f, first_next tasks u (omega (arith, b, le))))

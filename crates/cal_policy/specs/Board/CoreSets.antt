@@ -1,5 +1,5 @@
 -- Which cores are in which of the sets that a board keeps.
-use Rattle.std.specs.Prelude.{◌≡◌, ◌≢◌, ℕ, ◌<◌, false, not, List}
+use Rattle.std.specs.Prelude.{◌≡◌, ℕ, ◌<◌, not, List}
 use Rattle.cal_machine.specs.declared.core_set.CoreSet.{CoreSet}
 use Rattle.cal_machine.specs.CoreSet.{has}
 use Rattle.cal_machine.specs.declared.machine.TheConstants.{MOST_CORES}
@@ -9,24 +9,13 @@ use Rattle.cal_policy.specs.declared.board.core_sets.CoreSets.{CoreSets}
 use Rattle.cal_policy.specs.History.{is_banned}
 use Rattle.cal_policy.specs.Board.Counts.{is_free}
 
--- the core is among the free or the taken ones, as its holder says, and not among the others
+-- the core is among the taken ones where its holder says that it is not free
 pub record IsSorted (core : ℕ) (holder : Holder) (sets : CoreSets) : Type 0 where
-  pub free : has sets.free core ≡ is_free holder
   pub taken : has sets.taken core ≡ not (is_free holder)
 
 -- where `holder` says who has each core, each is in the sets that its holder says
 abbrev pub Sorts : (ℕ → Holder) → CoreSets → Type 0
 Sorts holder sets = (c : ℕ) → c < MOST_CORES → IsSorted c (holder c) sets
-
--- the core is among neither the free nor the taken ones
-pub record IsNowhere (core : ℕ) (sets : CoreSets) : Type 0 where
-  pub free : has sets.free core ≡ false
-  pub taken : has sets.taken core ≡ false
-
--- every core but this one is in the same sets
-pub record IsSameBut (core : ℕ) (old new : CoreSets) : Type 0 where
-  pub free : (c : ℕ) → c ≢ core → has new.free c ≡ has old.free c
-  pub taken : (c : ℕ) → c ≢ core → has new.taken c ≡ has old.taken c
 
 -- the set has the cores that are banned after the actions x
 pub record IsSetOfBanned (set : CoreSet) (x : List Action) : Type 0 where

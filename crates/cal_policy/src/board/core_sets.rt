@@ -10,19 +10,17 @@ ghost use Rattle.cal_machine.specs.declared.machine.TheConstants.{MOST_CORES};
 ghost use Rattle.cal_policy.specs.declared.history.action.Action.{Action};
 ghost use Rattle.cal_policy.specs.declared.board.holders.Holder.{Holder};
 ghost use Rattle.cal_policy.specs.Board.{NamesCores};
-ghost use Rattle.cal_policy.specs.Board.CoreSets.{IsSorted, IsNowhere, IsSameBut, IsSetOfBanned};
+ghost use Rattle.cal_policy.specs.Board.CoreSets.{IsSorted, IsSetOfBanned};
 ghost use Rattle.cal_policy.specs.Board.OpenCores.{core_named};
 
-use crate::board::holders::{Holder, Placement};
+use crate::board::holders::Holder;
 use crate::history::action::Action;
 use cal_machine::{Config, CoreSet, MOST_CORES};
 
-/// Which cores are free, taken or banned, of all `MOST_CORES` that a table can have.
+/// Which cores are taken or banned, of all `MOST_CORES` that a table can have.
 #[derive(Drop)]
 pub struct CoreSets {
-    /// The cores that nobody has.
-    pub free: CoreSet,
-    /// The cores that a thread holds or leaves.
+    /// The cores that a thread holds or leaves; the others are free.
     pub taken: CoreSet,
     /// The cores that are banned.
     pub banned: CoreSet,
@@ -79,39 +77,8 @@ impl CoreSets {
         ensures banned { IsSetOfBanned result.banned [] }
     {
         CoreSets {
-            free: all_cores(),
             taken: CoreSet::empty(),
             banned: CoreSet::empty(),
-        }
-    }
-
-    /// Takes a core out of the sets, which are as its holder says.
-    fn take(&mut self, core: u8, holder: Holder)
-        requires core { core < MOST_CORES }
-        requires sorted { IsSorted core holder self.old }
-        ensures nowhere { IsNowhere core self.new }
-        ensures others { IsSameBut core self.old self.new }
-        ensures banned { self.new.banned ≡ self.old.banned }
-    {
-        match holder {
-            Holder::Free => self.free.remove(core),
-            Holder::Held(..) => self.taken.remove(core),
-            Holder::Leaving(..) => self.taken.remove(core),
-        }
-    }
-
-    /// Puts a core, which is in none of the sets, where its holder says.
-    fn put(&mut self, core: u8, holder: Holder)
-        requires core { core < MOST_CORES }
-        requires nowhere { IsNowhere core self.old }
-        ensures sorted { IsSorted core holder self.new }
-        ensures others { IsSameBut core self.old self.new }
-        ensures banned { self.new.banned ≡ self.old.banned }
-    {
-        match holder {
-            Holder::Free => self.free.insert(core),
-            Holder::Held(..) => self.taken.insert(core),
-            Holder::Leaving(..) => self.taken.insert(core),
         }
     }
 
@@ -127,18 +94,20 @@ impl CoreSets {
         note_banned(&mut self.banned, action);
     }
 
-    /// Moves a core, if there is one, from where one holder says to where the next one does.
-    pub fn move_core(&mut self, core: Option<u8>, before: Holder, after: Holder)
-        requires core { IfSome core (λ c. c < MOST_CORES) }
-        requires sorted { IfSome core (λ c. IsSorted c before self.old) }
-        ensures sorted { IfSome core (λ c. IsSorted c after self.new) }
+    /// Puts a core, if there is one, where its holder says.
+    pub fn move_core(&mut self, core: Option<u8>, holder: Holder)
+        requires { IfSome core (λ c. c < MOST_CORES) }
+        ensures sorted { IfSome core (λ c. IsSorted c holder self.new) }
         ensures others { (c : ℕ) (h : Holder) → core ≢ Some c → IsSorted c h self.old →
             IsSorted c h self.new }
         ensures banned { self.new.banned ≡ self.old.banned }
     {
         if let Some(core) = core {
-            self.take(core, before);
-            self.put(core, after);
+            if holder.is_free() {
+                self.taken.remove(core);
+            } else {
+                self.taken.insert(core);
+            }
         }
     }
 }

@@ -8,9 +8,8 @@ ghost use Rattle.cal_policy.specs.declared.history.action_list.TheConstants.{MOS
 ghost use Rattle.cal_machine.specs.declared.task_table.TheConstants.{MOST_TASKS};
 ghost use Rattle.cal_machine.specs.declared.numbering.TheConstants.{MOST_THREADS};
 ghost use Rattle.cal_policy.specs.declared.history.action.Action.{Action};
-ghost use Rattle.cal_policy.specs.declared.history.entry.PassEntry.{PassEntry};
 ghost use Rattle.cal_policy.specs.Pass.Choice.{lowest_below};
-ghost use Rattle.cal_policy.specs.Setting.{setting, so_far};
+ghost use Rattle.cal_policy.specs.Setting.{Begun, setting_at, so_far};
 ghost use Rattle.cal_policy.specs.Pass.Bandwidth as rules;
 ghost use Rattle.cal_policy.specs.Board.Counts.{is_held_for};
 ghost use Rattle.cal_policy.specs.Board.{Stands, IsReady, IsOfTable, NamesTable, holder_in};
@@ -23,10 +22,10 @@ use crate::board::counts::{cap_of, held_by};
 use crate::board::holders::Holder;
 use crate::history::action::{Action, Cause};
 use crate::history::action_list::Actions;
-use crate::history::input::Input;
 use crate::pass::Pass;
 use crate::pass::choice::{Candidate, greater};
 use crate::pass::coupled::{Coupled, make_both, neither};
+use crate::pass::terms::Terms;
 use cal_machine::{Config, MOST_TASKS};
 
 fn no_cores() -> [Option<u8>; MOST_TASKS]
@@ -53,7 +52,7 @@ impl Pass<'_> {
     fn task_that_can_lose(&self, core: u8) -> Option<usize>
         requires at_hand { IsAtHand self.now }
         requires core { core < self.now.config.now.cores }
-        ensures lose { (h : List PassEntry) (acts : List Action) → StandsIn self.now h acts →
+        ensures lose { (h : Begun) (acts : List Action) → StandsIn self.now h acts →
             let s = setting_in self.now h in
             (t : ℕ) → rules.can_lose s (so_far s acts) t core ≡ rules.is_number t result }
         ensures task { IfSome result (λ t. t < length self.now.config.now.tasks) }
@@ -64,7 +63,7 @@ impl Pass<'_> {
         match self.board.holding.holders[core as usize] {
             Holder::Held(placement) => {
                 let thread = placement.thread as usize;
-                if self.input.rooms.as_slice()[thread] {
+                if self.has_room(thread) {
                     Some(self.config.task_of(thread))
                 } else {
                     None
@@ -77,7 +76,7 @@ impl Pass<'_> {
     /// For each task the highest core that it can lose.
     fn cores_to_lose(&self) -> [Option<u8>; MOST_TASKS]
         requires at_hand { IsAtHand self.now }
-        ensures lose { (h : List PassEntry) (acts : List Action) → StandsIn self.now h acts →
+        ensures lose { (h : Begun) (acts : List Action) → StandsIn self.now h acts →
             let s = setting_in self.now h in
             (t : ℕ) → t < MOST_TASKS →
             slice_index_or result t None ≡ rules.core_to_lose s (so_far s acts) t }
@@ -96,7 +95,7 @@ impl Pass<'_> {
     fn new_misses(&self, thread: usize) -> u64
         requires at_hand { IsAtHand self.now }
         requires thread { thread < MOST_THREADS }
-        ensures { (h : List PassEntry) (acts : List Action) → StandsIn self.now h acts →
+        ensures { (h : Begun) (acts : List Action) → StandsIn self.now h acts →
             result ≡ rules.new_misses (setting_in self.now h) thread }
     {
         let misses = self.board.keeping.kept[thread].misses;
@@ -107,7 +106,7 @@ impl Pass<'_> {
     fn task_misses(&self, task: usize) -> u128
         requires at_hand { IsAtHand self.now }
         requires task { task < length self.now.config.now.tasks }
-        ensures { (h : List PassEntry) (acts : List Action) → StandsIn self.now h acts →
+        ensures { (h : Begun) (acts : List Action) → StandsIn self.now h acts →
             result ≡ rules.task_misses (setting_in self.now h) task }
     {
         let (first, count) = self.config.threads_of(task);
@@ -122,7 +121,7 @@ impl Pass<'_> {
     fn victim_rank(&self, highest: &[Option<u8>; MOST_TASKS], task: usize) -> Option<u128>
         requires at_hand { IsAtHand self.now }
         requires task { task < length self.now.config.now.tasks }
-        ensures { (h : List PassEntry) (acts : List Action) → StandsIn self.now h acts →
+        ensures { (h : Begun) (acts : List Action) → StandsIn self.now h acts →
             let s = setting_in self.now h in
             slice_index_or highest.now task None ≡ rules.core_to_lose s (so_far s acts) task →
             result ≡ rules.victim_rank s (so_far s acts) task }
@@ -139,7 +138,7 @@ impl Pass<'_> {
     /// The task with the most misses, of those with as many the one with the least number.
     fn victim(&self, highest: &[Option<u8>; MOST_TASKS]) -> Option<Candidate<u128>>
         requires at_hand { IsAtHand self.now }
-        ensures victim { (h : List PassEntry) (acts : List Action) → StandsIn self.now h acts →
+        ensures victim { (h : Begun) (acts : List Action) → StandsIn self.now h acts →
             let s = setting_in self.now h in
             ((t : ℕ) → t < MOST_TASKS →
             slice_index_or highest.now t None ≡ rules.core_to_lose s (so_far s acts) t) →
@@ -160,7 +159,7 @@ impl Pass<'_> {
         requires at_hand { IsAtHand self.now }
         requires task { task < MOST_TASKS }
         requires core { HoldsCore self.now.config.now self.now.board.now task core }
-        ensures cut { (h : List PassEntry) (acts : List Action) → StandsIn self.now h acts →
+        ensures cut { (h : Begun) (acts : List Action) → StandsIn self.now h acts →
             let s = setting_in self.now h in
             both_of result ≡ rules.cut_at s (so_far s acts) task core }
         ensures names { BothName self.now.config.now result }
@@ -182,7 +181,7 @@ impl Pass<'_> {
     /// What the victim loses.
     fn cut_victim(&self) -> Coupled
         requires at_hand { IsAtHand self.now }
-        ensures cut { (h : List PassEntry) (acts : List Action) → StandsIn self.now h acts →
+        ensures cut { (h : Begun) (acts : List Action) → StandsIn self.now h acts →
             let s = setting_in self.now h in
             both_of result ≡ rules.cut_of s (so_far s acts) (rules.victim_of s (so_far s acts)) }
         ensures names { BothName self.now.config.now result }
@@ -198,7 +197,7 @@ impl Pass<'_> {
     fn rise(&self, task: usize) -> Option<Action>
         requires at_hand { IsAtHand self.now }
         requires task { task < length self.now.config.now.tasks }
-        ensures rise { (h : List PassEntry) (acts : List Action) → StandsIn self.now h acts →
+        ensures rise { (h : Begun) (acts : List Action) → StandsIn self.now h acts →
             let s = setting_in self.now h in
             option_to_list result ≡ rules.rise_of s (so_far s acts)
             (if rules.is_capped s (so_far s acts) task then Some task else None) }
@@ -218,7 +217,7 @@ impl Pass<'_> {
     /// The rise of the least-numbered capped task.
     fn first_rise(&self) -> Option<Action>
         requires at_hand { IsAtHand self.now }
-        ensures rise { (h : List PassEntry) (acts : List Action) → StandsIn self.now h acts →
+        ensures rise { (h : Begun) (acts : List Action) → StandsIn self.now h acts →
             let s = setting_in self.now h in
             option_to_list result ≡ rules.rise_of s (so_far s acts)
             (lowest_below (rules.is_capped s (so_far s acts))
@@ -236,11 +235,11 @@ impl Pass<'_> {
     /// What is due for the bandwidth.
     fn bandwidth_due(&self) -> Coupled
         requires at_hand { IsAtHand self.now }
-        ensures due { (h : List PassEntry) (acts : List Action) → StandsIn self.now h acts →
+        ensures due { (h : Begun) (acts : List Action) → StandsIn self.now h acts →
             both_of result ≡ rules.bandwidth_part (setting_in self.now h) acts }
         ensures names { BothName self.now.config.now result }
     {
-        if self.input.bandwidth > self.config.bandwidth_limit() {
+        if self.terms.bandwidth > self.config.bandwidth_limit() {
             self.cut_victim()
         } else {
             Coupled {
@@ -252,10 +251,10 @@ impl Pass<'_> {
 }
 
 /// Takes a core from the victim where the bandwidth is over its limit, else lets one cap rise.
-pub fn keep_bandwidth(config: &Config, input: &Input, board: &mut Board, out: &mut Actions)
-    requires of_table { IsOfTable config.now input.now board.old }
+pub fn keep_bandwidth(config: &Config, terms: &Terms, board: &mut Board, out: &mut Actions)
+    requires of_table { IsOfTable config.now board.old }
     requires room { length out.old + 2 ≤ MOST_ACTIONS }
-    ensures acts { (h : List PassEntry) → let s = setting config.now h input.entry.now in
+    ensures acts { (h : Begun) → let s = setting_at config.now terms.entry.now h in
         Stands board.old s out.old →
         (out.new ≡ out.old ++ rules.bandwidth_part s out.old) × Stands board.new s out.new }
     ensures ready { IsReady config.now board.new }
@@ -263,7 +262,7 @@ pub fn keep_bandwidth(config: &Config, input: &Input, board: &mut Board, out: &m
 {
     let pass = Pass {
         config,
-        input,
+        terms,
         board,
     };
     let both = pass.bandwidth_due();

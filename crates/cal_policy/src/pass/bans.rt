@@ -11,11 +11,10 @@ ghost use Rattle.cal_machine.specs.TableTasks.{threads_of_table};
 ghost use Rattle.cal_policy.specs.declared.history.action.Action.{Action};
 ghost use Rattle.cal_policy.specs.declared.history.action.Action.TheVariants.{Revoke};
 ghost use Rattle.cal_policy.specs.declared.history.action.Cause.TheVariants as causes;
-ghost use Rattle.cal_policy.specs.declared.history.entry.PassEntry.{PassEntry};
 ghost use Rattle.cal_policy.specs.History.Lists.{in_pair};
 ghost use Rattle.cal_policy.specs.History.{holder_of};
 ghost use Rattle.cal_policy.specs.Board.Counts.{is_held};
-ghost use Rattle.cal_policy.specs.Setting.{setting, so_far};
+ghost use Rattle.cal_policy.specs.Setting.{Begun, setting_at, so_far};
 ghost use Rattle.cal_policy.specs.Pass.Bans as rules;
 ghost use Rattle.cal_policy.specs.Board.{Stands, IsReady, IsOfTable, NamesTable};
 ghost use Rattle.cal_policy.specs.Pass.AtHand.{IsAtHand, StandsIn, setting_in};
@@ -28,9 +27,9 @@ use crate::board::counts::is_over;
 use crate::board::holders::Holder;
 use crate::history::action::{Action, Cause};
 use crate::history::action_list::Actions;
-use crate::history::input::Input;
 use crate::pass::Pass;
 use crate::pass::coupled::{Coupled, make_both, neither};
+use crate::pass::terms::Terms;
 use cal_machine::Config;
 use cal_signal::Record;
 
@@ -46,7 +45,7 @@ impl Pass<'_> {
     fn too_long_on(&self, core: u8) -> Option<u8>
         requires at_hand { IsAtHand self.now }
         requires core { core < self.now.config.now.cores }
-        ensures due { (h : List PassEntry) (acts : List Action) → StandsIn self.now h acts →
+        ensures due { (h : Begun) (acts : List Action) → StandsIn self.now h acts →
             let s = setting_in self.now h in
             result ≡ rules.too_long_on s core (holder_of (so_far s acts) core) }
         ensures thread { IfSome result (λ thread.
@@ -58,7 +57,7 @@ impl Pass<'_> {
                 let rec = &self.board.keeping.kept[placement.thread as usize];
                 let limit = self.config.task(task).request;
                 if self.config.is_latency_critical(task)
-                    && runs_too_long(self.input.now, rec, core, limit)
+                    && runs_too_long(self.terms.now, rec, core, limit)
                 {
                     Some(placement.thread)
                 } else {
@@ -74,7 +73,7 @@ impl Pass<'_> {
     fn may_be_emptied(&self, core: u8) -> bool
         requires at_hand { IsAtHand self.now }
         requires core { core < self.now.config.now.cores }
-        ensures { (h : List PassEntry) (acts : List Action) → StandsIn self.now h acts →
+        ensures { (h : Begun) (acts : List Action) → StandsIn self.now h acts →
             let s = setting_in self.now h in
             result ≡ rules.may_be_emptied s (so_far s acts) (holder_of (so_far s acts) core) }
     {
@@ -83,7 +82,7 @@ impl Pass<'_> {
             Holder::Held(placement) => {
                 let thread = placement.thread as usize;
                 let task = self.config.task_of(thread);
-                self.input.rooms.as_slice()[thread] && is_over(self.config, self.board, task)
+                self.has_room(thread) && is_over(self.config, self.board, task)
             }
         }
     }
@@ -92,7 +91,7 @@ impl Pass<'_> {
     fn may_ban_beside(&self, core: u8) -> bool
         requires at_hand { IsAtHand self.now }
         requires core { core < self.now.config.now.cores }
-        ensures { (h : List PassEntry) (acts : List Action) → StandsIn self.now h acts →
+        ensures { (h : Begun) (acts : List Action) → StandsIn self.now h acts →
             let s = setting_in self.now h in result ≡ rules.may_ban_beside s (so_far s acts) core }
     {
         let beside = self.config.machine().sibling(core);
@@ -105,7 +104,7 @@ impl Pass<'_> {
     fn ban_due(&self, core: u8) -> Option<u8>
         requires at_hand { IsAtHand self.now }
         requires core { core < self.now.config.now.cores }
-        ensures due { (h : List PassEntry) (acts : List Action) → StandsIn self.now h acts →
+        ensures due { (h : Begun) (acts : List Action) → StandsIn self.now h acts →
             let s = setting_in self.now h in result ≡ rules.ban_due s (so_far s acts) core }
         ensures thread { IfSome result (λ thread.
             thread < threads_of_table self.now.config.now) }
@@ -122,7 +121,7 @@ impl Pass<'_> {
     fn ban_revocation(&self, core: u8, by: u8) -> Option<Action>
         requires at_hand { IsAtHand self.now }
         requires core { core < self.now.config.now.cores }
-        ensures due { (h : List PassEntry) (acts : List Action) → StandsIn self.now h acts →
+        ensures due { (h : Begun) (acts : List Action) → StandsIn self.now h acts →
             option_to_list result
             ≡ (if is_held (holder_of (so_far (setting_in self.now h) acts) core)
             then Revoke core (causes.Ban by) ∷ [] else []) }
@@ -141,7 +140,7 @@ impl Pass<'_> {
     fn ban_beside(&self, core: u8) -> Coupled
         requires at_hand { IsAtHand self.now }
         requires core { core < self.now.config.now.cores }
-        ensures due { (h : List PassEntry) (acts : List Action) → StandsIn self.now h acts →
+        ensures due { (h : Begun) (acts : List Action) → StandsIn self.now h acts →
             let s = setting_in self.now h in both_of result ≡ rules.bans_at s acts core }
         ensures names { BothName self.now.config.now result }
         ensures alone { result.first ≡ None → result.second ≡ None }
@@ -166,7 +165,7 @@ impl Pass<'_> {
     fn ban_in_pair(&self, pair: u8) -> Coupled
         requires at_hand { IsAtHand self.now }
         requires pair { 2 * pair + 1 < self.now.config.now.cores }
-        ensures due { (h : List PassEntry) (acts : List Action) → StandsIn self.now h acts →
+        ensures due { (h : Begun) (acts : List Action) → StandsIn self.now h acts →
             let s = setting_in self.now h in
             both_of result ≡ in_pair (rules.bans_at s) acts pair }
         ensures names { BothName self.now.config.now result }
@@ -222,10 +221,10 @@ fn next_to_ban(config: &Config, board: &Board, over: bool, first: u8) -> Option<
 /// The cores that may give rise to a ban are gone over upwards, pair by pair, and a pair gives at
 /// most one ban: those that are taken, but while no task is over only those that are held beside
 /// one that is not, since a core that a thread holds is emptied only where its task is over.
-pub fn ban_siblings(config: &Config, input: &Input, board: &mut Board, out: &mut Actions)
-    requires of_table { IsOfTable config.now input.now board.old }
+pub fn ban_siblings(config: &Config, terms: &Terms, board: &mut Board, out: &mut Actions)
+    requires of_table { IsOfTable config.now board.old }
     requires room { length out.old + MOST_CORES ≤ MOST_ACTIONS }
-    ensures acts { (h : List PassEntry) → let s = setting config.now h input.entry.now in
+    ensures acts { (h : Begun) → let s = setting_at config.now terms.entry.now h in
         Stands board.old s out.old →
         (out.new ≡ out.old ++ rules.bans s out.old) × Stands board.new s out.new }
     ensures ready { IsReady config.now board.new }
@@ -237,7 +236,7 @@ pub fn ban_siblings(config: &Config, input: &Input, board: &mut Board, out: &mut
         let pair = core / 2;
         let pass = Pass {
             config,
-            input,
+            terms,
             board,
         };
         let both = pass.ban_in_pair(pair);

@@ -5,11 +5,10 @@ ghost use Rattle.std.specs.Prelude.{List, length, Option, Some, None, if◌then�
 ghost use Rattle.std.specs.Option.{IfSome, is_some, option_map};
 ghost use Rattle.cal_machine.specs.Machine.{sibling_of};
 ghost use Rattle.cal_policy.specs.declared.history.action.Action.{Action};
-ghost use Rattle.cal_policy.specs.declared.history.entry.PassEntry.{PassEntry};
 ghost use Rattle.cal_machine.specs.TableTasks as tasks;
 ghost use Rattle.cal_machine.specs.TableTasks.{threads_of_table};
 ghost use Rattle.cal_policy.specs.History.CoreClasses.{comes_before};
-ghost use Rattle.cal_policy.specs.Setting.{so_far, has_room};
+ghost use Rattle.cal_policy.specs.Setting.{Begun, so_far, has_room};
 ghost use Rattle.cal_policy.specs.History.{holder_of, last_thread, is_banned};
 ghost use Rattle.cal_policy.specs.Pass.Grants as grants;
 ghost use Rattle.cal_policy.specs.Pass.Grants.{class_by, is_granted_in, none_leaves_for};
@@ -97,7 +96,7 @@ impl Pass<'_> {
     fn may_preempt_any(&self, task: usize) -> bool
         requires at_hand { IsAtHand self.now }
         requires task { task < length self.now.config.now.tasks }
-        ensures { (h : List PassEntry) (acts : List Action) →
+        ensures { (h : Begun) (acts : List Action) →
             let s = setting_in self.now h in
             Agrees self.now.board.now (so_far s acts) →
             result ≡ (tasks.is_latency_critical self.now.config.now task
@@ -115,7 +114,7 @@ impl Pass<'_> {
         requires task { task < length self.now.config.now.tasks }
         requires core { core < self.now.config.now.cores }
         requires thread { thread < threads_of_table self.now.config.now }
-        ensures { (h : List PassEntry) (acts : List Action) → StandsIn self.now h acts →
+        ensures { (h : Begun) (acts : List Action) → StandsIn self.now h acts →
             let s = setting_in self.now h in
             result ≡ (tasks.is_latency_critical self.now.config.now task && has_room s thread
             && not (is_granted_in acts core) && none_leaves_for s (so_far s acts) task) }
@@ -123,8 +122,7 @@ impl Pass<'_> {
         if !self.may_preempt_any(task) {
             return false;
         }
-        let has_room = self.input.rooms.as_slice()[thread as usize];
-        has_room && !self.board.fresh.has(core)
+        self.has_room(thread as usize) && !self.board.fresh.has(core)
     }
 
     /// The class of a core by its holder.
@@ -134,7 +132,7 @@ impl Pass<'_> {
         requires core { core < self.now.config.now.cores }
         requires holder { IfSome (placement_of holder)
             (λ placement. placement.thread < threads_of_table self.now.config.now) }
-        ensures { (h : List PassEntry) (acts : List Action) → StandsIn self.now h acts →
+        ensures { (h : Begun) (acts : List Action) → StandsIn self.now h acts →
             result ≡ class_by (setting_in self.now h) acts task core holder }
     {
         match holder {
@@ -155,7 +153,7 @@ impl Pass<'_> {
     fn choose_among(&self, task: usize, cores: &CoreSet) -> Option<Candidate<CoreClass>>
         requires at_hand { IsAtHand self.now }
         requires task { task < length self.now.config.now.tasks }
-        ensures choice { (h : List PassEntry) (acts : List Action) → StandsIn self.now h acts →
+        ensures choice { (h : Begun) (acts : List Action) → StandsIn self.now h acts →
             result ≡ best_below comes_before
             (class_among cores.now (setting_in self.now h) acts task) self.now.config.now.cores }
         ensures below { IfSome result (λ best. best.number < self.now.config.now.cores) }
@@ -208,7 +206,7 @@ impl Pass<'_> {
     pub fn choose_core(&self, task: usize) -> Option<Candidate<CoreClass>>
         requires at_hand { IsAtHand self.now }
         requires task { task < length self.now.config.now.tasks }
-        ensures choice { (h : List PassEntry) (acts : List Action) → StandsIn self.now h acts →
+        ensures choice { (h : Begun) (acts : List Action) → StandsIn self.now h acts →
             result ≡ grants.choice_of (setting_in self.now h) acts task }
         ensures below { IfSome result (λ best. best.number < self.now.config.now.cores) }
     {

@@ -1,55 +1,47 @@
 //! A pass, from its parts in their order.
 
-ghost use Rattle.std.specs.Prelude.{◌≡◌, ◌≤◌, [], length, List};
-ghost use Rattle.cal_machine.specs.Table.{Table};
-ghost use Rattle.cal_machine.specs.declared.numbering.TheConstants.{MOST_THREADS};
+ghost use Rattle.std.specs.Prelude.{◌≡◌, [], List};
 ghost use Rattle.cal_policy.specs.declared.history.entry.PassEntry.{PassEntry};
-ghost use Rattle.cal_policy.specs.Setting.{setting};
+ghost use Rattle.cal_policy.specs.declared.judgement.open_input.FoundLook.{FoundLook};
+ghost use Rattle.cal_machine.specs.TableTasks.{threads_of_table};
+ghost use Rattle.cal_policy.specs.Setting.{Begun, setting, setting_at};
 ghost use Rattle.cal_policy.specs.History.{actions_of, looks_of};
+ghost use Rattle.cal_policy.specs.Judgement.OpenInput.{judged_input};
+ghost use Rattle.cal_policy.specs.Judgement.OpenPass.{IsOpenAt};
 ghost use Rattle.cal_policy.specs.Pass.Bans.{NoPairBanned};
 ghost use Rattle.cal_policy.specs.Pass.{pass_of};
 ghost use Rattle.cal_policy.specs.Board.{Agrees, KeepingAgrees, Stands};
 ghost use Rattle.cal_policy.specs.Board.{IsReady, IsOfTable, AgreesAfter, HasSizes};
-ghost use Rattle.cal_policy.specs.Board.KeepingSets.{FitAfter, KeepsSets};
+ghost use Rattle.cal_policy.specs.Board.KeepingSets.{FitAfter};
 
 use crate::board::Board;
 use crate::history::action_list::Actions;
 use crate::history::input::Input;
+use crate::judgement::open_pass::OpenPass;
 use crate::pass::bandwidth::keep_bandwidth;
 use crate::pass::bans::ban_siblings;
 use crate::pass::frees::free_left;
 use crate::pass::grants::grants_of_kind;
+use crate::pass::terms::Terms;
 use crate::pass::unbans::end_bans;
 use cal_machine::{Config, Kind};
 
-/// Begins a pass with the looks of its input, which fit those before.
-fn begin(board: &mut Board, input: &Input)
-    requires looks { length input.now.seen ≤ MOST_THREADS }
-    requires sets { KeepsSets board.old.keeping }
-    ensures stands { (table : Table) (h : List PassEntry) → Agrees board.old (actions_of h) →
-        KeepingAgrees board.old.keeping (looks_of h) → FitAfter (looks_of h) input.entry.now.seen →
-        Stands board.new (setting table h input.entry.now) [] }
-    ensures ready { (table : Table) → IsReady table board.old → IsReady table board.new }
-{
-    board.begin_fit(input.seen.as_slice());
-}
-
 /// Makes the parts of a pass, each after the one before.
-fn make_parts(config: &Config, input: &Input, board: &mut Board, out: &mut Actions)
-    requires of_table { IsOfTable config.now input.now board.old }
+fn make_parts(config: &Config, terms: &Terms, board: &mut Board, out: &mut Actions)
+    requires of_table { IsOfTable config.now board.old }
     requires empty { out.old ≡ [] }
-    ensures acts { (h : List PassEntry) → NoPairBanned (actions_of h) →
-        Stands board.old (setting config.now h input.entry.now) [] →
-        (out.new ≡ pass_of (setting config.now h input.entry.now))
-        × Stands board.new (setting config.now h input.entry.now) out.new }
+    ensures acts { (h : Begun) → NoPairBanned (actions_of h.history) →
+        Stands board.old (setting_at config.now terms.entry.now h) [] →
+        (out.new ≡ pass_of (setting_at config.now terms.entry.now h))
+        × Stands board.new (setting_at config.now terms.entry.now h) out.new }
     ensures ready { IsReady config.now board.new }
 {
-    free_left(config, input, board, out);
-    end_bans(config, input, board, out);
-    ban_siblings(config, input, board, out);
-    keep_bandwidth(config, input, board, out);
-    grants_of_kind(config, input, board, out, Kind::LatencyCritical);
-    grants_of_kind(config, input, board, out, Kind::BestEffort);
+    free_left(config, terms, board, out);
+    end_bans(config, terms, board, out);
+    ban_siblings(config, terms, board, out);
+    keep_bandwidth(config, terms, board, out);
+    grants_of_kind(config, terms, board, out, Kind::LatencyCritical);
+    grants_of_kind(config, terms, board, out, Kind::BestEffort);
 }
 
 /// Appends the actions of the next pass, on this input, which fits, to an empty list, and brings
@@ -67,6 +59,40 @@ pub fn decide(config: &Config, input: &Input, board: &mut Board, out: &mut Actio
     ensures ready { IsReady config.now board.new }
 {
     config.limits();
-    begin(board, input);
-    make_parts(config, input, board, out);
+    let terms = Terms::of(config, input);
+    board.begin_fit(input.seen.as_slice());
+    make_parts(config, &terms, board, out);
+}
+
+/// The same, where the looks came in one by one, one of each thread, and only those that are news
+/// were noted.
+pub fn decide_noted(
+    config: &Config,
+    now: u64,
+    bandwidth: u64,
+    looks: &OpenPass,
+    board: &mut Board,
+    out: &mut Actions,
+)
+    requires ready { IsReady config.now board.old }
+    requires all { looks.now.count ≡ threads_of_table config.now }
+    requires empty { out.old ≡ [] }
+    ensures acts { (h : List PassEntry) (found : List FoundLook) → NoPairBanned (actions_of h) →
+        Agrees board.old (actions_of h) → KeepingAgrees board.old.keeping (looks_of h) →
+        IsOpenAt config.now h found looks.entry.now →
+        (out.new ≡ pass_of (setting config.now h (judged_input config.now h now bandwidth found)))
+        × AgreesAfter board.new h (record {
+          input = judged_input config.now h now bandwidth found;
+          actions = out.new;
+        }) }
+    ensures ready { IsReady config.now board.new }
+{
+    config.limits();
+    let terms = Terms {
+        now,
+        bandwidth,
+        full: looks.full,
+    };
+    board.begin_noted(looks);
+    make_parts(config, &terms, board, out);
 }

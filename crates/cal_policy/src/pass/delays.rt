@@ -3,7 +3,7 @@
 ghost use Rattle.std.specs.Prelude.{◌≡◌, ◌<◌, List, length};
 ghost use Rattle.cal_machine.specs.declared.numbering.TheConstants.{MOST_THREADS};
 ghost use Rattle.cal_policy.specs.declared.history.action.Action.{Action};
-ghost use Rattle.cal_policy.specs.declared.history.entry.PassEntry.{PassEntry};
+ghost use Rattle.cal_policy.specs.Setting.{Begun};
 ghost use Rattle.cal_policy.specs.Pass.AtHand.{IsAtHand, StandsIn, setting_in};
 ghost use Rattle.cal_policy.specs.Pass.Grants as grants;
 
@@ -37,17 +37,17 @@ impl Pass<'_> {
     pub fn thread_delay(&self, thread: usize) -> u64
         requires at_hand { IsAtHand self.now }
         requires thread { thread < MOST_THREADS }
-        ensures { (h : List PassEntry) (acts : List Action) → StandsIn self.now h acts →
+        ensures { (h : Begun) (acts : List Action) → StandsIn self.now h acts →
             result ≡ grants.thread_delay (setting_in self.now h) thread }
     {
-        record_delay(self.input.now, &self.board.keeping.kept[thread])
+        record_delay(self.terms.now, &self.board.keeping.kept[thread])
     }
 
     /// The delay of a task: the greatest of its threads'. Only those that wait are gone over.
     fn task_delay(&self, task: usize) -> u64
         requires at_hand { IsAtHand self.now }
         requires task { task < length self.now.config.now.tasks }
-        ensures { (h : List PassEntry) (acts : List Action) → StandsIn self.now h acts →
+        ensures { (h : Begun) (acts : List Action) → StandsIn self.now h acts →
             result ≡ grants.task_delay (setting_in self.now h) task }
     {
         let (first, count) = self.config.threads_of(task);
@@ -65,7 +65,7 @@ impl Pass<'_> {
     pub fn is_congested(&self, task: usize) -> bool
         requires at_hand { IsAtHand self.now }
         requires task { task < length self.now.config.now.tasks }
-        ensures { (h : List PassEntry) (acts : List Action) → StandsIn self.now h acts →
+        ensures { (h : Begun) (acts : List Action) → StandsIn self.now h acts →
             result ≡ grants.is_congested (setting_in self.now h) task }
     {
         self.task_delay(task) > self.config.task(task).delay

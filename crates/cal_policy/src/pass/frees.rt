@@ -4,22 +4,22 @@ ghost use Rattle.std.specs.Prelude.{◌≡◌, ℕ, ◌+◌, ◌<◌, ◌≤◌,
 ghost use Rattle.std.specs.Option.{IfSome};
 ghost use Rattle.cal_policy.specs.declared.history.action_list.TheConstants.{MOST_ACTIONS};
 ghost use Rattle.cal_machine.specs.declared.machine.TheConstants.{MOST_CORES};
+ghost use Rattle.cal_machine.specs.declared.numbering.TheConstants.{MOST_THREADS};
 ghost use Rattle.cal_policy.specs.declared.history.action.Action.{Action};
-ghost use Rattle.cal_policy.specs.declared.history.entry.PassEntry.{PassEntry};
-ghost use Rattle.cal_policy.specs.Setting.{setting, so_far, kept_now};
+ghost use Rattle.cal_policy.specs.Setting.{Begun, Setting, setting_at, so_far, kept_now};
 ghost use Rattle.cal_policy.specs.Pass.Frees.{has_left, shows_left, free_at, frees};
 ghost use Rattle.cal_policy.specs.History.{holder_of};
 ghost use Rattle.cal_policy.specs.Pass.AtHand.{IsAtHand, StandsIn, setting_in};
-ghost use Rattle.cal_policy.specs.Board.{Stands, IsReady, IsOfTable, NamesTable, kept_number};
+ghost use Rattle.cal_policy.specs.Board.{BoardSound, Stands, IsReady, IsOfTable, NamesTable, kept_number};
 
 use crate::board::Board;
 use crate::board::core_sets::next_core;
 use crate::board::holders::Holder;
 use crate::history::action::Action;
 use crate::history::action_list::Actions;
-use crate::history::input::Input;
 use crate::pass::Pass;
 use crate::pass::appending::make;
+use crate::pass::terms::Terms;
 use cal_machine::Config;
 use cal_signal::Record;
 
@@ -32,13 +32,11 @@ fn shows_run_left(rec: Record, number: u128) -> bool
 }
 
 /// Whether the kept record of the core's thread shows that it left.
-pub fn is_left(config: &Config, input: &Input, board: &Board, core: u8) -> bool
-    requires ready { IsReady config.now board.now }
+pub fn is_left(board: &Board, core: u8) -> bool
+    requires sound { BoardSound MOST_THREADS board.now }
     requires core { core < MOST_CORES }
-    ensures { (h : List PassEntry) (acts : List Action) →
-        Stands board.now (setting config.now h input.entry.now) acts →
-        result ≡ shows_left (kept_now (setting config.now h input.entry.now))
-        (holder_of (so_far (setting config.now h input.entry.now) acts) core) }
+    ensures { (s : Setting) (acts : List Action) → Stands board.now s acts →
+        result ≡ shows_left (kept_now s) (holder_of (so_far s acts) core) }
 {
     let kept = &board.keeping.kept;
     match board.holding.holders[core as usize] {
@@ -57,11 +55,11 @@ impl Pass<'_> {
     fn free_due(&self, core: u8) -> Option<Action>
         requires at_hand { IsAtHand self.now }
         requires core { core < self.now.config.now.cores }
-        ensures due { (h : List PassEntry) (acts : List Action) → StandsIn self.now h acts →
+        ensures due { (h : Begun) (acts : List Action) → StandsIn self.now h acts →
             option_to_list result ≡ free_at (setting_in self.now h) acts core }
         ensures names { IfSome result (NamesTable self.now.config.now) }
     {
-        if is_left(self.config, self.input, self.board, core) {
+        if is_left(self.board, core) {
             Some(Action::Free { core })
         } else {
             None
@@ -71,13 +69,13 @@ impl Pass<'_> {
 
 /// Frees each core whose thread has left it, upwards. Only those that may have been left are gone
 /// over.
-pub fn free_left(config: &Config, input: &Input, board: &mut Board, out: &mut Actions)
-    requires of_table { IsOfTable config.now input.now board.old }
+pub fn free_left(config: &Config, terms: &Terms, board: &mut Board, out: &mut Actions)
+    requires of_table { IsOfTable config.now board.old }
     requires room { length out.old + config.now.cores ≤ MOST_ACTIONS }
-    ensures acts { (h : List PassEntry) →
-        Stands board.old (setting config.now h input.entry.now) out.old →
-        (out.new ≡ out.old ++ frees (setting config.now h input.entry.now) out.old)
-        × Stands board.new (setting config.now h input.entry.now) out.new }
+    ensures acts { (h : Begun) →
+        Stands board.old (setting_at config.now terms.entry.now h) out.old →
+        (out.new ≡ out.old ++ frees (setting_at config.now terms.entry.now h) out.old)
+        × Stands board.new (setting_at config.now terms.entry.now h) out.new }
     ensures ready { IsReady config.now board.new }
     ensures length { length out.new ≤ length out.old + config.now.cores }
 {
@@ -85,7 +83,7 @@ pub fn free_left(config: &Config, input: &Input, board: &mut Board, out: &mut Ac
     while let Some(core) = next_core(config, &board.unshown, first) {
         let pass = Pass {
             config,
-            input,
+            terms,
             board,
         };
         let action = pass.free_due(core);

@@ -5,9 +5,8 @@ ghost use Rattle.std.specs.Prelude.{length, option_to_list, if◌then◌else◌}
 ghost use Rattle.std.specs.Option.{IfSome};
 ghost use Rattle.cal_policy.specs.declared.history.action_list.TheConstants.{MOST_ACTIONS};
 ghost use Rattle.cal_policy.specs.declared.history.action.Action.{Action};
-ghost use Rattle.cal_policy.specs.declared.history.entry.PassEntry.{PassEntry};
 ghost use Rattle.cal_machine.specs.TableTasks.{limit_of};
-ghost use Rattle.cal_policy.specs.Setting.{setting, so_far};
+ghost use Rattle.cal_policy.specs.Setting.{Begun, setting_at, so_far};
 ghost use Rattle.cal_policy.specs.Pass.Grants as rules;
 ghost use Rattle.cal_policy.specs.Pass.Grants.{grant_of, grant_at, grant_of_kind_at};
 ghost use Rattle.cal_policy.specs.Pass.Grants.{tasks_of_kind};
@@ -20,10 +19,10 @@ use crate::board::survey::survey_of;
 use crate::history::action::{Action, Cause};
 use crate::history::action_list::Actions;
 use crate::history::core_class::CoreClass;
-use crate::history::input::Input;
 use crate::pass::Pass;
 use crate::pass::appending::make;
 use crate::pass::choice::Candidate;
+use crate::pass::terms::Terms;
 use cal_machine::{Config, Kind};
 
 impl Pass<'_> {
@@ -32,7 +31,7 @@ impl Pass<'_> {
     fn may_book(&self, task: usize) -> bool
         requires at_hand { IsAtHand self.now }
         requires task { task < length self.now.config.now.tasks }
-        ensures { (h : List PassEntry) (acts : List Action) → StandsIn self.now h acts →
+        ensures { (h : Begun) (acts : List Action) → StandsIn self.now h acts →
             let s = setting_in self.now h in result ≡ rules.may_book s (so_far s acts) task }
     {
         let booked = survey_of(self.config, self.board).booked[task];
@@ -52,7 +51,7 @@ impl Pass<'_> {
         requires task { task < length self.now.config.now.tasks }
         requires thread { thread.number < limit_of self.now.config.now task }
         requires core { IfSome core (λ best. best.number < self.now.config.now.cores) }
-        ensures chosen { (h : List PassEntry) →
+        ensures chosen { (h : Begun) →
             option_to_list result ≡ grant_of (setting_in self.now h) task (Some thread) core }
         ensures names { IfSome result (NamesTable self.now.config.now) }
     {
@@ -77,7 +76,7 @@ impl Pass<'_> {
     fn grant_due(&self, task: usize) -> Option<Action>
         requires at_hand { IsAtHand self.now }
         requires task { task < length self.now.config.now.tasks }
-        ensures due { (h : List PassEntry) (acts : List Action) → StandsIn self.now h acts →
+        ensures due { (h : Begun) (acts : List Action) → StandsIn self.now h acts →
             option_to_list result ≡ grant_at (setting_in self.now h) acts task }
         ensures names { IfSome result (NamesTable self.now.config.now) }
     {
@@ -109,20 +108,20 @@ fn is_of_kind(config: &Config, kind: Kind, task: usize) -> bool
 /// Gives a task of this kind what it gets, and another nothing.
 fn grant_of_kind(
     config: &Config,
-    input: &Input,
+    terms: &Terms,
     board: &mut Board,
     out: &mut Actions,
     kind: Kind,
     task: usize,
 )
-    requires of_table { IsOfTable config.now input.now board.old }
+    requires of_table { IsOfTable config.now board.old }
     requires task { task < length config.now.tasks }
     requires room { length out.old + (if rules.is_of_kind kind config.now task then 1 else 0)
         ≤ MOST_ACTIONS }
-    ensures acts { (h : List PassEntry) →
-        Stands board.old (setting config.now h input.entry.now) out.old →
-        (out.new ≡ out.old ++ grant_of_kind_at kind (setting config.now h input.entry.now) out.old
-        task) × Stands board.new (setting config.now h input.entry.now) out.new }
+    ensures acts { (h : Begun) →
+        Stands board.old (setting_at config.now terms.entry.now h) out.old →
+        (out.new ≡ out.old ++ grant_of_kind_at kind (setting_at config.now terms.entry.now h) out.old
+        task) × Stands board.new (setting_at config.now terms.entry.now h) out.new }
     ensures ready { IsReady config.now board.new }
     ensures length { length out.new
         ≤ length out.old + (if rules.is_of_kind kind config.now task then 1 else 0) }
@@ -130,7 +129,7 @@ fn grant_of_kind(
     if is_of_kind(config, kind, task) {
         let pass = Pass {
             config,
-            input,
+            terms,
             board,
         };
         let action = pass.grant_due(task);
@@ -138,24 +137,34 @@ fn grant_of_kind(
     }
 }
 
-/// Gives each task of this kind, by number, what it gets.
+/// Gives each task of this kind, by number, what it gets. Only those with a thread that waits are
+/// gone over.
 pub fn grants_of_kind(
     config: &Config,
-    input: &Input,
+    terms: &Terms,
     board: &mut Board,
     out: &mut Actions,
     kind: Kind,
 )
-    requires of_table { IsOfTable config.now input.now board.old }
+    requires of_table { IsOfTable config.now board.old }
     requires room { length out.old + tasks_of_kind kind config.now ≤ MOST_ACTIONS }
-    ensures acts { (h : List PassEntry) →
-        Stands board.old (setting config.now h input.entry.now) out.old →
-        (out.new ≡ out.old ++ rules.grants_of_kind kind (setting config.now h input.entry.now)
-        out.old) × Stands board.new (setting config.now h input.entry.now) out.new }
+    ensures acts { (h : Begun) →
+        Stands board.old (setting_at config.now terms.entry.now h) out.old →
+        (out.new ≡ out.old ++ rules.grants_of_kind kind (setting_at config.now terms.entry.now h)
+        out.old) × Stands board.new (setting_at config.now terms.entry.now h) out.new }
     ensures ready { IsReady config.now board.new }
     ensures length { length out.new ≤ length out.old + tasks_of_kind kind config.now }
 {
-    for task in 0..config.tasks() {
-        grant_of_kind(config, input, board, out, kind, task);
+    let threads = config.threads();
+    // The threads of the tasks below `reached` are those below `first`.
+    let mut reached = 0;
+    let mut first = 0;
+    while let Some(waiting) = board.keeping.waiting.next(first, threads) {
+        let task = config.task_of(waiting);
+        grant_of_kind(config, terms, board, out, kind, task);
+        let (begin, count) = config.threads_of(task);
+        reached = task + 1;
+        first = begin + count;
     }
+    let _ = reached;
 }

@@ -3,9 +3,8 @@
 ghost use Rattle.std.specs.Prelude.{◌≡◌, ◌<◌, List, length};
 ghost use Rattle.std.specs.Option.{IfSome};
 ghost use Rattle.cal_policy.specs.declared.history.action.Action.{Action};
-ghost use Rattle.cal_policy.specs.declared.history.entry.PassEntry.{PassEntry};
 ghost use Rattle.cal_machine.specs.TableTasks.{threads_of_table, limit_of};
-ghost use Rattle.cal_policy.specs.Setting.{so_far};
+ghost use Rattle.cal_policy.specs.Setting.{Begun, so_far};
 ghost use Rattle.cal_policy.specs.Pass.Grants as grants;
 ghost use Rattle.cal_policy.specs.Pass.AtHand.{IsAtHand, StandsIn, setting_in};
 
@@ -19,14 +18,13 @@ impl Pass<'_> {
     fn thread_rank(&self, thread: usize) -> Option<u128>
         requires at_hand { IsAtHand self.now }
         requires thread { thread < threads_of_table self.now.config.now }
-        ensures { (h : List PassEntry) (acts : List Action) → StandsIn self.now h acts →
+        ensures { (h : Begun) (acts : List Action) → StandsIn self.now h acts →
             let s = setting_in self.now h in
             result ≡ grants.thread_rank s (so_far s acts) thread }
     {
         let survey = survey_of(self.config, self.board);
         let has_none = survey.placed[thread] == 0;
-        let has_room = self.input.rooms.as_slice()[thread];
-        if has_none && has_room {
+        if has_none && self.has_room(thread) {
             Some(u128::from(self.thread_delay(thread)))
         } else {
             None
@@ -38,7 +36,7 @@ impl Pass<'_> {
     pub fn choose_thread(&self, task: usize) -> Option<Candidate<u128>>
         requires at_hand { IsAtHand self.now }
         requires task { task < length self.now.config.now.tasks }
-        ensures choice { (h : List PassEntry) (acts : List Action) → StandsIn self.now h acts →
+        ensures choice { (h : Begun) (acts : List Action) → StandsIn self.now h acts →
             let s = setting_in self.now h in
             result ≡ grants.thread_choice s (so_far s acts) task }
         ensures below { IfSome result (λ best. best.number < limit_of self.now.config.now task) }

@@ -5,9 +5,8 @@ ghost use Rattle.std.specs.Option.{IfSome};
 ghost use Rattle.cal_machine.specs.declared.machine.TheConstants.{MOST_PAIRS};
 ghost use Rattle.cal_policy.specs.declared.history.action_list.TheConstants.{MOST_ACTIONS};
 ghost use Rattle.cal_policy.specs.declared.history.action.Action.{Action};
-ghost use Rattle.cal_policy.specs.declared.history.entry.PassEntry.{PassEntry};
 ghost use Rattle.cal_policy.specs.History.Lists.{in_pair};
-ghost use Rattle.cal_policy.specs.Setting.{setting, so_far};
+ghost use Rattle.cal_policy.specs.Setting.{Begun, setting_at, so_far};
 ghost use Rattle.cal_policy.specs.Pass.Bans.{NoPairBanned, still_shows, unban_at, unbans};
 ghost use Rattle.cal_policy.specs.Board.{Stands, IsReady, IsOfTable, NamesTable};
 ghost use Rattle.cal_policy.specs.Pass.AtHand.{IsAtHand, StandsIn, setting_in};
@@ -16,9 +15,9 @@ use crate::board::Board;
 use crate::board::core_sets::next_core;
 use crate::history::action::Action;
 use crate::history::action_list::Actions;
-use crate::history::input::Input;
 use crate::pass::Pass;
 use crate::pass::appending::make;
+use crate::pass::terms::Terms;
 use cal_machine::Config;
 use cal_signal::Record;
 
@@ -34,7 +33,7 @@ impl Pass<'_> {
     fn unban_due(&self, core: u8) -> Option<Action>
         requires at_hand { IsAtHand self.now }
         requires core { core < self.now.config.now.cores }
-        ensures due { (h : List PassEntry) (acts : List Action) → StandsIn self.now h acts →
+        ensures due { (h : Begun) (acts : List Action) → StandsIn self.now h acts →
             option_to_list result ≡ unban_at (setting_in self.now h) acts core }
         ensures names { IfSome result (NamesTable self.now.config.now) }
     {
@@ -52,7 +51,7 @@ impl Pass<'_> {
     fn unban_in_pair(&self, pair: u8) -> Option<Action>
         requires at_hand { IsAtHand self.now }
         requires pair { 2 * pair + 1 < self.now.config.now.cores }
-        ensures due { (h : List PassEntry) (acts : List Action) →
+        ensures due { (h : Begun) (acts : List Action) →
             let s = setting_in self.now h in
             NoPairBanned (so_far s acts) → StandsIn self.now h acts →
             option_to_list result ≡ in_pair (unban_at s) acts pair }
@@ -67,10 +66,10 @@ impl Pass<'_> {
 
 /// Ends each ban whose thread no longer shows the core beside and the request that it was for. The
 /// banned cores are gone over upwards, pair by pair, and a pair gives at most one action.
-pub fn end_bans(config: &Config, input: &Input, board: &mut Board, out: &mut Actions)
-    requires of_table { IsOfTable config.now input.now board.old }
+pub fn end_bans(config: &Config, terms: &Terms, board: &mut Board, out: &mut Actions)
+    requires of_table { IsOfTable config.now board.old }
     requires room { length out.old + MOST_PAIRS ≤ MOST_ACTIONS }
-    ensures acts { (h : List PassEntry) → let s = setting config.now h input.entry.now in
+    ensures acts { (h : Begun) → let s = setting_at config.now terms.entry.now h in
         NoPairBanned (so_far s out.old) → Stands board.old s out.old →
         (out.new ≡ out.old ++ unbans s out.old) × Stands board.new s out.new }
     ensures ready { IsReady config.now board.new }
@@ -81,7 +80,7 @@ pub fn end_bans(config: &Config, input: &Input, board: &mut Board, out: &mut Act
         let pair = core / 2;
         let pass = Pass {
             config,
-            input,
+            terms,
             board,
         };
         let action = pass.unban_in_pair(pair);

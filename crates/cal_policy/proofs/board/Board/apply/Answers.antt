@@ -34,12 +34,6 @@ add-requires-clause-thread c =
     rw c.holder_at-after.ensures (placed_at (threads_of_table table) c.apply.new.self c.core_changed_by-core.result
     (c.apply.ensures.sound (threads_of_table table) c.requires.ready.own.holding (names_threads table c.args.action c.requires.table c.requires.names)))
 
-pub move_core-requires-clause-sorted : goal.move_core-requires-clause-sorted
-move_core-requires-clause-sorted c =
-    let old = c.args.self.now in
-    rw c.holder_at-before.ensures (sorted_at old.holding c.core_changed_by-core.result old.sets
-    (c.core_changed_by-core.ensures.below 128 128 (names_fixed c.args.config.now c.args.action c.requires.table c.requires.names)) c.requires.ready.sets)
-
 pub returns-clause-agrees : goal.returns-clause-agrees
 returns-clause-agrees c = λ x a. record {
   holding = c.apply.ensures.agrees x a.holding;

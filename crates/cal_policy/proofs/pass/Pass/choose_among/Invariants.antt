@@ -1,7 +1,7 @@
 use Rattle.std.proofs.Common.{◌≡◌, ◌<◌, ◌≤◌, ◌-◌, List}
 use Rattle.std.specs.Option.{IfSome}
 use Rattle.cal_policy.specs.declared.history.action.Action.{Action}
-use Rattle.cal_policy.specs.declared.history.entry.PassEntry.{PassEntry}
+use Rattle.cal_policy.specs.Setting.{Begun}
 use Rattle.cal_policy.specs.History.CoreClasses.{comes_before}
 use Rattle.cal_policy.specs.Pass.Choice.{best_below}
 use Rattle.cal_policy.specs.Pass.Among.{class_among}
@@ -10,7 +10,7 @@ use Rattle.cal_policy.proofs.pass.Pass.choose_among.Given as goal
 
 abbrev pub invariant-loop-core : goal.invariant-loop-core
 invariant-loop-core l = record {
-  choice : (h : List PassEntry) (acts : List Action) → StandsIn l.self h acts →
+  choice : (h : Begun) (acts : List Action) → StandsIn l.self h acts →
       l.best ≡ best_below comes_before (class_among l.cores (setting_in l.self h) acts l.task) l.first;
   below : IfSome l.best (λ best. best.number < l.first);
   first : l.first ≤ l.self.config.now.cores;

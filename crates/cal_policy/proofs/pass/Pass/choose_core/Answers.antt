@@ -1,9 +1,9 @@
 -- The choice among the free cores that are not banned comes first, and where no core may be revoked, or no task may
 -- lose one, none of the others counts.
-use Rattle.std.proofs.Common.{◌≡◌, ℕ, List, Option, nat_lt, refl, ap, sym, ◌∙◌}
+use Rattle.std.proofs.Common.{◌≡◌, ℕ, List, Option, refl, ap, sym, ◌∙◌}
 use Rattle.std.specs.Option.{option_or}
 use Rattle.cal_policy.specs.declared.history.action.Action.{Action}
-use Rattle.cal_policy.specs.declared.history.entry.PassEntry.{PassEntry}
+use Rattle.cal_policy.specs.Setting.{Begun}
 use Rattle.cal_policy.specs.declared.pass.choice.Candidate.{Candidate}
 use Rattle.cal_policy.specs.declared.history.core_class.CoreClass.{CoreClass}
 use Rattle.cal_policy.specs.declared.pass.Pass.{Pass}
@@ -17,7 +17,7 @@ use Rattle.cal_policy.proofs.BoardLemmas.TwoSets.{choice_joins, idle_choice, non
 use Rattle.cal_policy.proofs.PassLemmas.Preempting.{none_preempted}
 use Rattle.cal_policy.proofs.pass.Pass.choose_core.Goals as goal
 
-joined : (pass : Pass) (h : List PassEntry) (acts : List Action) (task : ℕ) (free : Option (Candidate CoreClass)) →
+joined : (pass : Pass) (h : Begun) (acts : List Action) (task : ℕ) (free : Option (Candidate CoreClass)) →
     IsAtHand pass → StandsIn pass h acts →
     free ≡ best_below comes_before (class_among pass.board.now.open_cores.idle (setting_in pass h) acts task) pass.config.now.cores →
     choice_of (setting_in pass h) acts task

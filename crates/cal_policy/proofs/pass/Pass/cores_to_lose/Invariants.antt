@@ -1,6 +1,6 @@
 use Rattle.std.proofs.Common.{◌≡◌, ℕ, ◌<◌, List, get_or, None}
 use Rattle.cal_policy.specs.declared.history.action.Action.{Action}
-use Rattle.cal_policy.specs.declared.history.entry.PassEntry.{PassEntry}
+use Rattle.cal_policy.specs.Setting.{Begun}
 use Rattle.cal_policy.specs.Pass.Choice.{highest_below}
 use Rattle.cal_policy.specs.Setting.{so_far}
 use Rattle.cal_policy.specs.Pass.Bandwidth.{can_lose}
@@ -11,7 +11,7 @@ use Rattle.cal_policy.proofs.pass.Pass.cores_to_lose.Given as goal
 
 abbrev pub invariant-loop-core : goal.invariant-loop-core
 invariant-loop-core l = record {
-  lose : (h : List PassEntry) (acts : List Action) → let s = setting_in l.self h in Stands l.self.board.now s acts →
+  lose : (h : Begun) (acts : List Action) → let s = setting_in l.self h in Stands l.self.board.now s acts →
       (t : ℕ) → t < 16 → get_or l.highest t None ≡ highest_below (can_lose s (so_far s acts) t) l.core;
   held : (t : ℕ) → t < 16 → HoldsCore l.self.config.now l.self.board.now t (get_or l.highest t None);
 }

@@ -1,5 +1,5 @@
 -- One may be revoked at all by the first and the last test of the rule.
-use Rattle.std.proofs.Common.{◌≡◌, ◌<◌, ◌&&◌, not, true, false, get_or, ap, sym, ◌∙◌, arith}
+use Rattle.std.proofs.Common.{◌≡◌, ◌<◌, ◌&&◌, not, Bool, true, false, refl, ap, sym, ◌∙◌, arith}
 use Rattle.cal_machine.specs.TableTasks.{is_latency_critical}
 use Rattle.cal_policy.specs.Setting.{so_far, has_room}
 use Rattle.cal_policy.specs.Pass.Grants.{is_granted_in, none_leaves_for}
@@ -17,9 +17,19 @@ pub returns-then-has_room : goal.returns-then-has_room
 returns-then-has_room c = λ h acts s.
     let at = setting_in c.args.self.now h in
     let low : c.args.core < 128 = omega (arith, c.requires.at_hand.accepted.machine.most) in
-    let fits : get_or c.args.self.now.input.now.rooms c.args.thread false ≡ true =
-    ap (λ rooms. get_or rooms c.args.thread false) (sym c.as_slice.ensures) ∙ c.if-has_room.true in
+    let fits : has_room at c.args.thread ≡ true = sym (c.has_room.ensures h) ∙ c.if-has_room.true in
     let fresh = not (is_granted_in acts c.args.core) in
     ap not (c.has.ensures ∙ s.fresh.fresh c.args.core low) ∙ sym (ap (λ room. room && fresh) fits)
     ∙ outer_hold (is_latency_critical at.table c.args.task) (has_room at c.args.thread) fresh
     (none_leaves_for at (so_far at acts) c.args.task) (c.if-not-may_preempt_any.ensures h acts s.agrees)
+
+no_room : (a b c d : Bool) → b ≡ false → false ≡ a && b && c && d
+no_room true true c d e = cc
+no_room true false c d e = refl
+no_room false b c d e = refl
+
+pub returns-else-has_room : goal.returns-else-has_room
+returns-else-has_room c = λ h acts s.
+    let at = setting_in c.args.self.now h in
+    c.if-has_room.false ∙ no_room (is_latency_critical at.table c.args.task) (has_room at c.args.thread) (not (is_granted_in acts c.args.core))
+    (none_leaves_for at (so_far at acts) c.args.task) (sym (c.has_room.ensures h) ∙ c.if-has_room.false)

@@ -1,7 +1,7 @@
-use Rattle.std.proofs.Common.{◌≡◌, false, ◌+◌, ◌-◌, ◌*◌, ◌≤◌, List, length}
-use Rattle.cal_policy.specs.declared.history.entry.PassEntry.{PassEntry}
+use Rattle.std.proofs.Common.{◌≡◌, false, ◌+◌, ◌-◌, ◌*◌, ◌≤◌, length}
+use Rattle.cal_policy.specs.Setting.{Begun}
 use Rattle.cal_policy.specs.History.Lists.{in_pair}
-use Rattle.cal_policy.specs.Setting.{setting}
+use Rattle.cal_policy.specs.Setting.{setting_at}
 use Rattle.cal_policy.specs.Pass.Bans.{bans_at}
 use Rattle.cal_policy.specs.Board.{Stands, IsReady}
 use Rattle.cal_policy.specs.Pass.ToBan.{NoneOver}
@@ -10,7 +10,7 @@ use Rattle.cal_policy.proofs.pass.bans.ban_siblings.Given as goal
 
 abbrev pub invariant-loop-core : goal.invariant-loop-core
 invariant-loop-core l = record {
-  acts : (h : List PassEntry) → let s = setting l.fn.config h l.fn.input in Stands l.fn.board s l.fn.out →
+  acts : (h : Begun) → let s = setting_at l.fn.config l.fn.terms h in Stands l.fn.board s l.fn.out →
       Reached (in_pair (bans_at s)) s l.fn.out l.out l.board l.next;
   ready : IsReady l.config l.board;
   over : l.over ≡ false → NoneOver l.config l.board;

@@ -2,7 +2,7 @@
 use Rattle.std.proofs.Common.{◌≡◌, ◌+◌, ◌≤◌, List, length, ap, sym, subst, arith}
 use Rattle.cal_machine.specs.declared.task.Kind.TheVariants as kinds
 use Rattle.cal_policy.specs.declared.history.action.Action.{Action}
-use Rattle.cal_policy.specs.Setting.{Setting, setting}
+use Rattle.cal_policy.specs.Setting.{Setting, setting_at}
 use Rattle.cal_policy.specs.Pass.Grants.{is_of_kind, tasks_of_kind}
 use Rattle.cal_policy.specs.Board.{Stands}
 use Rattle.cal_policy.proofs.ListLemmas.OneNumberMore.{count_at_most, count_both}
@@ -26,7 +26,7 @@ grants_of_kind-requires-2-clause-room c =
 
 pub returns-clause-acts : goal.returns-clause-acts
 returns-clause-acts c = λ h apart st.
-    let s : Setting = setting c.args.config.now h c.args.input.now in
+    let s : Setting = setting_at c.args.config.now c.args.terms.now h in
     let P : List Action → Type 0 = λ o. Stands c.args.board.now s o in
     let r1 = c.free_left.ensures.acts h (subst P (sym c.requires.empty) st) in
     let r2 = c.end_bans.ensures.acts h (freed_apart s _ _ c.requires.empty r1.0 apart) r1.1 in

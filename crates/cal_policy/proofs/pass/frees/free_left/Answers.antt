@@ -1,6 +1,6 @@
 -- Each core that may have been left gives what is due, and the cores between give nothing.
 use Rattle.std.proofs.Common.{◌<◌, arith}
-use Rattle.cal_policy.specs.Setting.{setting}
+use Rattle.cal_policy.specs.Setting.{setting_at}
 use Rattle.cal_policy.specs.Pass.Frees.{free_at}
 use Rattle.cal_policy.proofs.PassLemmas.PartSoFar.{Reached_step, Reached_skip}
 use Rattle.cal_policy.proofs.PassLemmas.NothingDue.{free_not_unshown}
@@ -12,7 +12,7 @@ loop-core-preserved c =
     let few : core < 128 = omega (arith, c.requires.of_table.accepted.machine.most, c.in-Some.ensures.next.1) in
     record {
       acts = λ h st.
-          let s = setting c.args.config.now h c.args.input.now in
+          let s = setting_at c.args.config.now c.args.terms.now h in
           let r = c.loop-core.invariant.acts h st in
           Reached_step (free_at s) s c.args.out.now _ _ c.loop-core.board c.note_shown.new.self core _
           (Reached_skip (free_at s) s c.args.out.now _ c.loop-core.board c.loop-core.first core c.in-Some.ensures.next.0
@@ -25,7 +25,7 @@ loop-core-preserved c =
 
 pub returns-clause-acts : goal.returns-clause-acts
 returns-clause-acts c = λ h st.
-    let s = setting c.args.config.now h c.args.input.now in
+    let s = setting_at c.args.config.now c.args.terms.now h in
     let r = c.loop-core.invariant.acts h st in
     let few = c.requires.of_table.accepted.machine.most in
     Reached_skip (free_at s) s c.args.out.now _ c.loop-core.board c.loop-core.first c.args.config.now.cores c.loop-core.invariant.first

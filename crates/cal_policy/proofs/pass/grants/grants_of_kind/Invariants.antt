@@ -1,16 +1,21 @@
-use Rattle.std.proofs.Common.{◌+◌, ◌≤◌, List, length}
-use Rattle.cal_policy.specs.declared.history.entry.PassEntry.{PassEntry}
-use Rattle.cal_policy.specs.Setting.{setting}
+use Rattle.std.proofs.Common.{◌≡◌, ◌+◌, ◌-◌, ◌≤◌, length}
+use Rattle.cal_machine.specs.Tasks.{first_thread}
+use Rattle.cal_policy.specs.Setting.{Begun, setting_at}
 use Rattle.cal_policy.specs.Pass.Choice.{count_below}
 use Rattle.cal_policy.specs.Pass.Grants.{grant_of_kind_at, is_of_kind}
 use Rattle.cal_policy.specs.Board.{Stands, IsReady}
 use Rattle.cal_policy.proofs.PassLemmas.PartSoFar.{Reached}
 use Rattle.cal_policy.proofs.pass.grants.grants_of_kind.Given as goal
 
-abbrev pub invariant-loop-task : goal.invariant-loop-task
-invariant-loop-task l = record {
-  acts : (h : List PassEntry) → Stands l.fn.board (setting l.config h l.input) l.fn.out →
-      Reached (grant_of_kind_at l.kind (setting l.config h l.input)) (setting l.config h l.input) l.fn.out l.out l.board l.task;
+abbrev pub invariant-loop-waiting : goal.invariant-loop-waiting
+invariant-loop-waiting l = record {
+  acts : (h : Begun) → Stands l.fn.board (setting_at l.config l.terms h) l.fn.out →
+      Reached (grant_of_kind_at l.kind (setting_at l.config l.terms h)) (setting_at l.config l.terms h) l.fn.out l.out l.board l.reached;
   ready : IsReady l.config l.board;
-  length : length l.out ≤ length l.fn.out + count_below (is_of_kind l.kind l.config) l.task;
+  reached : l.reached ≤ length l.config.tasks;
+  first : l.first ≡ first_thread l.config.tasks l.reached;
+  length : length l.out ≤ length l.fn.out + count_below (is_of_kind l.kind l.config) l.reached;
 }
+
+abbrev pub decreases-loop-waiting : goal.decreases-loop-waiting
+decreases-loop-waiting l = l.threads - l.first

@@ -1,7 +1,7 @@
-use Rattle.std.proofs.Common.{List, ◌+◌, ◌-◌, ◌*◌, ◌≤◌, length}
-use Rattle.cal_policy.specs.declared.history.entry.PassEntry.{PassEntry}
+use Rattle.std.proofs.Common.{◌+◌, ◌-◌, ◌*◌, ◌≤◌, length}
+use Rattle.cal_policy.specs.Setting.{Begun}
 use Rattle.cal_policy.specs.History.Lists.{in_pair}
-use Rattle.cal_policy.specs.Setting.{setting, so_far}
+use Rattle.cal_policy.specs.Setting.{setting_at, so_far}
 use Rattle.cal_policy.specs.Pass.Bans.{NoPairBanned, unban_at}
 use Rattle.cal_policy.specs.Board.{Stands, IsReady}
 use Rattle.cal_policy.proofs.PassLemmas.PartSoFar.{Reached}
@@ -9,9 +9,9 @@ use Rattle.cal_policy.proofs.pass.unbans.end_bans.Given as goal
 
 abbrev pub invariant-loop-core : goal.invariant-loop-core
 invariant-loop-core l = record {
-  acts : (h : List PassEntry) → let s = setting l.fn.config h l.fn.input in NoPairBanned (so_far s l.fn.out) → Stands l.fn.board s l.fn.out →
+  acts : (h : Begun) → let s = setting_at l.fn.config l.fn.terms h in NoPairBanned (so_far s l.fn.out) → Stands l.fn.board s l.fn.out →
       Reached (in_pair (unban_at s)) s l.fn.out l.out l.board l.next;
-  apart : (h : List PassEntry) → let s = setting l.fn.config h l.fn.input in NoPairBanned (so_far s l.fn.out) → Stands l.fn.board s l.fn.out →
+  apart : (h : Begun) → let s = setting_at l.fn.config l.fn.terms h in NoPairBanned (so_far s l.fn.out) → Stands l.fn.board s l.fn.out →
       NoPairBanned (so_far s l.out);
   ready : IsReady l.config l.board;
   length : length l.out ≤ length l.fn.out + l.next;

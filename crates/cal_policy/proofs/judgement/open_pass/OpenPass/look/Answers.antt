@@ -1,10 +1,8 @@
-use Rattle.std.proofs.Common.{◌≡◌, ℕ, length, sym, subst, ap, ◌∙◌, None}
+use Rattle.std.proofs.Common.{◌≡◌, sym, ◌∙◌, None}
 use Rattle.cal_policy.specs.History.{actions_of, looks_of}
 use Rattle.cal_policy.specs.History.Looks.{last_shown}
-use Rattle.cal_policy.specs.Judgement.Judging.{judged, IsFitLook}
 use Rattle.cal_policy.specs.Judgement.OneByOne.{misfit_of}
 use Rattle.cal_policy.proofs.JudgementLemmas.OneByOne.{misfits_do_not_fit}
-use Rattle.cal_policy.proofs.JudgementLemmas.OpenPass.{one_look_more, noted_adds}
 use Rattle.cal_policy.proofs.judgement.open_pass.OpenPass.look.Goals as goal
 
 pub returns-clause-taken : goal.returns-clause-taken
@@ -12,12 +10,5 @@ returns-clause-taken c = λ h looks agrees is.
     let table = c.args.config.now in
     let found = c.args.found in
     let old = c.args.self.now in
-    let new = c.note.new.self in
-    let n = length looks in
     let none : misfit_of (last_shown (looks_of h) old.count) found.look ≡ None = sym (c.misfit_of.ensures h agrees) ∙ c.in_default.is in
-    let fits : IsFitLook (last_shown (looks_of h) old.count) (judged table.cores (actions_of h) old.count found.look) =
-    (misfits_do_not_fit (last_shown (looks_of h) old.count) table.cores (actions_of h) old.count found.look).0 none in
-    let P : ℕ → Type 0 = λ k. IsFitLook (last_shown (looks_of h) k) (judged table.cores (actions_of h) k found.look) in
-    one_look_more table h looks found old new is
-    (noted_adds table h looks found c.judge.result old new is (record { count = c.note.ensures.count; listed = c.note.ensures.listed; full = c.note.ensures.full; noted = c.note.ensures.noted })
-    (c.judge.ensures h agrees ∙ ap (λ k. judged table.cores (actions_of h) k found.look) is.count) (subst P is.count fits))
+    c.take.ensures.taken h looks agrees is ((misfits_do_not_fit (last_shown (looks_of h) old.count) table.cores (actions_of h) old.count found.look).0 none)
