@@ -9,7 +9,7 @@ use Rattle.cal_policy.specs.Board.Survey.{CountsOneMore}
 use Rattle.cal_policy.specs.Board.CoreSets.{IsSorted}
 use Rattle.cal_policy.proofs.BoardLemmas.StateKept.{names_fixed, names_threads, placed_at}
 use Rattle.cal_policy.proofs.BoardLemmas.Surveyed.{Surveys_moved, counted_at, few_left}
-use Rattle.cal_policy.proofs.BoardLemmas.Sorted.{Sorts_moved, sorted_at}
+use Rattle.cal_policy.proofs.BoardLemmas.Sorted.{Sorts_moved}
 use Rattle.cal_policy.proofs.BoardLemmas.OpenCores.{changes_named}
 use Rattle.cal_policy.proofs.BoardLemmas.Unshown.{shows_moved}
 use Rattle.cal_policy.proofs.board.Board.apply.Goals as goal
