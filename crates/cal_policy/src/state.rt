@@ -11,3 +11,4 @@ pub use crate::history::sending::command_for;
 pub use crate::judgement::orderly::is_fit;
 pub use crate::pass::delays::record_delay;
 pub use crate::pass::frees::is_left;
+pub use crate::pass::terms::Terms;

@@ -210,15 +210,20 @@ none_waits b s acts st sets kind t most none = of_kind kind
   where
     first : ℕ
     first = first_thread s.table.tasks t
+
     none_late : task_delay s t ≡ 0
     none_late = delays_past b s acts st sets t first 0 (limit_of s.table t) refl (omega arith) most (λ j x y. none j (omega (arith, x)) y)
+
     calm : is_congested s t ≡ false
     calm = ap (λ n. nat_lt (delay_of s.table t) n) none_late ∙ not_below_0 (delay_of s.table t)
+
     nothing : grant_at s acts t ≡ []
     nothing = rw calm refl
+
     same : (b : Bool) (l : List Action) → cond b l l ≡ l
     same true l = refl
     same false l = refl
+
     of_kind : (kind : Kind) → grant_of_kind_at kind s acts t ≡ []
     of_kind kinds.LatencyCritical = rw nothing (same (is_latency_critical s.table t) [])
     of_kind kinds.BestEffort = rw nothing (same (is_latency_critical s.table t) [])
@@ -244,6 +249,7 @@ pub threads_between : (tasks : List Task) (r u t : ℕ) → r ≤ u → u < t �
     (first_thread tasks r ≤ first_thread tasks u) × (first_thread tasks u + (task_at tasks u).limit ≤ first_thread tasks t)
 threads_between tasks r u t a b le =
     let e : r + (u - r) ≡ u = omega (arith, a) in
-    let f : u + 1 + (t - (u + 1)) ≡ t = omega (arith, b) in
-    (omega (arith, first_upto tasks r (u - r) (omega (arith, a, b, le)), ap (first_thread tasks) e),
-    omega (arith, first_upto tasks (u + 1) (t - (u + 1)) (omega (arith, b, le)), ap (first_thread tasks) f, first_next tasks u (omega (arith, b, le))))
+    let f : u + 1 + (t - (u + 1)) ≡ t = omega (arith, b) in (
+      omega (arith, first_upto tasks r (u - r) (omega (arith, a, b, le)), ap (first_thread tasks) e),
+      omega (arith, first_upto tasks (u + 1) (t - (u + 1)) (omega (arith, b, le)), ap (first_thread tasks) f, first_next tasks u (omega (arith, b, le))),
+    )
