@@ -28,7 +28,7 @@ bounds-senders-thread c =
     let at : slice_get last.actions i ≡ Some (get_or items i (Free 0)) = rw (← same) (slice_get-get_or items i (Free 0) c.loop-action-test.true) in
     let by = rw c.in-Some.is at (c.command_of.ensures c.args.config.now before last c.limits.ensures facts.legal facts.agrees i at) in
     let low : c.in-Some.thread < threads_of_table c.args.config.now = by.thread in
-    let rings : length c.args.senders.now ≡ threads_of_table c.args.config.now = c.requires.rings in
+    let rings : length c.args.senders.now ≡ threads_of_table c.args.config.now = c.requires.may.rings in
     let many : length c.loop-action.senders ≡ length c.args.senders.now = c.loop-action.auto.senders in
     omega (arith, low, rings, many)
 
@@ -47,7 +47,7 @@ send-requires c =
     let by : IsSentBy c.args.config.now (actions_of before ++ take i last.actions) action (Some (t, c.in-Some.command)) =
     rw c.in-Some.is at (c.command_of.ensures c.args.config.now before last c.limits.ensures facts.legal facts.agrees i at) in
     let low : t < threads_of_table c.args.config.now = by.thread in
-    let rings : length c.args.senders.now ≡ threads_of_table c.args.config.now = c.requires.rings in
+    let rings : length c.args.senders.now ≡ threads_of_table c.args.config.now = c.requires.may.rings in
     let many : length now ≡ length c.args.senders.now = c.loop-action.auto.senders in
     let had : SenderView = c.index-senders-thread.result in
     let here : slice_get now t ≡ Some had = slice_get_read now (length now) t had refl (omega (arith, low, rings, many)) c.index-senders-thread.is in
@@ -71,7 +71,7 @@ loop-action-preserved c =
     let at : slice_get last.actions i ≡ Some action = rw (← same) (slice_get-get_or items i (Free 0) c.loop-action-test.true) in
     let sent : IsSentBy c.args.config.now (actions_of before ++ take i last.actions) action c.command_of.result =
     c.command_of.ensures c.args.config.now before last c.limits.ensures facts.legal facts.agrees i at in
-    let rings : length c.args.senders.now ≡ threads_of_table c.args.config.now = c.requires.rings in
+    let rings : length c.args.senders.now ≡ threads_of_table c.args.config.now = c.requires.may.rings in
     let many : length now ≡ length c.args.senders.now = c.loop-action.auto.senders in
     elim c.match-command_of.branch [
       | in-Some w ↦
