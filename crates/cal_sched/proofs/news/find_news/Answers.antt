@@ -1,4 +1,4 @@
-use Rattle.std.proofs.Common.{◌≡◌, ℕ, ◌+◌, ◌<◌, ◌≤◌, Bool, true, false, List, [], ◌∷◌, ◌++◌, Some, slice_get, length, refl, sym, ap, subst, ◌∙◌, arith, rules}
+use Rattle.std.proofs.Common.{◌≡◌, ℕ, ◌+◌, ◌<◌, ◌≤◌, true, false, List, [], ◌∷◌, ◌++◌, Some, slice_get, length, refl, sym, ap, subst, ◌∙◌, arith, rules}
 use Rattle.std.proofs.lemmas.Option.{slice_get_read}
 use Rattle.cal_signal.specs.Ends.{ObserverView}
 use Rattle.cal_command.specs.Rings.{SenderView}
@@ -6,12 +6,10 @@ use Rattle.cal_machine.specs.TableTasks.{threads_of_table}
 use Rattle.cal_policy.specs.declared.history.entry.PassEntry.{PassEntry}
 use Rattle.cal_policy.specs.declared.judgement.open_input.FoundLook.{FoundLook}
 use Rattle.cal_policy.specs.declared.judgement.open_pass.OpenPass.{OpenPass}
-use Rattle.cal_policy.specs.Board.{IsStateAfter}
 use Rattle.cal_policy.specs.History.{actions_of, looks_of}
 use Rattle.cal_policy.specs.History.Looks.{last_shown}
 use Rattle.cal_policy.specs.Judgement.Judging.{judged, IsFitLook}
 use Rattle.cal_policy.specs.Judgement.OpenPass.{IsOpenAt}
-use Rattle.cal_policy.specs.Judgement.Settled.{SettledAreNoNews}
 use Rattle.cal_sched.specs.Finding.{HaveFoundSo}
 use Rattle.cal_sched.specs.Looking.{HasLooked}
 use Rattle.cal_sched.specs.Passing.{HasAsked}

@@ -10,7 +10,7 @@ use Rattle.cal_policy.specs.Judgement.Judging.{IsInput}
 use Rattle.cal_policy.specs.Pass.{pass_of}
 use Rattle.cal_policy.specs.Setting.{setting}
 use Rattle.cal_sched.specs.declared.found_pass.FoundPass.{FoundPass}
-use Rattle.cal_sched.specs.Passing.{HaveFound, HaveSent, IsPassed, pass_on}
+use Rattle.cal_sched.specs.Passing.{HaveFound, HaveSent, IsPassed}
 use Rattle.cal_sched.specs.Past.{entry_of, history_of}
 use Rattle.cal_sched.specs.Scheduler.{SchedulerView, IsKept}
 use Rattle.cal_sched.proofs.Lists.{written_whole}

@@ -8,10 +8,8 @@ use Rattle.cal_policy.specs.Judgement.OpenInput.{judged_input}
 use Rattle.cal_policy.specs.Judgement.OpenPass.{IsOpenAt}
 use Rattle.cal_policy.specs.Judgement.Settled.{SettledAreNoNews}
 use Rattle.cal_sched.specs.Finding.{HaveFoundSo}
-use Rattle.cal_policy.specs.Pass.{pass_of}
-use Rattle.cal_policy.specs.Setting.{setting}
 use Rattle.cal_sched.specs.declared.found_pass.FoundPass.{FoundPass}
-use Rattle.cal_sched.specs.Passing.{HaveFound, HaveSent, IsPassed, pass_on}
+use Rattle.cal_sched.specs.Passing.{HaveFound, HaveSent, IsPassed}
 use Rattle.cal_sched.specs.Past.{entry_of, history_of}
 use Rattle.cal_sched.specs.Scheduler.{SchedulerView, IsKept}
 use Rattle.cal_sched.proofs.Lists.{written_whole}
