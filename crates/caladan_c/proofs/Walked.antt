@@ -76,6 +76,7 @@ told_as_judged table h looks came out is told k seen at = ⊎_elim
   where
     within : k < length looks
     within = omega (arith, slice_get_within (judged_looks table h looks) k seen at, length-judged_looks table h looks)
+
     by_set : (b : Bool) → has_thread came.listed k ≡ b → judgement_at came k ≡ judgement_of (look_at (last_shown (looks_of h)) came k)
     by_set true e = rw e refl
     by_set false e = rw e refl
