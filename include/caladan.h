@@ -12,8 +12,8 @@
  *  - A handle begins as CALADAN_CLOSED and is only changed by these calls. It is not copied to be used
  *    twice, and nobody reads or writes what it points to. One call at a time on a handle, on the thread
  *    that opened it.
- *  - Pointers are not null, are aligned, and have room for as many elements as the number after them
- *    says. No two arguments overlap, but for those that are only read (const).
+ *  - Pointers are aligned, and have room for as many elements as the number after them says. They are not
+ *    null, but where that number is 0. No two arguments overlap, but for those that are only read (const).
  *  - malloc, realloc and free are of one allocator, and blocks are aligned to each power of two up to 16
  *    that divides their size. No call comes from a signal handler, nor from the forked child of a
  *    process with threads.
@@ -332,10 +332,15 @@ uint8_t caladan_thread(caladan *handle, size_t thread, caladan_thread_state *sta
  * before [refused]. Nothing changes [same]; it is good for the next pass only. */
 uint8_t caladan_gone(caladan *handle, size_t thread, caladan_look *look);
 
+/* A core's number as a byte: one that does not fit is 255, which no table has. The calls below take any number for
+ * it, so that 256 is not core 0. */
+static inline uint8_t caladan_core(size_t core) { return core < UINT8_MAX ? (uint8_t)core : UINT8_MAX; }
+
 /* Who has a core after the passes so far: DONE [told] exactly of one that the table has [there], else
  * NO_SUCH [no_core]; IS_CLOSED [closed]. Unless DONE *holder is as before [refused]. Nothing changes
  * [same]. */
 uint8_t caladan_holder(caladan *handle, uint8_t core, caladan_holder_of_core *holder);
+#define caladan_holder(handle, core, holder) caladan_holder(handle, caladan_core(core), holder)
 
 /* What a task has after the passes so far: DONE [told] exactly of one that the table has [there], else
  * NO_SUCH [no_task]; IS_CLOSED [closed]. Unless DONE *counts is as before [refused]. Nothing changes
@@ -344,7 +349,7 @@ uint8_t caladan_task(caladan *handle, size_t task, caladan_counts *counts);
 
 /* The thread that is to be sent Park, of a core that the last pass revokes: it is the one that is told
  * to leave it. DONE, IS_CLOSED, or NO_SUCH where nobody is told to leave the core [tested]. */
-static inline uint8_t caladan_revoked(caladan *handle, uint8_t core, uint8_t *thread) {
+static inline uint8_t caladan_revoked(caladan *handle, size_t core, uint8_t *thread) {
     caladan_holder_of_core holder;
     uint8_t answer = caladan_holder(handle, core, &holder);
     if (answer != CALADAN_DONE) return answer;
@@ -508,13 +513,14 @@ uint8_t caladan_guard_gone(caladan_guard *guard, size_t thread, caladan_look *lo
 /* Who has a core after the passes that went through, as caladan_holder says it [told, there, no_core,
  * closed, refused, same]. */
 uint8_t caladan_guard_holder(caladan_guard *guard, uint8_t core, caladan_holder_of_core *holder);
+#define caladan_guard_holder(guard, core, holder) caladan_guard_holder(guard, caladan_core(core), holder)
 
 /* What a task has after them, as caladan_task says it [told, there, no_task, closed, refused, same]. */
 uint8_t caladan_guard_task(caladan_guard *guard, size_t task, caladan_counts *counts);
 
 /* The thread that is to be sent Park, of a core that the last pass revokes: DONE, IS_CLOSED, or NO_SUCH
  * where nobody is told to leave the core [tested]. */
-static inline uint8_t caladan_guard_revoked(caladan_guard *guard, uint8_t core, uint8_t *thread) {
+static inline uint8_t caladan_guard_revoked(caladan_guard *guard, size_t core, uint8_t *thread) {
     caladan_holder_of_core holder;
     uint8_t answer = caladan_guard_holder(guard, core, &holder);
     if (answer != CALADAN_DONE) return answer;

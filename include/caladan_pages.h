@@ -280,8 +280,8 @@ static inline bool caladan_ring_take(caladan_ring *ring, uint64_t *command) {
  * Whatever the page shows, it then shows that record, and who finds it (caladan_adopt) finds the ring empty.
  *
  * Anybody may look meanwhile, also lookers to whom other records were shown than to the scheduler: the page
- * is busy until the record is there, and its place is the one of `gone`, or else the one after the last that
- * the page has shown or begun, so that no place ever has two records. But a version that is more than
+ * is busy until the record is there, and its place is the one of `gone`, or else the first one behind it at
+ * which the page has shown none, so that no place ever has two records. But a version that is more than
  * CALADAN_FARTHEST places above `gone` is a lie, and counts for nothing: the place is that of `gone` then, so
  * that no lie uses up the places of a page. Its misses and stamp are those that the scheduler was shown: a
  * looker that was shown later ones finds that they fell. Where there are such lookers the scheduler makes

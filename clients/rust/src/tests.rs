@@ -1,5 +1,6 @@
 //! The calls of the wrapper, once each.
 
+use super::{Counts, Handle, Holder, TableTask};
 use super::{history_of_each, Action, Audit, Command, Guard, Judged, Look, Machine, NotThrough, Refused, Scheduler, Stopped, Thread, Verdict, WORDS};
 
 const TABLE: &str = "cores = 2\nbandwidth_limit = 1000\n\n[[task]]\nkind = \"lc\"\nguaranteed = 1\nlimit = 1\ndelay = 10\nrequest = 50\n";
@@ -109,4 +110,41 @@ fn texts_and_history() {
 #[test]
 fn no_table() {
     assert_eq!(Scheduler::open("cores = 3\n").err(), Some(Refused(3)));
+}
+
+/// The size and the places that the header says of a struct.
+fn of_header(name: &str) -> (usize, Vec<(String, usize)>) {
+    let header = include_str!("../../../include/caladan.h");
+    let numbers = |start: &str| -> Vec<(String, usize)> {
+        let lines = header.lines().filter_map(|line| line.strip_prefix(start)?.strip_suffix(");"));
+        lines.map(|rest| rest.rsplit_once(", ").map_or(("", rest), |it| it)).map(|(field, number)| (field.to_string(), number.parse().unwrap())).collect()
+    };
+    (numbers(&format!("CALADAN_SIZE({name}, "))[0].1, numbers(&format!("CALADAN_PLACE({name}, ")))
+}
+
+/// Each struct has the size, and each field the place, that the header says of it.
+#[test]
+fn layout_is_the_headers() {
+    macro_rules! same {
+        ($name:literal, $kind:ty, $($field:ident),+) => {
+            let places = vec![$((stringify!($field).to_string(), std::mem::offset_of!($kind, $field))),+];
+            assert_eq!((size_of::<$kind>(), places), of_header($name), "{}", $name);
+        };
+    }
+    use std::mem::size_of;
+    same!("caladan", Handle, open, at);
+    same!("caladan_audit", Handle, open, at);
+    same!("caladan_guard", Handle, open, at);
+    same!("caladan_action", Action, kind, core, thread, core_class, cause, by, task, cap, started);
+    same!("caladan_holder_of_core", Holder, state, thread, cause, cause_of);
+    same!("caladan_counts", Counts, held, booked, cap);
+    same!("caladan_machine", Machine, cores, tasks, threads, bandwidth_limit);
+    same!("caladan_table_row", TableTask, kind, guaranteed, limit, first_thread, delay, request);
+    same!("caladan_thread_state", Thread, task, sent, taken);
+    same!("caladan_refused", Stopped, place, why, names);
+    let mut places: Vec<(String, usize)> = vec![("busy".into(), std::mem::offset_of!(Look, busy)), ("room".into(), std::mem::offset_of!(Look, room))];
+    places.extend([("number".to_string(), std::mem::offset_of!(Look, number)), ("second".to_string(), std::mem::offset_of!(Look, second))]);
+    places.extend(WORDS.iter().enumerate().map(|(k, word)| (word.to_string(), std::mem::offset_of!(Look, words) + 8 * k)));
+    assert_eq!((size_of::<Look>(), places), of_header("caladan_look"));
+    assert_eq!(include_str!("../../../include/caladan.h").lines().filter(|line| line.starts_with("CALADAN_SIZE(")).count(), 11);
 }
