@@ -27,7 +27,8 @@
  * caladan_table, caladan_table_task, caladan_thread, caladan_gone and caladan_revoked, the same of a guard
  * (caladan_guard_pass_each and so on), the judgements from CALADAN_NO_PAIR on, the answer CALADAN_LOST,
  * the texts, the words of a look as one run (CALADAN_WORDS, caladan_look_words, caladan_look_set_words),
- * CALADAN_HISTORY_HEADER, CALADAN_MOST_CORES and CALADAN_MOST_THREADS.
+ * CALADAN_HISTORY_HEADER, CALADAN_MOST_CORES, CALADAN_MOST_THREADS and CALADAN_IS_THIS_VERSION. A core may
+ * be given as any number, also one above 255.
  */
 #ifndef CALADAN_H
 #define CALADAN_H

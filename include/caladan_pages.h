@@ -34,10 +34,10 @@
  *
  * ORDER. Loads and stores are as weak as each allows; the reason is beside each. On x86 every one of them
  * is a plain move, and the fences only keep the compiler in order. On ARM a release store is stlr, an
- * acquire load ldar, the fences dmb ish and dmb ishld. clients/c/order_test.c runs this very code, in small
- * instances, through each order of loads and stores that a machine of views has (what C11 allows, but that
- * no load finds what was stored because of it), and tools/weaker_orders sees that it fails with each order
- * below weakened by itself.
+ * acquire load ldar, the fences dmb ish and dmb ishld; it was not run there. clients/c/order_test.c runs this
+ * very code, in small instances, through each order of loads and stores that a machine of views has (what C11
+ * allows, but that no load finds what is stored because of it), and tools/weaker_orders sees that it fails
+ * with each order below weakened by itself.
  *
  * Since version 1 of the pages: lines of 128 bytes; a sender has a count of his own (caladan_sender), so
  * caladan_ring_has_room is gone and caladan_ring_send takes a sender; caladan_adopt, caladan_bury and
