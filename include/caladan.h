@@ -11,7 +11,7 @@
  * owes:
  *  - A handle begins as CALADAN_CLOSED and is only changed by these calls. It is not copied to be used
  *    twice, and nobody reads or writes what it points to. One call at a time on a handle, on the thread
- *    that opened it.
+ *    that opened it: what is proved is proved of one thread.
  *  - Pointers are aligned, and have room for as many elements as the number after them says. They are not
  *    null, but where that number is 0. No two arguments overlap, but for those that are only read (const).
  *  - malloc, realloc and free are of one allocator, and blocks are aligned to each power of two up to 16

@@ -18,26 +18,27 @@
  * looker takes what he finds to caladan_pass_each, which refuses what its thread cannot have done.
  *
  * WHAT A CALLER OWES
- *  - A page and a ring lie at a multiple of CALADAN_LINE, as their types say: memory of mmap or of
- *    aligned_alloc does, that of malloc and calloc need not.
- *  - On a page either one caladan_publisher publishes, or all who publish take turns; never both.
- *  - Nobody publishes with a publisher, or takes from a ring, within such a call: no second thread, and no
- *    signal handler that interrupted it. Records of two such calls mix, and are shown as whole. A handler
- *    that publishes does it by turns, as then everybody on that page: within a turn caladan_turn_try is
- *    false to it, and it leaves the rest to whom it interrupted. Or the signal is blocked meanwhile.
- *  - Who ends within a turn leaves the page busy, to all others who publish on it too. Only when each of
- *    them is gone is it buried: before that the record of those who live would say that they are gone.
- * With CALADAN_CHECKED defined, in each file that shares a publisher, the calls look at what is owed here
- * and go to CALADAN_BROKEN(why), which is abort() unless it is defined: for tests and builds to debug. They
- * see a wrong address, a second call within a publisher's call or within a taking, a publication on a page
- * on which somebody else published, and a word or an end of a turn on a page that nobody has.
+ *  - A page and a ring lie at a multiple of CALADAN_LINE, as their types say. Memory from mmap or
+ *    aligned_alloc does; memory from malloc or calloc need not.
+ *  - On a page, either one caladan_publisher publishes or everybody who publishes takes turns; never both.
+ *  - Publishing with a publisher, and taking from a ring, is one call at a time: no second thread enters,
+ *    and no signal handler that interrupted such a call. Records of two such calls mix, and a torn one is
+ *    shown as whole. A handler that must publish does it by turns, as then everybody on that page does: while
+ *    the code that it interrupted has a turn, caladan_turn_try is false in the handler. Else the signal is
+ *    blocked meanwhile.
+ *  - A thread that ends within its turn leaves the page busy for all who publish on it. The page is buried
+ *    only when all of them are gone: before that, the record would say of the living that they are gone.
+ * With CALADAN_CHECKED defined (in every file that shares a publisher) the calls check these rules, and call
+ * CALADAN_BROKEN(why) where one is broken; that is abort() unless you define it. It is meant for tests and
+ * debug builds. Noticed are a wrong address, a publication or a taking that was entered again, a publication
+ * on a page on which somebody else has published, and a word or an end of a turn that nobody has.
  *
- * ORDER. Loads and stores are as weak as each allows; the reason is beside each. On x86 every one of them
- * is a plain move, and the fences only keep the compiler in order. On ARM a release store is stlr, an
- * acquire load ldar, the fences dmb ish and dmb ishld; it was not run there. clients/c/order_test.c runs this
- * very code, in small instances, through each order of loads and stores that a machine of views has (what C11
- * allows, but that no load finds what is stored because of it), and tools/weaker_orders sees that it fails
- * with each order below weakened by itself.
+ * ORDER. Loads and stores are as weak as each allows; the reason is beside each. On x86 each is a plain move
+ * (the swap that begins a turn is a locked one), and the fences only keep the compiler in order. On ARM a
+ * release store is stlr, an acquire load ldar, the fences are dmb ish and dmb ishld; this was never run there.
+ * clients/c/order_test.c runs this very code, in small instances, through every order of loads and stores
+ * that a machine of views has (all that C11 allows, except load buffering: a load that finds what is stored
+ * because of it), and tools/weaker_orders checks that the test fails with each order below weakened alone.
  *
  * Since version 1 of the pages: lines of 128 bytes; a sender has a count of his own (caladan_sender), so
  * caladan_ring_has_room is gone and caladan_ring_send takes a sender; caladan_adopt, caladan_bury and
@@ -69,7 +70,7 @@ typedef _Atomic uint64_t caladan_shared;
                                                          CALADAN_STD(memory_order_relaxed))
 #endif
 
-/* Looks at what a caller owes, where CALADAN_CHECKED is defined. */
+/* Checks a rule, where CALADAN_CHECKED is defined. */
 #ifdef CALADAN_CHECKED
 #ifndef CALADAN_BROKEN
 #include <stdlib.h>
@@ -85,7 +86,7 @@ typedef _Atomic uint64_t caladan_shared;
  * record has, so that sides which were built with other records have other versions. */
 #define CALADAN_PAGES_VERSION (CALADAN_WORDS << 8 | 2)
 
-/* The most places that a page is believed to be beyond the last one that was taken to a pass (caladan_bury). */
+/* How many places beyond the one of `gone` caladan_bury believes a page to be. */
 #define CALADAN_FARTHEST ((uint64_t)1 << 32)
 
 enum { CALADAN_PLACES = 4, CALADAN_PARK = 0, CALADAN_LINE = 128 };
@@ -275,17 +276,18 @@ static inline bool caladan_ring_take(caladan_ring *ring, uint64_t *command) {
 }
 
 /* Publishes for a thread that is gone what caladan_gone tells, and empties its ring, whatever was written to
- * it: sent and taken are what the thread was sent. The host does it, once nobody publishes on the page or
- * takes from the ring any more (a process ended, and was waited for), and goes on sending from that count.
- * Whatever the page shows, it then shows that record, and who finds it (caladan_adopt) finds the ring empty.
+ * it: `sent` and `taken` become the number of commands that the thread was sent. The host calls it once nobody
+ * publishes on the page or takes from the ring any more (the process has ended and was waited for), and goes
+ * on sending from that count. Whatever the page shows, it then shows that record; whoever finds it
+ * (caladan_adopt) finds the ring empty.
  *
- * Anybody may look meanwhile, also lookers to whom other records were shown than to the scheduler: the page
- * is busy until the record is there, and its place is the one of `gone`, or else the first one behind it at
- * which the page has shown none, so that no place ever has two records. But a version that is more than
- * CALADAN_FARTHEST places above `gone` is a lie, and counts for nothing: the place is that of `gone` then, so
- * that no lie uses up the places of a page. Its misses and stamp are those that the scheduler was shown: a
- * looker that was shown later ones finds that they fell. Where there are such lookers the scheduler makes
- * one more pass with a look at the page once the thread is gone, before it asks for `gone`.
+ * Anybody may look meanwhile, also lookers that saw other records of the thread than the scheduler did. The
+ * page is busy until the record is there, and the record gets the place of `gone` or, where the page has shown
+ * that place already, the first one after it that the page has not shown; so no place ever has two records.
+ * A version that is more than CALADAN_FARTHEST places beyond `gone` is a lie and is ignored (the record gets
+ * the place of `gone`), so that no lie uses up the places of a page. misses and stamp of the record are those
+ * that the scheduler saw last: to a looker that saw later ones they fell. Where there are such lookers, the
+ * scheduler makes one more pass with a look at the page after the thread has ended, and then asks for `gone`.
  *
  * False where a page has no such place (2^63 and above): the look itself may be given to the next pass. */
 static inline bool caladan_bury(caladan_page *page, caladan_ring *ring, const caladan_look *gone) {
