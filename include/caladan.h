@@ -11,9 +11,9 @@
  * owes:
  *  - A handle begins as CALADAN_CLOSED and is only changed by these calls. It is not copied to be used
  *    twice, and nobody reads or writes what it points to. One call at a time on a handle, on the thread
- *    that opened it.
- *  - Pointers are not null, are aligned, and have room for as many elements as the number after them
- *    says. No two arguments overlap, but for those that are only read (const).
+ *    that opened it: what is proved is proved of one thread.
+ *  - Pointers are aligned, and have room for as many elements as the number after them says. They are not
+ *    null, but where that number is 0. No two arguments overlap, but for those that are only read (const).
  *  - malloc, realloc and free are of one allocator, and blocks are aligned to each power of two up to 16
  *    that divides their size. No call comes from a signal handler, nor from the forked child of a
  *    process with threads.
@@ -27,7 +27,8 @@
  * caladan_table, caladan_table_task, caladan_thread, caladan_gone and caladan_revoked, the same of a guard
  * (caladan_guard_pass_each and so on), the judgements from CALADAN_NO_PAIR on, the answer CALADAN_LOST,
  * the texts, the words of a look as one run (CALADAN_WORDS, caladan_look_words, caladan_look_set_words),
- * CALADAN_HISTORY_HEADER, CALADAN_MOST_CORES and CALADAN_MOST_THREADS.
+ * CALADAN_HISTORY_HEADER, CALADAN_MOST_CORES, CALADAN_MOST_THREADS and CALADAN_IS_THIS_VERSION. A core may
+ * be given as any number, also one above 255.
  */
 #ifndef CALADAN_H
 #define CALADAN_H
@@ -40,8 +41,21 @@
 extern "C" {
 #endif
 
-/* The version of this interface, which caladan_version answers. */
+/* The version of this interface, which caladan_version answers. Whether the library that a program is linked
+ * with has it, so that what this header says is said of that library: */
 #define CALADAN_VERSION 2
+#define CALADAN_IS_THIS_VERSION() (caladan_version() == CALADAN_VERSION)
+
+/* What the library takes each struct to be, in bytes: its size, and the place of each field. A compiler for
+ * which it is another one refuses this header. clients/c/layout_test.c sees that the library writes and
+ * reads at these places, and the Python module and the Rust crate are compared with these very lines. */
+#ifdef __cplusplus
+#define CALADAN_SAME(is, why) static_assert(is, why)
+#else
+#define CALADAN_SAME(is, why) _Static_assert(is, why)
+#endif
+#define CALADAN_SIZE(type, size) CALADAN_SAME(sizeof(type) == (size), #type " has " #size " bytes")
+#define CALADAN_PLACE(type, field, at) CALADAN_SAME(offsetof(type, field) == (at), #field " of " #type " is at " #at)
 
 /* The first line of a history (docs/FORMATS.md). */
 #define CALADAN_HISTORY_HEADER "caladan-history,2"
@@ -82,6 +96,9 @@ typedef struct caladan {
     bool open;
     void *at;
 } caladan;
+CALADAN_SIZE(caladan, 16);
+CALADAN_PLACE(caladan, open, 0);
+CALADAN_PLACE(caladan, at, 8);
 #ifdef __cplusplus
 #define CALADAN_CLOSED (caladan{false, nullptr})
 #else
@@ -105,6 +122,20 @@ typedef struct caladan_look {
     uint64_t paused;  /* 0 without a suspended request */
     uint64_t since;   /* when the suspended request came */
 } caladan_look;
+CALADAN_SIZE(caladan_look, 96);
+CALADAN_PLACE(caladan_look, busy, 0);
+CALADAN_PLACE(caladan_look, room, 1);
+CALADAN_PLACE(caladan_look, number, 8);
+CALADAN_PLACE(caladan_look, second, 16);
+CALADAN_PLACE(caladan_look, taken, 24);
+CALADAN_PLACE(caladan_look, running, 32);
+CALADAN_PLACE(caladan_look, queued, 40);
+CALADAN_PLACE(caladan_look, oldest, 48);
+CALADAN_PLACE(caladan_look, started, 56);
+CALADAN_PLACE(caladan_look, misses, 64);
+CALADAN_PLACE(caladan_look, stamp, 72);
+CALADAN_PLACE(caladan_look, paused, 80);
+CALADAN_PLACE(caladan_look, since, 88);
 
 /* How many words a record has: as many as a look has from `taken` on. */
 enum { CALADAN_WORDS = (sizeof(caladan_look) - offsetof(caladan_look, taken)) / sizeof(uint64_t) };
@@ -160,6 +191,16 @@ typedef struct caladan_action {
     uint8_t cap;        /* of a cap: the most cores that the task may book */
     uint64_t started;   /* of a ban: when the request was begun */
 } caladan_action;
+CALADAN_SIZE(caladan_action, 16);
+CALADAN_PLACE(caladan_action, kind, 0);
+CALADAN_PLACE(caladan_action, core, 1);
+CALADAN_PLACE(caladan_action, thread, 2);
+CALADAN_PLACE(caladan_action, core_class, 3);
+CALADAN_PLACE(caladan_action, cause, 4);
+CALADAN_PLACE(caladan_action, by, 5);
+CALADAN_PLACE(caladan_action, task, 6);
+CALADAN_PLACE(caladan_action, cap, 7);
+CALADAN_PLACE(caladan_action, started, 8);
 
 /* Who has a core. */
 enum { CALADAN_CORE_FREE = 0, CALADAN_CORE_HELD = 1, CALADAN_CORE_LEAVING = 2 };
@@ -169,6 +210,11 @@ typedef struct caladan_holder_of_core {
     uint8_t cause;    /* of a core that is being left: why */
     uint8_t cause_of; /* for a ban, the core that was banned for; for a task, the task */
 } caladan_holder_of_core;
+CALADAN_SIZE(caladan_holder_of_core, 4);
+CALADAN_PLACE(caladan_holder_of_core, state, 0);
+CALADAN_PLACE(caladan_holder_of_core, thread, 1);
+CALADAN_PLACE(caladan_holder_of_core, cause, 2);
+CALADAN_PLACE(caladan_holder_of_core, cause_of, 3);
 
 /* What a task has, in cores. */
 typedef struct caladan_counts {
@@ -176,6 +222,10 @@ typedef struct caladan_counts {
     uint8_t booked; /* its threads hold or leave them */
     uint8_t cap;    /* its last cap, else its limit */
 } caladan_counts;
+CALADAN_SIZE(caladan_counts, 3);
+CALADAN_PLACE(caladan_counts, held, 0);
+CALADAN_PLACE(caladan_counts, booked, 1);
+CALADAN_PLACE(caladan_counts, cap, 2);
 
 /* The version: 2 [proved]. */
 uint32_t caladan_version(void);
@@ -230,6 +280,11 @@ typedef struct caladan_machine {
     uint8_t threads;          /* 1 to CALADAN_MOST_THREADS */
     uint64_t bandwidth_limit; /* the figure above which a best-effort task loses a core */
 } caladan_machine;
+CALADAN_SIZE(caladan_machine, 16);
+CALADAN_PLACE(caladan_machine, cores, 0);
+CALADAN_PLACE(caladan_machine, tasks, 1);
+CALADAN_PLACE(caladan_machine, threads, 2);
+CALADAN_PLACE(caladan_machine, bandwidth_limit, 8);
 uint8_t caladan_table(caladan *handle, caladan_machine *machine);
 
 /* What the table says of a task: DONE [told] exactly of one that it has [there], else NO_SUCH [no_task];
@@ -244,6 +299,13 @@ typedef struct caladan_table_row {
     uint64_t delay;     /* above it the task is congested */
     uint64_t request;   /* a request that is older bans the sibling of its core */
 } caladan_table_row;
+CALADAN_SIZE(caladan_table_row, 24);
+CALADAN_PLACE(caladan_table_row, kind, 0);
+CALADAN_PLACE(caladan_table_row, guaranteed, 1);
+CALADAN_PLACE(caladan_table_row, limit, 2);
+CALADAN_PLACE(caladan_table_row, first_thread, 3);
+CALADAN_PLACE(caladan_table_row, delay, 8);
+CALADAN_PLACE(caladan_table_row, request, 16);
 uint8_t caladan_table_task(caladan *handle, size_t task, caladan_table_row *row);
 
 /* A thread after the passes so far: DONE [told] exactly of one that the table has [there], else NO_SUCH
@@ -255,6 +317,10 @@ typedef struct caladan_thread_state {
     uint64_t sent;  /* commands that the passes sent to it (at most 2^64 - 1 is told) */
     uint64_t taken; /* those that its kept record acknowledges; never above sent [law kept_records_are_true] */
 } caladan_thread_state;
+CALADAN_SIZE(caladan_thread_state, 24);
+CALADAN_PLACE(caladan_thread_state, task, 0);
+CALADAN_PLACE(caladan_thread_state, sent, 8);
+CALADAN_PLACE(caladan_thread_state, taken, 16);
 uint8_t caladan_thread(caladan *handle, size_t thread, caladan_thread_state *state);
 
 /* What the page of a thread must show once the thread is gone, as a look (with room): it has taken what
@@ -267,10 +333,15 @@ uint8_t caladan_thread(caladan *handle, size_t thread, caladan_thread_state *sta
  * before [refused]. Nothing changes [same]; it is good for the next pass only. */
 uint8_t caladan_gone(caladan *handle, size_t thread, caladan_look *look);
 
+/* A core's number as a byte: one that does not fit is 255, which no table has. The calls below take any number for
+ * it, so that 256 is not core 0. */
+static inline uint8_t caladan_core(size_t core) { return core < UINT8_MAX ? (uint8_t)core : UINT8_MAX; }
+
 /* Who has a core after the passes so far: DONE [told] exactly of one that the table has [there], else
  * NO_SUCH [no_core]; IS_CLOSED [closed]. Unless DONE *holder is as before [refused]. Nothing changes
  * [same]. */
 uint8_t caladan_holder(caladan *handle, uint8_t core, caladan_holder_of_core *holder);
+#define caladan_holder(handle, core, holder) caladan_holder(handle, caladan_core(core), holder)
 
 /* What a task has after the passes so far: DONE [told] exactly of one that the table has [there], else
  * NO_SUCH [no_task]; IS_CLOSED [closed]. Unless DONE *counts is as before [refused]. Nothing changes
@@ -279,7 +350,7 @@ uint8_t caladan_task(caladan *handle, size_t task, caladan_counts *counts);
 
 /* The thread that is to be sent Park, of a core that the last pass revokes: it is the one that is told
  * to leave it. DONE, IS_CLOSED, or NO_SUCH where nobody is told to leave the core [tested]. */
-static inline uint8_t caladan_revoked(caladan *handle, uint8_t core, uint8_t *thread) {
+static inline uint8_t caladan_revoked(caladan *handle, size_t core, uint8_t *thread) {
     caladan_holder_of_core holder;
     uint8_t answer = caladan_holder(handle, core, &holder);
     if (answer != CALADAN_DONE) return answer;
@@ -310,6 +381,9 @@ typedef struct caladan_audit {
     bool open;
     void *at;
 } caladan_audit;
+CALADAN_SIZE(caladan_audit, 16);
+CALADAN_PLACE(caladan_audit, open, 0);
+CALADAN_PLACE(caladan_audit, at, 8);
 #ifdef __cplusplus
 #define CALADAN_AUDIT_CLOSED (caladan_audit{false, nullptr})
 #else
@@ -352,6 +426,9 @@ typedef struct caladan_guard {
     bool open;
     void *at;
 } caladan_guard;
+CALADAN_SIZE(caladan_guard, 16);
+CALADAN_PLACE(caladan_guard, open, 0);
+CALADAN_PLACE(caladan_guard, at, 8);
 #ifdef __cplusplus
 #define CALADAN_GUARD_CLOSED (caladan_guard{false, nullptr})
 #else
@@ -383,6 +460,10 @@ typedef struct caladan_refused {
     uint8_t why;   /* CALADAN_WHY_.. */
     uint8_t names; /* for BANNED_HELD the core, for OVER_CAP the task; else 0 */
 } caladan_refused;
+CALADAN_SIZE(caladan_refused, 16);
+CALADAN_PLACE(caladan_refused, place, 0);
+CALADAN_PLACE(caladan_refused, why, 8);
+CALADAN_PLACE(caladan_refused, names, 9);
 
 /* Opens a guard of the task table that a text spells, in a closed handle, as caladan_open does [opened,
  * already, refused]. Takes all the memory that passes of at most CALADAN_MOST_ACTIONS actions need [not
@@ -433,13 +514,14 @@ uint8_t caladan_guard_gone(caladan_guard *guard, size_t thread, caladan_look *lo
 /* Who has a core after the passes that went through, as caladan_holder says it [told, there, no_core,
  * closed, refused, same]. */
 uint8_t caladan_guard_holder(caladan_guard *guard, uint8_t core, caladan_holder_of_core *holder);
+#define caladan_guard_holder(guard, core, holder) caladan_guard_holder(guard, caladan_core(core), holder)
 
 /* What a task has after them, as caladan_task says it [told, there, no_task, closed, refused, same]. */
 uint8_t caladan_guard_task(caladan_guard *guard, size_t task, caladan_counts *counts);
 
 /* The thread that is to be sent Park, of a core that the last pass revokes: DONE, IS_CLOSED, or NO_SUCH
  * where nobody is told to leave the core [tested]. */
-static inline uint8_t caladan_guard_revoked(caladan_guard *guard, uint8_t core, uint8_t *thread) {
+static inline uint8_t caladan_guard_revoked(caladan_guard *guard, size_t core, uint8_t *thread) {
     caladan_holder_of_core holder;
     uint8_t answer = caladan_guard_holder(guard, core, &holder);
     if (answer != CALADAN_DONE) return answer;

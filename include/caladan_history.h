@@ -1,8 +1,9 @@
 /* caladan_history.h: writes passes as a history (docs/FORMATS.md, version 2), which `caladan_sim audit`
- * reads behind the task table and a line of three dashes. Not proved; clients/c/liar_test.c writes by it
- * what tools/c_library has audited.
+ * reads behind the task table and a line of three dashes. Not proved; clients/c/history_test.c tests it, and
+ * clients/c/liar_test.c writes by it what tools/c_library has audited.
  *
- * A file is: the table's text, "---\n", then what these calls write.
+ * A file is: the table's text, "---\n", then what these calls write. A stream keeps in its own memory what is
+ * written to it, so that a full disk shows late: caladan_history_end says whether all of it went out.
  */
 #ifndef CALADAN_HISTORY_H
 #define CALADAN_HISTORY_H
@@ -10,7 +11,11 @@
 #include <inttypes.h>
 #include <stdio.h>
 
-static inline void caladan_history_begin(FILE *out) { fputs(CALADAN_HISTORY_HEADER "\n", out); }
+/* False where an earlier write to the stream has failed. So say all of these calls. */
+static inline bool caladan_history_begin(FILE *out) {
+    fputs(CALADAN_HISTORY_HEADER "\n", out);
+    return !ferror(out);
+}
 
 /* A comma and a number; it writes digits itself, since a pass writes many. */
 static inline void caladan_history_number(FILE *out, uint64_t number) {
@@ -22,22 +27,35 @@ static inline void caladan_history_number(FILE *out, uint64_t number) {
     fwrite(text + at, 1, sizeof text - at, out);
 }
 
-/* One look as it was taken and judged. One that was refused (judged above CALADAN_BUSY by
- * caladan_pass_each) is written as the busy look that was taken. */
-static inline void caladan_history_look(FILE *out, size_t thread, const caladan_look *look, uint8_t judged) {
-    static const char *const kinds[] = {"", "whole", "busy", "ahead", "foreign"};
-    if (look->busy || judged == CALADAN_BUSY || judged > CALADAN_FOREIGN) {
-        fprintf(out, "busy,%zu,%d,%" PRIu64 ",%" PRIu64 "\n", thread, look->room != 0, look->number, look->second);
-        return;
+/* One look of caladan_pass and what it judged of it (KEPT, BUSY, AHEAD or FOREIGN). A look with another
+ * judgement, which only caladan_pass_each refuses it by, is written as the busy look that was taken in its place. */
+static inline bool caladan_history_look(FILE *out, size_t thread, const caladan_look *look, uint8_t judged) {
+    static const char *const kinds[] = {"busy", "whole", "busy", "ahead", "foreign"};
+    caladan_look taken = judged > CALADAN_FOREIGN ? caladan_taken(look, judged) : *look;
+    if (taken.busy || judged > CALADAN_FOREIGN) judged = CALADAN_BUSY;
+    fprintf(out, "%s,%zu,%d,%" PRIu64, kinds[judged], thread, taken.room != 0, taken.number);
+    if (taken.busy) {
+        caladan_history_number(out, taken.second);
+    } else {
+        uint64_t words[CALADAN_WORDS];
+        caladan_look_words(&taken, words);
+        for (int i = 0; i < CALADAN_WORDS; i++) caladan_history_number(out, words[i]);
     }
-    uint64_t words[CALADAN_WORDS];
-    caladan_look_words(look, words);
-    fprintf(out, "%s,%zu,%d,%" PRIu64, kinds[judged], thread, look->room != 0, look->number);
-    for (int i = 0; i < CALADAN_WORDS; i++) caladan_history_number(out, words[i]);
     fputc('\n', out);
+    return !ferror(out);
 }
 
-static inline void caladan_history_action(FILE *out, const caladan_action *it) {
+/* One look of caladan_pass_each, as it was taken: each that it refused (judged above CALADAN_BUSY, so AHEAD and
+ * FOREIGN too) is written as the busy look that was taken in its place. */
+static inline bool caladan_history_look_each(FILE *out, size_t thread, const caladan_look *look, uint8_t judged) {
+    caladan_look taken = caladan_taken(look, judged);
+    uint8_t recorded = CALADAN_BUSY;
+    if (judged < recorded) recorded = judged;
+    return caladan_history_look(out, thread, &taken, recorded);
+}
+
+/* One action. */
+static inline bool caladan_history_action(FILE *out, const caladan_action *it) {
     switch (it->kind) {
     case CALADAN_FREE: fprintf(out, "free,%d\n", it->core); break;
     case CALADAN_UNBAN: fprintf(out, "unban,%d\n", it->core); break;
@@ -50,19 +68,25 @@ static inline void caladan_history_action(FILE *out, const caladan_action *it) {
     case CALADAN_CAP: fprintf(out, "cap,%d,%d\n", it->task, it->cap); break;
     case CALADAN_GRANT: fprintf(out, "grant,%d,%d,%d\n", it->core, it->thread, it->core_class); break;
     }
+    return !ferror(out);
 }
 
 /* A pass of caladan_pass or, where each is not 0, of caladan_pass_each: what it was given and answered. */
-static inline void caladan_history_pass(FILE *out, bool each, uint64_t now, uint64_t bandwidth, const caladan_look *looks,
+static inline bool caladan_history_pass(FILE *out, bool each, uint64_t now, uint64_t bandwidth, const caladan_look *looks,
                                         const uint8_t *judged, size_t count, const caladan_action *actions, size_t made) {
     fprintf(out, "pass,%" PRIu64 ",%" PRIu64 "\n", now, bandwidth);
     for (size_t k = 0; k < count; k++) {
-        caladan_look taken = each ? caladan_taken(&looks[k], judged[k]) : looks[k];
-        caladan_history_look(out, k, &taken, each && judged[k] > CALADAN_BUSY ? CALADAN_BUSY : judged[k]);
+        if (each) caladan_history_look_each(out, k, &looks[k], judged[k]);
+        else caladan_history_look(out, k, &looks[k], judged[k]);
     }
     for (size_t i = 0; i < made; i++) caladan_history_action(out, &actions[i]);
+    return !ferror(out);
 }
 
-/* The end, with the number of passes. */
-static inline void caladan_history_end(FILE *out, uint64_t passes) { fprintf(out, "end,%" PRIu64 "\n", passes); }
+/* The end, with the number of passes. True where all that was written to the stream went out to its file; that a
+ * disk keeps it is fsync's to say. */
+static inline bool caladan_history_end(FILE *out, uint64_t passes) {
+    fprintf(out, "end,%" PRIu64 "\n", passes);
+    return fflush(out) == 0 && !ferror(out);
+}
 #endif

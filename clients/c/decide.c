@@ -1,142 +1,93 @@
 /* Reads a task table, a line ---, and a file of signals on standard input, makes the passes through
  * caladan.h, and prints the report of caladan_sim. Exits with 2 where the input is refused. */
-#include "caladan.h"
-#include <stdio.h>
-#include <stdlib.h>
-#include <string.h>
-
-/* A look has its thread, its room and its place before the record's words, of which version 1 has seven. */
-enum { THREADS = CALADAN_MOST_THREADS, FIRST_WORD = 3, FIELDS = FIRST_WORD + CALADAN_WORDS, LEAST_FIELDS = FIRST_WORD + 7 };
-
-static char *read_all(size_t *length) {
-    size_t room = 1 << 16, used = 0;
-    char *text = malloc(room);
-    while (text) {
-        used += fread(text + used, 1, room - used - 1, stdin);
-        if (used < room - 1) break;
-        text = realloc(text, room *= 2);
-    }
-    if (text) text[used] = 0;
-    *length = used;
-    return text;
-}
+#define _GNU_SOURCE
+#include "trace.h"
 
 static int refuse(const char *why) {
     fprintf(stderr, "decide: %s\n", why);
     return 2;
 }
 
-/* The fields of a row: a word, then numbers. How many there are. */
-static int split(char *row, char **word, uint64_t numbers[FIELDS]) {
-    int count = 0;
-    *word = strtok(row, ",");
-    for (char *field; count < FIELDS && (field = strtok(NULL, ",")); count++) numbers[count] = strtoull(field, NULL, 10);
-    return count;
-}
-
-static bool look_of(char *row, caladan_look *look) {
-    char *word;
-    uint64_t n[FIELDS] = {0};
-    int count = split(row, &word, n);
-    *look = (caladan_look){.room = n[1] != 0, .number = n[2]};
-    if (!word) return false;
-    if (!strcmp(word, "busy")) {
-        look->busy = 1;
-        look->second = n[3];
-        return count == 4;
-    }
-    caladan_look_set_words(look, &n[FIRST_WORD]);
-    return !strcmp(word, "whole") && count >= LEAST_FIELDS;
-}
-
-static void print_action(const caladan_action *it) {
+static void print_action(FILE *out, const caladan_action *it) {
     switch (it->kind) {
-    case CALADAN_FREE: printf("  free core %d\n", it->core); break;
-    case CALADAN_UNBAN: printf("  unban core %d\n", it->core); break;
-    case CALADAN_BAN: printf("  ban core %d for thread %d started %llu\n", it->core, it->thread, (unsigned long long)it->started); break;
+    case CALADAN_FREE: fprintf(out, "  free core %d\n", it->core); break;
+    case CALADAN_UNBAN: fprintf(out, "  unban core %d\n", it->core); break;
+    case CALADAN_BAN: fprintf(out, "  ban core %d for thread %d started %llu\n", it->core, it->thread, (unsigned long long)it->started); break;
     case CALADAN_REVOKE:
-        printf("  revoke core %d for ", it->core);
-        if (it->cause == CALADAN_FOR_BAN) printf("ban by core %d\n", it->by);
-        if (it->cause == CALADAN_FOR_BANDWIDTH) printf("bandwidth\n");
-        if (it->cause == CALADAN_FOR_TASK) printf("task %d\n", it->task);
+        fprintf(out, "  revoke core %d for ", it->core);
+        if (it->cause == CALADAN_FOR_BAN) fprintf(out, "ban by core %d\n", it->by);
+        if (it->cause == CALADAN_FOR_BANDWIDTH) fprintf(out, "bandwidth\n");
+        if (it->cause == CALADAN_FOR_TASK) fprintf(out, "task %d\n", it->task);
         break;
-    case CALADAN_CAP: printf("  cap task %d at %d\n", it->task, it->cap); break;
-    case CALADAN_GRANT: printf("  grant core %d to thread %d class %d\n", it->core, it->thread, it->core_class); break;
+    case CALADAN_CAP: fprintf(out, "  cap task %d at %d\n", it->task, it->cap); break;
+    case CALADAN_GRANT: fprintf(out, "  grant core %d to thread %d class %d\n", it->core, it->thread, it->core_class); break;
     }
 }
 
-static void print_pass(uint64_t pass, const uint64_t numbers[2], const uint8_t *judged, size_t threads, const caladan_action *actions, size_t made) {
+static void print_pass(FILE *out, uint64_t number, const recorded *pass, const uint8_t *judged, size_t threads, const caladan_action *actions, size_t made) {
     static const char *const kinds[] = {"", "", "busy", "ahead", "foreign"};
-    printf("pass %llu now %llu bandwidth %llu\n", (unsigned long long)pass, (unsigned long long)numbers[0], (unsigned long long)numbers[1]);
+    fprintf(out, "pass %llu now %llu bandwidth %llu\n", (unsigned long long)number, (unsigned long long)pass->now, (unsigned long long)pass->bandwidth);
     for (size_t k = 0; k < threads; k++)
-        if (judged[k] != CALADAN_KEPT) printf("  kept %zu %s\n", k, kinds[judged[k]]);
-    for (size_t i = 0; i < made; i++) print_action(&actions[i]);
+        if (judged[k] != CALADAN_KEPT) fprintf(out, "  kept %zu %s\n", k, kinds[judged[k]]);
+    for (size_t i = 0; i < made; i++) print_action(out, &actions[i]);
 }
 
-static void print_end(caladan *handle, uint64_t passes, const char *table) {
+static void print_end(FILE *out, caladan *handle, uint64_t passes) {
     caladan_counts counts;
-    printf("end %llu passes\n", (unsigned long long)passes);
-    for (size_t task = 0; caladan_task(handle, task, &counts) == CALADAN_DONE; task++) {
-        table = strstr(table, "kind") + 4;
-        bool best_effort = table[strspn(table, " \t=\"'")] == 'b';
-        printf("task %zu %s held %d leaving %d", task, best_effort ? "be" : "lc", counts.held, counts.booked - counts.held);
-        if (best_effort) printf(" cap %d", counts.cap);
-        printf("\n");
+    caladan_table_row row;
+    fprintf(out, "end %llu passes\n", (unsigned long long)passes);
+    for (size_t task = 0; caladan_task(handle, task, &counts) == CALADAN_DONE && caladan_table_task(handle, task, &row) == CALADAN_DONE; task++) {
+        bool best_effort = row.kind == CALADAN_BEST_EFFORT;
+        fprintf(out, "task %zu %s held %d leaving %d", task, best_effort ? "be" : "lc", counts.held, counts.booked - counts.held);
+        if (best_effort) fprintf(out, " cap %d", counts.cap);
+        fprintf(out, "\n");
     }
 }
 
-/* The first line that is exactly ---, or NULL; its line feed goes to *end. */
-static char *separator(char *text, char **end) {
-    for (char *line = text; line; line = *end ? *end + 1 : NULL) {
-        *end = strchr(line, '\n');
-        size_t length = *end ? (size_t)(*end - line) : 0;
-        if (length > 0 && line[length - 1] == '\r') length--;
-        if (length == 3 && !strncmp(line, "---", 3)) return line;
-    }
-    return NULL;
-}
-
-static int run(caladan *handle, const char *table, char *trace) {
-    static caladan_look looks[THREADS];
+/* Makes each pass, and writes the report: 0, or 2 where the signals are refused. */
+static int decide(FILE *out, trace *from, caladan *handle) {
+    static recorded pass;
     static caladan_action actions[CALADAN_MOST_ACTIONS];
-    uint8_t judged[THREADS];
-    uint64_t passes = 0, numbers[FIELDS];
+    uint8_t judged[CALADAN_MOST_THREADS];
     size_t threads = caladan_threads(handle), made;
-    char *word, *rest = strchr(trace, '\n');
-    for (char *row = rest ? rest + 1 : NULL; row && *row; row = rest) {
-        rest = strchr(row, '\n');
-        if (rest) *rest++ = 0;
-        split(row, &word, numbers);
-        if (strcmp(word, "pass")) break;
-        for (size_t k = 0; k < threads; k++) {
-            char *look = rest;
-            if (!look || !*look) return refuse("rows are missing");
-            rest = strchr(look, '\n');
-            if (rest) *rest++ = 0;
-            if (!look_of(look, &looks[k])) return refuse("a row is no look");
-        }
-        if (caladan_pass(handle, numbers[0], numbers[1], looks, threads, judged, sizeof judged, actions, CALADAN_MOST_ACTIONS, &made)) return refuse("a pass");
-        print_pass(passes++, numbers, judged, threads, actions, made);
+    int is_read;
+    while ((is_read = next_pass(from, &pass)) == 1) {
+        if (caladan_pass(handle, pass.now, pass.bandwidth, pass.looks, threads, judged, sizeof judged, actions, CALADAN_MOST_ACTIONS, &made)) return refuse("a pass");
+        print_pass(out, from->passes - 1, &pass, judged, threads, actions, made);
     }
-    print_end(handle, passes, table);
+    if (is_read < 0) return refuse("the signals");
+    print_end(out, handle, from->passes);
     return 0;
 }
 
+/* The report is kept until all of the input was accepted. */
+static int run(const input *in, caladan *handle) {
+    char *report = NULL;
+    size_t length = 0;
+    caladan_machine machine;
+    trace from;
+    FILE *out = open_memstream(&report, &length);
+    if (!out) return refuse("no memory");
+    caladan_table(handle, &machine);
+    int status = begin_trace(&from, in, false, machine) ? decide(out, &from, handle) : refuse("no header");
+    if (fclose(out)) status = refuse("no memory");
+    if (!status) fwrite(report, 1, length, stdout);
+    free(report);
+    return status;
+}
+
 int main(void) {
-    size_t length;
-    char *text = read_all(&length);
-    char *end, *trace = text ? separator(text, &end) : NULL;
-    if (!trace) return refuse("no separator");
+    input in;
     caladan handle = CALADAN_CLOSED;
-    uint8_t fault = caladan_open((const uint8_t *)text, (size_t)(trace - text), &handle);
-    if (fault) {
-        fprintf(stderr, "decide: config %d\n", fault);
-        free(text);
-        return 2;
+    int status = 2;
+    if (!read_input(stdin, &in)) {
+        refuse("no separator, or too long");
+    } else if (caladan_open((const uint8_t *)in.text, in.table_length, &handle)) {
+        refuse("the table");
+    } else {
+        status = run(&in, &handle);
+        caladan_close(&handle);
     }
-    *trace = 0;
-    int status = run(&handle, text, end + 1);
-    caladan_close(&handle);
-    free(text);
+    free(in.text);
     return status;
 }

@@ -176,7 +176,6 @@ static int succeed(host *it, shared *all, uint64_t number) {
     }
     honest *successor = &it->honest[LIAR];
     successor->random = 99;
-    atomic_store(&all->ring[LIAR].sent, it->senders[LIAR].sent);
     if (!caladan_adopt(&successor->publisher, &all->page[LIAR], successor->words)) return wrong("the buried page is busy", number);
     granted = false;
     for (uint64_t k = 1; k < 3000 && !granted; k++)

@@ -319,21 +319,52 @@ static void try_death(shared *both, int steps) {
     pass_each(&handle, 100, looks, &told);
     CHECK(told.answer == CALADAN_DONE && told.judged[LIAR] == (looks[LIAR].busy ? CALADAN_BUSY : CALADAN_KEPT));
     if (grants_to(&told, LIAR)) caladan_ring_send(&sender, 1);
+    atomic_store(&both->ring.sent, 1000);
     CHECK(caladan_gone(&handle, LIAR, &gone) == CALADAN_DONE && caladan_bury(&both->page, &both->ring, &gone));
     caladan_observe(&both->page, &looks[LIAR]);
-    CHECK(!looks[LIAR].busy && looks[LIAR].number == gone.number && looks[LIAR].taken == gone.taken);
+    /* the page has shown place 1, and place 2 at the last step: the record of the gone is at another one */
+    CHECK(!looks[LIAR].busy && looks[LIAR].number == (steps == STEPS ? 3 : 2) && looks[LIAR].taken == gone.taken);
     pass_each(&handle, 101, looks, &told);
     CHECK(told.answer == CALADAN_DONE && told.judged[LIAR] == CALADAN_KEPT);
-    /* the successor goes on with the page, and gets a core */
+    /* the successor goes on with the page, finds no command that nobody sent, and gets a core */
     caladan_publisher successor;
-    uint64_t words[CALADAN_WORDS];
-    CHECK(caladan_adopt(&successor, &both->page, words));
+    uint64_t words[CALADAN_WORDS], command;
+    CHECK(caladan_adopt(&successor, &both->page, words) && !caladan_ring_take(&both->ring, &command));
+    caladan_ring_send(&sender, 3);
+    CHECK(caladan_ring_take(&both->ring, &command) && command == 3 && !caladan_ring_take(&both->ring, &command));
     words[2] = words[3] = 1;
     caladan_publish(&successor, words);
     caladan_observe(&both->page, &looks[LIAR]);
     pass_each(&handle, 200, looks, &told);
     CHECK(told.answer == CALADAN_DONE && told.judged[LIAR] == CALADAN_KEPT && grants_to(&told, LIAR) == 1);
     caladan_close(&handle);
+}
+
+/* A burial where another looker was shown a later record than the scheduler, or a lie: no place that the page showed
+ * has two records, and no lie uses up the places. */
+static void try_burial(shared *both) {
+    const uint64_t far = CALADAN_FARTHEST, top = (uint64_t)1 << 63;
+    const struct {
+        uint64_t number, version, place; /* of the record for the gone, on the page, of the burial */
+    } burials[] = {
+        {1, 0, 1}, {6, 10, 6}, {6, 11, 6}, {6, 12, 7}, {6, 13, 7}, {6, 16, 9}, {6, 4, 6},
+        {6, (6 + far) * 2 - 2, 6 + far}, {6, (6 + far) * 2, 6}, {6, UINT64_MAX, 6}, {6, UINT64_MAX - 1, 6},
+        {top - 2, (top - 2) * 2, top - 1}, {top - 1, (top - 1) * 2, top - 1},
+    };
+    for (size_t i = 0; i < sizeof burials / sizeof *burials; i++) {
+        caladan_look gone = {.room = 1, .number = burials[i].number, .taken = 5, .stamp = 50}, look = {0};
+        uint64_t command;
+        memset(both, 0, sizeof *both);
+        atomic_store(&both->page.version, burials[i].version);
+        atomic_store(&both->ring.sent, 1000);
+        atomic_store(&both->ring.taken, 3);
+        CHECK(caladan_bury(&both->page, &both->ring, &gone));
+        caladan_observe(&both->page, &look);
+        CHECK(!look.busy && look.number == burials[i].place && look.taken == 5 && look.stamp == 50);
+        CHECK(!caladan_ring_take(&both->ring, &command) && atomic_load(&both->ring.sent) == 5);
+    }
+    caladan_look none = {.number = 0}, above = {.number = top};
+    CHECK(!caladan_bury(&both->page, &both->ring, &none) && !caladan_bury(&both->page, &both->ring, &above));
 }
 
 /* One that adopts a page on which a publication was broken off, without the host: nothing falls. */
@@ -453,6 +484,7 @@ int main(void) {
         try_death(both, steps);
         try_adoption(both, steps);
     }
+    try_burial(both);
     try_falling(both);
     try_calls();
     try_guard_calls();

@@ -32,6 +32,38 @@ static int closed(void) {
     WANT(open_text("cores = 3\n", &handle), CALADAN_MISSING_KEY);
     WANT(open_text("cores", &handle), CALADAN_NOT_TOML);
     WANT(handle.open, 0);
+    WANT(caladan_holder(&handle, 256, &holder), CALADAN_IS_CLOSED);
+    return 0;
+}
+
+/* Null is a pointer to nothing, where the number after it is 0. */
+static int nothing(void) {
+    caladan handle = CALADAN_CLOSED;
+    caladan_audit audit = CALADAN_AUDIT_CLOSED;
+    caladan_guard guard = CALADAN_GUARD_CLOSED;
+    caladan_look look = {.room = 1};
+    caladan_refused refused;
+    caladan_holder_of_core holder;
+    uint8_t judged = 77, thread;
+    size_t made, unfit;
+    uint64_t pass;
+    WANT(caladan_open(NULL, 0, &handle), CALADAN_MISSING_KEY);
+    WANT(caladan_audit_open(NULL, 0, &audit), CALADAN_MISSING_KEY);
+    WANT(caladan_guard_open(NULL, 0, &guard), CALADAN_MISSING_KEY);
+    WANT(open_text(TABLE, &handle), CALADAN_DONE);
+    WANT(caladan_pass(&handle, 1, 0, NULL, 0, NULL, 0, NULL, 0, &made), CALADAN_WRONG_COUNT);
+    WANT(caladan_pass_each(&handle, 1, 0, &look, 1, NULL, 0, NULL, 0, &made), CALADAN_NO_ROOM);
+    WANT(caladan_first_unfit(&handle, NULL, 0, &unfit), CALADAN_WRONG_COUNT);
+    WANT(caladan_guard_open((const uint8_t *)TABLE, strlen(TABLE), &guard), CALADAN_DONE);
+    WANT(caladan_guard_pass(&guard, 1, 0, &look, 1, &judged, 1, NULL, 0, &refused), CALADAN_DONE);
+    WANT(caladan_guard_pass_each(&guard, 1, 0, NULL, 0, NULL, 0, NULL, 0, &refused), CALADAN_WRONG_COUNT);
+    WANT(caladan_guard_holder(&guard, 256, &holder), CALADAN_NO_SUCH);
+    WANT(caladan_guard_holder(&guard, SIZE_MAX, &holder), CALADAN_NO_SUCH);
+    WANT(caladan_guard_revoked(&guard, 256, &thread), CALADAN_NO_SUCH);
+    WANT(caladan_audit_open((const uint8_t *)TABLE, strlen(TABLE), &audit), CALADAN_DONE);
+    WANT(caladan_audit_pass(&audit, 1, 0, NULL, 0, NULL, 0, NULL, 0), CALADAN_DONE);
+    WANT(caladan_audit_verdict(&audit, &pass), CALADAN_ILLEGAL);
+    WANT(caladan_close(&handle) + caladan_audit_close(&audit) + caladan_guard_close(&guard), 0);
     return 0;
 }
 
@@ -70,6 +102,9 @@ static int opened(void) {
     WANT(holder.state, CALADAN_CORE_HELD);
     WANT(caladan_holder(&handle, 2, &holder), CALADAN_NO_SUCH);
     WANT(caladan_holder(&handle, 255, &holder), CALADAN_NO_SUCH);
+    WANT(caladan_holder(&handle, 256, &holder), CALADAN_NO_SUCH);
+    WANT(caladan_holder(&handle, SIZE_MAX, &holder), CALADAN_NO_SUCH);
+    WANT(caladan_revoked(&handle, 256, judged), CALADAN_NO_SUCH);
     WANT(caladan_task(&handle, 0, &counts), CALADAN_DONE);
     WANT(counts.held, 1);
     WANT(counts.booked, 1);
@@ -132,7 +167,8 @@ static int audited(void) {
 
 int main(void) {
     WANT(caladan_version(), CALADAN_VERSION);
-    if (closed() || opened() || audited()) return 1;
+    WANT(CALADAN_IS_THIS_VERSION(), 1);
+    if (closed() || nothing() || opened() || audited()) return 1;
     puts("refusals: ok");
     return 0;
 }

@@ -1,19 +1,36 @@
 #!/usr/bin/env python3
-"""Reads a task table, a line ---, and a file on standard input.
+"""The decisions of a core scheduler, proved: caladan.h for Python.
+
+    with Scheduler(ctypes.CDLL("libcaladan_c.so"), table) as scheduler:
+        judged, actions = scheduler.run_each(now, bandwidth, looks)
+
+A handle is closed at the end of `with`, by close(), or when nothing refers to it any more (a ResourceWarning says so then), and
+is used on the thread that opened it. A table is bytes, or a str, which is read as UTF-8. A number that does not fit its field or
+argument is a ValueError, before anything is called.
+
+As a program it reads a task table, a line ---, and a file on standard input (docs/FORMATS.md).
 
     caladan.py LIBRARY < INPUT          a file of signals: makes the passes through caladan.h, and prints
                                         the report of caladan_sim
     caladan.py LIBRARY audit < INPUT    a history: prints 'legal', or the first pass that is not, as
                                         caladan_sim audit does; then it exits with 1
+    caladan.py LIBRARY audit FILE..     reads each file as such an input, and prints its line; of one that is refused 'refused'
     caladan.py LIBRARY guard < INPUT    a history: hands its actions to a guard, and prints 'permitted', or
                                         the first pass and action that are not, and why; then it exits with 1
 
 LIBRARY is libcaladan_c as a shared object. Exits with 2 where the input is refused."""
+import csv
 import ctypes
+import io
+import operator
 import re
 import sys
+import threading
+import warnings
 
 MOST_ACTIONS = 338
+MOST_CORES = 128
+MOST_PASSES, MOST_TEXT = 1 << 20, 1 << 26
 U8, U64, SIZE = ctypes.c_uint8, ctypes.c_uint64, ctypes.c_size_t
 WORDS = ("taken", "running", "queued", "oldest", "started", "misses", "stamp", "paused", "since")
 JUDGED = {2: "busy", 3: "ahead", 4: "foreign"}
@@ -22,11 +39,35 @@ ACTIONS = {1: "free core {core}", 2: "unban core {core}", 3: "ban core {core} fo
 REVOKED = {1: "ban by core {by}", 2: "bandwidth", 3: "task {task}"}
 
 
+def fitting(value, kind):
+    """The number, where it fits one of this kind without a sign; else ValueError."""
+    number = operator.index(value)
+    if not 0 <= number < 1 << 8 * ctypes.sizeof(kind):
+        raise ValueError(f"{number} does not fit {8 * ctypes.sizeof(kind)} bits")
+    return number
+
+
+class Numbers(ctypes.Structure):
+    """A structure of numbers, which refuses those that do not fit: ctypes alone cuts them off."""
+
+    def __setattr__(self, name, value):
+        super().__setattr__(name, fitting(value, self.kinds[name]) if name in self.kinds else value)
+
+
 def structure(name, fields):
-    return type(name, (ctypes.Structure,), {"_fields_": fields})
+    return type(name, (Numbers,), {"_fields_": fields, "kinds": dict(fields)})
 
 
-Handle = structure("Handle", [("open", ctypes.c_bool), ("at", ctypes.c_void_p)])
+def array(kind, values):
+    """An array of these, each of which fits."""
+    return (kind * len(values))(*(values if issubclass(kind, Numbers) else [fitting(it, kind) for it in values]))
+
+
+class Handle(ctypes.Structure):
+    """What the library keeps, or nothing."""
+    _fields_ = [("open", ctypes.c_bool), ("at", ctypes.c_void_p)]
+
+
 Look = structure("Look", [("busy", U8), ("room", U8), *((word, U64) for word in ("number", "second") + WORDS)])
 Action = structure("Action", [*((word, U8) for word in ("kind", "core", "thread", "core_class", "cause", "by", "task", "cap")), ("started", U64)])
 Counts = structure("Counts", [("held", U8), ("booked", U8), ("cap", U8)])
@@ -35,7 +76,7 @@ Machine = structure("Machine", [("cores", U8), ("tasks", U8), ("threads", U8), (
 TableTask = structure("TableTask", [*((word, U8) for word in ("kind", "guaranteed", "limit", "first_thread")), ("delay", U64), ("request", U64)])
 Thread = structure("Thread", [("task", U8), ("sent", U64), ("taken", U64)])
 Holder = structure("Holder", [(word, U8) for word in ("state", "thread", "cause", "cause_of")])
-BUSY, PLACES, LEAVING, REVOKE, GRANT = 2, 4, 2, 4, 6
+BUSY, PLACES, LEAVING, REVOKE, CAP, GRANT, BEST_EFFORT = 2, 4, 2, 4, 5, 6, 2
 UNFIT, NO_SUCH, ILLEGAL, NOT_PERMITTED, LOST = 15, 16, 20, 18, 21
 JUDGEMENT_TEXTS = ("no judgement", "kept", "busy", "ahead: it acknowledges more commands than were sent",
                    "foreign: it shows a core that the thread was not given", "its versions are no busy pair",
@@ -101,17 +142,36 @@ class Kept:
     prefix = "caladan_"
 
     def __init__(self, library, table):
-        self.library, self.handle = library, Handle()
-        self.answered(getattr(library, self.prefix + "open")(table, SIZE(len(table)), ctypes.byref(self.handle)))
+        self.library, self.handle, self.thread_of_handle = library, Handle(), threading.get_ident()
+        text = table.encode() if isinstance(table, str) else bytes(memoryview(table))
+        self.answered(self.call("open", text, SIZE(len(text)), where=2))
 
-    def call(self, name, *arguments):
-        return getattr(self.library, self.prefix + name)(ctypes.byref(self.handle), *arguments)
+    def __enter__(self):
+        return self
+
+    def __exit__(self, *_):
+        if self.handle.open:
+            self.close()
+
+    def __del__(self):
+        if not getattr(self, "handle", None) or not self.handle.open:
+            return
+        warnings.warn(f"{type(self).__name__} was not closed", ResourceWarning, source=self)
+        if threading.get_ident() == self.thread_of_handle:
+            self.close()
+
+    def call(self, name, *arguments, where=0, answers=U8):
+        """Calls a function, with the handle as the argument at this place."""
+        function = getattr(self.library, self.prefix + name)
+        function.restype = answers
+        return function(*arguments[:where], ctypes.byref(self.handle), *arguments[where:])
 
     def answered(self, answer):
-        if answer & 255:
-            raise CallRefused(answer & 255)
+        if answer:
+            raise CallRefused(answer)
 
     def close(self):
+        """Lets go of what the handle keeps; CallRefused where it is closed."""
         self.answered(self.call("close"))
 
 
@@ -125,12 +185,12 @@ class Counted(Kept):
 
     def task(self, number):
         """What a task has, in cores."""
-        return self.told("task", Counts, SIZE(number))
+        return self.told("task", Counts, SIZE(fitting(number, SIZE)))
 
     def first_unfit(self, looks):
         """The first thread whose look a plain pass would not take, or None."""
         thread = SIZE()
-        answer = self.call("first_unfit", (Look * len(looks))(*looks), SIZE(len(looks)), ctypes.byref(thread)) & 255
+        answer = self.call("first_unfit", array(Look, looks), SIZE(len(looks)), ctypes.byref(thread))
         if answer == UNFIT:
             return thread.value
         self.answered(answer)
@@ -145,7 +205,7 @@ class Counted(Kept):
 
     def thread(self, number):
         """A thread's task, the commands sent to it, and those that its kept record acknowledges."""
-        return self.told("thread", Thread, SIZE(number))
+        return self.told("thread", Thread, SIZE(fitting(number, SIZE)))
 
     def has_room(self, number):
         """Whether the ring of a thread has room, by what was sent and the kept record alone."""
@@ -155,7 +215,7 @@ class Counted(Kept):
     def gone(self, number):
         """What the page of a thread must show once the thread is gone, as a look; Lost where none can."""
         look = Look()
-        answer = self.call("gone", SIZE(number), ctypes.byref(look)) & 255
+        answer = self.call("gone", SIZE(fitting(number, SIZE)), ctypes.byref(look))
         if answer == LOST:
             raise Lost
         self.answered(answer)
@@ -175,8 +235,11 @@ class Scheduler(Counted):
 
     def __init__(self, library, table):
         super().__init__(library, table)
-        library.caladan_threads.restype = SIZE
-        self.threads = self.call("threads")
+        self.threads = self.call("threads", answers=SIZE)
+
+    def bandwidth_limit(self):
+        """The bandwidth figure above which a best-effort task loses a core; 0 of one that is closed."""
+        return self.call("bandwidth_limit", answers=U64)
 
     def run(self, now, bandwidth, looks):
         """The next pass: what was judged of each look, and the actions. Unfit names the first thread
@@ -196,8 +259,8 @@ class Scheduler(Counted):
 
     def passed(self, name, now, bandwidth, looks):
         judged, actions, made = (U8 * self.threads)(), (Action * MOST_ACTIONS)(), SIZE()
-        answer = self.call(name, U64(now), U64(bandwidth), (Look * len(looks))(*looks), SIZE(len(looks)),
-                           judged, SIZE(self.threads), actions, SIZE(MOST_ACTIONS), ctypes.byref(made)) & 255
+        answer = self.call(name, U64(fitting(now, U64)), U64(fitting(bandwidth, U64)), array(Look, looks), SIZE(len(looks)),
+                           judged, SIZE(self.threads), actions, SIZE(MOST_ACTIONS), ctypes.byref(made))
         return answer, list(judged), actions[:made.value]
 
 
@@ -207,13 +270,13 @@ class Audit(Kept):
 
     def take(self, now, bandwidth, looks, judged, actions):
         """Takes the next recorded pass, legal or not."""
-        self.answered(self.call("pass", U64(now), U64(bandwidth), (Look * len(looks))(*looks), SIZE(len(looks)),
-                                (U8 * len(judged))(*judged), SIZE(len(judged)), (Action * len(actions))(*actions), SIZE(len(actions))))
+        self.answered(self.call("pass", U64(fitting(now, U64)), U64(fitting(bandwidth, U64)), array(Look, looks), SIZE(len(looks)),
+                                array(U8, judged), SIZE(len(judged)), array(Action, actions), SIZE(len(actions))))
 
     def verdict(self):
         """None where all passes so far are legal, else the number of the first that is not."""
         first = U64()
-        answer = self.call("verdict", ctypes.byref(first)) & 255
+        answer = self.call("verdict", ctypes.byref(first))
         if answer == ILLEGAL:
             return first.value
         self.answered(answer)
@@ -246,16 +309,9 @@ class Guard(Counted):
 
     def handed(self, name, now, bandwidth, looks, actions):
         judged, refused = (U8 * len(looks))(), Refused()
-        answer = self.call(name, U64(now), U64(bandwidth), (Look * len(looks))(*looks), SIZE(len(looks)), judged, SIZE(len(looks)),
-                           (Action * len(actions))(*actions), SIZE(len(actions)), ctypes.byref(refused)) & 255
+        answer = self.call(name, U64(fitting(now, U64)), U64(fitting(bandwidth, U64)), array(Look, looks), SIZE(len(looks)),
+                           judged, SIZE(len(looks)), array(Action, actions), SIZE(len(actions)), ctypes.byref(refused))
         return answer, list(judged), refused
-
-
-def look_of(row):
-    kind, numbers = row[0], [int(field) for field in row[2:]]
-    if kind == "busy":
-        return Look(busy=1, room=numbers[0], number=numbers[1], second=numbers[2])
-    return Look(room=numbers[0], number=numbers[1], **dict(zip(WORDS, numbers[2:])))
 
 
 def told(action):
@@ -265,35 +321,25 @@ def told(action):
     return ACTIONS[action.kind].format(**fields)
 
 
-def report(scheduler, table, rows):
-    passes = 0
-    while rows and rows[0][0] == "pass":
-        (_, now, bandwidth), looks = rows[0], rows[1:scheduler.threads + 1]
-        judged, actions = scheduler.run(int(now), int(bandwidth), [look_of(row) for row in looks])
-        rows = rows[scheduler.threads + 1:]
-        yield f"pass {passes} now {now} bandwidth {bandwidth}"
+def report(scheduler, passes):
+    number = 0
+    for now, bandwidth, looks, _, _ in passes:
+        judged, actions = scheduler.run(now, bandwidth, looks)
+        yield f"pass {number} now {now} bandwidth {bandwidth}"
         yield from (f"  kept {k} {JUDGED[it]}" for k, it in enumerate(judged) if it in JUDGED)
         yield from ("  " + told(action) for action in actions)
-        passes += 1
-    yield f"end {passes} passes"
-    for number, kind in enumerate(re.findall(r'kind\s*=\s*["\'](lc|be)', table)):
-        has = scheduler.task(number)
+        number += 1
+    yield f"end {number} passes"
+    for task, row in enumerate(scheduler.table()):
+        has, kind = scheduler.task(task), "be" if row.kind == BEST_EFFORT else "lc"
         cap = f" cap {has.cap}" if kind == "be" else ""
-        yield f"task {number} {kind} held {has.held} leaving {has.booked - has.held}{cap}"
+        yield f"task {task} {kind} held {has.held} leaving {has.booked - has.held}{cap}"
 
 
 JUDGEMENTS = {"whole": 1, "busy": 2, "ahead": 3, "foreign": 4}
 KINDS = {"free": 1, "unban": 2, "ban": 3, "revoke": 4, "cap": 5, "grant": 6}
 FIELDS = {1: ("core",), 2: ("core",), 3: ("core", "thread", "started"), 5: ("task", "cap"), 6: ("core", "thread", "core_class")}
 CAUSES = {"ban": (1, "by"), "bandwidth": (2, None), "preempt": (3, "task")}
-
-
-def action_of(row):
-    kind = KINDS[row[0]]
-    if kind != 4:
-        return Action(kind=kind, **{name: int(field) for name, field in zip(FIELDS[kind], row[1:])})
-    cause, names = CAUSES[row[2]]
-    return Action(kind=kind, core=int(row[1]), cause=cause, **({names: int(row[3])} if names else {}))
 
 
 def action_row(action):
@@ -318,61 +364,150 @@ def written(each, now, bandwidth, looks, judged, actions):
     yield from map(action_row, actions)
 
 
-def recorded(rows):
-    """The passes of a history: each with its clock, its bandwidth, its looks, judgements and actions."""
-    passes = []
-    for row in rows:
-        if row[0] == "pass":
-            passes.append((int(row[1]), int(row[2]), [], [], []))
-        elif row[0] in JUDGEMENTS:
-            passes[-1][2].append(look_of(row))
-            passes[-1][3].append(JUDGEMENTS[row[0]])
-        elif row[0] in KINDS:
-            passes[-1][4].append(action_of(row))
-        elif row[0] == "end":
-            return passes
-    raise IndexError("no end")
+class InputRefused(ValueError):
+    """An input is not what docs/FORMATS.md says."""
 
 
-def audited(library, table, rows):
-    audit = Audit(library, table)
-    for each in recorded(rows):
-        audit.take(*each)
-    first = audit.verdict()
-    audit.close()
+def must(is_so, why):
+    if not is_so:
+        raise InputRefused(why)
+
+
+def number(field, most=(1 << 64) - 1):
+    """A field as a number: 0, or digits with no zero in front, up to the most that it may be."""
+    must(re.fullmatch("0|[1-9][0-9]{0,19}", field) and int(field) <= most, "a field is no number, or out of range")
+    return int(field)
+
+
+def parts(text):
+    """The table and the trace of an input: the first line that is exactly --- is between them."""
+    found = re.search(rb"^---\r?\n", text, re.M)
+    must(found and len(text) <= MOST_TEXT, "no separator, or too long")
+    return text[:found.start()], text[found.end():]
+
+
+def rows_of(trace):
+    """The rows of a trace, as CSV; blank lines are none."""
+    text = trace[3 * trace.startswith(b"\xef\xbb\xbf"):].decode("latin-1")
+    try:
+        yield from filter(None, csv.reader(io.StringIO(text, newline="")))
+    except csv.Error as why:
+        raise InputRefused(why) from why
+
+
+def look_of(row, thread, words):
+    """The look of a row, and what was judged of it."""
+    must(row[0] in JUDGEMENTS, "no look")
+    must(len(row) == (5 if row[0] == "busy" else 4 + len(words)), "another number of fields")
+    must(number(row[1]) == thread, "the look of another thread")
+    look = Look(busy=row[0] == "busy", room=number(row[2], 1), number=number(row[3]))
+    if look.busy:
+        look.second = number(row[4])
+        must(look.second == look.number if look.number % 2 else look.second > look.number, "no busy pair")
+    for word, field in zip(words, row[4:] if not look.busy else ()):
+        setattr(look, word, number(field, {"running": MOST_CORES, "misses": 1 << 56}.get(word, (1 << 64) - 1)))
+    return look, JUDGEMENTS[row[0]]
+
+
+def action_of(row, machine):
+    """The action of a row."""
+    most = {"core": machine.cores - 1, "by": machine.cores - 1, "thread": machine.threads - 1, "task": machine.tasks - 1,
+            "core_class": 5, "cap": 16, "started": (1 << 64) - 1}
+    kind, names, cause = KINDS[row[0]], FIELDS.get(KINDS[row[0]]), 0
+    fields = row[1:]
+    if kind == REVOKE:
+        must(len(row) > 2 and row[2] in CAUSES, "no cause")
+        cause, named = CAUSES[row[2]]
+        names, fields = ("core",) + (named,) * bool(named), row[1:2] + row[3:]
+    must(len(fields) == len(names), "another number of fields")
+    action = Action(kind=kind, cause=cause, **{name: number(field, most[name]) for name, field in zip(names, fields)})
+    must(kind != GRANT or action.core_class > 0, "no class")
+    return action
+
+
+def words_of_version(rows, name):
+    """The words that records have in the version of the header."""
+    header = next(rows, [])
+    must(header in ([name, "1"], [name, "2"]), "no header")
+    return WORDS[:7] if header[1] == "1" else WORDS
+
+
+def passes_of(trace, machine, is_history):
+    """The passes of a history or, without actions, of signals: each with its clock, its bandwidth, its looks, judgements and
+    actions. InputRefused where it is none for this machine; what was given out before is of no use then."""
+    rows = rows_of(trace)
+    words = words_of_version(rows, "caladan-history" if is_history else "caladan-signals")
+    row, passes = next(rows, [""]), 0
+    while row[0] == "pass":
+        must(len(row) == 3 and passes < MOST_PASSES, "too many passes, or no pass")
+        now, bandwidth, actions = number(row[1]), number(row[2]), []
+        looks = [look_of(next(rows, [""]), thread, words) for thread in range(machine.threads)]
+        must(is_history or all(judged <= BUSY for _, judged in looks), "no look of signals")
+        row, passes = next(rows, [""]), passes + 1
+        while is_history and row[0] in KINDS:
+            actions.append(action_of(row, machine))
+            must(len(actions) <= MOST_ACTIONS, "too many actions")
+            row = next(rows, [""])
+        yield now, bandwidth, [look for look, _ in looks], [judged for _, judged in looks], actions
+    must(row[0] == "end" and len(row) == 2 and number(row[1]) == passes and next(rows, None) is None, "no end, or another")
+
+
+def recorded(trace, machine):
+    """The passes of a history."""
+    return passes_of(trace, machine, True)
+
+
+def machine_of(library, table):
+    with Scheduler(library, table) as scheduler:
+        return scheduler.machine()
+
+
+def audited(library, table, trace):
+    machine = machine_of(library, table)
+    with Audit(library, table) as audit:
+        for each in recorded(trace, machine):
+            audit.take(*each)
+        first = audit.verdict()
     return "legal" if first is None else f"illegal pass {first}", first is not None
 
 
-def guarded(library, table, rows):
-    guard = Guard(library, table)
-    for number, (now, bandwidth, looks, judged, actions) in enumerate(recorded(rows)):
-        said, refused = guard.run(now, bandwidth, looks, actions)
-        if refused:
-            return f"refused pass {number} action {refused.place} {WHY[refused.why]}", True
-        if said != judged:
-            return f"judged otherwise in pass {number}", True
-    guard.close()
+def guarded(library, table, trace):
+    with Guard(library, table) as guard:
+        for number_of_pass, (now, bandwidth, looks, judged, actions) in enumerate(recorded(trace, guard.machine())):
+            said, refused = guard.run(now, bandwidth, looks, actions)
+            if refused:
+                return f"refused pass {number_of_pass} action {refused.place} {WHY[refused.why]}", True
+            if said != judged:
+                return f"judged otherwise in pass {number_of_pass}", True
     return "permitted", False
 
 
-def decided(library, table, rows):
-    scheduler = Scheduler(library, table)
-    said = "\n".join(report(scheduler, table.decode(), rows))
-    scheduler.close()
-    return said, False
+def decided(library, table, trace):
+    with Scheduler(library, table) as scheduler:
+        return "\n".join(report(scheduler, passes_of(trace, scheduler.machine(), False))), False
+
+
+def answer_of(call, library, text):
+    """What is said of an input, and the status."""
+    try:
+        said, refused = call(library, *parts(text))
+        return said, int(refused)
+    except ValueError as why:
+        print(f"caladan.py: refused: {why}", file=sys.stderr)
+        return "refused", 2
 
 
 def main():
-    table, trace = (re.split(r"^---\r?\n", sys.stdin.read(), maxsplit=1, flags=re.MULTILINE) + [""])[:2]
-    rows = [line.split(",") for line in trace.splitlines()[1:]]
-    call = {"decide": decided, "audit": audited, "guard": guarded}[sys.argv[2] if len(sys.argv) > 2 else "decide"]
-    try:
-        said, refused = call(ctypes.CDLL(sys.argv[1]), table.encode(), rows)
-    except (ValueError, IndexError, KeyError) as why:
-        print(f"caladan.py: refused {why}", file=sys.stderr)
-        sys.exit(2)
-    print(said)
-    sys.exit(1 if refused else 0)
+    library, words = ctypes.CDLL(sys.argv[1]), sys.argv[2:]
+    call = {"decide": decided, "audit": audited, "guard": guarded}[words[0] if words else "decide"]
+    statuses = []
+    for file in words[1:] or [sys.stdin.fileno()]:
+        with open(file, "rb", closefd=isinstance(file, str)) as it:
+            said, status = answer_of(call, library, it.read())
+        if status < 2 or words[1:]:
+            print(said)
+        statuses.append(status)
+    sys.exit(max(statuses))
 
 
 if __name__ == "__main__":

@@ -1,9 +1,15 @@
 #!/usr/bin/env python3
-"""The calls of version 2 from Python, of a scheduler, a guard and an audit. Prints 'caladan_test: ok'.
+"""The calls from Python, of a scheduler, a guard and an audit: what they answer, what is refused before they are called, that
+nothing is left open, and that the structures lie as include/caladan.h says. Prints 'caladan_test: ok'.
 
     caladan_test.py LIBRARY"""
 import ctypes
+import gc
+import os
+import re
 import sys
+import threading
+import warnings
 
 import caladan
 from caladan import Action, Audit, CallRefused, Guard, Look, Lost, NotPermitted, Scheduler, Unfit
@@ -92,12 +98,99 @@ def written(library):
     want(rows, ["pass,111,0", "busy,0,1,1,1", "pass,112,0", "whole,0,1,1,0,0,1,100,0,0,105" + rest, "grant,0,0,3",
                 "pass,113,0", "busy,0,1,1,1"])
     for more, first in (([], None), (["free,0"], 2)):
-        audit = Audit(library, TABLE)
-        for each in caladan.recorded([row.split(",") for row in rows + more + ["end,3"]]):
-            audit.take(*each)
-        want(audit.verdict(), first)
-        audit.close()
+        history = "\n".join(["caladan-history,2", *rows, *more, "end,3"])
+        with Audit(library, TABLE) as audit:
+            for each in caladan.recorded(history.encode(), caladan.machine_of(library, TABLE)):
+                audit.take(*each)
+            want(audit.verdict(), first)
     want(caladan.action_row(Action(kind=4, core=3, cause=3, task=1)), "revoke,3,preempt,1")
+
+
+def out_of_range(library):
+    """What does not fit is refused before anything is called, so that nothing changes."""
+    for fields in ({"running": -1}, {"stamp": 1 << 64}, {"busy": 256}, {"room": -1}, {"number": (1 << 64) + 7}):
+        raised(ValueError, lambda it: Look(**it), fields)
+    raised(ValueError, Look, 0, 300)
+    raised(ValueError, lambda: Action(kind=6, core=256))
+    raised(ValueError, setattr, WAITS, "taken", -1)
+    raised(TypeError, setattr, WAITS, "taken", 1.5)
+    want(WAITS.taken, 0)
+    with Scheduler(library, TABLE) as it:
+        for call in (it.run, it.run_each):
+            raised(ValueError, call, -1, 0, [WAITS])
+            raised(ValueError, call, 111, 1 << 64, [WAITS])
+        for call in (it.thread, it.task, it.gone):
+            raised(ValueError, call, -1)
+            raised(ValueError, call, 1 << 64)
+            want(raised(CallRefused, call, (1 << 64) - 1).answer, caladan.NO_SUCH)
+        want(it.thread(0).sent, 0)
+        want(it.run(111, (1 << 64) - 1, [WAITS])[1][0].kind, 6)
+    with Audit(library, TABLE) as it:
+        raised(ValueError, it.take, 111, 0, [WAITS], [257], [GRANT])
+        raised(ValueError, it.take, 1 << 64, 0, [WAITS], [KEPT], [GRANT])
+        it.take(111, 0, [WAITS], [KEPT], [GRANT])
+        want(it.verdict(), None)
+    with Guard(library, TABLE) as it:
+        raised(ValueError, it.run, -1, 0, [WAITS], [GRANT])
+        want(it.run(111, 0, [WAITS], [GRANT]), ([KEPT], None))
+
+
+def tables(library):
+    """A table is bytes or a str; of one that is refused nothing is left."""
+    for table in (TABLE, TABLE.decode(), bytearray(TABLE)):
+        with Scheduler(library, table) as it:
+            want((it.threads, it.bandwidth_limit()), (1, 1000))
+        want((it.handle.open, it.bandwidth_limit()), (False, 0))
+        want(raised(CallRefused, it.close).answer, 10)
+    want(raised(CallRefused, Scheduler, library, "cores = 3\n").answer, 3)
+    want(raised(CallRefused, Scheduler, library, "# \u2713\n").answer, 3)
+    raised(TypeError, Scheduler, library, 7)
+
+
+def left_open(library):
+    """One that is dropped is closed, and says so; one that is dropped on another thread says so. `with` closes after an error."""
+    for kind in (Scheduler, Audit, Guard):
+        with warnings.catch_warnings(record=True) as said:
+            warnings.simplefilter("always")
+            closed, close = [], kind.close
+            kind.close = lambda it: closed.append(it.handle.open) or close(it)
+            for _ in range(3):
+                kind(library, TABLE)
+            gc.collect()
+            kind.close = close
+            want((closed, [it.category for it in said]), ([True] * 3, [ResourceWarning] * 3))
+    try:
+        with Guard(library, TABLE) as it:
+            it.run(111, 0, [], [])
+    except CallRefused as why:
+        want((why.answer, it.handle.open), (13, False))
+    with warnings.catch_warnings(record=True) as said:
+        warnings.simplefilter("always")
+        dropped = [Scheduler(library, TABLE)]
+        handle = dropped[0].handle
+        other = threading.Thread(target=dropped.clear)
+        other.start()
+        other.join()
+        want((handle.open, len(said)), (True, 1))
+    want(library.caladan_close(ctypes.byref(handle)), 0)
+
+
+def layout():
+    """Each structure has the size, and each field the place, that the header says of it."""
+    folder = os.path.dirname(os.path.abspath(__file__))
+    with open(f"{folder}/../../include/caladan.h", encoding="utf-8") as it:
+        header = it.read()
+    sizes = re.findall(r"^CALADAN_SIZE\((\w+), (\d+)\);", header, re.M)
+    kinds = {"caladan": caladan.Handle, "caladan_audit": caladan.Handle, "caladan_guard": caladan.Handle, "caladan_look": Look,
+             "caladan_action": Action, "caladan_holder_of_core": caladan.Holder, "caladan_counts": caladan.Counts,
+             "caladan_machine": caladan.Machine, "caladan_table_row": caladan.TableTask, "caladan_thread_state": caladan.Thread,
+             "caladan_refused": caladan.Refused}
+    want(sorted(name for name, _ in sizes), sorted(kinds))
+    for name, size in sizes:
+        places = re.findall(rf"^CALADAN_PLACE\({name}, (\w+), (\d+)\);", header, re.M)
+        want((name, ctypes.sizeof(kinds[name])), (name, int(size)))
+        want((name, [(field, getattr(kinds[name], field).offset) for field, _ in kinds[name]._fields_]),
+             (name, [(field, int(at)) for field, at in places]))
 
 
 def main():
@@ -105,6 +198,10 @@ def main():
     scheduled(library)
     guarded(library)
     written(library)
+    out_of_range(library)
+    tables(library)
+    left_open(library)
+    layout()
     print("caladan_test: ok")
 
 

@@ -1,139 +1,81 @@
 //! Reads a task table, a line ---, and a history on standard input, hands its passes to an audit one after
 //! the other, and prints 'legal', or 'illegal pass' and the first that is not, as caladan_sim audit does.
 //! Given the word guard it hands their actions to a guard, and prints 'permitted', or the first pass and
-//! action that are not. Exits with 1 where one is not, with 2 where the input is refused.
+//! action that are not. Exits with 1 where one is not, with 2 where the input is refused. Given files it reads each
+//! as such an input for the audit, and prints its line; of one that is refused 'refused'.
 
-use caladan::{Action, Audit, Guard, Look, NotThrough, Verdict};
+mod trace;
+
+use caladan::{Audit, Guard, NotThrough, Verdict};
 use std::io::Read;
 use std::process::exit;
+use trace::{machine_of, parts, Trace, Why};
 
-#[derive(Default)]
-struct Pass {
-    now: u64,
-    bandwidth: u64,
-    looks: Vec<Look>,
-    judged: Vec<u8>,
-    actions: Vec<Action>,
-}
+/// What is said of an input, and whether all is legal or permitted.
+type Said = Result<(String, bool), Why>;
 
-fn refuse(why: &str) -> ! {
-    eprintln!("audit: {why}");
-    exit(2)
-}
-
-fn number(field: Option<&str>) -> u64 {
-    field.and_then(|it| it.parse().ok()).unwrap_or_else(|| refuse("a field is no number"))
-}
-
-fn place_of(words: &[&str], word: &str) -> Option<u8> {
-    words.iter().position(|it| *it == word).map(|k| k as u8 + 1)
-}
-
-fn look_of<'a>(judged: u8, mut rest: impl Iterator<Item = &'a str>) -> Look {
-    rest.next();
-    let mut look = Look { room: number(rest.next()) as u8, number: number(rest.next()), ..Look::default() };
-    if judged == 2 {
-        look.busy = 1;
-        look.second = number(rest.next());
-        return look;
+fn audited(text: &[u8]) -> Said {
+    let (table, history) = parts(text)?;
+    let (table, machine) = machine_of(table)?;
+    let mut audit = Audit::open(table).map_err(|_| "the table")?;
+    let mut trace = Trace::begin(history, machine, true)?;
+    while let Some(it) = trace.next_pass()? {
+        audit.pass(it.now, it.bandwidth, &it.looks, &it.judged, &it.actions).map_err(|_| "a pass")?;
     }
-    for word in &mut look.words {
-        *word = rest.next().map_or(0, |field| number(Some(field))); // version 1 has two words fewer
-    }
-    look
+    Ok(match audit.verdict() {
+        Verdict::Legal => ("legal".to_string(), true),
+        Verdict::Illegal { pass } => (format!("illegal pass {pass}"), false),
+    })
 }
 
-fn action_of<'a>(kind: u8, mut rest: impl Iterator<Item = &'a str>) -> Action {
-    let first = number(rest.next()) as u8;
-    let mut action = Action { kind, core: if kind == 5 { 0 } else { first }, ..Action::default() };
-    match kind {
-        3 => {
-            action.thread = number(rest.next()) as u8;
-            action.started = number(rest.next());
-        }
-        4 => {
-            let cause = rest.next().and_then(|it| place_of(&["ban", "bandwidth", "preempt"], it));
-            action.cause = cause.unwrap_or_else(|| refuse("no cause"));
-            match action.cause {
-                1 => action.by = number(rest.next()) as u8,
-                3 => action.task = number(rest.next()) as u8,
-                _ => {}
-            }
-        }
-        5 => {
-            action.task = first;
-            action.cap = number(rest.next()) as u8;
-        }
-        6 => {
-            action.thread = number(rest.next()) as u8;
-            action.core_class = number(rest.next()) as u8;
-        }
-        _ => {}
-    }
-    action
-}
-
-fn passes_of(history: &str) -> Vec<Pass> {
-    let mut passes: Vec<Pass> = Vec::new();
-    for row in history.lines().skip(1) {
-        let mut fields = row.split(',');
-        let word = fields.next().unwrap_or("");
-        if word == "pass" {
-            passes.push(Pass { now: number(fields.next()), bandwidth: number(fields.next()), ..Pass::default() });
-            continue;
-        }
-        if word == "end" {
-            return passes;
-        }
-        let Some(pass) = passes.last_mut() else { refuse("no pass") };
-        if let Some(judged) = place_of(&["whole", "busy", "ahead", "foreign"], word) {
-            pass.judged.push(judged);
-            pass.looks.push(look_of(judged, fields));
-        } else if let Some(kind) = place_of(&["free", "unban", "ban", "revoke", "cap", "grant"], word) {
-            pass.actions.push(action_of(kind, fields));
-        } else {
-            refuse("a row is none");
-        }
-    }
-    refuse("no end")
-}
-
-fn audited(table: &str, passes: &[Pass]) -> (String, i32) {
-    let mut audit = Audit::open(table).unwrap_or_else(|refused| refuse(&format!("config {}", refused.0)));
-    for it in passes {
-        if let Err(refused) = audit.pass(it.now, it.bandwidth, &it.looks, &it.judged, &it.actions) {
-            refuse(&format!("a pass answers {}", refused.0));
-        }
-    }
-    match audit.verdict() {
-        Verdict::Legal => ("legal".to_string(), 0),
-        Verdict::Illegal { pass } => (format!("illegal pass {pass}"), 1),
-    }
-}
-
-fn guarded(table: &str, passes: &[Pass]) -> (String, i32) {
-    let mut guard = Guard::open(table).unwrap_or_else(|refused| refuse(&format!("config {}", refused.0)));
-    for (number, it) in passes.iter().enumerate() {
+fn guarded(text: &[u8]) -> Said {
+    let (table, history) = parts(text)?;
+    let (table, machine) = machine_of(table)?;
+    let mut guard = Guard::open(table).map_err(|_| "the table")?;
+    let mut trace = Trace::begin(history, machine, true)?;
+    let mut number = 0;
+    while let Some(it) = trace.next_pass()? {
         match guard.pass(it.now, it.bandwidth, &it.looks, &it.actions) {
             Ok(judged) if judged == it.judged => {}
-            Ok(_) => return (format!("judged otherwise in pass {number}"), 1),
-            Err(NotThrough::Stopped(at)) => return (format!("refused pass {number} action {} why {}", at.place, at.why), 1),
-            Err(NotThrough::Refused(refused)) => refuse(&format!("pass {number} answers {}", refused.0)),
+            Ok(_) => return Ok((format!("judged otherwise in pass {number}"), false)),
+            Err(NotThrough::Stopped(at)) => return Ok((format!("refused pass {number} action {} why {}", at.place, at.why), false)),
+            Err(NotThrough::Refused(_)) => return Err("a pass"),
         }
+        number += 1;
     }
-    ("permitted".to_string(), 0)
+    Ok(("permitted".to_string(), true))
+}
+
+fn status_of(said: &Said) -> i32 {
+    match said {
+        Ok((_, is_so)) => i32::from(!is_so),
+        Err(_) => 2,
+    }
+}
+
+/// Prints the line of each file; the greatest status of one.
+fn audit_each(files: &[String]) -> i32 {
+    let mut greatest = 0;
+    for file in files {
+        let said = std::fs::read(file).map_err(|_| "no text").and_then(|text| audited(&text));
+        greatest = greatest.max(status_of(&said));
+        println!("{}", said.map_or("refused".to_string(), |(line, _)| line));
+    }
+    greatest
 }
 
 fn main() {
-    let mut text = String::new();
-    if std::io::stdin().read_to_string(&mut text).is_err() {
-        refuse("no text");
+    let words: Vec<String> = std::env::args().skip(1).collect();
+    let guards = words == ["guard"];
+    if !guards && !words.is_empty() {
+        exit(audit_each(&words));
     }
-    let text = format!("\n{}", text.replace("\r\n", "\n"));
-    let Some((table, history)) = text.split_once("\n---\n") else { refuse("no separator") };
-    let passes = passes_of(history);
-    let guards = std::env::args().nth(1).as_deref() == Some("guard");
-    let (said, status) = if guards { guarded(table, &passes) } else { audited(table, &passes) };
-    println!("{said}");
-    exit(status)
+    let mut text = Vec::new();
+    let is_read = std::io::stdin().read_to_end(&mut text).map(|_| ()).map_err(|_| "no text");
+    let said = is_read.and_then(|()| if guards { guarded(&text) } else { audited(&text) });
+    match &said {
+        Ok((line, _)) => println!("{line}"),
+        Err(why) => eprintln!("audit: {why}"),
+    }
+    exit(status_of(&said))
 }

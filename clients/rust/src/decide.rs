@@ -1,36 +1,13 @@
 //! Reads a task table, a line ---, and a file of signals on standard input, makes the passes, and prints
 //! the report of caladan_sim. Exits with 2 where the input is refused.
 
-use caladan::{Action, Look, Scheduler};
+mod trace;
+
+use caladan::{Action, Scheduler};
+use std::fmt::Write;
 use std::io::Read;
 use std::process::exit;
-
-fn refuse(why: &str) -> ! {
-    eprintln!("decide: {why}");
-    exit(2)
-}
-
-fn number(field: &str) -> u64 {
-    field.parse().unwrap_or_else(|_| refuse("a field is no number"))
-}
-
-fn look_of(row: &str) -> Look {
-    let fields: Vec<&str> = row.split(',').collect();
-    let numbers: Vec<u64> = fields[1..].iter().map(|field| number(field)).collect();
-    if numbers.len() < 4 {
-        refuse("a row is no look");
-    }
-    let mut look = Look { room: numbers[1] as u8, number: numbers[2], ..Look::default() };
-    if fields[0] == "busy" {
-        look.busy = 1;
-        look.second = numbers[3];
-    } else {
-        for (word, given) in look.words.iter_mut().zip(&numbers[3..]) {
-            *word = *given;
-        }
-    }
-    look
-}
+use trace::{machine_of, parts, Trace, Why};
 
 fn told(it: &Action) -> String {
     match (it.kind, it.cause) {
@@ -45,46 +22,53 @@ fn told(it: &Action) -> String {
     }
 }
 
-fn print_pass(scheduler: &mut Scheduler, pass: usize, row: &str, looks: &[Look]) {
-    let fields: Vec<u64> = row.split(',').skip(1).map(number).collect();
-    println!("pass {pass} now {} bandwidth {}", fields[0], fields[1]);
-    match scheduler.pass(fields[0], fields[1], looks) {
-        Err(refused) => refuse(&format!("pass {pass} answers {}", refused.0)),
-        Ok((actions, judged)) => {
-            for (k, it) in judged.iter().enumerate().filter(|(_, it)| **it != 1) {
-                println!("  kept {k} {}", ["busy", "ahead", "foreign"][*it as usize - 2]);
-            }
-            for action in actions {
-                println!("  {}", told(action));
-            }
-        }
+/// The lines of a pass.
+fn lines_of(pass: usize, now: u64, bandwidth: u64, actions: &[Action], judged: &[u8]) -> String {
+    let mut lines = format!("pass {pass} now {now} bandwidth {bandwidth}\n");
+    for (k, it) in judged.iter().enumerate().filter(|(_, it)| **it != 1) {
+        let _ = writeln!(lines, "  kept {k} {}", ["busy", "ahead", "foreign"][usize::from(*it) - 2]);
     }
+    for action in actions {
+        let _ = writeln!(lines, "  {}", told(action));
+    }
+    lines
+}
+
+/// The lines of the end.
+fn end_of(scheduler: &mut Scheduler, passes: usize) -> String {
+    let mut lines = format!("end {passes} passes\n");
+    let kinds: Vec<u8> = scheduler.table().map(|row| row.kind).collect();
+    for (task, kind) in kinds.into_iter().enumerate() {
+        let has = scheduler.task(task).unwrap_or_default();
+        let (kind, cap) = if kind == 2 { ("be", format!(" cap {}", has.cap)) } else { ("lc", String::new()) };
+        let _ = writeln!(lines, "task {task} {kind} held {} leaving {}{cap}", has.held, has.booked - has.held);
+    }
+    lines
+}
+
+/// The report of an input, kept until all of it was accepted.
+fn report(text: &[u8]) -> Result<String, Why> {
+    let (table, signals) = parts(text)?;
+    let (table, machine) = machine_of(table)?;
+    let mut scheduler = Scheduler::open(table).map_err(|_| "the table")?;
+    let mut trace = Trace::begin(signals, machine, false)?;
+    let (mut report, mut passes) = (String::new(), 0);
+    while let Some(it) = trace.next_pass()? {
+        let (actions, judged) = scheduler.pass(it.now, it.bandwidth, &it.looks).map_err(|_| "a pass")?;
+        report += &lines_of(passes, it.now, it.bandwidth, actions, judged);
+        passes += 1;
+    }
+    Ok(report + &end_of(&mut scheduler, passes))
 }
 
 fn main() {
-    let mut text = String::new();
-    if std::io::stdin().read_to_string(&mut text).is_err() {
-        refuse("no text");
-    }
-    let text = format!("\n{}", text.replace("\r\n", "\n"));
-    let Some((table, trace)) = text.split_once("\n---\n") else { refuse("no separator") };
-    let mut scheduler = Scheduler::open(table).unwrap_or_else(|refused| refuse(&format!("config {}", refused.0)));
-    let rows: Vec<&str> = trace.lines().skip(1).collect();
-    let mut passes = 0;
-    for rows in rows.chunks(scheduler.threads() + 1) {
-        if !rows[0].starts_with("pass,") {
-            break;
+    let mut text = Vec::new();
+    let is_read = std::io::stdin().read_to_end(&mut text).map(|_| ()).map_err(|_| "no text");
+    match is_read.and_then(|()| report(&text)) {
+        Ok(report) => print!("{report}"),
+        Err(why) => {
+            eprintln!("decide: {why}");
+            exit(2)
         }
-        let looks: Vec<Look> = rows[1..].iter().map(|row| look_of(row)).collect();
-        print_pass(&mut scheduler, passes, rows[0], &looks);
-        passes += 1;
-    }
-    println!("end {passes} passes");
-    let kinds = table.lines().filter(|line| line.trim_start().starts_with("kind"));
-    for (task, line) in kinds.enumerate() {
-        let Some(has) = scheduler.task(task) else { break };
-        let kind = if line.contains("be") { "be" } else { "lc" };
-        print!("task {task} {kind} held {} leaving {}", has.held, has.booked - has.held);
-        println!("{}", if kind == "be" { format!(" cap {}", has.cap) } else { String::new() });
     }
 }

@@ -1,5 +1,6 @@
 //! The calls of the wrapper, once each.
 
+use super::{Counts, Holder, TableTask, CLOSED};
 use super::{history_of_each, Action, Audit, Command, Guard, Judged, Look, Machine, NotThrough, Refused, Scheduler, Stopped, Thread, Verdict, WORDS};
 
 const TABLE: &str = "cores = 2\nbandwidth_limit = 1000\n\n[[task]]\nkind = \"lc\"\nguaranteed = 1\nlimit = 1\ndelay = 10\nrequest = 50\n";
@@ -109,4 +110,46 @@ fn texts_and_history() {
 #[test]
 fn no_table() {
     assert_eq!(Scheduler::open("cores = 3\n").err(), Some(Refused(3)));
+}
+
+/// The size and the places that the header says of a struct.
+fn of_header(name: &str) -> (usize, Vec<(String, usize)>) {
+    let header = include_str!("../../../include/caladan.h");
+    let numbers = |start: &str| -> Vec<(String, usize)> {
+        let lines = header.lines().filter_map(|line| line.strip_prefix(start)?.strip_suffix(");"));
+        lines.map(|rest| rest.rsplit_once(", ").map_or(("", rest), |it| it)).map(|(field, number)| (field.to_string(), number.parse().unwrap())).collect()
+    };
+    (numbers(&format!("CALADAN_SIZE({name}, "))[0].1, numbers(&format!("CALADAN_PLACE({name}, ")))
+}
+
+/// The size of a struct, and the places of these fields in it.
+macro_rules! layout {
+    ($of:expr, $($field:ident),+) => {{
+        let it = $of;
+        let start = std::ptr::addr_of!(it) as usize;
+        (std::mem::size_of_val(&it), vec![$((stringify!($field).to_string(), std::ptr::addr_of!(it.$field) as usize - start)),+])
+    }};
+}
+
+/// Each struct has the size, and each field the place, that the header says of it.
+#[test]
+fn layout_is_the_headers() {
+    let handle = layout!(CLOSED, open, at);
+    for name in ["caladan", "caladan_audit", "caladan_guard"] {
+        assert_eq!(handle, of_header(name), "{name}");
+    }
+    let action = layout!(Action::default(), kind, core, thread, core_class, cause, by, task, cap, started);
+    assert_eq!(action, of_header("caladan_action"));
+    assert_eq!(layout!(Holder::default(), state, thread, cause, cause_of), of_header("caladan_holder_of_core"));
+    assert_eq!(layout!(Counts::default(), held, booked, cap), of_header("caladan_counts"));
+    assert_eq!(layout!(Machine::default(), cores, tasks, threads, bandwidth_limit), of_header("caladan_machine"));
+    let row = layout!(TableTask::default(), kind, guaranteed, limit, first_thread, delay, request);
+    assert_eq!(row, of_header("caladan_table_row"));
+    assert_eq!(layout!(Thread::default(), task, sent, taken), of_header("caladan_thread_state"));
+    assert_eq!(layout!(Stopped::default(), place, why, names), of_header("caladan_refused"));
+    let (size, mut places) = layout!(Look::default(), busy, room, number, second, words);
+    let words = places.pop().unwrap().1;
+    places.extend(WORDS.iter().enumerate().map(|(k, word)| (word.to_string(), words + 8 * k)));
+    assert_eq!((size, places), of_header("caladan_look"));
+    assert_eq!(include_str!("../../../include/caladan.h").lines().filter(|line| line.starts_with("CALADAN_SIZE(")).count(), 11);
 }
