@@ -27,6 +27,7 @@ install: $(programs) caladan_c
 	mkdir -p $(PREFIX)/bin
 	for each in $(programs); do install -m 755 crates/$$each/out/$$each $(PREFIX)/bin || exit; done
 	tools/manual $(share) $(PREFIX)/bin/caladan_sim $(PREFIX)/bin/caladan_view
+	tools/doc_pages $(share)/man
 
 install_library: $(archive)
 	tools/install_c_library $(PREFIX)
