@@ -16,9 +16,69 @@ from crates import TOP, below, crates, files_of
 
 KEPT = os.environ.get("CALADAN_PROOF", f"{TOP}/out/proof")
 BUILT = {"caladan_sim": "caladan_sim", "caladan_view": "caladan_view", "caladan_c": "libcaladan_c.a"}
-# Of a crate: how many of its functions were proved (None where `rt ci` took it from an earlier run, and says no number), and how
-# many wrong bodies of it were refused.
-Proved = collections.namedtuple("Proved", "functions refused")
+# Of a crate: how many of its functions were proved (None where `rt ci` took it from an earlier run, and says no number), how many
+# wrong bodies of it were refused, and how many of these only by a limit of the prover, which gave no verdict.
+Proved = collections.namedtuple("Proved", "functions refused limited")
+
+PROOF = """\
+What was proved of Doranjei {version}
+=================================
+
+`make dist` made this page from what `rt ci` printed over this very tree, and from README.md. Nothing of it was written by hand.
+
+Version    {version}
+Commit     {commit}
+Tree       {tree}
+Kit        {kit}
+Logic      {logic}
+rt ci      {said}
+
+To check it: in the folder of the sources (doranjei-VERSION-source.tar.xz, or a checkout of the commit without .git) the sum of the
+tree is what this prints:
+
+    find . -type f -printf '%P\\0' | LC_ALL=C sort -z | xargs -0 sha256sum | sha256sum
+
+and with that kit `make check` there proves everything from nothing, and `make dist` then makes this page again.
+
+
+Proved, crate by crate
+----------------------
+
+Each function of each crate keeps its contract, is safe, and returns (but for those that run threads, which wait at their joins).
+A wrong body is a body with a mistake in it that the prover must refuse, and refused: docs/WRONG_BODIES.md of the sources has each.
+
+{rows}
+
+
+What is promised, in README's words, with the clauses that carry it
+-------------------------------------------------------------------
+
+{promises}
+
+All other promises: docs/PROMISES.md, or `man caladan-promises`.
+
+
+What is trusted
+---------------
+
+{trusted}
+- That the files below were made from the proved ones as is said there.
+
+
+The proved programs and the C library, as they were built
+---------------------------------------------------------
+
+{built}
+
+`strip` took names of debugging out of them, and they are the programs and the archive below; libcaladan_c.so is that archive and
+its heap, linked. caladand, libcaladan_rt.a and the clients are C, Python and Rust that is not proved.
+
+
+All files of the release but this one, by the folder of the prefix and by package
+---------------------------------------------------------------------------------
+
+{files}
+"""
 
 
 class Refused(Exception):
@@ -143,10 +203,11 @@ def proved_crates(log):
     """Of each crate what a log says; a log that names a crate neither proved nor kept is refused."""
     found = numbers_in(log)
     refused = collections.Counter(re.findall(r"^(?:rt: )?must-fail (\w+)/[^:]*: refused, as it must be", log, re.M))
+    limited = collections.Counter(re.findall(r"^(?:rt: )?must-fail (\w+)/[^:]*: refused, as it must be \(only by a limit", log, re.M))
     lacking = [it for it in crates() if it not in found]
     if lacking:
         raise Refused(f"the log of `rt ci` does not say of {lacking[0]} that it is proved")
-    return {it: Proved(found[it], refused[it]) for it in crates()}
+    return {it: Proved(found[it], refused[it], limited[it]) for it in crates()}
 
 
 def read():
@@ -158,9 +219,9 @@ def read():
         raise Refused(f"{KEPT}/rt-ci.log is not what `rt ci` printed")
     with open(f"{KEPT}/rt-ci.log", encoding="utf-8") as it:
         log = it.read()
-    proved = {name: Proved(kept["functions"][name][1], it.refused) for name, it in proved_crates(log).items()}
+    proved = {name: it._replace(functions=kept["functions"][name][1]) for name, it in proved_crates(log).items()}
     if "archive" in kept and proved["caladan_c"].functions is None:
-        proved["caladan_c"] = Proved(functions_in(kept["archive"]), proved["caladan_c"].refused)
+        proved["caladan_c"] = proved["caladan_c"]._replace(functions=functions_in(kept["archive"]))
     return kept, verdict(log), proved
 
 
@@ -171,3 +232,37 @@ def check_built(kept, name, file):
         raise Refused(f"no sum of a proved {BUILT[name]} is kept: the gate takes it after it built it")
     if sum_of(file) != wanted:
         raise Refused(f"{file} is not the {BUILT[name]} that was proved: its sum is another")
+
+
+def marked(name):
+    """What README.md has between the marks <!-- NAME --> and <!-- end -->, without its links."""
+    with open(f"{TOP}/README.md", encoding="utf-8") as it:
+        found = re.search(rf"^<!-- {name} -->\n(.*?)^<!-- end -->$", it.read(), re.M | re.S)
+    if not found:
+        raise Refused(f"README.md has no part between the lines <!-- {name} --> and <!-- end -->")
+    return re.sub(r"!?\[(`?)([^\]`]+)\1\](?:\([^)\s]+\)|\[\])?", r"\1\2\1", found[1]).strip("\n")
+
+
+def rows_of(proved):
+    """The table of the crates."""
+    wide = max(map(len, proved))
+    yield f"{'crate'.ljust(wide)}  functions proved  wrong bodies refused"
+    for name, it in proved.items():
+        number = "(kept)" if it.functions is None else str(it.functions)
+        yield f"{name.ljust(wide)}  {number.rjust(16)}  {str(it.refused).rjust(20)}"
+    known = [it.functions for it in proved.values() if it.functions is not None]
+    yield f"{'together'.ljust(wide)}  {str(sum(known)).rjust(16)}  {str(sum(it.refused for it in proved.values())).rjust(20)}"
+    limited = sum(it.limited for it in proved.values())
+    if limited:
+        yield f"\n{limited} of the wrong bodies were refused only by a limit of the prover, which gave no verdict."
+    if len(known) < len(proved):
+        yield ("\n(kept): `rt ci` took this crate from an earlier run of it on the same machine, which had proved the same files over the\n"
+               "same libraries, and printed no number. The sum is of the others.")
+
+
+def text(version, commit, kept, said, proved, lines):
+    """PROOF: what was proved of a release, and the sums by which its files are known."""
+    kit, _, logic = kept["kit"].partition(" logic ")
+    built = "\n".join(f"{kept['sums'][name]}  {file}" for name, file in BUILT.items())
+    return PROOF.format(version=version, commit=commit, tree=kept["tree"], kit=kit, logic=logic, said=said, rows="\n".join(rows_of(proved)),
+                        promises=marked("proof: promises"), trusted=marked("proof: trusted"), built=built, files="\n".join(lines))
