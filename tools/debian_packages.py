@@ -37,24 +37,24 @@ def settle(root, epoch):
     os.utime(root, (epoch, epoch))
 
 
-def compress(file):
-    staged.tool("xz", "-T1", "-6", "-f", file)
+def compress(file, made):
+    staged.tool("xz", "-T1", f"-{made.pressed}", "-f", file)
     return f"{os.path.basename(file)}.xz"
 
 
-def tar(root, epoch, out):
+def tar(root, made, out):
     """The folder as a .tar.xz."""
     name = os.path.basename(root)
-    staged.tool("tar", "--sort=name", f"--mtime=@{epoch}", "--owner=0", "--group=0", "--numeric-owner", "--format=gnu",
+    staged.tool("tar", "--sort=name", f"--mtime=@{made.epoch}", "--owner=0", "--group=0", "--numeric-owner", "--format=gnu",
                 "-C", os.path.dirname(root), "-cf", f"{out}/{name}.tar", name)
-    return compress(f"{out}/{name}.tar")
+    return compress(f"{out}/{name}.tar", made)
 
 
 def sources(made, out):
     """The sources of the commit, which PROOF's sum of the tree is of."""
     name = f"doranjei-{made.version}-source"
     staged.tool("git", "-C", TOP, "archive", f"--prefix={name}/", "-o", f"{out}/{name}.tar", "HEAD")
-    return compress(f"{out}/{name}.tar")
+    return compress(f"{out}/{name}.tar", made)
 
 
 def needs(files):
@@ -68,6 +68,7 @@ def needs(files):
     return ", ".join(f"{it} (>= {newest[0]}.{newest[1]})" if it == "libc6" else it for it in sorted(found))
 
 
+@functools.cache
 def owner(path):
     """The package that a library's file is of."""
     for it in (path, os.path.realpath(path), f"/usr{path}"):
@@ -126,6 +127,6 @@ def package(name, at, made, out):
     architecture = re.search(r"^Architecture: (\S+)$", text, re.M)[1]
     file = f"{name}_{made.version}_{architecture}.deb"
     env = {**os.environ, "SOURCE_DATE_EPOCH": str(made.epoch)}
-    subprocess.run(["dpkg-deb", "--root-owner-group", "--threads-max=1", "-Zxz", "-z6", "--build", at.root, f"{out}/{file}"],
+    subprocess.run(["dpkg-deb", "--root-owner-group", "--threads-max=1", "-Zxz", f"-z{made.pressed}", "--build", at.root, f"{out}/{file}"],
                    env=env, stdout=subprocess.DEVNULL, check=True)
     return file

@@ -1,6 +1,7 @@
 """The files of a release, put below the folder where they are installed: as of Debian, a folder for each package, or as of a prefix,
 one folder for all. tools/make_release calls it."""
 import collections
+import functools
 import glob
 import gzip
 import os
@@ -14,8 +15,8 @@ from crates import TOP, below, crates, kit, text_of
 # Where things go below a folder: Debian's places, or those of a prefix. `up` leads from lib to include.
 Layout = collections.namedtuple("Layout", "root prefix lib zsh unit up")
 # What a release is made from: the version that its files say, the time of all of them, the programs and the archive (None where it
-# is not there), the heap, a folder to build in.
-Made = collections.namedtuple("Made", "version epoch programs archive heap folder")
+# is not there), the heap, a folder to build in, and how hard it is pressed, 0 to 9.
+Made = collections.namedtuple("Made", "version epoch programs archive heap folder pressed")
 PAGES = ["README.md", "CHANGELOG.md", "SECURITY.md", "docs/FORMATS.md", "docs/POLICY.md", "docs/MODEL.md", "docs/PROMISES.md"]
 HEADERS = ["caladan.h", "caladan_history.h", "caladan_pages.h"]
 SONAME = "libcaladan_c.so"
@@ -114,7 +115,7 @@ def library(at, made):
     for it in HEADERS:
         put(at, f"{at.prefix}/include", f"{TOP}/include/{it}")
     write(at, f"{at.lib}/pkgconfig/caladan.pc", pkg_config(
-        at, "caladan", "The decisions of a core scheduler, proved", made.version, "-lcaladan_c -llibc_c"))
+        at, "caladan", "The decisions of a core scheduler, proved", made.version, "${libdir}/libcaladan_c.a ${libdir}/liblibc_c.a"))
     for it in ("caladan-config.cmake", "caladan-config-version.cmake"):
         text = text_of(f"{TOP}/packaging/cmake/{it}").replace("@INCLUDE@", at.up)
         write(at, f"{at.lib}/cmake/caladan/{it}", text.replace("@VERSION@", made.version.partition("~")[0]))
@@ -128,7 +129,7 @@ def pkg_config(at, name, about, version, libs):
     """A file for pkg-config that goes by where it lies itself, so that a prefix can be moved."""
     number = version.partition("~")[0]
     return (f"libdir=${{pcfiledir}}/..\nincludedir=${{libdir}}/{at.up}\nName: {name}\nDescription: {about}\nVersion: {number}\n"
-            f"Cflags: -I${{includedir}}\nLibs: -L${{libdir}} {libs}\n")
+            f"Cflags: -I${{includedir}}\nLibs: {libs}\n")
 
 
 def host_folder(at):
@@ -151,7 +152,7 @@ def host(at, made):
     tool("ar", "rcsD", archive, *objects)
     put(at, f"{at.prefix}/include", f"{TOP}/host/caladan_rt.h")
     write(at, f"{at.lib}/pkgconfig/caladan-rt.pc", pkg_config(
-        at, "caladan-rt", "The runtime of processes that caladand schedules", made.version, "-lcaladan_rt -pthread"))
+        at, "caladan-rt", "The runtime of processes that caladand schedules", made.version, "${libdir}/libcaladan_rt.a -pthread"))
     if os.path.isfile(f"{TOP}/host/caladand.8"):
         put(at, share(at, "man/man8"), f"{TOP}/host/caladand.8")
     if os.path.isfile(f"{TOP}/host/caladand.service"):
@@ -162,11 +163,13 @@ def host(at, made):
         put(at, share(at, "doc/caladand/examples"), f"{TOP}/{file}")
 
 
-def kit_licences(names):
+@functools.cache
+def kit_licences(*names):
     """The licences that the kit gives for those of its crates that are built into these crates."""
     uses, at, wanted = crates(), kit(), ["std"]
-    for it in [below for name in names for below in [*below_of(name, uses), name]]:
-        wanted += [lib for lib in uses[it] if lib not in uses and lib not in wanted]
+    for name in names:
+        for it in [*below(name, uses, []), name]:
+            wanted += [lib for lib in uses[it] if lib not in uses and lib not in wanted]
     for it in wanted:
         wanted += [lib for lib in re.findall(r"^dep (\w+)$", text_of(f"{at}/rlibs/{it}.rlib/format"), re.M) if lib not in wanted]
     texts, without = collections.defaultdict(list), []
@@ -178,7 +181,3 @@ def kit_licences(names):
     parts = [f"{', '.join(files)}\n\n{text}\n" for text, files in texts.items()]
     head = f"Licences that the Rattle kit gives for its crates. It gives none of their own for: {', '.join(without)}.\n"
     return "\n----\n\n".join([head, *parts])
-
-
-def below_of(name, uses):
-    return below(name, uses, [])

@@ -13,6 +13,7 @@ import ctypes
 import re
 import sys
 
+__version__ = "2"
 MOST_ACTIONS = 338
 U8, U64, SIZE = ctypes.c_uint8, ctypes.c_uint64, ctypes.c_size_t
 WORDS = ("taken", "running", "queued", "oldest", "started", "misses", "stamp", "paused", "since")
