@@ -2,7 +2,7 @@
 # make NAME            one of them, or caladan_c, the C library
 # make check           the gate
 # make install PREFIX=/usr/local      programs, C library, headers, pkg-config, manual pages and completions
-# make install_library PREFIX=..      the C library, its headers and the pkg-config file alone
+# make install_library PREFIX=..      the C library, its headers and the files for pkg-config and CMake alone
 # make dist            a release in out/release: Debian packages, a prefix, the sources, and PROOF, made from what the gate keeps
 # What is proved is kept in crates/*/out, so make goes on where it was ended.
 PREFIX ?= /usr/local
