@@ -65,7 +65,7 @@ def needs(files):
             found.add(owner(path))
         versions = re.findall(r"GLIBC_(\d+)\.(\d+)", staged.tool("objdump", "-T", file))
         newest = max([newest, *((int(one), int(two)) for one, two in versions)])
-    return ", ".join(f"{it} (>= {newest[0]}.{newest[1]})" if it == "libc6" else it for it in sorted(found))
+    return [f"{it} (>= {newest[0]}.{newest[1]})" if it == "libc6" else it for it in sorted(found)]
 
 
 @functools.cache
@@ -90,7 +90,8 @@ def binaries(root):
 def changelog(made):
     """The changes as Debian has them, compressed: the release alone, which names the page that has the rest."""
     date = datetime.datetime.fromtimestamp(made.epoch, datetime.timezone.utc).strftime("%a, %d %b %Y %H:%M:%S +0000")
-    text = f"doranjei ({made.version}) unstable; urgency=medium\n\n  * CHANGELOG.md of the sources says what changed.\n\n -- {MAINTAINER}  {date}\n"
+    head = f"doranjei ({made.version}) unstable; urgency=medium"
+    text = f"{head}\n\n  * CHANGELOG.md of the sources says what changed.\n\n -- {MAINTAINER}  {date}\n"
     return gzip.compress(text.encode(), 9, mtime=0)
 
 
@@ -98,9 +99,11 @@ def control(name, made, root):
     """The fields of a package."""
     size = sum(os.lstat(os.path.join(at, it)).st_size for at, _, files in os.walk(root) for it in files)
     section, _, description = text_of(f"{TOP}/packaging/control/{name}").partition("\n")
-    depends = sorted({it for it in needs(binaries(root)).split(", ") if it} | ({"libc6-dev"} if name == "libcaladan-dev" else set()))
-    fields = [f"Package: {name}", "Source: doranjei", f"Version: {made.version}", f"Architecture: {staged.tool('dpkg', '--print-architecture').strip()}",
-              f"Maintainer: {MAINTAINER}", f"Installed-Size: {-(-size // 1024)}", f"Depends: {', '.join(depends)}", section, "Priority: optional"]
+    depends = sorted({*needs(binaries(root)), *(["libc6-dev"] if name == "libcaladan-dev" else [])})
+    architecture = staged.tool("dpkg", "--print-architecture").strip()
+    fields = [f"Package: {name}", "Source: doranjei", f"Version: {made.version}", f"Architecture: {architecture}"]
+    fields += [f"Maintainer: {MAINTAINER}", f"Installed-Size: {-(-size // 1024)}", f"Depends: {', '.join(depends)}"]
+    fields += [section, "Priority: optional"]
     return "\n".join(fields) + f"\n{description}" + ("" if "~" not in made.version else UNPROVED)
 
 
@@ -127,6 +130,6 @@ def package(name, at, made, out):
     architecture = re.search(r"^Architecture: (\S+)$", text, re.M)[1]
     file = f"{name}_{made.version}_{architecture}.deb"
     env = {**os.environ, "SOURCE_DATE_EPOCH": str(made.epoch)}
-    subprocess.run(["dpkg-deb", "--root-owner-group", "--threads-max=1", "-Zxz", f"-z{made.pressed}", "--build", at.root, f"{out}/{file}"],
-                   env=env, stdout=subprocess.DEVNULL, check=True)
+    words = ["dpkg-deb", "--root-owner-group", "--threads-max=1", "-Zxz", f"-z{made.pressed}", "--build", at.root, f"{out}/{file}"]
+    subprocess.run(words, env=env, stdout=subprocess.DEVNULL, check=True)
     return file

@@ -1,4 +1,4 @@
-"""What `rt ci` proved of a tree: kept by the gate below out/proof, which is in no repository, and told by the PROOF of a release.
+"""What `rt ci` proved of a tree: kept by the gate below out/proof, which is in no repository, and told by a release's PROOF.
 
 The log is kept with the sum of the tree, which anybody can take of a clean checkout or of the release's sources:
 
@@ -87,7 +87,7 @@ class Refused(Exception):
 
 def sum_of(file):
     with open(file, "rb") as it:
-        return hashlib.file_digest(it, "sha256").hexdigest() if hasattr(hashlib, "file_digest") else hashlib.sha256(it.read()).hexdigest()
+        return hashlib.sha256(it.read()).hexdigest()
 
 
 def said(*command):
@@ -264,5 +264,6 @@ def text(version, commit, kept, said, proved, lines):
     """PROOF: what was proved of a release, and the sums by which its files are known."""
     kit, _, logic = kept["kit"].partition(" logic ")
     built = "\n".join(f"{kept['sums'][name]}  {file}" for name, file in BUILT.items())
-    return PROOF.format(version=version, commit=commit, tree=kept["tree"], kit=kit, logic=logic, said=said, rows="\n".join(rows_of(proved)),
-                        promises=marked("proof: promises"), trusted=marked("proof: trusted"), built=built, files="\n".join(lines))
+    told = {"version": version, "commit": commit, "tree": kept["tree"], "kit": kit, "logic": logic, "said": said}
+    return PROOF.format(**told, rows="\n".join(rows_of(proved)), promises=marked("proof: promises"), trusted=marked("proof: trusted"),
+                        built=built, files="\n".join(lines))

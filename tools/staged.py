@@ -1,5 +1,5 @@
-"""The files of a release, put below the folder where they are installed: as of Debian, a folder for each package, or as of a prefix,
-one folder for all. tools/make_release calls it."""
+"""The files of a release, put below the folder where they are installed: as of Debian, a folder for each package, or as of a
+prefix, one folder for all. tools/make_release calls it."""
 import collections
 import functools
 import glob
@@ -122,7 +122,8 @@ def library(at, made):
     write(at, share(at, "doc/libcaladan-dev/README.md"), None, 0o644, f"{TOP}/crates/caladan_c/README.md")
     for file in tracked("clients") + tracked("examples/c"):
         under = re.sub("^clients/|^examples/", "", file)
-        write(at, share(at, f"doc/libcaladan-dev/examples/{under}"), None, os.stat(f"{TOP}/{file}").st_mode & 0o755, f"{TOP}/{file}")
+        mode = os.stat(f"{TOP}/{file}").st_mode & 0o755
+        write(at, share(at, f"doc/libcaladan-dev/examples/{under}"), None, mode, f"{TOP}/{file}")
 
 
 def pkg_config(at, name, about, version, libs):
@@ -139,15 +140,29 @@ def host_folder(at):
     return f"{at.prefix}/{named[1] if named else 'sbin'}"
 
 
+def unit_text(at):
+    """The unit, which starts the caladand that is installed with it."""
+    text = text_of(f"{TOP}/host/caladand.service")
+    return re.sub(r"^(ExecStart=)\S*/caladand\b", rf"\1/usr/{os.path.basename(host_folder(at))}/caladand", text, flags=re.M)
+
+
+def runtime_sources(out):
+    """The files of the runtime: those that the load is made from, but its own."""
+    rule = tool("make", "-n", "-B", "-C", f"{TOP}/host", f"OUT={out}", f"{out}/load")
+    return [it for it in dict.fromkeys(re.findall(r"/host/(\w+)\.c\b", rule)) if it != "load"]
+
+
 def host(at, made):
     """The host: its scheduler, stripped, the library by which processes attach, a manual page and a unit where host/ has them."""
     out = f"{made.folder}/host"
-    tool("make", "-s", "-C", f"{TOP}/host", f"OUT={out}", "CFLAGS=-O2", f"ARCHIVE={made.archive}", f"CALADAN_HEAP={made.heap}", f"{out}/caladand")
+    given = [f"OUT={out}", "CFLAGS=-O2", f"ARCHIVE={made.archive}", f"CALADAN_HEAP={made.heap}"]
+    tool("make", "-s", "-C", f"{TOP}/host", *given, f"{out}/caladand")
     tool("strip", "--strip-all", write(at, f"{host_folder(at)}/caladand", None, 0o755, f"{out}/caladand"))
     objects = []
-    for it in ("caladan_rt", "attach"):
+    for it in runtime_sources(out):
         objects.append(f"{out}/{it}.o")
-        tool(os.environ.get("CC", "cc"), "-std=gnu11", "-O2", "-fPIC", "-pthread", f"-I{TOP}/include", "-c", f"{TOP}/host/{it}.c", "-o", objects[-1])
+        flags = ["-std=gnu11", "-O2", "-fPIC", "-pthread", f"-I{TOP}/include"]
+        tool(os.environ.get("CC", "cc"), *flags, "-c", f"{TOP}/host/{it}.c", "-o", objects[-1])
     archive = write(at, f"{at.lib}/libcaladan_rt.a", b"!<arch>\n")
     tool("ar", "rcsD", archive, *objects)
     put(at, f"{at.prefix}/include", f"{TOP}/host/caladan_rt.h")
@@ -156,8 +171,7 @@ def host(at, made):
     if os.path.isfile(f"{TOP}/host/caladand.8"):
         put(at, share(at, "man/man8"), f"{TOP}/host/caladand.8")
     if os.path.isfile(f"{TOP}/host/caladand.service"):
-        unit = re.sub(r"^(ExecStart=)\S*/caladand\b", rf"\1/{host_folder(at)}/caladand", text_of(f"{TOP}/host/caladand.service"), flags=re.M)
-        write(at, f"{at.unit}/caladand.service", unit)
+        write(at, f"{at.unit}/caladand.service", unit_text(at))
     write(at, share(at, "doc/caladand/README.md"), None, 0o644, f"{TOP}/host/README.md")
     for file in [*tracked("host/tables"), "host/load.c"]:
         put(at, share(at, "doc/caladand/examples"), f"{TOP}/{file}")
