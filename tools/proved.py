@@ -24,7 +24,8 @@ PROOF = """\
 What was proved of Doranjei {version}
 =================================
 
-`make dist` made this page from what `rt ci` printed over this very tree, and from README.md. Nothing of it was written by hand.
+`make dist` made this page from what `rt ci` printed over this very tree, and from README.md: no number, sum or promise in it was
+written by hand.
 
 Version    {version}
 Commit     {commit}
@@ -38,7 +39,7 @@ tree is what this prints:
 
     find . -type f -printf '%P\\0' | LC_ALL=C sort -z | xargs -0 sha256sum | sha256sum
 
-and with that kit `make check` there proves everything from nothing, and `make dist` then makes this page again.
+and with that kit `make check` in a checkout of the commit proves everything from nothing; `make dist` then makes such a page of what was proved there.
 
 
 Proved, crate by crate
