@@ -2,14 +2,15 @@
 # make NAME            one of them, or caladan_c, the C library
 # make check           the gate
 # make install PREFIX=/usr/local      programs, C library, headers, pkg-config, manual pages and completions
-# make install_library PREFIX=..      the C library, its headers and the pkg-config file alone
+# make install_library PREFIX=..      the C library, its headers and the files for pkg-config and CMake alone
+# make dist            a release in out/release: Debian packages, a prefix, the sources, and PROOF, made from what the gate keeps
 # What is proved is kept in crates/*/out, so make goes on where it was ended.
 PREFIX ?= /usr/local
 share = $(PREFIX)/share
 programs = caladan_sim caladan_view
 archive = crates/caladan_c/out/libcaladan_c.a
 
-.PHONY: all $(programs) caladan_c check install install_library
+.PHONY: all $(programs) caladan_c check dist install install_library
 
 all: $(programs)
 
@@ -22,11 +23,15 @@ $(programs) caladan_c:
 check:
 	.ci/run
 
+dist: $(programs) caladan_c
+	tools/make_release
+
 install: $(programs) caladan_c
 	tools/install_c_library $(PREFIX)
 	mkdir -p $(PREFIX)/bin
 	for each in $(programs); do install -m 755 crates/$$each/out/$$each $(PREFIX)/bin || exit; done
 	tools/manual $(share) $(PREFIX)/bin/caladan_sim $(PREFIX)/bin/caladan_view
+	tools/doc_pages $(share)/man
 
 install_library: $(archive)
 	tools/install_c_library $(PREFIX)

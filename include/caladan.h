@@ -23,6 +23,10 @@
  * that process says, and no more: how many commands were sent, and so how much room a ring has, the host
  * knows himself (caladan_thread).
  *
+ * Within a version nothing here changes that a compiled program sees: no call, layout or number. What may
+ * change are the words of the texts and how fast a call answers. A higher version may have more calls,
+ * numbers and fields, and says so here; the soname of libcaladan_c.so has the version.
+ *
  * Since version 1: nothing that was there has changed. New are caladan_pass_each, caladan_first_unfit,
  * caladan_table, caladan_table_task, caladan_thread, caladan_gone and caladan_revoked, the same of a guard
  * (caladan_guard_pass_each and so on), the judgements from CALADAN_NO_PAIR on, the answer CALADAN_LOST,

@@ -76,7 +76,7 @@ def words_of(program):
 
 def shown_run(text, name, word):
     """The run to copy that the help of a program's word shows; None where it shows none."""
-    found = re.search(rf"^\./{name} {word}(?: > \S+)? <<'END'\n(.*?\n)END\n(?:\nIt (may write|writes):\n\n(.*))?", text, re.S | re.M)
+    found = re.search(rf"^{name} {word}(?: > \S+)? <<'END'\n(.*?\n)END\n(?:\nIt (may write|writes):\n\n(.*))?", text, re.S | re.M)
     return found and Shown(found[1].encode(), found[2] == "may write", found[3] and found[3].encode())
 
 

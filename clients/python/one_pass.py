@@ -1,6 +1,6 @@
 """One pass: of two cores and one kernel thread, which has a request queued. Prints 'core 0 to thread 0'.
 
-    one_pass.py LIBRARY      libcaladan.so, as make install_library puts it in PREFIX/lib"""
+    one_pass.py LIBRARY      libcaladan_c.so, as make install_library puts it in PREFIX/lib"""
 import ctypes
 import sys
 

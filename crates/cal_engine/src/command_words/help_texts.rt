@@ -38,7 +38,7 @@ pub const PROGRAM: Help = Help {
     after: "\
 Without a word it runs `decide`. Each word reads one input from the standard input: a task table
 (TOML), the line ---, and a trace (CSV). `caladan_sim WORD --help` describes the trace and the
-output, with a whole input to copy; docs/FORMATS.md describes everything.
+output, with a whole input to copy; `man caladan-formats` describes everything.
 
 Exit status: 0 done, 1 an illegal history, 2 bad words or a refused input, 3 memory, output or a
 thread was refused. A fault is one line on the standard error.",
@@ -53,7 +53,7 @@ Standard input: a task table (TOML), the line ---, and signals (CSV): for each p
 clock and bandwidth figure, and what was found on the page of each kernel thread.
 Standard output: the report: what each pass did, and what each task has at the end.
 Exit status: 0 done, 2 a refused input, 3 memory or output was refused.",
-        "./caladan_sim decide",
+        "caladan_sim decide",
         "\
 caladan-signals,2
 pass,111,0
@@ -80,7 +80,7 @@ of the kernel threads' turns, and the requests that come to the threads.
 Standard output: the history of the run, which `audit` reads after the table; with --summary, what
 each kernel thread did; with --report, what `audit` writes of that history above its last line.
 Exit status: 0 done, 2 a refused input, 3 memory or output was refused.",
-        "./caladan_sim lockstep",
+        "caladan_sim lockstep",
         "\
 caladan-arrivals,1
 pass,100,0
@@ -114,7 +114,7 @@ Standard output: the history of the run, which `audit` reads after the table; wi
 each kernel thread did; with --report, what `audit` writes of that history above its last line.
 Threads interleave differently on every run, so the output varies.
 Exit status: 0 done, 2 a refused input, 3 memory, output or a thread was refused.",
-        "./caladan_sim sim",
+        "caladan_sim sim",
         "\
 caladan-arrivals,1
 pass,100,0
@@ -147,7 +147,7 @@ Standard input: a task table (TOML), the line ---, and a history (CSV), as `lock
 Standard output: if every pass is the policy's, the report and the line `legal`; else the one line
 `illegal pass P`, where P is the first pass, from 0, that is not.
 Exit status: 0 legal, 1 illegal, 2 a refused input, 3 memory or output was refused.",
-        "./caladan_sim audit",
+        "caladan_sim audit",
         "\
 caladan-history,2
 pass,111,0

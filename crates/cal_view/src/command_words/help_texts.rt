@@ -7,7 +7,7 @@ use cal_engine::help_with_a_run;
 pub const PROGRAM: &str = "\
 Each word reads one input from the standard input: a task table (TOML), the line ---, and signals, a
 history or arrivals (CSV). `caladan_view WORD --help` says which and what is written, with a whole
-input to copy; docs/FORMATS.md has all of it.
+input to copy; `man caladan-formats` has all of it.
 
 Exit status: 0 done, 2 bad words or a refused input, 3 memory or output was refused. A fault is one
 line on the standard error.";
@@ -19,7 +19,7 @@ Standard input: a task table (TOML), the line ---, and signals (CSV), as `calada
 Standard output: the history that they lead to; with --table an input of `picture`, of `timeline`
 and of `caladan_sim audit`.
 Exit status: 0 done, 2 a refused input, 3 memory or output was refused.",
-    "./caladan_view history",
+    "caladan_view history",
     "\
 caladan-signals,2
 pass,111,0
@@ -42,7 +42,7 @@ pub const PICTURE: &str = help_with_a_run!(
 Standard input: a task table (TOML), the line ---, and a history (CSV).
 Standard output: one SVG, which any browser opens.
 Exit status: 0 done, 2 a refused input, 3 memory or output was refused.",
-    "./caladan_view picture > picture.svg",
+    "caladan_view picture > picture.svg",
     "\
 caladan-history,2
 pass,111,0
@@ -60,7 +60,7 @@ pub const TIMELINE: &str = help_with_a_run!(
 Standard input: a task table (TOML), the line ---, and a history (CSV).
 Standard output: trace events (JSON), which https://ui.perfetto.dev and chrome://tracing open.
 Exit status: 0 done, 2 a refused input, 3 memory or output was refused.",
-    "./caladan_view timeline > timeline.json",
+    "caladan_view timeline > timeline.json",
     "\
 caladan-history,2
 pass,111,0
@@ -91,7 +91,7 @@ clock; and the part of the run's clock for which it was congested. `machine` is 
 core time: the parts held, being left, banned and empty, and free to be granted. A state lasts from
 its pass's clock to the next pass's.
 Exit status: 0 done, 2 a refused input, 3 memory or output was refused.",
-    "./caladan_view measure",
+    "caladan_view measure",
     "\
 caladan-arrivals,1
 pass,100,0
@@ -152,14 +152,14 @@ a column for each table; beside each column but the first how much it is above o
 with --csv as CSV. A task that a table has not, and a change of nothing, has a dash. With --picture
 it is one SVG in place of the numbers: for each task the share of its requests that was answered
 within how long, and the cores that it held, table by table. The run below as a picture:
-`./caladan_view compare --picture > runs.svg <<'END'` in place of its first line.
+`caladan_view compare --picture > runs.svg <<'END'` in place of its first line.
 With --vary the input is that of `measure`, with one table, and there is a column for each value:
 the table with that value at the key. Keys are cores, bandwidth_limit, and of task 1 task.1.kind,
 task.1.guaranteed, task.1.limit, task.1.delay and task.1.request. A value is written as in a table.
 To have the table as it is among the columns, name its own value, best as the first.
 Exit status: 0 done, 2 a refused input, 3 memory or output was refused. A table that is refused, or
 has too few threads for the arrivals, is named by its number, from 0, or by its value.",
-    "./caladan_view compare",
+    "caladan_view compare",
     "\
 cores = 2
 bandwidth_limit = 1000
