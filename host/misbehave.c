@@ -49,7 +49,7 @@ static bool get_core(host_slot *slot, caladan_publisher *publisher, uint64_t wor
     words[STAMP] = words[STAMP] > now_ns() ? words[STAMP] : now_ns();
     caladan_publish(publisher, words);
     while (command == 0 && host_clock() < until)
-        if (caladan_ring_take(&slot->ring, &command)) words[TAKEN]++;
+        if (caladan_ring_take(&slot->ring, &command)) words[TAKEN]++, caladan_publish(publisher, words);
         else usleep(50);
     words[RUNNING] = command;
     words[STARTED] = command ? words[OLDEST] : 0;
