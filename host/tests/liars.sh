@@ -19,10 +19,10 @@ bad() { # bad HOW STATUS WORDS NUMBER: an ill-behaved best-effort process beside
 }
 processors_of() { grep Cpus_allowed_list "/proc/$1/status"; }
 
-liar_is_gone() { # it showed the last place of one page, and ended: its successor is guaranteed both cores
-    what="the successor of a liar that is gone, where nobody is killed"
+liar_is_gone() { # it showed the last place of one page, and ended: no core goes to that thread, to be left never
+    what="a liar that is gone, where nobody is killed"
     start -g 20000
-    "$bin/misbehave" "$name" 0 2 last_one > "$build/process.liar" 2>&1
+    "$bin/misbehave" "$name" 1 2 last_one > "$build/process.liar" 2>&1
     go 20 "$bin/load" be -n "$name" -u 1 -k 200 -s 10
     wait_for 20 child_of $last
     lc -s 1.5 > "$build/process.lc" 2>&1
