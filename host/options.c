@@ -6,8 +6,8 @@
 #include <string.h>
 #include "caladand.h"
 
-#ifndef HOST_RELEASE
-#define HOST_RELEASE "2"
+#ifndef HOST_RELEASE /* the file VERSION, by the Makefile */
+#define HOST_RELEASE "of no version"
 #endif
 #define MILLISECOND ((uint64_t)1000000)
 enum { LEAST_PATIENCE = 20, MOST_PATIENCE = 2000, MOST_TABLE = 1 << 20 };

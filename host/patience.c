@@ -41,7 +41,7 @@ void kill_process(scheduler *s, host_task *task, const char *why) {
 
 /* What cannot be ended is waited for no longer: its cores go to others, beside whom it may still run. */
 void write_off(scheduler *s, host_task *task) {
-    complain("process %d of task %u is written off: it leaves no core and does not end", task->pid, number_of(s, task));
+    complain("process %d of task %u is written off: it has not left its cores, and has not ended", task->pid, number_of(s, task));
     s->counts.written_off++;
     give_up(s, task);
 }

@@ -105,7 +105,7 @@ void end_piece(scheduler *s) {
         kill_the_deaf(s); /* who was killed and does not end */
         if (at_once || s->clock - clock >= patience) part_with_each(s, at_once);
         make_pass(s);
-        if (s->options.patience == 0 && s->clock - clock >= patience) break;
+        if (passes >= RECORD_END_PASSES || (s->options.patience == 0 && s->clock - clock >= patience)) break;
     }
     if (s->record && !record_end_piece(s->record, s->passes)) record_close(s->record), s->record = NULL;
     caladan_close(&s->handle);

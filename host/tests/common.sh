@@ -1,5 +1,7 @@
 # common.sh: what the tests of host/check share: schedulers and processes of a run, and what is asked of them.
 
+child=none deaf=none daemon=none runtime=none visitor=none closer=none # processes that a test could not start are none
+
 refuses() { # refuses WORDS COMMAND..: it prints one line with WORDS, ends with status 2, and leaves nothing
     local words=$1
     shift

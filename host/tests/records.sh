@@ -77,7 +77,30 @@ long_numbers() { # no piece is longer than what reads it
     table=$top/host/tables/mix.toml
 } 2> /dev/null
 
-readable() { # counters while it runs, and a word when it is ready
+installed() { # what is installed stands by itself
+    what="make -C host install"
+    make -s -C "$top/host" OUT="$build/plain" CFLAGS="-O2 -g" PREFIX="$build/prefix" install > "$build/make.log" 2>&1; note $? "$what: $(tail -n 3 "$build/make.log")"
+    "$build/prefix/bin/caladand" --version > /dev/null; note $? "$what: caladand"
+    [ -s "$build/prefix/share/man/man8/caladand.8" ]; note $? "$what: the manual page"
+    ${CC:-cc} -pthread -I"$build/prefix/include" "$top/host/load.c" -L"$build/prefix/lib" -lcaladan_rt -lm -o "$build/prefix/load" 2> "$build/make.log"; note $? "$what: $(cat "$build/make.log")"
+    refuses "there is no scheduler of that name" "$build/prefix/load" lc -n installed -u 0
+}
+
+announced() { # whoever started it is told when processes can attach
+    what="a scheduler that tells when it is ready"
+    command -v python3 > /dev/null || { skip "$what, for want of python3"; return; }
+    python3 -c 'import socket, sys
+it = socket.socket(socket.AF_UNIX, socket.SOCK_DGRAM)
+it.bind(sys.argv[1])
+it.settimeout(30)
+print(it.recv(64).decode())' "$build/notify" > "$build/ready" 2>&1 &
+    wait_for 20 test -S "$build/notify"
+    NOTIFY_SOCKET=$build/notify start -g 100000
+    wait_for 20 grep -qx READY=1 "$build/ready"; note $? "$what: $(cat "$build/ready")"
+    stop
+}
+
+readable() { # counters while it runs
     what="what can be read of a scheduler"
     begin -k 1000 -g 100000
     wait_for 20 counts passes_total 1; note $? "$what: no passes in $(cat "$CALADAN_FOLDER/$name/metrics")"
