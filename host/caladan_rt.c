@@ -479,7 +479,8 @@ static caladan_rt *make_rt(host_segment *segment) {
     if (rt == NULL) return NULL;
     __builtin_memset(rt, 0, size);
     rt->segment = segment;
-    rt->epoch = rt->tick_0 = segment->epoch;
+    rt->epoch = segment->epoch;
+    atomic_store(&rt->tick_0, segment->epoch);
     rt->threads = segment->threads;
     for (unsigned i = 0; i < rt->threads; i++) {
         kernel_thread *k = &rt->thread[i];

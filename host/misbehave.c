@@ -12,6 +12,7 @@
  *   wordy    publishes records of the longest numbers, and never leaves
  *   visits   connects, says nothing and closes; it lives on
  *   closes   is given a core, closes its connection, and works on
+ *   mixed    becomes nobody by half, as root alone can: its scheduler may not signal it
  *   punches  takes the pages out of its segment again and again */
 #define _GNU_SOURCE
 #include <errno.h>
@@ -131,6 +132,7 @@ int main(int count, char **words) {
     until = host_clock() + strtoull(words[3], NULL, 10) * 1000000000u;
     how = words[4];
     if (!strcmp(how, "visits")) return visit(words[1], (unsigned)atoi(words[2]));
+    if (!strcmp(how, "mixed") && setresuid(0, 65534, 0)) return perror("misbehave"), 3;
     segment = host_attach(words[1], (unsigned)atoi(words[2]), &connection);
     if (segment == NULL) return fprintf(stderr, "misbehave: %s\n", host_why(errno)), 2;
     pthread_t thread[HOST_LIMIT];

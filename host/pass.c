@@ -12,11 +12,11 @@
 /* ---- looking ---- */
 
 /* Whether a thread may be sent a command. While a piece ends none is: so the passes grant and revoke nothing, and only
- * free what is left. One that nobody looks at, or whose looks are refused, is granted nothing; but who has a core can be
- * told to leave it. */
+ * free what is left. One that has not begun, that nobody looks at, or whose looks are refused, is granted nothing; but who
+ * has a core can be told to leave it. */
 static bool may_be_sent(const scheduler *s, const host_thread *thread, uint64_t now) {
     if (s->is_closing || thread->by_hand || !s->task[thread->task].is_attached) return false;
-    return thread->core != 0 || (!thread->is_doubted && now >= thread->retry_at);
+    return thread->core != 0 || (atomic_load(&thread->slot->tid) != 0 && !thread->is_doubted && now >= thread->retry_at);
 }
 
 /* Nobody publishes more than once a nanosecond. A page that shows a place further on than that is taken as one that is

@@ -80,28 +80,30 @@ other_users() {
     local base=$CALADAN_FOLDER elsewhere other
     what="another user"
     can_be_others || { skip "other users, for want of root"; return; }
-    elsewhere=$(mktemp -d) && mkdir -m 700 "$elsewhere/base" && cp "$bin/load" "$bin/caladand" "$table" "$elsewhere" && chmod 755 "$elsewhere" "$elsewhere"/* && chmod 700 "$elsewhere/base"
+    elsewhere=$(mktemp -d) && mkdir -m 700 "$elsewhere/base" && cp "$build/plain/load" "$build/plain/caladand" "$table" "$elsewhere" && chmod 755 "$elsewhere" "$elsewhere"/* && chmod 700 "$elsewhere/base"
     chown 65534 "$elsewhere/base"
     # another user's scheduler: nothing of root's goes there
     export CALADAN_FOLDER=$elsewhere/base
-    as_other timeout 20 "$elsewhere/caladand" -n theirs -t "$elsewhere/mix.toml" -c "$managed" > "$build/said" 2>&1 &
+    setpriv --reuid 65534 --regid 65534 --clear-groups timeout 30 "$elsewhere/caladand" -n theirs -t "$elsewhere/mix.toml" -c "$managed" > "$build/said" 2>&1 &
     other=$!
     wait_for 20 is_there theirs; note $? "$what: their scheduler did not start: $(cat "$build/said")"
     refuses "is another user's" "$bin/load" lc -n theirs -u 0
+    # theirs works, without a capability
+    as_other timeout 20 "$elsewhere/load" be -n theirs -u 1 -k 200 -s 1 -c "$elsewhere/base/counter" 2> "$build/err"
+    [ -n "$(tr -d '\0' < "$elsewhere/base/counter" | head -c 1)" ]; note $? "$what: their own process got no core: $(cat "$build/err")"
     # who is theirs by half cannot be interrupted by them
-    refuses "the scheduler may not interrupt this process" setpriv --euid 65534 --clear-groups "$elsewhere/load" lc -n theirs -u 0
+    refuses "the scheduler may not interrupt this process" "$build/plain/misbehave" theirs 0 1 mixed
     kill -TERM $other
     wait $other; note $? "$what: their scheduler's status: $(tail -n 3 "$build/said")"
     # root's scheduler: they find no way in
     CALADAN_FOLDER=$base
     start -g 100000
-    refuses "Permission denied" as_them_at "$elsewhere" "$base" "$name"
+    refuses "Permission denied" setpriv --reuid 65534 --regid 65534 --clear-groups "$elsewhere/load" lc -n "$name" -u 0
     stop
     # without a folder there is none
     refuses "there is neither CALADAN_FOLDER nor XDG_RUNTIME_DIR" setpriv --reuid 65534 --regid 65534 --clear-groups env -u CALADAN_FOLDER -u XDG_RUNTIME_DIR "$elsewhere/caladand" -n theirs -t "$elsewhere/mix.toml" -c "$managed"
     rm -rf "$elsewhere"
 }
-as_them_at() { env CALADAN_FOLDER="$2" setpriv --reuid 65534 --regid 65534 --clear-groups "$1/load" lc -n "$3" -u 0; }
 
 other_namespace() {
     what="another pid namespace"
