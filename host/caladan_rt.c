@@ -363,7 +363,7 @@ static bool gather(caladan_rt *rt) {
     atomic_store(&rt->is_waiting, true);
     for (unsigned tries = 0; !all_wait(rt); tries++) {
         if (tries == 5000) return false;
-        if (tries % 100 == 0) interrupt_each(rt);
+        if (tries % 100 == 50) interrupt_each(rt); /* most have been told when the scheduler ended */
         nanosleep(&moment, NULL);
     }
     return true;
