@@ -105,6 +105,16 @@ other_users() {
     rm -rf "$elsewhere"
 }
 
+older_kernel() { # the process at the other end is known by its number, and says once more that it is there
+    what="a kernel that does not hand out the file of a peer"
+    wrap=("$bin/deny" peer)
+    start -g 100000
+    wrap=()
+    works
+    stop
+    above 1 attached
+}
+
 other_namespace() {
     what="another pid namespace"
     unshare -p -f true 2> /dev/null || { skip "another pid namespace, for want of rights"; return; }
