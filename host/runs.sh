@@ -45,4 +45,8 @@ wait_for() {
 has_threads() { [ "$(ls "/proc/$1/task" 2> /dev/null | wc -l)" -ge 3 ]; }
 
 # alone: waits until no other check or soak of this machine has the processors, and has them then until it ends.
-alone() { { exec 9< /sys/devices/system/cpu; } 2> /dev/null && flock -w 900 9; }
+alone() {
+    command -v flock > /dev/null || return 0
+    { exec 9< /sys/devices/system/cpu; } 2> /dev/null || return 0
+    flock -w 900 9
+}

@@ -23,6 +23,8 @@ start_as() { # start_as NAME OPTION..
     running+=($scheduler)
     wait_for 20 is_there "$name"
 }
+# can_deny WHAT: the machine lets a process be refused something, as host/tests/deny.c does it; else the test is not run.
+can_deny() { "$bin/deny" "$1" true 2> /dev/null && return; skip "$what, for want of seccomp"; return 1; }
 begin() { # begin OPTION..: a scheduler that records
     rm -rf "$build/record"
     mkdir "$build/record"

@@ -45,6 +45,7 @@ predecessor() {
 
 unkillable() { # nobody can be killed: a piece ends without who does not leave, and so does the scheduler
     what="a process that can neither be killed nor leaves"
+    can_deny kill || return
     wrap=("$bin/deny" kill)
     begin -k 500 -g 50000 -p 3000
     wrap=()

@@ -75,6 +75,7 @@ punched() { # memory that is taken out of a segment is fetched again by each pas
 
 unpinned() { # the kernel pins nobody: then nobody runs, and it is said
     what="threads that cannot be pinned"
+    can_deny pin || return
     wrap=("$bin/deny" pin)
     begin -k 2000 -g 100000
     wrap=()

@@ -107,6 +107,7 @@ other_users() {
 
 older_kernel() { # the process at the other end is known by its number, and says once more that it is there
     what="a kernel that does not hand out the file of a peer"
+    can_deny peer || return
     wrap=("$bin/deny" peer)
     start -g 100000
     wrap=()

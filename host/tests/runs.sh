@@ -57,6 +57,26 @@ bandwidth() { # the best-effort task shows misses, and the table's limit is low
     table=$top/host/tables/mix.toml
 }
 
+out_of_files() { # a process ends when there is neither a file nor memory for a new segment: the scheduler goes on
+    what="a scheduler that can open nothing any more"
+    command -v prlimit > /dev/null || { skip "$what, for want of prlimit"; return; }
+    start -k 2000 -g 50000
+    only_child_of $scheduler && daemon=$child
+    go 20 "$bin/load" be -n "$name" -u 1 -k 200 -s 15
+    wait_for 20 child_of $last
+    prlimit --pid "$daemon" --nofile=3:; note $? "$what: it has no limit"
+    kill -9 "$child"
+    sleep 0.5
+    lc -s 0.2 > "$build/process.lc" 2>&1 & # it waits until there are files
+    sleep 0.5
+    kill -0 "$daemon" 2> /dev/null; note $? "$what: it ended: $(cat "$build/said")"
+    prlimit --pid "$daemon" --nofile=100:
+    works
+    wait $!; note $? "$what: who waited: $(cat "$build/process.lc")"
+    stop
+    above 3 attached
+} 2> /dev/null
+
 blocked_signals() { # servers that take signals by a file block all of them before they start anything
     what="a runtime whose main thread has blocked all signals"
     start -k 1000 -g 50000
