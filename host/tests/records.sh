@@ -58,10 +58,10 @@ killed_midway() { # what was recorded up to the last second is there
 }
 
 long_numbers() { # no piece is longer than what reads it
-    local each size
-    what="pieces of 125 threads whose records have the longest numbers"
+    local each size bin=$build/plain
+    what="pieces of 128 threads whose records have the longest numbers"
     { printf 'cores = 2\nbandwidth_limit = 1000000000000\n'
-      for ((each = 0; each < 8; each++)); do printf '[[task]]\nkind = "be"\nguaranteed = 0\nlimit = %s\ndelay = 0\nrequest = 0\n' $((each ? 16 : 13)); done; } > "$build/wide.toml"
+      for ((each = 0; each < 8; each++)); do printf '[[task]]\nkind = "be"\nguaranteed = 0\nlimit = 16\ndelay = 0\nrequest = 0\n'; done; } > "$build/wide.toml"
     table=$build/wide.toml
     begin -k 2000 -g 20000
     for ((each = 0; each < 8; each++)); do go 60 "$bin/misbehave" "$name" $each 50 wordy; done

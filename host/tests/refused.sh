@@ -80,7 +80,7 @@ other_users() {
     local base=$CALADAN_FOLDER elsewhere other
     what="another user"
     can_be_others || { skip "other users, for want of root"; return; }
-    elsewhere=$(mktemp -d) && mkdir -m 700 "$elsewhere/base" && cp "$build/plain/load" "$build/plain/caladand" "$table" "$elsewhere" && chmod 755 "$elsewhere" "$elsewhere"/* && chmod 700 "$elsewhere/base"
+    elsewhere=$(mktemp -d) && mkdir -m 700 "$elsewhere/base" && cp "$build/plain/load" "$build/plain/caladand" "$build/plain/impostor" "$table" "$elsewhere" && chmod 755 "$elsewhere" "$elsewhere"/* && chmod 700 "$elsewhere/base"
     chown 65534 "$elsewhere/base"
     # another user's scheduler: nothing of root's goes there
     export CALADAN_FOLDER=$elsewhere/base
@@ -95,6 +95,15 @@ other_users() {
     refuses "the scheduler may not interrupt this process" "$build/plain/misbehave" theirs 0 1 mixed
     kill -TERM $other
     wait $other; note $? "$what: their scheduler's status: $(tail -n 3 "$build/said")"
+    # nor does it go to who poses as one, in their folder or by a socket of theirs in root's
+    setpriv --reuid 65534 --regid 65534 --clear-groups timeout 20 "$elsewhere/impostor" posed unsealed 2> "$build/err" &
+    other=$!
+    wait_for 20 is_there posed; note $? "$what: the impostor did not come: $(cat "$build/err")"
+    refuses "is another user's" "$bin/load" lc -n posed -u 0
+    mkdir -m 700 "$base/posed" && mv "$elsewhere/base/posed/task-0" "$base/posed/"
+    CALADAN_FOLDER=$base refuses "is another user's" "$bin/load" lc -n posed -u 0
+    wait $other
+    rm -rf "$base/posed"
     # root's scheduler: they find no way in
     CALADAN_FOLDER=$base
     start -g 100000
