@@ -3,6 +3,7 @@
 #define _GNU_SOURCE
 #include "caladan_rt.h"
 #include <errno.h>
+#include <poll.h>
 #include <pthread.h>
 #include <sched.h>
 #include <stdio.h>
@@ -11,7 +12,10 @@
 #include <sys/socket.h>
 #include "host.h"
 
+#define MOST_MISSES ((uint64_t)1 << 56) /* what a record may count */
+#define NAP 200000                      /* between two looks for work where there is no scheduler, in nanoseconds */
 enum { QUEUE = 1 << 13 };
+enum { NOT_YET, BEGUN, GIVEN_UP }; /* whether kernel threads may begin */
 
 typedef struct kernel_thread {
     _Alignas(CALADAN_LINE) caladan_rt *rt;
@@ -29,6 +33,8 @@ typedef struct kernel_thread {
     _Alignas(CALADAN_LINE) bool working;
     caladan_request current;
     uint32_t phase;
+    pthread_t thread;
+    _Atomic uint32_t waits; /* the turn that it waits for, and until then it looks at nothing else */
     volatile sig_atomic_t held;    /* how often a Park is held off */
     volatile sig_atomic_t pending; /* a signal came meanwhile */
 } kernel_thread;
@@ -36,22 +42,36 @@ typedef struct kernel_thread {
 struct caladan_rt {
     host_segment *segment;
     int connection;
+    char name[HOST_NAME + 1];
+    unsigned task;
+    uint64_t epoch;    /* tick 0 of the runtime's own clock: the first scheduler's */
     uint64_t idle_ns;
     caladan_serve *serve;
     void *with;
     unsigned threads;
+    cpu_set_t allowed; /* where its threads may run while no scheduler says otherwise */
+    _Atomic uint32_t begun;   /* a futex */
+    _Atomic bool is_over;     /* the scheduler has ended, or gave the task up */
+    _Atomic bool is_watched;  /* a thread waits for that, or has still to tell the others */
+    _Atomic int after;        /* what threads do then */
+    _Atomic bool is_waiting;  /* all are to wait, for they get another segment */
+    _Atomic uint32_t turn;    /* a futex: it grows when they go on */
+    _Atomic uint64_t tick_0;  /* of the scheduler, or of the last one */
     kernel_thread thread[];
 };
 
 static _Thread_local kernel_thread *self __attribute__((tls_model("initial-exec")));
 
-uint64_t caladan_rt_now(const caladan_rt *rt) { return host_clock() - rt->segment->epoch; }
+uint64_t caladan_rt_now(const caladan_rt *rt) { return host_clock() - rt->epoch; }
 unsigned caladan_rt_threads(const caladan_rt *rt) { return rt->threads; }
-const char *caladan_rt_why(int error) { return host_why(error); }
+const char *caladan_rt_why(int error) { return error == EDOM ? "the scheduler's table has another limit of the task" : host_why(error); }
+bool caladan_rt_is_over(const caladan_rt *rt) { return atomic_load(&rt->is_over); }
+void caladan_rt_after(caladan_rt *rt, int what) { atomic_store(&rt->after, what); }
 
-bool caladan_rt_is_over(const caladan_rt *rt) {
-    char byte;
-    return recv(rt->connection, &byte, 1, MSG_PEEK | MSG_DONTWAIT) == 0;
+/* A tick of the runtime's clock as the scheduler counts: a later scheduler begins later. */
+static uint64_t shown(const caladan_rt *rt, uint64_t tick) {
+    uint64_t time = rt->epoch + tick, tick_0 = atomic_load_explicit(&rt->tick_0, memory_order_relaxed);
+    return time > tick_0 ? time - tick_0 : 0;
 }
 
 /* ---- publishing ---- */
@@ -66,25 +86,26 @@ static void lock(kernel_thread *k) {
 static void unlock(kernel_thread *k) { atomic_store_explicit(&k->lock, 0, memory_order_release); }
 
 static void publish(kernel_thread *k, uint64_t now) {
-    if (now > k->words[STAMP]) k->words[STAMP] = now;
+    uint64_t stamp = shown(k->rt, now);
+    if (stamp > k->words[STAMP]) k->words[STAMP] = stamp;
     if (k->open) caladan_publish(&k->publisher, k->words);
 }
 
 static void show_queue(kernel_thread *k) {
     k->words[QUEUED] = k->count != 0;
-    k->words[OLDEST] = k->count ? k->queue[k->head].arrived : 0;
+    k->words[OLDEST] = k->count ? shown(k->rt, k->queue[k->head].arrived) : 0;
 }
 
 static void show_pause(kernel_thread *k, bool paused) {
     k->words[PAUSED] = paused;
-    k->words[SINCE] = paused ? k->current.arrived : 0;
+    k->words[SINCE] = paused ? shown(k->rt, k->current.arrived) : 0;
 }
 
 /* ---- commands and phases ---- */
 
 static void put_on(kernel_thread *k, uint64_t command, uint64_t now) {
     k->words[RUNNING] = command;
-    k->words[STARTED] = command != CALADAN_PARK && k->working ? now : 0;
+    k->words[STARTED] = command != CALADAN_PARK && k->working ? shown(k->rt, now) : 0;
     show_pause(k, command == CALADAN_PARK && k->working);
 }
 
@@ -130,11 +151,17 @@ static void follow_phase(kernel_thread *k) {
     atomic_store(&k->slot->phase, phase);
 }
 
-/* Takes what was sent, shows it, and is back when the thread has a core. Held, or in the handler. */
+static bool outlives(kernel_thread *k);
+
+/* Takes what was sent, shows it, and is back when the thread has a core, or needs none. Held, or in the handler. */
 static void obey(kernel_thread *k) {
     for (;;) {
         k->pending = 0;
         uint32_t bell = atomic_load(&k->slot->doorbell);
+        if (atomic_load(&k->rt->is_over)) {
+            if (outlives(k)) return;
+            continue;
+        }
         follow_phase(k);
         take_commands(k);
         if (k->words[RUNNING] != 0) return;
@@ -180,6 +207,7 @@ void caladan_rt_release(void) { release(self); }
 
 bool caladan_rt_submit(caladan_rt *rt, unsigned thread, caladan_request request) {
     kernel_thread *k = &rt->thread[thread], *caller = self;
+    if (thread >= rt->threads) return false;
     hold(caller);
     lock(k);
     bool fits = k->count < QUEUE;
@@ -210,7 +238,7 @@ static bool next_own(kernel_thread *k) {
     bool worked = k->working;
     uint64_t now = caladan_rt_now(k->rt);
     k->working = pop(k, &k->current);
-    k->words[STARTED] = k->working ? now : 0;
+    k->words[STARTED] = k->working ? shown(k->rt, now) : 0;
     if (worked || k->working) publish(k, now);
     unlock(k);
     return k->working;
@@ -233,20 +261,153 @@ static bool steal(kernel_thread *k) {
 static bool next_stolen(kernel_thread *k) {
     if (!steal(k)) return false;
     lock(k);
+    uint64_t now = caladan_rt_now(k->rt);
     k->working = true;
-    k->words[STARTED] = caladan_rt_now(k->rt);
-    publish(k, k->words[STARTED]);
+    k->words[STARTED] = shown(k->rt, now);
+    publish(k, now);
     unlock(k);
     return true;
 }
-
-/* ---- the life of a kernel thread ---- */
 
 static bool some_queued(caladan_rt *rt) {
     for (unsigned i = 0; i < rt->threads; i++)
         if (atomic_load_explicit(&rt->thread[i].count, memory_order_relaxed)) return true;
     return false;
 }
+
+/* ---- without a scheduler ---- */
+
+/* On no page any more, and on no core that somebody else may be granted. */
+static void let_go(kernel_thread *k) {
+    lock(k);
+    k->open = false;
+    put_on(k, CALADAN_PARK, 0);
+    unlock(k);
+    sched_setaffinity(0, sizeof k->rt->allowed, &k->rt->allowed);
+}
+
+static void wait_for_turn(kernel_thread *k) {
+    caladan_rt *rt = k->rt;
+    uint32_t turn = atomic_load(&rt->turn);
+    if (!atomic_load(&rt->is_over)) return; /* it was so when this thread looked */
+    atomic_store(&k->waits, turn + 1);
+    while (atomic_load(&rt->turn) == turn) futex_wait(&rt->turn, turn);
+}
+
+/* The scheduler is over. True where the thread goes on by itself; false when it has waited for another one. Its number comes
+ * before its phase, as in a new thread. */
+static bool outlives(kernel_thread *k) {
+    caladan_rt *rt = k->rt;
+    struct timespec nap = {0, NAP};
+    let_go(k);
+    if (atomic_load(&rt->after) == CALADAN_RT_RUN && !atomic_load(&rt->is_waiting)) {
+        if (!k->working && !some_queued(rt)) nanosleep(&nap, NULL);
+        return true;
+    }
+    wait_for_turn(k);
+    if (atomic_load(&rt->is_over)) return false;
+    k->phase = 0;
+    atomic_store(&k->slot->tid, (int32_t)syscall(SYS_gettid));
+    return false;
+}
+
+static void interrupt_each(caladan_rt *rt) {
+    for (unsigned i = 0; i < rt->threads; i++) {
+        pthread_kill(rt->thread[i].thread, HOST_SIGNAL);
+        ring_bell(rt->thread[i].slot);
+    }
+}
+
+/* Sleeps until the scheduler closes the connection: it ended, or has given the task up. */
+static void *watch(void *argument) {
+    caladan_rt *rt = argument;
+    struct pollfd file = {rt->connection, POLLIN, 0};
+    char byte;
+    do poll(&file, 1, -1);
+    while (recv(rt->connection, &byte, 1, MSG_DONTWAIT) != 0 && (file.revents & (POLLHUP | POLLERR)) == 0);
+    atomic_store(&rt->is_over, true);
+    interrupt_each(rt);
+    atomic_store(&rt->is_watched, false);
+    return NULL;
+}
+
+/* With all signals blocked, so that none of the process's comes to it. */
+static int begin_to_watch(caladan_rt *rt) {
+    sigset_t all, before;
+    pthread_t watcher;
+    sigfillset(&all);
+    pthread_sigmask(SIG_BLOCK, &all, &before);
+    atomic_store(&rt->is_watched, true);
+    int error = pthread_create(&watcher, NULL, watch, rt);
+    if (error == 0) pthread_detach(watcher);
+    else atomic_store(&rt->is_watched, false);
+    pthread_sigmask(SIG_SETMASK, &before, NULL);
+    return error;
+}
+
+static void go_on(caladan_rt *rt) {
+    atomic_store(&rt->is_waiting, false);
+    atomic_fetch_add(&rt->turn, 1);
+    futex_wake_all(&rt->turn);
+}
+
+static bool all_wait(caladan_rt *rt) {
+    for (unsigned i = 0; i < rt->threads; i++)
+        if (atomic_load(&rt->thread[i].waits) != atomic_load(&rt->turn) + 1) return false;
+    return true;
+}
+
+/* Who is in a request stops there. False: one does not come for seconds, since it holds its Park off. */
+static bool gather(caladan_rt *rt) {
+    struct timespec moment = {0, 1000000};
+    atomic_store(&rt->is_waiting, true);
+    for (unsigned tries = 0; !all_wait(rt); tries++) {
+        if (tries == 5000) return false;
+        if (tries % 100 == 50) interrupt_each(rt); /* most have been told when the scheduler ended */
+        nanosleep(&moment, NULL);
+    }
+    return true;
+}
+
+static void change_segment(caladan_rt *rt, host_segment *segment, int connection) {
+    munmap(rt->segment, sizeof *rt->segment);
+    close(rt->connection);
+    rt->segment = segment;
+    rt->connection = connection;
+    atomic_store(&rt->tick_0, segment->epoch);
+    for (unsigned i = 0; i < rt->threads; i++) rt->thread[i].slot = &segment->slot[i];
+}
+
+static bool attach_gathered(caladan_rt *rt) {
+    int connection;
+    host_segment *segment = host_attach(rt->name, rt->task, &connection);
+    if (segment == NULL) return false;
+    if (segment->threads != rt->threads) {
+        munmap(segment, sizeof *segment);
+        close(connection);
+        errno = EDOM;
+        return false;
+    }
+    while (atomic_load(&rt->is_watched)) sched_yield();
+    change_segment(rt, segment, connection);
+    atomic_store(&rt->is_over, false);
+    if ((errno = begin_to_watch(rt)) == 0) return true;
+    atomic_store(&rt->is_over, true);
+    return false;
+}
+
+bool caladan_rt_attach_again(caladan_rt *rt) {
+    errno = EISCONN;
+    if (!atomic_load(&rt->is_over)) return false;
+    errno = ETIMEDOUT;
+    bool attached = gather(rt) && attach_gathered(rt);
+    int error = errno;
+    go_on(rt);
+    errno = error;
+    return attached;
+}
+
+/* ---- the life of a kernel thread ---- */
 
 /* Not held: a Park finds the thread without a request. */
 static bool wait_for_work(kernel_thread *k) {
@@ -269,10 +430,21 @@ static void yield_core(kernel_thread *k) {
     obey(k);
 }
 
+/* False: the runtime could not be started after all. */
+static bool may_begin(kernel_thread *k) {
+    while (atomic_load(&k->rt->begun) == NOT_YET) futex_wait(&k->rt->begun, NOT_YET);
+    return atomic_load(&k->rt->begun) == BEGUN;
+}
+
 static void *live(void *argument) {
     kernel_thread *k = argument;
+    sigset_t ours;
+    if (!may_begin(k)) return NULL;
     k->held = 1;
     self = k;
+    sigemptyset(&ours);
+    sigaddset(&ours, HOST_SIGNAL);
+    pthread_sigmask(SIG_UNBLOCK, &ours, NULL); /* whoever started the runtime may have blocked all */
     atomic_store(&k->slot->tid, (int32_t)syscall(SYS_gettid));
     obey(k);
     for (;;) {
@@ -292,38 +464,75 @@ void caladan_rt_missed(uint64_t misses) {
     if (k == NULL) return;
     hold(k);
     lock(k);
-    k->words[MISSES] += misses;
+    uint64_t left = k->words[MISSES] < MOST_MISSES ? MOST_MISSES - k->words[MISSES] : 0;
+    k->words[MISSES] += misses < left ? misses : left;
     publish(k, caladan_rt_now(k->rt));
     unlock(k);
     release(k);
 }
 
-static int make_thread(caladan_rt *rt, unsigned i) {
-    kernel_thread *k = &rt->thread[i];
-    k->rt = rt;
-    k->number = i;
-    k->slot = &rt->segment->slot[i];
-    k->queue = calloc(QUEUE, sizeof *k->queue);
-    return k->queue ? 0 : ENOMEM;
+/* ---- the start ---- */
+
+static caladan_rt *make_rt(host_segment *segment) {
+    size_t size = sizeof(caladan_rt) + segment->threads * sizeof(kernel_thread);
+    caladan_rt *rt = aligned_alloc(CALADAN_LINE, (size + CALADAN_LINE - 1) / CALADAN_LINE * CALADAN_LINE);
+    if (rt == NULL) return NULL;
+    __builtin_memset(rt, 0, size);
+    rt->segment = segment;
+    rt->epoch = segment->epoch;
+    atomic_store(&rt->tick_0, segment->epoch);
+    rt->threads = segment->threads;
+    for (unsigned i = 0; i < rt->threads; i++) {
+        kernel_thread *k = &rt->thread[i];
+        *k = (kernel_thread){.rt = rt, .number = i, .slot = &segment->slot[i], .queue = calloc(QUEUE, sizeof *k->queue)};
+        if (k->queue == NULL) errno = ENOMEM;
+    }
+    return rt;
+}
+
+/* Nothing of a runtime that could not be started is left: its threads have touched no page. */
+static void unmake(caladan_rt *rt, unsigned started) {
+    atomic_store(&rt->begun, GIVEN_UP);
+    futex_wake_all(&rt->begun);
+    for (unsigned i = 0; i < started; i++) pthread_join(rt->thread[i].thread, NULL);
+    for (unsigned i = 0; i < rt->threads; i++) free(rt->thread[i].queue);
+    free(rt);
+}
+
+static caladan_rt *start_threads(caladan_rt *rt) {
+    struct sigaction action = {.sa_handler = on_signal, .sa_flags = SA_RESTART};
+    unsigned started = 0;
+    int error = 0;
+    for (unsigned i = 0; i < rt->threads && !error; i++) error = rt->thread[i].queue ? 0 : ENOMEM;
+    for (; started < rt->threads && !error; started += !error) error = pthread_create(&rt->thread[started].thread, NULL, live, &rt->thread[started]);
+    if (!error) error = begin_to_watch(rt);
+    if (error) {
+        unmake(rt, started);
+        errno = error;
+        return NULL;
+    }
+    sigaction(HOST_SIGNAL, &action, NULL);
+    atomic_store(&rt->begun, BEGUN);
+    futex_wake_all(&rt->begun);
+    return rt;
 }
 
 caladan_rt *caladan_rt_start(const char *name, unsigned task, uint64_t idle_ns, caladan_serve *serve, void *with) {
     int connection;
     host_segment *segment = host_attach(name, task, &connection);
     if (segment == NULL) return NULL;
-    size_t size = sizeof(caladan_rt) + segment->threads * sizeof(kernel_thread);
-    caladan_rt *rt = aligned_alloc(CALADAN_LINE, (size + CALADAN_LINE - 1) / CALADAN_LINE * CALADAN_LINE);
-    if (rt == NULL) return NULL;
-    __builtin_memset(rt, 0, size);
-    rt->segment = segment, rt->connection = connection, rt->idle_ns = idle_ns;
-    rt->serve = serve, rt->with = with, rt->threads = segment->threads;
-    struct sigaction action = {.sa_handler = on_signal, .sa_flags = SA_RESTART};
-    sigaction(HOST_SIGNAL, &action, NULL);
-    errno = 0;
-    for (unsigned i = 0; i < rt->threads && !errno; i++) errno = make_thread(rt, i);
-    for (unsigned i = 0; i < rt->threads && !errno; i++) {
-        pthread_t thread;
-        errno = pthread_create(&thread, NULL, live, &rt->thread[i]);
+    caladan_rt *rt = make_rt(segment);
+    if (rt) {
+        snprintf(rt->name, sizeof rt->name, "%s", name);
+        rt->task = task, rt->connection = connection, rt->idle_ns = idle_ns;
+        rt->serve = serve, rt->with = with;
+        sched_getaffinity(0, sizeof rt->allowed, &rt->allowed);
+        rt = start_threads(rt);
     }
-    return errno ? NULL : rt;
+    if (rt) return rt;
+    int error = errno;
+    munmap(segment, sizeof *segment);
+    close(connection);
+    errno = error;
+    return NULL;
 }

@@ -11,7 +11,12 @@
  * malloc, stdio, locks. Between caladan_rt_hold and caladan_rt_release no core is taken away; keep that short,
  * since a thread that does not leave in time has its process killed. What blocks in the kernel keeps its core.
  *
- * A process leaves by ending: then its cores are free, and another may attach as its task.
+ * What blocks in the kernel may come back from it with EINTR when the thread had to leave meanwhile: the handler is
+ * one that lets calls go on (SA_RESTART), which poll, nanosleep and futex waits do not heed.
+ *
+ * A process leaves by ending: then its cores are free, and another may attach as its task. When the scheduler ends, or
+ * gives the task up, threads leave their processors within milliseconds, as caladan_rt_after says; caladan_rt_attach_again
+ * goes on with the next scheduler of the name.
  */
 #ifndef CALADAN_RT_H
 #define CALADAN_RT_H
@@ -33,13 +38,27 @@ caladan_rt *caladan_rt_start(const char *name, unsigned task, uint64_t idle_ns, 
 const char *caladan_rt_why(int error);
 
 unsigned caladan_rt_threads(const caladan_rt *rt);
-uint64_t caladan_rt_now(const caladan_rt *rt); /* nanoseconds since the scheduler began */
-bool caladan_rt_is_over(const caladan_rt *rt); /* the scheduler has ended: no thread gets a core any more */
+uint64_t caladan_rt_now(const caladan_rt *rt); /* nanoseconds since the scheduler began to which it attached first */
 
-/* Hands a request to a kernel thread, from any thread of the process. False: its queue is full. */
+/* The scheduler has ended, or has given the task up: no thread is given a core any more. */
+bool caladan_rt_is_over(const caladan_rt *rt);
+
+/* What kernel threads do then: wait, in the middle of a request too (CALADAN_RT_WAIT, as without this call), or go on as
+ * threads of any other process, on the processors that the process could use when it started. */
+enum { CALADAN_RT_WAIT, CALADAN_RT_RUN };
+void caladan_rt_after(caladan_rt *rt, int what);
+
+/* Attaches to the next scheduler of that name, as the same task: requests go on. To be called by one thread at a time,
+ * which is no kernel thread; it lasts as long as kernel threads hold their Park off, at most five seconds. False: errno
+ * says why, and caladan_rt_why in words (ECONNREFUSED, ENOENT: there is none yet; EISCONN: the first is not over), and
+ * threads are as they were. */
+bool caladan_rt_attach_again(caladan_rt *rt);
+
+/* Hands a request to a kernel thread, from any thread of the process, but not from a signal handler. False: its queue
+ * is full, or there is no such kernel thread. */
 bool caladan_rt_submit(caladan_rt *rt, unsigned thread, caladan_request request);
 
-/* Adds to the calling kernel thread's count of cache misses, and shows it. */
+/* Adds to the calling kernel thread's count of cache misses, and shows it; the count stays at 2^56. */
 void caladan_rt_missed(uint64_t misses);
 
 /* Holds off that the calling kernel thread's core is taken away. May be nested. */

@@ -1,10 +1,12 @@
 /* caladand.h: what the files of the scheduler process share. */
 #ifndef CALADAND_H
 #define CALADAND_H
+#include <sched.h>
+#include <sys/types.h>
 #include "caladan_history.h"
 #include "host.h"
 #include "latency.h"
-#include <sys/types.h>
+#include "record.h"
 
 typedef struct options {
     const char *name, *table, *folder;
@@ -14,14 +16,19 @@ typedef struct options {
     uint64_t seconds, gap, window, passes, bytes, patience, wait; /* times in nanoseconds, but for seconds */
 } options;
 
-/* A task: its segment, and the process that is attached as it, if any. */
+/* A task: its segment, the process that is attached as it, if any, and who wants to be. Files are -1 where there is none. */
 typedef struct host_task {
     unsigned first, limit; /* its kernel threads */
     bool is_critical;
-    int listener, memory;
+    int listener, memory;  /* memory -1: there was none, the segment is of the scheduler's own memory and is handed to nobody */
+    bool is_locked;        /* its pages are pinned in memory */
     host_segment *segment;
-    pid_t pid;            /* 0: nobody is attached */
-    int file, connection; /* of the process; -1 */
+    pid_t pid;             /* 0: nobody has the segment */
+    bool is_attached;      /* it said that it has mapped the segment */
+    int file, connection;  /* of the process */
+    uint64_t handed_at, killed_at; /* by the scheduler's own clock; 0: not */
+    int guest;             /* a connection of whom nothing is known yet */
+    uint64_t guest_at;
 } host_task;
 
 /* A kernel thread, as the scheduler knows it. */
@@ -29,14 +36,26 @@ typedef struct host_thread {
     unsigned task;
     host_slot *slot;
     caladan_sender sender;
-    pid_t pinned; /* which kernel thread was pinned last, and to which core's processor */
+    unsigned core;        /* which it holds or leaves, plus one; or 0 */
+    pid_t pinned;         /* which kernel thread was pinned last, and to which core's processor; 0: none */
     unsigned pinned_to;
-    bool by_hand; /* no page can show that it is gone: `gone` itself is given to the passes of this piece */
+    uint64_t retry_at;    /* it could not be pinned, and is granted nothing until then */
+    uint64_t place, from; /* the place that its page had at a time, since when it can have published once a nanosecond */
+    bool is_doubted;      /* its last look was refused: it is granted nothing until one is kept */
+    bool is_mute;         /* it did not answer in time: nobody waits for it again until it does */
+    bool by_hand;         /* its page cannot show that it is gone: `gone` itself is given to the passes of this piece */
     caladan_look gone;
 } host_thread;
 
+/* A core whose thread was sent Park and is to leave it. */
+typedef struct leaving {
+    bool is_set, again;    /* it was interrupted once more */
+    uint8_t thread;
+    uint64_t since, looks; /* by the scheduler's own clock, and by its count of looks */
+} leaving;
+
 typedef struct counts {
-    uint64_t passes, pieces, attached, ended, killed, foreign_tids, unpinned, worn;
+    uint64_t passes, pieces, attached, ended, given_up, killed, written_off, refused, foreign_tids, unpinned, jumped, worn, punched;
     uint64_t judged[CALADAN_WORD_FELL + 1], actions[CALADAN_GRANT + 1];
 } counts;
 
@@ -44,6 +63,8 @@ typedef struct scheduler {
     options options;
     char *table;
     uint64_t epoch;
+    cpu_set_t others; /* the processors that it may use and does not manage */
+    int folder;       /* its own */
     caladan handle;
     caladan_machine machine;
     host_task task[HOST_TASKS];
@@ -53,35 +74,66 @@ typedef struct scheduler {
     uint8_t judged[HOST_THREADS], sent_to[CALADAN_MOST_ACTIONS];
     caladan_action action[CALADAN_MOST_ACTIONS];
     size_t made, sent;
-    uint64_t parked_at[HOST_CORES]; /* when the core's thread was sent Park, or 0 */
-    uint8_t parked[HOST_CORES];     /* which thread that is */
+    uint8_t on_core[HOST_CORES]; /* the thread that a core was granted to last */
+    leaving leaving[HOST_CORES];
+    uint64_t clock, looks, ticked; /* patience.c: the time in which pages were looked at, how often, and when last */
+    uint64_t complained;
     uint64_t figure, figure_misses, figure_at;
     uint32_t phase;
-    bool is_closing, must_close;
-    FILE *out;
-    char *room; /* of the file, for a whole piece */
+    bool is_closing;
+    record *record; /* NULL: nothing is recorded */
     uint64_t passes; /* of this piece */
+    uint64_t metrics_at;
     latency latency;
     counts counts;
 } scheduler;
 
 static inline uint64_t now_of(const scheduler *s) { return host_clock() - s->epoch; }
 void fail(const char *what, const char *why) __attribute__((noreturn));
+void complain(const char *format, ...) __attribute__((format(printf, 1, 2))); /* a line on standard error */
+unsigned stop_signals(void); /* how often it was told to end */
+
+/* options.c */
+options read_options(int count, char **words);
+char *text_of(const char *path);
+
+/* places.c: what only one scheduler may have: its folder, and its processors */
+void take_folder(scheduler *s); /* it is left, and gone, when the process ends */
+void take_processors(scheduler *s);
+void tell_ready(void); /* to whom started it, where NOTIFY_SOCKET says */
+
+/* segments.c */
+bool make_segment(scheduler *s, host_task *task);
+void drop_segment(host_task *task);
+void give_up(scheduler *s, host_task *task); /* nobody has the task any more: its threads are gone, on a new segment */
+bool is_punched(const host_task *task);
 
 /* tasks.c */
 void open_tasks(scheduler *s);
 void close_tasks(scheduler *s);
-void admit_each(scheduler *s);      /* who wants to attach */
-void bury_each(scheduler *s);       /* tasks whose process ended: their threads are gone */
-void kill_the_deaf(scheduler *s);   /* processes with a thread that does not leave its core in time */
-void kill_process(scheduler *s, unsigned task);
+void admit_each(scheduler *s); /* who wants to attach, and who left */
+void bury_each(scheduler *s);  /* tasks whose process ended */
 bool is_own_thread(const host_task *task, pid_t tid);
+void interrupt(const host_task *task, const host_slot *slot);
+unsigned number_of(const scheduler *s, const host_task *task);
+
+/* patience.c */
+void tick(scheduler *s, uint64_t now); /* pages are looked at */
+void note_leaving(scheduler *s, unsigned core, uint8_t thread);
+void forget_leaving(scheduler *s, const host_task *task);
+void kill_the_deaf(scheduler *s); /* processes with a thread that does not leave its core in time */
+void kill_process(scheduler *s, host_task *task, const char *why);
+void write_off(scheduler *s, host_task *task);
 
 /* pass.c */
 void make_pass(scheduler *s);
 
 /* pieces.c */
 void begin_piece(scheduler *s);
-bool is_piece_full(scheduler *s);
+bool is_piece_full(const scheduler *s);
 void end_piece(scheduler *s);
+
+/* counters.c */
+void print_summary(scheduler *s);
+void write_metrics(scheduler *s); /* into its folder, once a second */
 #endif

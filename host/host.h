@@ -1,4 +1,4 @@
-/* host.h: the memory that the scheduler process shares with the process of one task.
+/* host.h: the memory that the scheduler process shares with the process of one task, and how they meet.
  *
  * THIS C IS NOT PROVED. host/README.md says what of the host is.
  *
@@ -9,6 +9,7 @@
 #ifndef HOST_H
 #define HOST_H
 #include "caladan_pages.h"
+#include <fcntl.h>
 #include <linux/futex.h>
 #include <signal.h>
 #include <stdio.h>
@@ -19,12 +20,13 @@
 #include <time.h>
 #include <unistd.h>
 
-/* Rises when what lies in a segment or the answer to who attaches changes; pages have a version of their own. */
+/* Rises when what lies in a segment or what is said over the socket changes; pages have a version of their own. */
 #ifndef HOST_LAYOUT
-#define HOST_LAYOUT 1
+#define HOST_LAYOUT 2
 #endif
 #define HOST_VERSION ((uint64_t)HOST_LAYOUT << 32 | CALADAN_PAGES_VERSION)
 #define HOST_SIGNAL SIGURG /* by default it is ignored: a thread that has no handler for it takes no harm */
+#define HOST_SEALS (F_SEAL_SHRINK | F_SEAL_GROW | F_SEAL_SEAL)
 enum { HOST_CORES = CALADAN_MOST_CORES, HOST_TASKS = 16, HOST_THREADS = CALADAN_MOST_THREADS, HOST_LIMIT = 16 };
 
 /* The words of a record that a runtime fills, by their places. */
@@ -34,7 +36,7 @@ typedef struct host_slot {
     caladan_page page;
     caladan_ring ring;
     _Alignas(CALADAN_LINE) _Atomic uint32_t doorbell; /* the scheduler's: a futex; it grows when there is something to see */
-    _Alignas(CALADAN_LINE) _Atomic int32_t tid;       /* the runtime's: the kernel thread, or 0 */
+    _Alignas(CALADAN_LINE) _Atomic int32_t tid;       /* the runtime's: the kernel thread, or 0; written before a phase is read */
     _Atomic uint32_t phase;                           /* the runtime's: the last phase that the thread acted on */
 } host_slot;
 
@@ -43,25 +45,45 @@ typedef struct host_slot {
 typedef struct host_segment {
     uint64_t version; /* HOST_VERSION */
     uint64_t epoch;   /* tick 0 of the clock, in nanoseconds of CLOCK_MONOTONIC */
-    uint32_t threads;
+    uint32_t threads; /* 1 to HOST_LIMIT */
     _Alignas(CALADAN_LINE) _Atomic uint32_t phase;
     host_slot slot[HOST_LIMIT];
 } host_segment;
 
-/* What the scheduler answers who attaches; with HOST_DONE comes the segment. */
-enum { HOST_DONE, HOST_TAKEN, HOST_OTHER_USER };
+/* Who attaches says who it is (HOST_HELLO); the scheduler answers, and with HOST_DONE comes the segment; who has mapped
+ * it says so (HOST_MAPPED). Only then is the task taken. It is given up when the connection closes. */
+enum { HOST_HELLO = 1, HOST_MAPPED = 2 };
+typedef struct host_word {
+    uint64_t version;
+    uint32_t word;
+    int32_t process; /* as the process itself knows its number */
+} host_word;
+
+enum { HOST_DONE, HOST_TAKEN, HOST_OTHER_USER, HOST_OTHER_NAMESPACE, HOST_NO_RIGHTS, HOST_NO_MEMORY };
 typedef struct host_answer {
     uint64_t version;
     uint32_t status;
 } host_answer;
+enum { HOST_ERROR = 5000 }; /* an errno of host_attach: it plus a status, of those that no errno is for */
 
-/* The address at which a task is attached to: a name of the kernel's, which ends with the scheduler. */
-static inline socklen_t host_address(struct sockaddr_un *address, const char *name, unsigned task) {
+/* ---- the folder of a scheduler: BASE/NAME, of mode 0700, with a socket for each task ---- */
+
+enum { HOST_NAME = 64, HOST_PATH = 4096 }; /* the longest name, and the longest path */
+
+/* The folder in which schedulers have theirs: CALADAN_FOLDER; else /run/caladan of root, and caladan in
+ * XDG_RUNTIME_DIR of others. False: there is none. */
+bool host_base(char base[HOST_PATH]);
+bool host_is_name(const char *name); /* letters, digits, '.', '_', '-'; no '.' at the front */
+/* Opens a folder below `at` (or AT_FDCWD) that is this user's, and which nobody else may enter or write; -1: errno. */
+int host_open_folder(int at, const char *path);
+
+/* The address of a task's socket in the open folder of a scheduler: by /proc, so that no path is too long for it,
+ * and nobody changes the folder between the look at it and the connection. */
+static inline socklen_t host_address(struct sockaddr_un *address, int folder, unsigned task) {
     *address = (struct sockaddr_un){.sun_family = AF_UNIX};
-    int length = snprintf(address->sun_path + 1, sizeof address->sun_path - 1, "caladan-%s.%u", name, task);
+    int length = snprintf(address->sun_path, sizeof address->sun_path, "/proc/self/fd/%d/task-%u", folder, task);
     return (socklen_t)(offsetof(struct sockaddr_un, sun_path) + 1 + (size_t)length);
 }
-enum { HOST_NAME = 64 }; /* the longest name */
 
 static inline uint64_t host_clock(void) {
     struct timespec t;
@@ -79,13 +101,15 @@ static inline void futex_wait(_Atomic uint32_t *word, uint32_t while_it_is) {
     syscall(SYS_futex, word, FUTEX_WAIT, while_it_is, NULL, NULL, 0);
 }
 
+static inline void futex_wake_all(_Atomic uint32_t *word) { syscall(SYS_futex, word, FUTEX_WAKE, 1 << 30, NULL, NULL, 0); }
+
 static inline void ring_bell(host_slot *slot) {
     atomic_fetch_add(&slot->doorbell, 1);
     syscall(SYS_futex, &slot->doorbell, FUTEX_WAKE, 1, NULL, NULL, 0);
 }
 
 /* Attaches as that task, and maps its segment. NULL: errno says why, and host_why in words. *connection stays
- * open as long as the scheduler runs. */
+ * open as long as the scheduler runs and the task is this process's; closing it gives the task up. */
 host_segment *host_attach(const char *name, unsigned task, int *connection);
 const char *host_why(int error);
 #endif

@@ -16,7 +16,7 @@ static void add(histogram *h, uint64_t ns) {
 /* The least that falls into a bucket. */
 static uint64_t least_of(unsigned place) { return place < 8 ? place : (uint64_t)(8 + place % 8) << (place / 8 - 1); }
 
-static uint64_t quantile(const histogram *h, double share) {
+uint64_t latency_quantile(const histogram *h, double share) {
     uint64_t before = 0;
     for (unsigned i = 0; i < LATENCY_BUCKETS; i++) {
         before += h->bucket[i];
@@ -102,7 +102,7 @@ static void print_one(const char *name, const histogram *h, FILE *out) {
     uint64_t before = 0, sum = 0;
     unsigned i = 0;
     fprintf(out, "%s: %" PRIu64 " times; ns p50 %" PRIu64 ", p90 %" PRIu64 ", p99 %" PRIu64 ", p99.9 %" PRIu64 "\n  of 1000, by microseconds:",
-            name, h->count, quantile(h, 0.5), quantile(h, 0.9), quantile(h, 0.99), quantile(h, 0.999));
+            name, h->count, latency_quantile(h, 0.5), latency_quantile(h, 0.9), latency_quantile(h, 0.99), latency_quantile(h, 0.999));
     for (size_t u = 0; u < sizeof up_to / sizeof *up_to; u++) {
         while (i < LATENCY_BUCKETS && least_of(i) < up_to[u] * 1000) sum += h->bucket[i++];
         fprintf(out, " <%" PRIu64 " %.1f", up_to[u], 1000.0 * (double)(sum - before) / (double)(h->count + !h->count));

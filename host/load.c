@@ -3,19 +3,22 @@
  *
  *   load spin                 prints how many turns of the loop are a microsecond
  *   load lc -n NAME -u TASK [-s SECONDS] [-q REQUESTS_A_SECOND] [-m MICROSECONDS] [-i IDLE_NS] [-x CPU] [-k TURNS] [-c COUNTER]
- *   load be -n NAME -u TASK [-s SECONDS] [-i IDLE_NS] [-b] [-k TURNS] [-c COUNTER]
+ *   load be -n NAME -u TASK [-s SECONDS] [-i IDLE_NS] [-b] [-h] [-e WHAT] [-k TURNS] [-c COUNTER]
  *
  * lc: requests come at times that are drawn beforehand (Poisson), whether earlier ones are served or not, and the
  * time of a request counts from there. A request is a number of turns of a loop, so that what does not run
  * does not count as work. With -x whoever hands requests in spins on that processor, else he sleeps. The first half
  * second is not measured. be: work without end, in pieces of 10 microseconds, which are counted in the file COUNTER;
- * -b: each piece reads 64 KiB of 256 MiB. lc reads that file, and says how many pieces were done meanwhile. */
+ * -b: each piece reads 64 KiB of 256 MiB; -h: no core is left within a chunk of 100 pieces; -e: when the scheduler is over, its
+ * threads wait, run, or attach again (wait, run, again), and the process goes on. Both: -a: the main thread has all signals
+ * blocked. lc reads that file, and says how many pieces were done meanwhile. */
 #define _GNU_SOURCE
 #include "caladan_rt.h"
 #include <errno.h>
 #include <fcntl.h>
 #include <math.h>
 #include <sched.h>
+#include <signal.h>
 #include <stdatomic.h>
 #include <stdio.h>
 #include <stdlib.h>
@@ -37,7 +40,8 @@ static struct {
     unsigned task;
     double turns, microseconds, rate, seconds;
     int cpu;
-    bool bytes;
+    bool bytes, holds, blocks;
+    const char *after;
     uint64_t idle_ns;
 } options = {.microseconds = 20, .rate = 10000, .seconds = 1, .cpu = -1, .idle_ns = 5000};
 
@@ -79,6 +83,9 @@ static double turns_of_a_microsecond(void) {
 }
 
 static void start(caladan_serve *serve) {
+    sigset_t all;
+    sigfillset(&all);
+    if (options.blocks) sigprocmask(SIG_BLOCK, &all, NULL);
     rt = caladan_rt_start(options.name, options.task, options.idle_ns, serve, NULL);
     char task[64];
     snprintf(task, sizeof task, "task %u", options.task);
@@ -187,12 +194,21 @@ static void read_piece(unsigned thread) {
 /* A chunk, and another one after it. */
 static void serve_chunk(void *with, unsigned thread, caladan_request request) {
     (void)with;
+    if (options.holds) caladan_rt_hold();
     for (int i = 0; i < PIECES_OF_A_CHUNK; i++) {
         if (options.bytes) read_piece(thread);
         else spin((uint64_t)(options.turns * 10));
         atomic_fetch_add_explicit(&counters[thread % COUNTERS].pieces, 1, memory_order_relaxed);
     }
+    if (options.holds) caladan_rt_release();
     caladan_rt_submit(rt, thread, (caladan_request){caladan_rt_now(rt), request.what});
+}
+
+/* Where the process is to go on when the scheduler is over. */
+static bool goes_on(void) {
+    if (!caladan_rt_is_over(rt)) return true;
+    if (options.after && !strcmp(options.after, "again")) caladan_rt_attach_again(rt);
+    return options.after != NULL;
 }
 
 static int best_effort(void) {
@@ -205,7 +221,8 @@ static int best_effort(void) {
     start(serve_chunk);
     for (unsigned i = 0; i < caladan_rt_threads(rt); i++) caladan_rt_submit(rt, i, (caladan_request){caladan_rt_now(rt), i});
     uint64_t until = caladan_rt_now(rt) + (uint64_t)(options.seconds * 1e9);
-    while (caladan_rt_now(rt) < until && !caladan_rt_is_over(rt)) usleep(20000);
+    if (options.after && !strcmp(options.after, "run")) caladan_rt_after(rt, CALADAN_RT_RUN);
+    while (caladan_rt_now(rt) < until && goes_on()) usleep(20000);
     _exit(0);
 }
 
@@ -221,6 +238,9 @@ static void read_option(int option) {
     case 's': options.seconds = atof(optarg); break;
     case 'i': options.idle_ns = strtoull(optarg, NULL, 10); break;
     case 'b': options.bytes = true; break;
+    case 'h': options.holds = true; break;
+    case 'a': options.blocks = true; break;
+    case 'e': options.after = optarg; break;
     default: exit(2);
     }
 }
@@ -228,7 +248,7 @@ static void read_option(int option) {
 int main(int count, char **words) {
     const char *word = count > 1 ? words[1] : "";
     if (!strcmp(word, "spin")) return printf("%.2f\n", turns_of_a_microsecond()), 0;
-    for (int c; count > 1 && (c = getopt(count - 1, words + 1, "n:u:k:c:x:m:q:s:i:b")) != -1;) read_option(c);
+    for (int c; count > 1 && (c = getopt(count - 1, words + 1, "n:u:k:c:x:m:q:s:i:bhae:")) != -1;) read_option(c);
     if ((strcmp(word, "lc") && strcmp(word, "be")) || options.name == NULL) die("usage", "load spin | lc | be -n NAME -u TASK ..");
     if (options.turns == 0) options.turns = turns_of_a_microsecond();
     int file = options.counter ? open(options.counter, O_RDWR | O_CREAT, 0600) : -1;

@@ -7,16 +7,24 @@
  *   deaf     takes its Runs and works, and never hears of a Park
  *   half     is given a core, begins to publish, and stops there
  *   foreign  hands over the thread number of another process, its parent, as its own
- *   last     shows the last place that a page has, and ends */
+ *   last     shows the last place that a page has, and ends
+ *   last_one the same on one of its threads alone
+ *   wordy    publishes records of the longest numbers, and never leaves
+ *   visits   connects, says nothing and closes; it lives on
+ *   closes   is given a core, closes its connection, and works on
+ *   mixed    becomes nobody by half, as root alone can: its scheduler may not signal it
+ *   punches  takes the pages out of its segment again and again */
 #define _GNU_SOURCE
 #include <errno.h>
 #include <pthread.h>
 #include <stdio.h>
 #include <stdlib.h>
 #include <string.h>
+#include <sys/mman.h>
 #include "host.h"
 
 static host_segment *segment;
+static int connection;
 static const char *how;
 static uint64_t until;
 
@@ -49,7 +57,7 @@ static bool get_core(host_slot *slot, caladan_publisher *publisher, uint64_t wor
     words[STAMP] = words[STAMP] > now_ns() ? words[STAMP] : now_ns();
     caladan_publish(publisher, words);
     while (command == 0 && host_clock() < until)
-        if (caladan_ring_take(&slot->ring, &command)) words[TAKEN]++;
+        if (caladan_ring_take(&slot->ring, &command)) words[TAKEN]++, caladan_publish(publisher, words);
         else usleep(50);
     words[RUNNING] = command;
     words[STARTED] = command ? words[OLDEST] : 0;
@@ -71,6 +79,34 @@ static void work(host_slot *slot, caladan_publisher *publisher, uint64_t words[C
     }
 }
 
+/* The longest records that are kept. */
+static void talk(host_slot *slot) {
+    caladan_publisher publisher;
+    uint64_t words[CALADAN_WORDS];
+    caladan_adopt(&publisher, &slot->page, words);
+    for (int i = 0; i < CALADAN_WORDS; i++) words[i] = UINT64_MAX;
+    words[TAKEN] = words[RUNNING] = 0;
+    words[MISSES] = (uint64_t)1 << 56;
+    for (; host_clock() < until; usleep(200)) caladan_publish(&publisher, words);
+}
+
+static void punch(void) {
+    while (host_clock() < until) madvise(segment, sizeof *segment, MADV_REMOVE);
+}
+
+static int visit(const char *name, unsigned task) {
+    char base[HOST_PATH], path[HOST_PATH + HOST_NAME + 2];
+    struct sockaddr_un address;
+    if (!host_base(base)) return 2;
+    snprintf(path, sizeof path, "%s/%s", base, name);
+    int folder = host_open_folder(AT_FDCWD, path), visitor = socket(AF_UNIX, SOCK_SEQPACKET, 0);
+    socklen_t length = host_address(&address, folder, task);
+    if (connect(visitor, (struct sockaddr *)&address, length)) return perror("misbehave"), 2;
+    close(visitor);
+    while (host_clock() < until) usleep(1000);
+    return 0;
+}
+
 static void *live(void *argument) {
     host_slot *slot = argument;
     caladan_publisher publisher;
@@ -78,20 +114,25 @@ static void *live(void *argument) {
     signal(HOST_SIGNAL, SIG_IGN);
     atomic_store(&slot->tid, (int32_t)(strcmp(how, "foreign") ? syscall(SYS_gettid) : getppid()));
     if (!strcmp(how, "noise")) return lie(slot), NULL;
-    if (!strcmp(how, "last")) return atomic_store(&slot->page.version, UINT64_MAX - 1), sleep(1), NULL;
+    if (!strcmp(how, "wordy")) return talk(slot), NULL;
+    if (!strcmp(how, "punches")) return punch(), NULL;
+    if (!strcmp(how, "last_one") && slot != segment->slot) return sleep(1), NULL;
+    if (!strncmp(how, "last", 4)) return atomic_store(&slot->page.version, UINT64_MAX - 1), sleep(1), NULL;
     if (!get_core(slot, &publisher, words)) return NULL;
     if (!strcmp(how, "half")) caladan_publish_begin(&publisher);
     if (!strcmp(how, "foreign")) work(slot, &publisher, words);
+    if (!strcmp(how, "closes")) close(connection);
     while (host_clock() < until)
         if (strcmp(how, "deaf")) usleep(1000);
     return NULL;
 }
 
 int main(int count, char **words) {
-    int connection;
     if (count != 5) return 2;
     until = host_clock() + strtoull(words[3], NULL, 10) * 1000000000u;
     how = words[4];
+    if (!strcmp(how, "visits")) return visit(words[1], (unsigned)atoi(words[2]));
+    if (!strcmp(how, "mixed") && setresuid(0, 65534, 0)) return perror("misbehave"), 3;
     segment = host_attach(words[1], (unsigned)atoi(words[2]), &connection);
     if (segment == NULL) return fprintf(stderr, "misbehave: %s\n", host_why(errno)), 2;
     pthread_t thread[HOST_LIMIT];

@@ -1,29 +1,61 @@
 /* pass.c: one pass: looks at all pages, lets the library decide, and moves what it says. */
 #define _GNU_SOURCE
+#include <errno.h>
 #include <sched.h>
+#include <string.h>
 #include "caladand.h"
 
 #define MOST_LINES ((uint64_t)1 << 40)
+#define RETRY ((uint64_t)100000000)   /* how long a thread that could not be pinned is granted nothing, in nanoseconds */
+#define SELDOM ((uint64_t)1000000000) /* how often such is said */
 
 /* ---- looking ---- */
 
-/* While a piece ends no ring has room: so the passes grant and revoke nothing, and only free what is left. */
+/* Whether a thread may be sent a command. While a piece ends none is: so the passes grant and revoke nothing, and only
+ * free what is left. One that has not begun, that nobody looks at, or whose looks are refused, is granted nothing; but who
+ * has a core can be told to leave it. */
+static bool may_be_sent(const scheduler *s, const host_thread *thread, uint64_t now) {
+    if (s->is_closing || thread->by_hand || !s->task[thread->task].is_attached) return false;
+    return thread->core != 0 || (atomic_load(&thread->slot->tid) != 0 && !thread->is_doubted && now >= thread->retry_at);
+}
+
+/* Nobody publishes more than once a nanosecond. A page that shows a place further on than that is taken as one that is
+ * being written: so no page is ever at its last place, and each successor has places left. */
+static bool is_too_far(const host_thread *thread, const caladan_look *look, uint64_t now) {
+    uint64_t place = look->number;
+    if (look->busy) place = (look->number > look->second ? look->number : look->second) / 2;
+    return place > thread->place && place - thread->place > now - thread->from;
+}
+
+/* `now` is when the pass began; the clock is asked again only where that is too long ago. */
+static void look_at(scheduler *s, size_t k, uint64_t now) {
+    host_thread *thread = &s->thread[k];
+    caladan_look *look = &s->look[k];
+    if (thread->by_hand) *look = thread->gone;
+    else caladan_observe(&thread->slot->page, look);
+    if (thread->by_hand || !is_too_far(thread, look, now) || !is_too_far(thread, look, now_of(s))) return;
+    *look = (caladan_look){.busy = 1, .number = 1, .second = 1};
+    thread->is_doubted = true;
+    s->counts.jumped++;
+}
+
 static void look_at_each(scheduler *s) {
+    uint64_t now = now_of(s);
     for (size_t k = 0; k < s->machine.threads; k++) {
-        host_thread *thread = &s->thread[k];
         caladan_thread_state state = {0, 0, 0};
-        caladan_look *look = &s->look[k];
-        if (thread->by_hand) *look = thread->gone;
-        else caladan_observe(&thread->slot->page, look);
+        look_at(s, k, now);
         caladan_thread(&s->handle, k, &state);
-        look->room = !s->is_closing && caladan_room(state.sent, state.taken);
+        s->look[k].room = may_be_sent(s, &s->thread[k], now) && caladan_room(state.sent, state.taken);
     }
 }
 
 static void note_judged(scheduler *s) {
     for (size_t k = 0; k < s->machine.threads; k++) {
         s->counts.judged[s->judged[k]]++;
-        if (s->judged[k] == CALADAN_KEPT) s->shown[k].shown = s->look[k];
+        if (s->judged[k] > CALADAN_BUSY) s->thread[k].is_doubted = true;
+        if (s->judged[k] != CALADAN_KEPT) continue;
+        s->thread[k].is_doubted = false;
+        s->shown[k].shown = s->look[k];
     }
 }
 
@@ -47,62 +79,77 @@ static void send_command(scheduler *s, uint8_t k, uint64_t command) {
     s->sent_to[s->sent++] = k;
 }
 
-/* The thread sleeps, and so wakes on the core's processor. */
-static void pin(scheduler *s, uint8_t k, unsigned core) {
+static void say_unpinned(scheduler *s, uint8_t k, unsigned core, pid_t tid, int error) {
+    uint64_t now = now_of(s);
+    if (s->complained && now - s->complained < SELDOM) return;
+    s->complained = now;
+    complain("thread %u (%d of process %d, task %u) cannot be pinned to processor %d, and is parked again: %s", k, tid,
+             s->task[s->thread[k].task].pid, s->thread[k].task, s->options.cpu[core], error ? strerror(error) : "it is no thread of that process");
+}
+
+/* The thread sleeps, and so wakes on the core's processor. False: it is not pinned there. */
+static bool pin(scheduler *s, uint8_t k, unsigned core) {
     host_thread *thread = &s->thread[k];
     pid_t tid = atomic_load(&thread->slot->tid);
     cpu_set_t cpus;
-    if (thread->pinned == tid && thread->pinned_to == core && tid != 0) return;
-    if (!is_own_thread(&s->task[thread->task], tid)) {
-        s->counts.foreign_tids++;
-        return;
-    }
+    int error = 0;
+    if (thread->pinned == tid && thread->pinned_to == core && tid != 0) return true;
+    thread->pinned = 0;
     CPU_ZERO(&cpus);
     CPU_SET((size_t)s->options.cpu[core], &cpus);
-    if (sched_setaffinity(tid, sizeof cpus, &cpus)) s->counts.unpinned++;
-    thread->pinned = tid;
-    thread->pinned_to = core;
+    if (!is_own_thread(&s->task[thread->task], tid)) s->counts.foreign_tids++;
+    else if (sched_setaffinity(tid, sizeof cpus, &cpus)) error = errno, s->counts.unpinned++;
+    else thread->pinned = tid, thread->pinned_to = core;
+    if (thread->pinned == 0) say_unpinned(s, k, core, tid, error);
+    return thread->pinned != 0;
 }
 
+/* Who cannot be pinned is sent Park in place of Run: when it has taken that, its core is free. */
 static void move_in(scheduler *s, const caladan_action *a) {
-    pin(s, a->thread, a->core);
-    send_command(s, a->thread, a->core + 1u);
-    ring_bell(s->thread[a->thread].slot);
+    host_thread *thread = &s->thread[a->thread];
+    thread->core = a->core + 1u;
+    s->on_core[a->core] = a->thread;
+    if (pin(s, a->thread, a->core)) {
+        send_command(s, a->thread, a->core + 1u);
+    } else {
+        thread->retry_at = now_of(s) + RETRY;
+        send_command(s, a->thread, CALADAN_PARK);
+        note_leaving(s, a->core, a->thread);
+    }
+    ring_bell(thread->slot);
 }
 
-static void move_out(scheduler *s, const caladan_action *a, uint64_t now) {
+static void move_out(scheduler *s, const caladan_action *a) {
     uint8_t k;
     if (caladan_revoked(&s->handle, a->core, &k)) return;
-    host_slot *slot = s->thread[k].slot;
-    const host_task *task = &s->task[s->thread[k].task];
-    pid_t tid = atomic_load(&slot->tid);
+    host_thread *thread = &s->thread[k];
     send_command(s, k, CALADAN_PARK);
-    if (tid > 0 && task->pid) syscall(SYS_tgkill, task->pid, tid, HOST_SIGNAL); /* the kernel refuses another process's thread */
-    ring_bell(slot);
-    s->parked_at[a->core] = now;
-    s->parked[a->core] = k;
+    interrupt(&s->task[thread->task], thread->slot);
+    note_leaving(s, a->core, k);
 }
 
-static void move_cores(scheduler *s, uint64_t now) {
+static void move_cores(scheduler *s) {
     s->sent = 0;
     for (size_t i = 0; i < s->made; i++) {
         const caladan_action *a = &s->action[i];
         s->counts.actions[a->kind]++;
-        if (a->kind == CALADAN_FREE) s->parked_at[a->core] = 0;
-        if (a->kind == CALADAN_REVOKE) move_out(s, a, now);
+        if (a->kind == CALADAN_FREE) s->leaving[a->core].is_set = false, s->thread[s->on_core[a->core]].core = 0;
+        if (a->kind == CALADAN_REVOKE) move_out(s, a);
         if (a->kind == CALADAN_GRANT) move_in(s, a);
     }
 }
 
 /* A thread takes microseconds to start, and a pass takes less: while the task still shows its delay, the next
- * pass would move a second core for the same request. */
-static void wait_for_answers(scheduler *s, uint64_t until) {
-    for (size_t i = 0; i < s->sent; i++) {
-        host_thread *thread = &s->thread[s->sent_to[i]];
-        caladan_look look;
-        do caladan_observe(&thread->slot->page, &look);
-        while ((look.busy || look.taken < thread->sender.sent) && now_of(s) < until);
+ * pass would move a second core for the same request. One that did not answer in time is waited for once. */
+static void wait_for_answer(scheduler *s, host_thread *thread, uint64_t until) {
+    caladan_look look;
+    for (;;) {
+        caladan_observe(&thread->slot->page, &look);
+        if (!look.busy && look.taken >= thread->sender.sent) break;
+        if (thread->is_mute) return;
+        thread->is_mute = now_of(s) >= until;
     }
+    thread->is_mute = false;
 }
 
 void make_pass(scheduler *s) {
@@ -111,12 +158,14 @@ void make_pass(scheduler *s) {
     size_t count = s->machine.threads;
     uint8_t answer = caladan_pass_each(&s->handle, now, figure, s->look, count, s->judged, HOST_THREADS, s->action, CALADAN_MOST_ACTIONS, &s->made);
     if (answer != CALADAN_DONE) fail("a pass", caladan_answer_text(answer));
-    move_cores(s, now);
+    tick(s, now);
+    move_cores(s);
     note_judged(s);
     latency_decided(&s->latency, now, s->shown, count, s->action, s->made);
     latency_looked(&s->latency, now, s->shown, count);
-    if (s->out) caladan_history_pass(s->out, true, now, figure, s->look, s->judged, count, s->action, s->made);
+    if (s->record) caladan_history_pass(record_file(s->record), true, now, figure, s->look, s->judged, count, s->action, s->made);
     s->passes++;
     s->counts.passes++;
-    if (s->sent && s->options.wait) wait_for_answers(s, now + s->options.wait);
+    if (s->options.wait == 0) return;
+    for (size_t i = 0; i < s->sent; i++) wait_for_answer(s, &s->thread[s->sent_to[i]], now + s->options.wait);
 }

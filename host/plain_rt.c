@@ -59,6 +59,7 @@ static void wake_one(caladan_rt *rt, unsigned thread) {
 
 bool caladan_rt_submit(caladan_rt *rt, unsigned thread, caladan_request request) {
     worker *w = &rt->worker[thread];
+    if (thread >= rt->threads) return false;
     lock(w);
     bool fits = w->count < QUEUE;
     if (fits) {
@@ -132,6 +133,8 @@ unsigned caladan_rt_threads(const caladan_rt *rt) { return rt->threads; }
 uint64_t caladan_rt_now(const caladan_rt *rt) { return (void)rt, host_clock(); }
 bool caladan_rt_is_over(const caladan_rt *rt) { return (void)rt, false; }
 const char *caladan_rt_why(int error) { return strerror(error); }
+void caladan_rt_after(caladan_rt *rt, int what) { (void)rt, (void)what; }
+bool caladan_rt_attach_again(caladan_rt *rt) { return (void)rt, false; }
 void caladan_rt_missed(uint64_t misses) { (void)misses; }
 void caladan_rt_hold(void) {}
 void caladan_rt_release(void) {}

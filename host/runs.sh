@@ -24,8 +24,12 @@ needs_audit() { [ "${sim[0]}" = "$build/audit" ]; }
 # is_legal TABLE HISTORY
 is_legal() { [ "$({ cat "$1"; echo ---; cat "$2"; } | "${sim[@]}" 2> /dev/null | tail -n 1)" = legal ]; }
 
-# is_there NAME: a scheduler of that name listens. It leaves with its process, whatever ends that.
-is_there() { grep -q "@caladan-$1\.0$" /proc/net/unix; }
+# The schedulers of a run have their folders in one of the run's own.
+export CALADAN_FOLDER=$build/run
+[ -d "$CALADAN_FOLDER" ] || mkdir -m 700 "$CALADAN_FOLDER"
+
+# is_there NAME: a scheduler of that name listens, or was killed.
+is_there() { [ -S "$CALADAN_FOLDER/$1/task-0" ]; }
 
 # wait_for SECONDS COMMAND..: until it succeeds, or so long.
 wait_for() {
@@ -39,3 +43,10 @@ wait_for() {
 
 # has_threads PID: it has attached, and has its kernel threads.
 has_threads() { [ "$(ls "/proc/$1/task" 2> /dev/null | wc -l)" -ge 3 ]; }
+
+# alone: waits until no other check or soak of this machine has the processors, and has them then until it ends.
+alone() {
+    command -v flock > /dev/null || return 0
+    { exec 9< /sys/devices/system/cpu; } 2> /dev/null || return 0
+    flock -w 900 9
+}

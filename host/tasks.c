@@ -1,79 +1,74 @@
-/* tasks.c: the processes: who attaches, who ended, who does not leave. Nothing here waits. */
+/* tasks.c: the processes: who attaches, who leaves, who ended. Nothing here waits. */
 #define _GNU_SOURCE
 #include <errno.h>
-#include <fcntl.h>
 #include <poll.h>
 #include <string.h>
-#include <sys/mman.h>
-#include <sys/pidfd.h>
 #include <sys/socket.h>
 #include "caladand.h"
 
 #ifndef SO_PEERPIDFD
 #define SO_PEERPIDFD 77
 #endif
+#define GREETING ((uint64_t)1000000000) /* how long who connects may take to say who it is, and that it has mapped its segment */
+
+unsigned number_of(const scheduler *s, const host_task *task) { return (unsigned)(task - s->task); }
 
 /* The thread numbers that a process hands over are its own, or nothing is done to them: the kernel is asked. */
 bool is_own_thread(const host_task *task, pid_t tid) {
     return task->pid > 0 && tid > 0 && syscall(SYS_tgkill, task->pid, tid, 0) == 0;
 }
 
-/* ---- segments ---- */
-
-/* A segment without a name, of a size that nobody can change. */
-static void make_segment(scheduler *s, host_task *task) {
-    size_t size = sizeof *task->segment;
-    task->memory = memfd_create("caladan", MFD_CLOEXEC | MFD_ALLOW_SEALING);
-    if (task->memory < 0 || ftruncate(task->memory, (off_t)size)) fail("memfd_create", strerror(errno));
-    if (fcntl(task->memory, F_ADD_SEALS, F_SEAL_SHRINK | F_SEAL_GROW | F_SEAL_SEAL)) fail("F_ADD_SEALS", strerror(errno));
-    task->segment = mmap(NULL, size, PROT_READ | PROT_WRITE, MAP_SHARED | MAP_POPULATE, task->memory, 0);
-    if (task->segment == MAP_FAILED) fail("mmap", strerror(errno));
-    task->segment->version = HOST_VERSION;
-    task->segment->epoch = s->epoch;
-    task->segment->threads = task->limit;
-    atomic_store(&task->segment->phase, s->phase);
-    for (unsigned i = 0; i < task->limit; i++) s->thread[task->first + i].slot = &task->segment->slot[i];
+/* The kernel refuses another process's thread. */
+void interrupt(const host_task *task, const host_slot *slot) {
+    pid_t tid = atomic_load(&slot->tid);
+    if (tid > 0 && task->pid > 0) syscall(SYS_tgkill, task->pid, tid, HOST_SIGNAL);
+    ring_bell((host_slot *)slot);
 }
 
-static void drop_segment(host_task *task) {
-    munmap(task->segment, sizeof *task->segment);
-    close(task->memory);
-}
+/* ---- beginning and end ---- */
 
 static int listen_for(const scheduler *s, unsigned t) {
     struct sockaddr_un address;
-    socklen_t length = host_address(&address, s->options.name, t);
-    int listener = socket(AF_UNIX, SOCK_SEQPACKET | SOCK_CLOEXEC | SOCK_NONBLOCK, 0);
-    if (listener < 0 || bind(listener, (struct sockaddr *)&address, length) || listen(listener, 8))
-        fail(s->options.name, errno == EADDRINUSE ? "another scheduler has this name" : strerror(errno));
+    char name[32];
+    socklen_t length = host_address(&address, s->folder, t);
+    int on = 1, listener = socket(AF_UNIX, SOCK_SEQPACKET | SOCK_CLOEXEC | SOCK_NONBLOCK, 0);
+    snprintf(name, sizeof name, "task-%u", t);
+    if (listener < 0 || bind(listener, (struct sockaddr *)&address, length)) fail(name, strerror(errno));
+    if (setsockopt(listener, SOL_SOCKET, SO_PASSCRED, &on, sizeof on) || listen(listener, 8)) fail(name, strerror(errno));
     return listener;
 }
 
-void open_tasks(scheduler *s) {
-    for (unsigned t = 0; t < s->machine.tasks; t++) {
-        host_task *task = &s->task[t];
-        caladan_table_row row;
-        caladan_table_task(&s->handle, t, &row);
-        *task = (host_task){.first = row.first_thread, .limit = row.limit, .is_critical = row.kind == CALADAN_LATENCY_CRITICAL, .file = -1, .connection = -1};
-        for (unsigned k = task->first; k < task->first + task->limit; k++) {
-            s->thread[k].task = t;
-            s->shown[k].task = (uint8_t)t;
-            s->shown[k].is_critical = task->is_critical;
-        }
-        task->listener = listen_for(s, t);
-        make_segment(s, task);
+static void open_task(scheduler *s, unsigned t) {
+    host_task *task = &s->task[t];
+    caladan_table_row row;
+    caladan_table_task(&s->handle, t, &row);
+    *task = (host_task){.first = row.first_thread, .limit = row.limit, .is_critical = row.kind == CALADAN_LATENCY_CRITICAL};
+    task->memory = task->file = task->connection = task->guest = -1;
+    for (unsigned k = task->first; k < task->first + task->limit; k++) {
+        s->thread[k].task = t;
+        s->shown[k].task = (uint8_t)t;
+        s->shown[k].is_critical = task->is_critical;
     }
+    if (!make_segment(s, task)) fail("a segment", strerror(errno));
+    task->listener = listen_for(s, t);
+}
+
+/* The first task's socket is the last: who sees it finds the others. */
+void open_tasks(scheduler *s) {
+    for (unsigned t = s->machine.tasks; t-- > 0;) open_task(s, t);
 }
 
 void close_tasks(scheduler *s) {
     for (unsigned t = 0; t < s->machine.tasks; t++) {
-        drop_segment(&s->task[t]);
-        close(s->task[t].listener);
-        if (s->task[t].file >= 0) close(s->task[t].file), close(s->task[t].connection);
+        host_task *task = &s->task[t];
+        drop_segment(task);
+        close(task->listener);
+        if (task->file >= 0) close(task->file), close(task->connection);
+        if (task->guest >= 0) close(task->guest);
     }
 }
 
-/* ---- who attaches ---- */
+/* ---- what is said over a connection ---- */
 
 static void answer(int connection, uint32_t status, int file) {
     host_answer said = {HOST_VERSION, status};
@@ -91,91 +86,150 @@ static void answer(int connection, uint32_t status, int file) {
     sendmsg(connection, &message, MSG_NOSIGNAL | MSG_DONTWAIT);
 }
 
-/* The process at the other end, as the kernel knows it, not as it says. */
-static int file_of_peer(int connection, const struct ucred *peer) {
+/* What came: 1, a word, of the process that the kernel says sent it; 0, nothing yet; -1, the connection is closed, or what
+ * came is no word. */
+static int hear(int connection, host_word *word, pid_t *sender) {
+    union {
+        struct cmsghdr head;
+        char room[CMSG_SPACE(sizeof(struct ucred))];
+    } control;
+    struct ucred from = {0, 0, 0};
+    struct iovec part = {word, sizeof *word};
+    struct msghdr message = {.msg_iov = &part, .msg_iovlen = 1, .msg_control = &control, .msg_controllen = sizeof control};
+    ssize_t got = recvmsg(connection, &message, MSG_DONTWAIT | MSG_CMSG_CLOEXEC);
+    if (got < 0) return errno == EAGAIN || errno == EINTR ? 0 : -1;
+    struct cmsghdr *head = CMSG_FIRSTHDR(&message);
+    if (head && head->cmsg_level == SOL_SOCKET && head->cmsg_type == SCM_CREDENTIALS && head->cmsg_len == CMSG_LEN(sizeof from))
+        memcpy(&from, CMSG_DATA(head), sizeof from);
+    *sender = from.pid;
+    return got == sizeof *word ? 1 : -1;
+}
+
+/* ---- who attaches ---- */
+
+/* The process at the other end, as the kernel knows it, not as it says. An older kernel knows it by its number alone: that
+ * it is still the same process is seen when it says that it has mapped its segment. */
+static int file_of_peer(int connection, pid_t pid) {
     int file = -1;
     socklen_t length = sizeof file;
     if (getsockopt(connection, SOL_SOCKET, SO_PEERPIDFD, &file, &length) == 0) return file;
-    return (int)syscall(SYS_pidfd_open, peer->pid, 0);
+    return (int)syscall(SYS_pidfd_open, pid, 0);
 }
 
-static void bury(scheduler *s, host_task *task);
+/* Whether it can be interrupted, killed and pinned. */
+static bool have_rights(int file, pid_t pid) {
+    cpu_set_t cpus;
+    if (syscall(SYS_pidfd_send_signal, file, 0, NULL, 0)) return false;
+    return sched_getaffinity(pid, sizeof cpus, &cpus) == 0 && (sched_setaffinity(pid, sizeof cpus, &cpus) == 0 || errno != EPERM);
+}
+
+static uint32_t judge(const host_task *task, const host_word *word, pid_t sender, struct ucred *peer) {
+    socklen_t length = sizeof *peer;
+    if (getsockopt(task->guest, SOL_SOCKET, SO_PEERCRED, peer, &length)) return HOST_NO_RIGHTS;
+    if (peer->uid != geteuid()) return HOST_OTHER_USER;
+    if (peer->pid <= 0 || word->process != peer->pid || sender != peer->pid) return HOST_OTHER_NAMESPACE;
+    return task->pid ? HOST_TAKEN : HOST_DONE;
+}
+
+static void dismiss(scheduler *s, host_task *task, uint32_t status) {
+    answer(task->guest, status, -1);
+    close(task->guest);
+    task->guest = -1;
+    s->counts.refused++;
+}
 
 static bool has_ended(const host_task *task) {
     struct pollfd file = {task->file, POLLIN, 0};
     return task->pid && poll(&file, 1, 0) > 0;
 }
 
-static void admit(scheduler *s, host_task *task) {
-    int connection = accept4(task->listener, NULL, NULL, SOCK_CLOEXEC | SOCK_NONBLOCK), file = -1;
+static void bury(scheduler *s, host_task *task) {
+    s->counts.ended += task->is_attached;
+    give_up(s, task);
+}
+
+/* Hands over the segment. Until the other end says that it has mapped it, its threads are granted nothing. */
+static void hand_over(scheduler *s, host_task *task, const host_word *word, pid_t sender) {
     struct ucred peer = {0, 0, 0};
-    socklen_t length = sizeof peer;
-    if (connection < 0) return;
     if (has_ended(task)) bury(s, task); /* its predecessor, which may have ended since we looked */
-    getsockopt(connection, SOL_SOCKET, SO_PEERCRED, &peer, &length);
-    uint32_t status = task->pid ? HOST_TAKEN : peer.uid != geteuid() ? HOST_OTHER_USER : HOST_DONE;
-    if (status == HOST_DONE) file = file_of_peer(connection, &peer);
-    if (file < 0) { /* refused, or it ended */
-        if (status != HOST_DONE) answer(connection, status, -1);
-        close(connection);
+    uint32_t status = word->version == HOST_VERSION && word->word == HOST_HELLO ? judge(task, word, sender, &peer) : HOST_NO_RIGHTS;
+    if (status == HOST_DONE && task->memory < 0) { /* there was no memory; there may be some now */
+        give_up(s, task);
+        status = task->memory < 0 ? HOST_NO_MEMORY : HOST_DONE;
+    }
+    if (status != HOST_DONE) return dismiss(s, task, status);
+    int file = file_of_peer(task->guest, peer.pid);
+    if (file < 0 || !have_rights(file, peer.pid)) {
+        if (file >= 0) close(file);
+        return dismiss(s, task, HOST_NO_RIGHTS);
+    }
+    task->pid = peer.pid, task->file = file, task->connection = task->guest;
+    task->guest = -1;
+    task->handed_at = s->clock + !s->clock;
+    answer(task->connection, HOST_DONE, task->memory);
+}
+
+static void hear_guest(scheduler *s, host_task *task) {
+    host_word word;
+    pid_t sender;
+    int heard = hear(task->guest, &word, &sender);
+    if (heard > 0) return hand_over(s, task, &word, sender);
+    if (heard == 0 && s->clock - task->guest_at < GREETING) return;
+    close(task->guest); /* it only looked in */
+    task->guest = -1;
+}
+
+/* The process that has the segment says that it has mapped it, or closes the connection. */
+static void hear_owner(scheduler *s, host_task *task) {
+    host_word word;
+    pid_t sender = 0;
+    int heard = hear(task->connection, &word, &sender);
+    bool is_late = !task->is_attached && s->clock - task->handed_at >= GREETING;
+    if (heard == 0 && !is_late) return;
+    if (heard > 0 && word.word == HOST_MAPPED && sender == task->pid && !task->is_attached && !has_ended(task)) {
+        task->is_attached = true;
+        s->counts.attached++;
         return;
     }
-    task->pid = peer.pid, task->file = file, task->connection = connection;
-    s->counts.attached++;
-    answer(connection, HOST_DONE, task->memory);
+    s->counts.given_up += task->is_attached;
+    if (has_ended(task)) bury(s, task);
+    else give_up(s, task);
+}
+
+static void welcome(scheduler *s, host_task *task) {
+    if (task->guest < 0) task->guest = accept4(task->listener, NULL, NULL, SOCK_CLOEXEC | SOCK_NONBLOCK), task->guest_at = s->clock;
+    if (task->guest >= 0) hear_guest(s, task);
+    if (task->connection >= 0) hear_owner(s, task);
 }
 
 void admit_each(scheduler *s) {
-    struct pollfd files[HOST_TASKS];
-    for (unsigned t = 0; t < s->machine.tasks; t++) files[t] = (struct pollfd){s->task[t].listener, POLLIN, 0};
-    if (poll(files, s->machine.tasks, 0) <= 0) return;
-    for (unsigned t = 0; t < s->machine.tasks; t++)
-        if (files[t].revents) admit(s, &s->task[t]);
+    struct pollfd files[3 * HOST_TASKS];
+    for (unsigned t = 0; t < s->machine.tasks; t++) {
+        const host_task *task = &s->task[t];
+        files[3 * t] = (struct pollfd){task->guest < 0 ? task->listener : -1, POLLIN, 0};
+        files[3 * t + 1] = (struct pollfd){task->guest, POLLIN, 0};
+        files[3 * t + 2] = (struct pollfd){task->connection, POLLIN, 0};
+    }
+    int some = poll(files, 3u * s->machine.tasks, 0);
+    for (unsigned t = 0; t < s->machine.tasks; t++) {
+        const host_task *task = &s->task[t];
+        bool waits = task->guest >= 0 || (task->pid && !task->is_attached);
+        if (waits || (some > 0 && (files[3 * t].revents || files[3 * t + 2].revents))) welcome(s, &s->task[t]);
+    }
 }
 
 /* ---- who ended ---- */
 
-/* On a segment of its own, so that no child of the process that ended can write to its successor's pages. */
-static void bury(scheduler *s, host_task *task) {
-    drop_segment(task);
-    make_segment(s, task);
-    for (unsigned k = task->first; k < task->first + task->limit; k++) {
-        host_thread *thread = &s->thread[k];
-        host_slot *slot = thread->slot;
-        thread->sender.ring = &slot->ring;
-        atomic_store(&slot->ring.sent, thread->sender.sent);
-        atomic_store(&slot->ring.taken, thread->sender.sent);
-        thread->pinned = 0;
-        if (thread->by_hand) continue;
-        uint8_t said = caladan_gone(&s->handle, k, &thread->gone);
-        if (said != CALADAN_DONE) fail("a thread that is gone", caladan_answer_text(said));
-        thread->by_hand = !caladan_bury(&slot->page, &slot->ring, &thread->gone);
-        if (!thread->by_hand) continue;
-        s->counts.worn++; /* it showed the last place that there is: only a new piece has pages for its successor */
-        s->must_close = true;
-    }
-    close(task->file), close(task->connection);
-    task->pid = 0, task->file = task->connection = -1;
-    s->counts.ended++;
+static void give_up_punched(scheduler *s, host_task *task) {
+    s->counts.punched++;
+    complain("process %d of task %u has punched its segment away", task->pid, number_of(s, task));
+    if (s->options.patience) kill_process(s, task, "it punched its segment away");
+    give_up(s, task);
 }
 
 void bury_each(scheduler *s) {
-    for (unsigned t = 0; t < s->machine.tasks; t++)
+    for (unsigned t = 0; t < s->machine.tasks; t++) {
         if (has_ended(&s->task[t])) bury(s, &s->task[t]);
-}
-
-/* ---- who does not leave ---- */
-
-void kill_process(scheduler *s, unsigned t) {
-    if (s->task[t].file < 0 || syscall(SYS_pidfd_send_signal, s->task[t].file, SIGKILL, NULL, 0)) return;
-    s->counts.killed++;
-}
-
-void kill_the_deaf(scheduler *s) {
-    uint64_t now = now_of(s);
-    for (unsigned core = 0; s->options.patience && core < s->machine.cores; core++) {
-        if (s->parked_at[core] == 0 || now - s->parked_at[core] < s->options.patience) continue;
-        kill_process(s, s->thread[s->parked[core]].task);
-        s->parked_at[core] = now;
+        else if (s->task[t].pid && is_punched(&s->task[t])) give_up_punched(s, &s->task[t]);
     }
 }

@@ -1,0 +1,94 @@
+/* segments.c: the memory that is shared with a task's process, and what becomes of it when the process is gone. */
+#define _GNU_SOURCE
+#include <errno.h>
+#include <string.h>
+#include <sys/mman.h>
+#include "caladand.h"
+
+/* Where there is no memory to share, a task has a segment that nobody else sees, and nobody is let in. */
+static host_segment unshared[HOST_TASKS];
+
+static host_segment *share(host_task *task) {
+    size_t size = sizeof *task->segment;
+    task->memory = memfd_create("caladan", MFD_CLOEXEC | MFD_ALLOW_SEALING);
+    if (task->memory < 0) return NULL;
+    host_segment *segment = MAP_FAILED;
+    if (ftruncate(task->memory, (off_t)size) == 0 && fcntl(task->memory, F_ADD_SEALS, HOST_SEALS) == 0)
+        segment = mmap(NULL, size, PROT_READ | PROT_WRITE, MAP_SHARED | MAP_POPULATE, task->memory, 0);
+    task->is_locked = segment != MAP_FAILED && mlock(segment, size) == 0;
+    if (segment != MAP_FAILED) return segment;
+    close(task->memory);
+    task->memory = -1;
+    return NULL;
+}
+
+bool make_segment(scheduler *s, host_task *task) {
+    task->segment = share(task);
+    if (task->segment == NULL) task->segment = memset(&unshared[number_of(s, task)], 0, sizeof unshared[0]);
+    task->segment->version = HOST_VERSION;
+    task->segment->epoch = s->epoch;
+    task->segment->threads = task->limit;
+    atomic_store(&task->segment->phase, s->phase);
+    for (unsigned i = 0; i < task->limit; i++) s->thread[task->first + i].slot = &task->segment->slot[i];
+    return task->memory >= 0;
+}
+
+void drop_segment(host_task *task) {
+    if (task->memory < 0) return;
+    munmap(task->segment, sizeof *task->segment);
+    close(task->memory);
+    task->memory = -1;
+}
+
+/* Every page of a segment is in memory from the first, and pinned there: one that is not was punched out of it by a process
+ * that has the file, so that each pass must fetch it. Where it cannot be pinned, nothing is said. */
+bool is_punched(const host_task *task) {
+    unsigned char in_memory[(sizeof(host_segment) + 4095) / 4096 + 1];
+    size_t size = sizeof *task->segment, pages = (size + (size_t)sysconf(_SC_PAGESIZE) - 1) / (size_t)sysconf(_SC_PAGESIZE);
+    if (task->memory < 0 || !task->is_locked || mincore(task->segment, size, in_memory)) return false;
+    for (size_t i = 0; i < pages; i++)
+        if ((in_memory[i] & 1) == 0) return true;
+    return false;
+}
+
+/* ---- nobody has it any more ---- */
+
+/* What the page of a thread must show from here on; or, where no page can, what each pass is given. */
+static void bury_thread(scheduler *s, size_t k) {
+    host_thread *thread = &s->thread[k];
+    host_slot *slot = thread->slot;
+    thread->sender.ring = &slot->ring;
+    thread->pinned = 0;
+    thread->is_doubted = thread->is_mute = false;
+    thread->retry_at = 0;
+    if (thread->by_hand) return;
+    thread->gone = (caladan_look){.busy = 1, .number = 1, .second = 1};
+    thread->by_hand = caladan_gone(&s->handle, k, &thread->gone) != CALADAN_DONE || !caladan_bury(&slot->page, &slot->ring, &thread->gone);
+    atomic_store(&slot->ring.sent, thread->sender.sent);
+    atomic_store(&slot->ring.taken, thread->sender.sent);
+    thread->place = atomic_load(&slot->page.version) / 2;
+    thread->from = now_of(s);
+    s->counts.worn += thread->by_hand;
+}
+
+/* Its threads are put back where the scheduler does not manage, if they are still there. */
+static void unpin_each(scheduler *s, const host_task *task) {
+    for (unsigned k = task->first; k < task->first + task->limit; k++) {
+        pid_t tid = s->thread[k].pinned;
+        if (tid && CPU_COUNT(&s->others) && is_own_thread(task, tid)) sched_setaffinity(tid, sizeof s->others, &s->others);
+    }
+}
+
+/* On a segment of its own, so that nobody who has the old one can write to its successor's pages. */
+void give_up(scheduler *s, host_task *task) {
+    unpin_each(s, task);
+    drop_segment(task);
+    make_segment(s, task);
+    for (unsigned k = task->first; k < task->first + task->limit; k++) bury_thread(s, k);
+    forget_leaving(s, task);
+    if (task->file >= 0) close(task->file);
+    if (task->connection >= 0) close(task->connection);
+    task->pid = 0, task->file = task->connection = -1;
+    task->is_attached = false;
+    task->handed_at = task->killed_at = 0;
+}

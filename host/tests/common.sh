@@ -1,0 +1,93 @@
+# common.sh: what the tests of host/check share: schedulers and processes of a run, and what is asked of them.
+
+child=none deaf=none daemon=none runtime=none visitor=none closer=none # processes that a test could not start are none
+
+refuses() { # refuses WORDS COMMAND..: it prints one line with WORDS, ends with status 2, and leaves nothing
+    local words=$1
+    shift
+    timeout -k 5 30 "$@" > "$build/out" 2> "$build/err"
+    [ $? = 2 ] && [ "$(wc -l < "$build/err")" = 1 ] && [ ! -s "$build/out" ] && grep -qF "$words" "$build/err"
+    note $? "'$words' of $* ($(head -n 3 "$build/err"))"
+}
+daemon() { echo "$bin/caladand" -n "$name" -t "${2-$table}" -c "$1"; } # daemon CPUS [TABLE]: its words
+
+start() { # start OPTION..: a scheduler; ${wrap[@]} stands before its words, if that is set
+    name=check$$-$((number = ${number-0} + 1))
+    start_as "$name" "$@"
+}
+start_as() { # start_as NAME OPTION..
+    name=$1
+    shift
+    timeout -k 5 100 "${wrap[@]}" "$bin/caladand" -n "$name" -t "$table" -c "$managed" "${own[@]}" "$@" > "$build/said" 2>&1 &
+    scheduler=$!
+    running+=($scheduler)
+    wait_for 20 is_there "$name"
+}
+# can_deny WHAT: the machine lets a process be refused something, as host/tests/deny.c does it; else the test is not run.
+can_deny() { "$bin/deny" "$1" true 2> /dev/null && return; skip "$what, for want of seccomp"; return 1; }
+begin() { # begin OPTION..: a scheduler that records
+    rm -rf "$build/record"
+    mkdir "$build/record"
+    start -r "$build/record" "$@"
+    record=$build/record/$name-1
+}
+go() { # go SECONDS PROGRAM WORD..: a process of the run, in the background; its number is $last
+    timeout -k 5 "$1" "${@:2}" > "$build/process.$((processes = ${processes-0} + 1))" 2>&1 &
+    last=$!
+    running+=($last)
+}
+lc() { "$bin/load" lc -n "$name" -u 0 -k 200 -q 2000 "$@"; }
+# The process that timeout runs: only once it is there, and has attached.
+only_child_of() { child=$(cat "/proc/$1/task/$1/children" 2> /dev/null) && child=${child%% *} && [ -n "$child" ]; }
+child_of() { only_child_of "$1" && has_threads "$child"; }
+pieces() { ls "$record" 2> /dev/null | grep -c '\.history$'; }
+has_pieces() { [ "$(pieces)" -ge "$1" ]; }
+said() { grep -oE "(^|[ ,:])$1 [0-9]+" "$build/said" | head -n 1 | grep -oE '[0-9]+$'; } # said WORDS: the number after them
+above() { [ "$(said "$2")" -ge "$1" ] 2> /dev/null; note $? "$what: $2 is not at least $1: $(head -n 5 "$build/said")"; }
+exactly() { [ "$(said "$2")" = "$1" ]; note $? "$what: $2 is not $1: $(head -n 8 "$build/said")"; }
+says() { grep -qE "$1" "$build/said"; note $? "$what: the scheduler did not say '$1': $(head -n 5 "$build/said")"; }
+metric() { awk -v name="caladan_$1" '$1 == name { print $2 }' "$CALADAN_FOLDER/$name/metrics" 2> /dev/null; } # metric NAME{LABELS}
+counts() { [ "$(metric "$1")" -ge "$2" ] 2> /dev/null; }
+
+no_reports() { # no sanitizer has found anything in the run, whose processes have ended
+    local each
+    each=$(grep -lE "Sanitizer|runtime error" "$build"/process.* "$build/said" 2> /dev/null | head -n 1)
+    [ -z "$each" ]; note $? "$what: $(head -n 40 "${each:-/dev/null}")"
+    rm -f "$build"/process.*
+    running=()
+}
+stop() { # the scheduler ends when it is told to, and nothing of it is left; so do the processes that are named
+    kill -TERM $scheduler
+    wait $scheduler
+    note $? "$what: the scheduler's status; $(tail -n 5 "$build/said")"
+    [ $# = 0 ] || kill -TERM "$@" 2> /dev/null
+    wait
+    [ ! -e "$CALADAN_FOLDER/$name" ]; note $? "$what: the scheduler's folder is still there"
+    no_reports
+} 2> /dev/null
+are_legal() { # each piece of the record is whole and legal
+    local each
+    [ "$(pieces)" -ge 1 ]; note $? "$what: there is no record"
+    for each in "$record"/piece*; do
+        case $each in
+        *.history) is_legal "$table" "$each"; note $? "$what: $(basename "$each") is not legal" ;;
+        *) note 1 "$what: $(basename "$each") was left" ;;
+        esac
+    done
+}
+end() { stop "$@"; are_legal; }
+
+counter() { od -A n -v -t u8 "$build/counter" 2> /dev/null | awk '{ for (i = 1; i <= NF; i++) sum += $i } END { print sum + 0 }'; }
+counts_on() { local before=${1:-$(counter)}; [ "$(counter)" -gt "$before" ]; }
+works() { # works: a best-effort process of its own gets cores, and does something with them
+    rm -f "$build/counter"
+    "$bin/load" be -n "$name" -u 1 -k 200 -s 1.5 -c "$build/counter" > "$build/process.works" 2>&1
+    [ "$(counter)" -gt 0 ]; note $? "$what: a successor got no core: $(cat "$build/process.works")"
+}
+# is_served FILE: most requests of a latency-critical load, of which there were some, were served.
+is_served() {
+    local made unserved
+    made=$(grep -oE '"requests": [0-9]+' "$1" | grep -oE '[0-9]+') unserved=$(grep -oE '"unserved": [0-9]+' "$1" | grep -oE '[0-9]+')
+    [ "${made:-0}" -gt 0 ] && [ $((unserved * 2)) -lt "$made" ]
+}
+served() { is_served "$1"; note $? "$what: requests were not served: $(head -n 3 "$1")"; }

@@ -1,0 +1,135 @@
+# ends.sh: patience, the ends of pieces, and the end of the scheduler.
+
+# A scheduler, and an honest best-effort and an honest latency-critical process, are stopped together and go on together.
+stand_still() {
+    local all status=0
+    what="honest processes, where the machine stands still"
+    start -k 1000 -g 20000
+    only_child_of $scheduler && all=$child
+    go 60 "$bin/load" be -n "$name" -u 1 -k 30000 -s 50 -h
+    wait_for 20 child_of $last; be=$last all="$all $child"
+    go 60 "$bin/load" lc -n "$name" -u 0 -k 200 -q 300 -s 50
+    wait_for 20 child_of $last; all="$all $child"
+    for ((i = 0; i < 6; i++)); do
+        sleep "0.$((RANDOM % 40 + 10))"
+        kill -STOP $all
+        sleep 1.2
+        kill -CONT $all
+    done
+    sleep 0.2
+    for each in $all; do kill -0 "$each" 2> /dev/null || status=1; done
+    note $status "$what: one ended"
+    stop $last $be
+    exactly 0 killed
+    above 1 revoke
+}
+
+# A deaf process is to leave a core. The scheduler stands still; the process ends meanwhile, and its successor attaches first.
+predecessor() {
+    what="the successor of a deaf process"
+    start -k 2000 -g 20000
+    only_child_of $scheduler && daemon=$child
+    go 20 "$bin/misbehave" "$name" 1 15 deaf
+    wait_for 20 child_of $last && deaf=$child
+    go 20 "$bin/load" lc -n "$name" -u 0 -k 200 -q 2000 -s 15
+    honest=$last
+    wait_for 20 counts 'actions_total{kind="revoke"}' 1; note $? "$what: nothing was revoked"
+    kill -STOP "$daemon"
+    kill -9 "$deaf"
+    go 20 "$bin/load" be -n "$name" -u 1 -k 200 -s 1
+    sleep 2.5
+    kill -CONT "$daemon"
+    wait $last; note $? "$what: it ended with another status: $(grep killed "$build/said")"
+    stop $honest
+} 2> /dev/null
+
+unkillable() { # nobody can be killed: a piece ends without who does not leave, and so does the scheduler
+    what="a process that can neither be killed nor leaves"
+    can_deny kill || return
+    wrap=("$bin/deny" kill)
+    begin -k 500 -g 50000 -p 3000
+    wrap=()
+    go 60 "$bin/misbehave" "$name" 1 50 deaf
+    wait_for 20 child_of $last
+    deaf=$last
+    lc -s 3 > "$build/process.lc" 2>&1
+    served "$build/process.lc"
+    wait_for 30 has_pieces 2; note $? "$what: no second piece ended: $(tail -n 3 "$build/said")"
+    says "of task 1 cannot be killed \(Operation not permitted\)"
+    says "of task 1 is written off"
+    kill -0 $deaf 2> /dev/null; note $? "$what: it ended, and nothing was shown"
+    end $deaf
+}
+
+hang_up() { # SIGHUP is SIGTERM: the piece is whole
+    what="a scheduler whose terminal hangs up"
+    begin -k 1000 -g 100000
+    lc -s 0.2 > "$build/process.lc" 2>&1
+    only_child_of $scheduler
+    kill -HUP "$child"
+    wait $scheduler; note $? "$what: its status"
+    end 2> /dev/null
+}
+
+# ---- what runtimes do without a scheduler ----
+
+is_asleep() { # no thread of the process runs, twice, and its work stands meanwhile
+    local before
+    before=$(counter)
+    ! grep -qs "^State:[[:space:]]*R" "/proc/$1/task/"*/status || return 1
+    sleep 0.2
+    ! grep -qs "^State:[[:space:]]*R" "/proc/$1/task/"*/status && [ "$(counter)" = "$before" ]
+}
+is_unpinned() { # no thread of the process is pinned
+    local each
+    for each in "/proc/$1/task/"*/status; do [ "$(grep -s Cpus_allowed_list "$each")" = "$(processors_of $$)" ] || return 1; done
+}
+begin_endless() { # begin_endless WHAT: a best-effort process that outlives its scheduler, which is killed
+    rm -f "$build/counter"
+    start -k 1000 -g 20000
+    only_child_of $scheduler && daemon=$child
+    go 60 "$bin/load" be -n "$name" -u 1 -k 200 -s 50 -c "$build/counter" -e "$1"
+    wait_for 20 child_of $last && runtime=$child
+    wait_for 20 counts_on 0; note $? "$what: it never worked"
+    kill -9 "$daemon"
+    wait $scheduler 2> /dev/null
+}
+end_endless() { kill -9 "$runtime"; wait; no_reports; rm -rf "${CALADAN_FOLDER:?}/$name"; } 2> /dev/null
+
+orphans() {
+    what="a runtime that waits when its scheduler is killed"
+    begin_endless wait
+    wait_for 20 is_asleep "$runtime"; note $? "$what: it runs on: $(grep -s State "/proc/$runtime/task/"*/status)"
+    is_unpinned "$runtime"; note $? "$what: it is still pinned"
+    end_endless
+    what="a runtime that runs when its scheduler is killed"
+    begin_endless run
+    wait_for 20 is_unpinned "$runtime"; note $? "$what: it is still pinned"
+    wait_for 20 counts_on; note $? "$what: it does not work"
+    end_endless
+    what="a runtime that attaches to the next scheduler"
+    begin_endless again
+    wait_for 20 is_asleep "$runtime"; note $? "$what: it runs on without one"
+    start_as "$name" -k 1000 -g 20000
+    wait_for 20 counts attached_total 1; note $? "$what: it did not attach"
+    wait_for 20 counts_on; note $? "$what: it does not work: $(cat "$build/said")"
+    lc -s 0.5 > "$build/process.lc" 2>&1
+    served "$build/process.lc"
+    stop $last
+    above 1 revoke
+    exactly 0 killed
+}
+
+processors() { # without -o the scheduler stays off what it manages
+    local each theirs
+    what="a scheduler without a processor of its own"
+    [ "$count" -ge 3 ] || { skip "$what, for want of three processors"; return; }
+    local own=()
+    start -g 100000
+    only_child_of $scheduler
+    theirs=$(sed -n 's/^Cpus_allowed_list:\t//p' "/proc/$child/status")
+    local allowed=() range cpu
+    for range in ${theirs//,/ }; do for ((cpu = ${range%-*}; cpu <= ${range#*-}; cpu++)); do allowed+=("$cpu"); done; done
+    for each in ${managed//,/ }; do [[ " ${allowed[*]} " != *" $each "* ]]; note $? "$what: it may run on processor $each"; done
+    stop
+}

@@ -1,0 +1,88 @@
+# liars.sh: processes that do not keep their word, beside honest ones and before honest successors.
+
+bad() { # bad HOW STATUS WORDS NUMBER: an ill-behaved best-effort process beside an honest one, and an honest successor
+    what="a process that is $1"
+    begin -k 1000 -g 100000
+    go 20 "$bin/misbehave" "$name" 1 15 "$1"
+    wait_for 20 child_of $last
+    lc -s 1 > "$build/process.honest" 2>&1; note $? "$what: the honest one: $(cat "$build/process.honest")"
+    # The number that foreign hands over is that of its parent, which is $last.
+    [ "$1" != foreign ] || [ "$(processors_of $last)" = "$(processors_of $$)" ]; note $? "$what: somebody else's thread was moved"
+    [ "$2" != 0 ] || kill -9 "$child" 2> /dev/null
+    wait $last 2> /dev/null
+    status=$?
+    [ "$2" = 0 ] || [ $status = "$2" ]; note $? "$what: it ended with $status, not $2"
+    [ "$2" = 0 ] || says "caladand: process [0-9]+ of task 1 is killed: "
+    works
+    end
+    above "$4" "$3"
+}
+processors_of() { grep Cpus_allowed_list "/proc/$1/status"; }
+
+liar_is_gone() { # it showed the last place of one page, and ended: no core goes to that thread, to be left never
+    what="a liar that is gone, where nobody is killed"
+    start -g 20000
+    "$bin/misbehave" "$name" 1 2 last_one > "$build/process.liar" 2>&1
+    go 20 "$bin/load" be -n "$name" -u 1 -k 200 -s 10
+    wait_for 20 child_of $last
+    lc -s 1.5 > "$build/process.lc" 2>&1
+    served "$build/process.lc"
+    stop $last
+    above 1 "place too far"
+    exactly 0 "worn out"
+}
+
+last_places() { # no liar ends a piece for the others
+    what="processes that show the last place of their pages and end"
+    start -k 100 -g 20000
+    for ((i = 0; i < 4; i++)); do "$bin/misbehave" "$name" 1 1 last > "$build/process.liar$i" 2>&1; done
+    stop
+    grep -q "passes [0-9]* in 1 pieces" "$build/said"; note $? "$what: pieces ended: $(head -n 1 "$build/said")"
+    above 4 "place too far"
+}
+
+visitors() { # to connect is not to attach, and to close is to leave
+    what="who connects and closes"
+    begin -k 2000 -g 100000 -p 5000
+    go 30 "$bin/misbehave" "$name" 1 25 visits
+    wait_for 20 only_child_of $last && visitor=$child
+    sleep 0.3
+    works
+    kill -0 "$visitor" 2> /dev/null; note $? "$what: it was killed"
+    go 30 "$bin/misbehave" "$name" 1 25 closes
+    wait_for 20 child_of $last && closer=$child
+    wait_for 20 counts left_total 1; note $? "$what: its task was not given up"
+    works
+    wait_for 20 has_pieces 2; note $? "$what: no piece ended"
+    kill -0 "$closer" 2> /dev/null; note $? "$what: who had left was killed"
+    kill -9 "$visitor" "$closer"
+    end
+    exactly 0 killed
+    above 1 left
+}
+
+punched() { # memory that is taken out of a segment is fetched again by each pass
+    what="a process that punches its segment away"
+    begin -k 2000 -g 20000
+    go 20 "$bin/misbehave" "$name" 1 15 punches
+    lc -s 1 > "$build/process.honest" 2>&1; note $? "$what: the honest one: $(cat "$build/process.honest")"
+    wait $last 2> /dev/null
+    [ $? = 137 ]; note $? "$what: it was left alone: $(cat "$build/said")"
+    works
+    end
+    says "of task 1 has punched its segment away"
+}
+
+unpinned() { # the kernel pins nobody: then nobody runs, and it is said
+    what="threads that cannot be pinned"
+    can_deny pin || return
+    wrap=("$bin/deny" pin)
+    begin -k 2000 -g 100000
+    wrap=()
+    lc -s 0.5 > "$build/process.honest" 2>&1; note $? "$what: the honest one: $(cat "$build/process.honest")"
+    end
+    above 1 "not pinned"
+    above 1 grant
+    says "cannot be pinned to processor [0-9]+, and is parked again: Invalid argument"
+    ! awk -F , '/^whole/ && $6 != 0 { ran = 1 } END { exit !ran }' "$record"/*.history; note $? "$what: one ran on a core"
+}

@@ -1,0 +1,114 @@
+# records.sh: what is written, and what keeps it from being written.
+
+kept_apart() { # a link that was laid before, and the record of an earlier run, are left as they are
+    what="a folder with a link and an earlier run"
+    begin -k 1000 -g 100000 -s 1
+    wait $scheduler; note $? "$what: the first run: $(cat "$build/said")"
+    echo precious > "$build/precious"
+    for each in piece-000001.part piece-000001.history "$name-2"; do ln -s "$build/precious" "$build/record/$each"; done
+    cp "$record/piece-000001.history" "$build/first"
+    start_as "$name" -r "$build/record" -k 1000 -g 100000 -s 1
+    wait $scheduler; note $? "$what: the second run: $(cat "$build/said")"
+    [ "$(cat "$build/precious")" = precious ]; note $? "$what: the file behind the link was written"
+    cmp -s "$record/piece-000001.history" "$build/first"; note $? "$what: the earlier run was written"
+    [ -f "$build/record/$name-3/piece-000001.history" ]; note $? "$what: the second run is not recorded"
+    cmp -s "$table" "$record/table.toml"; note $? "$what: its table is not the run's"
+    are_legal
+}
+
+full_disk() { # it ends the record, and not the run
+    what="a record that cannot be written any more"
+    rm -rf "$build/record"
+    mkdir "$build/record"
+    start_limited -r "$build/record" -k 1000 -g 20000
+    go 30 "$bin/load" be -n "$name" -u 1 -k 200 -s 20 
+    wait_for 20 grep -q "nothing is recorded any more" "$build/said"; note $? "$what: nothing is said: $(cat "$build/said")"
+    lc -s 1 > "$build/process.lc" 2>&1
+    served "$build/process.lc"
+    stop $last
+    above 1 revoke
+}
+start_limited() {
+    name=check$$-limited
+    (ulimit -f 300; exec timeout -k 5 100 "$bin/caladand" -n "$name" -t "$table" -c "$managed" "${own[@]}" "$@") > "$build/said" 2>&1 &
+    scheduler=$!
+    running+=($scheduler)
+    wait_for 20 is_there "$name"
+}
+
+killed_midway() { # what was recorded up to the last second is there
+    local part passes
+    what="the record of a scheduler that is killed"
+    begin -k 1000 -g 100000
+    only_child_of $scheduler
+    go 20 "$bin/load" be -n "$name" -u 1 -k 200 -s 15
+    lc -s 2 > "$build/process.lc" 2>&1
+    kill -9 "$child"
+    wait $scheduler 2> /dev/null
+    part=$record/piece-000001.part
+    passes=$(grep -c '^pass,' "$part")
+    [ "$passes" -gt 100 ]; note $? "$what: it has $passes passes"
+    # all but the last pass, which may be cut, are a legal history
+    { tac "$part" | sed '1,/^pass,/d' | tac; echo "end,$((passes - 1))"; } > "$build/cut"
+    is_legal "$table" "$build/cut"; note $? "$what: it is not legal"
+    kill -TERM $last 2> /dev/null
+    wait
+    rm -rf "${CALADAN_FOLDER:?}/$name"
+    no_reports
+}
+
+long_numbers() { # no piece is longer than what reads it
+    local each size bin=$build/plain
+    what="pieces of 128 threads whose records have the longest numbers"
+    { printf 'cores = 2\nbandwidth_limit = 1000000000000\n'
+      for ((each = 0; each < 8; each++)); do printf '[[task]]\nkind = "be"\nguaranteed = 0\nlimit = 16\ndelay = 0\nrequest = 0\n'; done; } > "$build/wide.toml"
+    table=$build/wide.toml
+    begin -k 2000 -g 20000
+    for ((each = 0; each < 8; each++)); do go 60 "$bin/misbehave" "$name" $each 50 wordy; done
+    wait_for 60 has_pieces 1; note $? "$what: no piece ended: $(cat "$build/said")"
+    stop
+    for each in "$record"/*.history; do
+        size=$(($(stat -c %s "$each") + $(stat -c %s "$table") + 4))
+        [ $size -le 67108864 ]; note $? "$what: $(basename "$each") has $size bytes with its table"
+    done
+    is_legal "$table" "$record/piece-000001.history"; note $? "$what: the first is not legal"
+    [ "$(stat -c %s "$record/piece-000001.history")" -gt 50000000 ]; note $? "$what: the first is short, and nothing was shown"
+    rm -rf "$record"
+    table=$top/host/tables/mix.toml
+} 2> /dev/null
+
+installed() { # what is installed stands by itself
+    what="make -C host install"
+    make -s -C "$top/host" OUT="$build/plain" CFLAGS="-O2 -g" PREFIX="$build/prefix" install > "$build/make.log" 2>&1; note $? "$what: $(tail -n 3 "$build/make.log")"
+    "$build/prefix/bin/caladand" --version > /dev/null; note $? "$what: caladand"
+    [ -s "$build/prefix/share/man/man8/caladand.8" ]; note $? "$what: the manual page"
+    ${CC:-cc} -pthread -I"$build/prefix/include" "$top/host/load.c" -L"$build/prefix/lib" -lcaladan_rt -lm -o "$build/prefix/load" 2> "$build/make.log"; note $? "$what: $(cat "$build/make.log")"
+    refuses "there is no scheduler of that name" "$build/prefix/load" lc -n installed -u 0
+}
+
+announced() { # whoever started it is told when processes can attach
+    what="a scheduler that tells when it is ready"
+    command -v python3 > /dev/null || { skip "$what, for want of python3"; return; }
+    python3 -c 'import socket, sys
+it = socket.socket(socket.AF_UNIX, socket.SOCK_DGRAM)
+it.bind(sys.argv[1])
+it.settimeout(30)
+print(it.recv(64).decode())' "$build/notify" > "$build/ready" 2>&1 &
+    wait_for 20 test -S "$build/notify"
+    NOTIFY_SOCKET=$build/notify start -g 100000
+    wait_for 20 grep -qx READY=1 "$build/ready"; note $? "$what: $(cat "$build/ready")"
+    stop
+}
+
+readable() { # counters while it runs
+    what="what can be read of a scheduler"
+    begin -k 1000 -g 100000
+    wait_for 20 counts passes_total 1; note $? "$what: no passes in $(cat "$CALADAN_FOLDER/$name/metrics")"
+    [ "$(metric recording)" = 1 ]; note $? "$what: it records"
+    go 20 "$bin/load" be -n "$name" -u 1 -k 200 -s 15
+    wait_for 20 counts 'attached{task="1"}' 1; note $? "$what: who is attached"
+    # each line is a comment, or a name, labels and a number
+    ! grep -qvE '^(# TYPE caladan_[a-z_]+ (counter|gauge|summary)|caladan_[a-z_]+(\{[a-z]+="[^"]*"(,[a-z]+="[^"]*")*\})? [0-9]+)$' "$CALADAN_FOLDER/$name/metrics"
+    note $? "$what: not Prometheus's lines"
+    end $last
+}

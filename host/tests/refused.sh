@@ -1,0 +1,135 @@
+# refused.sh: bad input of every kind: one line, status 2, and nothing left.
+
+words() {
+    name=test$$
+    printf 'cores = 3\nbandwidth_limit = 1\n' > "$build/odd.toml"
+    refuses "odd.toml: the table lacks a key" $(daemon 0,1 "$build/odd.toml")
+    refuses "none.toml: No such file" $(daemon 0,1 "$build/none.toml")
+    refuses "it names 1 processors, and the table has 2 cores" $(daemon 0)
+    refuses "it names 3 processors, and the table has 2 cores" $(daemon 0-2)
+    refuses "processor 1023: it is not there" $(daemon "${allowed[0]},1023")
+    refuses "it is named twice" $(daemon "${allowed[0]},${allowed[0]}")
+    refuses "a record needs -k" $(daemon 0,1) -r "$build"
+    refuses "it is no number in range" $(daemon 0,1) -k 3000
+    refuses "it is no number in range" $(daemon 0,1) -k 19
+    refuses "it is no number in range" $(daemon 0,,1)
+    refuses "it is no number in range" $(daemon 1-0)
+    refuses "it is no option" $(daemon 0,1) word
+    refuses "unrecognized option" $(daemon 0,1) --nothing
+    refuses "a name has 1 to 64 letters" "$bin/caladand" -n "" -t "$table" -c 0,1
+    refuses "a name has 1 to 64 letters" $(name=a/b daemon 0,1)
+    refuses "a name has 1 to 64 letters" $(name=.a daemon 0,1)
+    refuses "there is no scheduler of that name" "$bin/load" lc -n "$name" -u 0
+    refuses "there is no scheduler of that name" "$bin/load" lc -n ../run -u 0
+    [ "$("$bin/caladand" --version)" = "caladand $(cat "$top/VERSION")" ]; note $? "caladand --version"
+    "$bin/caladand" --help | grep -q '^usage: caladand -n NAME'; note $? "caladand --help"
+}
+
+folders() { # the folder of sockets is the user's, and nobody else's
+    local base=$CALADAN_FOLDER
+    name=folder$$
+    export CALADAN_FOLDER
+    mkdir "$build/open" "$build/closed" && chmod 755 "$build/open" && chmod 700 "$build/closed" && ln -s closed "$build/link"
+    for CALADAN_FOLDER in "$build/open" "$build/link"; do
+        refuses "$CALADAN_FOLDER: " $(daemon "$managed")
+        refuses "load: task 0: " "$bin/load" lc -n "$name" -u 0
+    done
+    CALADAN_FOLDER=$build/closed
+    mkdir "$build/closed/$name" && chmod 711 "$build/closed/$name"
+    refuses "$name: the folder is another user's, or others may enter it" $(daemon "$managed")
+    refuses "or its folder, is another user's" "$bin/load" lc -n "$name" -u 0
+    CALADAN_FOLDER=$build/none
+    refuses "there is no scheduler of that name" "$bin/load" lc -n "$name" -u 0
+    CALADAN_FOLDER=$base
+}
+
+impostors() { # who poses as the scheduler can hand out what he likes: nothing of it is mapped
+    local how words
+    for how in unsealed short version threads; do
+        case $how in version | threads) words="of another version" ;; *) words="is no sealed segment" ;; esac
+        name=impostor$$-$how
+        go 10 "$bin/impostor" "$name" $how
+        wait_for 10 is_there "$name"; note $? "the impostor ($how) did not come: $(cat "$build"/process.*)"
+        refuses "$words" "$bin/load" lc -n "$name" -u 0
+        wait $last
+        rmdir "$CALADAN_FOLDER/$name" 2> /dev/null
+    done
+    what="an impostor"
+    no_reports
+}
+
+refusals() { # who may not attach: the task's process lives, for this scheduler kills nobody
+    what="refusals on $main"
+    start -g 100000
+    go 60 "$bin/load" lc -n "$name" -u 0 -k 200 -q 2000 -s 50
+    wait_for 20 child_of $last; note $? "$what: the task's process did not attach: $(head -n 5 "$build/said")"
+    refuses "task 0: the task is taken" "$bin/load" lc -n "$name" -u 0
+    refuses "task 0: the scheduler's segment is of another version" "$bin/load_other" lc -n "$name" -u 0
+    refuses "there is no scheduler of that name, or its table has no such task" "$bin/load" lc -n "$name" -u 2
+    refuses "another scheduler manages it" "$bin/caladand" -n "$name" -t "$table" -c "$managed"
+    [ "$count" -lt 4 ] || refuses "another scheduler has this name" "$bin/caladand" -n "$name" -t "$table" -c "${allowed[0]},${allowed[1]}"
+    stop $last
+}
+
+# ---- other users and namespaces, where the machine lets the tests be some ----
+
+can_be_others() { [ "$(id -u)" = 0 ] && setpriv --reuid 65534 --regid 65534 --clear-groups true 2> /dev/null; }
+as_other() { setpriv --reuid 65534 --regid 65534 --clear-groups "$@"; }
+
+other_users() {
+    local base=$CALADAN_FOLDER elsewhere other
+    what="another user"
+    can_be_others || { skip "other users, for want of root"; return; }
+    elsewhere=$(mktemp -d) && mkdir -m 700 "$elsewhere/base" && cp "$build/plain/load" "$build/plain/caladand" "$build/plain/impostor" "$table" "$elsewhere" && chmod 755 "$elsewhere" "$elsewhere"/* && chmod 700 "$elsewhere/base"
+    chown 65534 "$elsewhere/base"
+    # another user's scheduler: nothing of root's goes there
+    export CALADAN_FOLDER=$elsewhere/base
+    setpriv --reuid 65534 --regid 65534 --clear-groups timeout 30 "$elsewhere/caladand" -n theirs -t "$elsewhere/mix.toml" -c "$managed" > "$build/said" 2>&1 &
+    other=$!
+    wait_for 20 is_there theirs; note $? "$what: their scheduler did not start: $(cat "$build/said")"
+    refuses "is another user's" "$bin/load" lc -n theirs -u 0
+    # theirs works, without a capability
+    as_other timeout 20 "$elsewhere/load" be -n theirs -u 1 -k 200 -s 1 -c "$elsewhere/base/counter" 2> "$build/err"
+    [ -n "$(tr -d '\0' < "$elsewhere/base/counter" | head -c 1)" ]; note $? "$what: their own process got no core: $(cat "$build/err")"
+    # who is theirs by half cannot be interrupted by them
+    refuses "the scheduler may not interrupt this process" "$build/plain/misbehave" theirs 0 1 mixed
+    kill -TERM $other
+    wait $other; note $? "$what: their scheduler's status: $(tail -n 3 "$build/said")"
+    # nor does it go to who poses as one, in their folder or by a socket of theirs in root's
+    setpriv --reuid 65534 --regid 65534 --clear-groups timeout 20 "$elsewhere/impostor" posed unsealed 2> "$build/err" &
+    other=$!
+    wait_for 20 is_there posed; note $? "$what: the impostor did not come: $(cat "$build/err")"
+    refuses "is another user's" "$bin/load" lc -n posed -u 0
+    mkdir -m 700 "$base/posed" && mv "$elsewhere/base/posed/task-0" "$base/posed/"
+    CALADAN_FOLDER=$base refuses "is another user's" "$bin/load" lc -n posed -u 0
+    wait $other
+    rm -rf "$base/posed"
+    # root's scheduler: they find no way in
+    CALADAN_FOLDER=$base
+    start -g 100000
+    refuses "Permission denied" setpriv --reuid 65534 --regid 65534 --clear-groups "$elsewhere/load" lc -n "$name" -u 0
+    stop
+    # without a folder there is none
+    refuses "there is neither CALADAN_FOLDER nor XDG_RUNTIME_DIR" setpriv --reuid 65534 --regid 65534 --clear-groups env -u CALADAN_FOLDER -u XDG_RUNTIME_DIR "$elsewhere/caladand" -n theirs -t "$elsewhere/mix.toml" -c "$managed"
+    rm -rf "$elsewhere"
+}
+
+older_kernel() { # the process at the other end is known by its number, and says once more that it is there
+    what="a kernel that does not hand out the file of a peer"
+    can_deny peer || return
+    wrap=("$bin/deny" peer)
+    start -g 100000
+    wrap=()
+    works
+    stop
+    above 1 attached
+}
+
+other_namespace() {
+    what="another pid namespace"
+    unshare -p -f true 2> /dev/null || { skip "another pid namespace, for want of rights"; return; }
+    start -g 100000
+    refuses "this process is in another pid namespace" unshare -p -f "$bin/load" lc -n "$name" -u 0
+    works
+    stop
+}
