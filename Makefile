@@ -1,6 +1,7 @@
 # make                 proves and builds the two programs, caladan_sim and caladan_view, and says how far it is
 # make NAME            one of them, or caladan_c, the C library
 # make check           the gate
+# make files           docs/FILES.md, a list of every file with what it is for
 # make install PREFIX=/usr/local      programs, C library, headers, pkg-config, manual pages and completions
 # make install_library PREFIX=..      the C library, its headers and the pkg-config file alone
 # What is proved is kept in crates/*/out, so make goes on where it was ended.
@@ -9,7 +10,7 @@ share = $(PREFIX)/share
 programs = caladan_sim caladan_view
 archive = crates/caladan_c/out/libcaladan_c.a
 
-.PHONY: all $(programs) caladan_c check install install_library
+.PHONY: all $(programs) caladan_c check files install install_library
 
 all: $(programs)
 
@@ -21,6 +22,9 @@ $(programs) caladan_c:
 
 check:
 	.ci/run
+
+files:
+	tools/docs --files > docs/FILES.md
 
 install: $(programs) caladan_c
 	tools/install_c_library $(PREFIX)
