@@ -1,0 +1,8 @@
+use Rattle.std.proofs.Common.{◌<◌, length, sym, ap, ◌∙◌, arith}
+use mathlib.Core.Option.{some}
+use Rattle.cal_kthread.proofs.ListSums.{at-within}
+use Rattle.cal_examples.proofs.kernel_threads.turn.Goals as goal
+
+pub returns-clause-team : goal.returns-clause-team
+returns-clause-team c = c.same_place_keeps_team.ensures c.args.threads.now.items c.args.k c.index_mut.result.now c.turn.new.self c.requires.team
+    (at-within c.args.threads.now.items c.args.k c.index_mut.result.now ? ∙ ap some (sym c.index_mut.ensures.value)) c.turn.ensures.place
