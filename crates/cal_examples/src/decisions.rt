@@ -45,19 +45,20 @@ fn pass(
     }))
 }
 
-/// Decides a pass on this record of the thread, and audits it.
+/// Decides a pass at this clock, on the record that the thread shows at this place; and audits it.
 fn pass_on(
     rt: &HostRuntime,
     config: &Config,
     book: &mut Book,
     auditor: &mut Auditor,
-    (now, number, rec): (u64, u64, Record),
+    shown: (u64, u64, Record),
 ) -> anyhow::Result<()>
     requires book { IsBookOf config.now book.old }
     requires auditor { IsAuditorOf config.now auditor.old }
     ensures book { OnOk result (IsBookOf config.now book.new) }
     ensures auditor { OnOk result (IsAuditorOf config.now auditor.new) }
 {
+    let (now, number, rec) = shown;
     let found = [FoundLook {
         look: Look::Whole { number, rec },
         room: true,
