@@ -87,8 +87,9 @@ pub fn show(rt: &HostRuntime) -> anyhow::Result<()> {
 
     // The run is over: what each thread did, and what it had left.
     let mut ends = ends_of(rt.alloc(), threads)?;
-    settle(&config, &mut ends);
-    let lefts = hand_out_all(rt.alloc(), &mut ends)?;
+    let each = ends.as_mut_slice();
+    settle(&config, each);
+    let lefts = hand_out_all(rt.alloc(), each)?;
     for end in &ends {
         for entry in end.journal.as_slice() {
             println!(rt; "  {entry:?}")?;
