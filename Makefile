@@ -1,16 +1,17 @@
 # make                 proves and builds the two programs, caladan_sim and caladan_view, and says how far it is
 # make NAME            one of them, or caladan_c, the C library
 # make check           the gate
+# make files           docs/FILES.md, a list of every file with what it is for
 # make install PREFIX=/usr/local      programs, C library, headers, pkg-config, manual pages and completions
 # make install_library PREFIX=..      the C library, its headers and the files for pkg-config and CMake alone
-# make dist            a release in out/release: Debian packages, a prefix, the sources, and PROOF, made from what the gate keeps
+# make dist            a release in out/release: Debian packages, a prefix, the sources, and PROOF of what the gate keeps
 # What is proved is kept in crates/*/out, so make goes on where it was ended.
 PREFIX ?= /usr/local
 share = $(PREFIX)/share
 programs = caladan_sim caladan_view
 archive = crates/caladan_c/out/libcaladan_c.a
 
-.PHONY: all $(programs) caladan_c check dist install install_library
+.PHONY: all $(programs) caladan_c check dist files install install_library
 
 all: $(programs)
 
@@ -22,6 +23,9 @@ $(programs) caladan_c:
 
 check:
 	.ci/run
+
+files:
+	tools/docs --files > docs/FILES.md
 
 dist: $(programs) caladan_c
 	tools/make_release

@@ -1,9 +1,9 @@
 """Inputs made for the benchmark, each with the report that it must lead to.
 
-A made world has one latency-critical task for each thread, and a core for each. In the first pass every thread has waited
-too long, so thread k is granted core k; from then on core k was last granted to it, so each later grant gives it core k
-again. What the scheduler does is thus known without it, and the report below is written from the world alone.
-"""
+A made world has one latency-critical task for each thread, and a core for each. In the first pass every thread has
+waited too long, so thread k is granted core k; from then on core k was last granted to it, so each later grant gives
+it core k again. What the scheduler does is thus known without it, and the report below is written from the world
+alone. """
 
 import hashlib
 import random

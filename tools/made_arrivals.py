@@ -9,13 +9,15 @@ MIXED = [("lc", 2, 4, 10, 20), ("lc", 1, 3, 10, 20), ("be", 0, 3, 0, 0)]
 def table(cores, tasks, bandwidth_limit=1000):
     text = f"cores = {cores}\nbandwidth_limit = {bandwidth_limit}\n"
     for kind, guaranteed, limit, delay, request in tasks:
-        text += f'\n[[task]]\nkind = "{kind}"\nguaranteed = {guaranteed}\nlimit = {limit}\ndelay = {delay}\nrequest = {request}\n'
+        text += f'\n[[task]]\nkind = "{kind}"\nguaranteed = {guaranteed}\nlimit = {limit}\n'
+        text += f"delay = {delay}\nrequest = {request}\n"
     return text
 
 
 def arrivals(seed, threads, passes, turns, chance=0.2, most_work=8):
-    """Rows of an arrivals file and the number of requests: passes and turns in turn, ten ticks apart; bursts of a figure of
-    bandwidth over the limit; to each thread a request before one turn in some, most of them to the first threads of a task."""
+    """Rows of an arrivals file and the number of requests: passes and turns in turn, ten ticks apart; bursts of a
+    figure of bandwidth over the limit; to each thread a request before one turn in some, most of them to the first
+    threads of a task."""
     made = random.Random(seed)
     rows = [f"pass,{100 + 10 * p},{made.choice([0, 0, 0, 900, 1500])}" for p in range(passes)]
     rows += [f"turn,{105 + 10 * j}" for j in range(turns)]
@@ -46,4 +48,5 @@ def numbers(table, key):
 def owners(table):
     """The task of each kernel thread, and the cores of the machine."""
     limits = numbers(table, "limit")
-    return [t for t, limit in enumerate(limits) for _ in range(limit)], int(re.search(r"^cores\s*=\s*(\d+)", table, re.M)[1]), len(limits)
+    owners = [t for t, limit in enumerate(limits) for _ in range(limit)]
+    return owners, int(re.search(r"^cores\s*=\s*(\d+)", table, re.M)[1]), len(limits)

@@ -1,7 +1,8 @@
-"""What the scripts of tools/ and bench/ share: which programs they run, how, what a program's help says, and what they ask of a run.
+"""What the scripts of tools/ and bench/ share: which programs they run, how, what a program's help says, and what
+they ask of a run.
 
-A script runs the programs that `make` and `rt ci` leave at crates/NAME/out/NAME. A word NAME=FILE on its command line names
-another file: tools/examples caladan_sim=/tmp/caladan_sim."""
+A script runs the programs that `make` and `rt ci` leave at crates/NAME/out/NAME. A word NAME=FILE on its command line
+names another file: tools/examples caladan_sim=/tmp/caladan_sim."""
 import collections
 import functools
 import os
@@ -12,9 +13,11 @@ import time
 
 TOP = os.path.dirname(os.path.dirname(os.path.abspath(__file__)))
 SECONDS = 120
-# Its exit status, what it wrote on both outputs, seconds of processor and by the clock, and bytes of memory at its peak.
+# Its exit status, what it wrote on both outputs, seconds of processor and by the clock, and bytes of memory at its
+# peak.
 Measured = collections.namedtuple("Measured", "status wrote said processor clock peak")
-# The run to copy that a word's help shows: its input, whether what it writes varies, and what it writes (None: that is not shown).
+# The run to copy that a word's help shows: its input, whether what it writes varies, and what it writes (None: that
+# is not shown).
 Shown = collections.namedtuple("Shown", "given varies wrote")
 
 
@@ -44,8 +47,8 @@ def run(program, words, given=b"", **how):
 
 
 def measure(command, given, answer=subprocess.PIPE):
-    """Runs a command on an open file. Its answer is read, or goes to another open file: then nothing of it is kept here, and
-    what this process takes does not count as the memory of the next one that it starts."""
+    """Runs a command on an open file. Its answer is read, or goes to another open file: then nothing of it is kept
+    here, and what this process takes does not count as the memory of the next one that it starts."""
     begun = time.perf_counter()
     child = subprocess.Popen(command, stdin=given, stdout=answer, stderr=subprocess.PIPE)
     wrote, said = child.stdout.read() if child.stdout else b"", child.stderr.read()
@@ -76,7 +79,8 @@ def words_of(program):
 
 def shown_run(text, name, word):
     """The run to copy that the help of a program's word shows; None where it shows none."""
-    found = re.search(rf"^{name} {word}(?: > \S+)? <<'END'\n(.*?\n)END\n(?:\nIt (may write|writes):\n\n(.*))?", text, re.S | re.M)
+    shown = rf"^{name} {word}(?: > \S+)? <<'END'\n(.*?\n)END\n(?:\nIt (may write|writes):\n\n(.*))?"
+    found = re.search(shown, text, re.S | re.M)
     return found and Shown(found[1].encode(), found[2] == "may write", found[3] and found[3].encode())
 
 

@@ -24,8 +24,8 @@ PROOF = """\
 What was proved of Doranjei {version}
 =================================
 
-`make dist` made this page from what `rt ci` printed over this very tree, and from README.md: no number, sum or promise in it was
-written by hand.
+`make dist` made this page from what `rt ci` printed over this very tree, and from README.md and docs/PROMISES.md: no number, sum or
+promise in it was written by hand.
 
 Version    {version}
 Commit     {commit}
@@ -235,13 +235,14 @@ def check_built(kept, name, file):
         raise Refused(f"{file} is not the {BUILT[name]} that was proved: its sum is another")
 
 
-def marked(name):
-    """What README.md has between the marks <!-- NAME --> and <!-- end -->, without its links."""
-    with open(f"{TOP}/README.md", encoding="utf-8") as it:
+def marked(page, name):
+    """What a page has between the marks <!-- NAME --> and <!-- end -->, without its links and bold letters."""
+    with open(f"{TOP}/{page}", encoding="utf-8") as it:
         found = re.search(rf"^<!-- {name} -->\n(.*?)^<!-- end -->$", it.read(), re.M | re.S)
     if not found:
-        raise Refused(f"README.md has no part between the lines <!-- {name} --> and <!-- end -->")
-    return re.sub(r"!?\[(`?)([^\]`]+)\1\](?:\([^)\s]+\)|\[\])?", r"\1\2\1", found[1]).strip("\n")
+        raise Refused(f"{page} has no part between the lines <!-- {name} --> and <!-- end -->")
+    plain = re.sub(r"!?\[(`?)([^\]`]+)\1\](?:\([^)\s]+\)|\[\])?", r"\1\2\1", found[1])
+    return plain.replace("**", "").strip("\n")
 
 
 def rows_of(proved):
@@ -266,5 +267,6 @@ def text(version, commit, kept, said, proved, lines):
     kit, _, logic = kept["kit"].partition(" logic ")
     built = "\n".join(f"{kept['sums'][name]}  {file}" for name, file in BUILT.items())
     told = {"version": version, "commit": commit, "tree": kept["tree"], "kit": kit, "logic": logic, "said": said}
-    return PROOF.format(**told, rows="\n".join(rows_of(proved)), promises=marked("proof: promises"), trusted=marked("proof: trusted"),
-                        built=built, files="\n".join(lines))
+    promises, trusted = marked("README.md", "proof: promises"), marked("docs/PROMISES.md", "proof: trusted")
+    return PROOF.format(**told, rows="\n".join(rows_of(proved)), promises=promises, trusted=trusted, built=built,
+                        files="\n".join(lines))

@@ -18,6 +18,7 @@ delay = 10
 request = 50
 """
 
+# begin
 with Scheduler(ctypes.CDLL(sys.argv[1]), TABLE) as scheduler:
     # one look for each thread: here a record at place 1, with a request that came at 100
     looks = [Look(room=1, number=1, queued=1, oldest=100, stamp=105)]
@@ -25,3 +26,4 @@ with Scheduler(ctypes.CDLL(sys.argv[1]), TABLE) as scheduler:
     for action in actions:
         if action.kind == GRANT:
             print(f"core {action.core} to thread {action.thread}")
+# end

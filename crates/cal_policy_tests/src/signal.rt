@@ -75,6 +75,7 @@ fn half_written_page(rt: HostRuntime) -> Result<(), Fail> {
     };
     let page = store(page, 3);
     assert_same(&rt, found(&mut observer), busy(1, 1));
+    assert_same(&rt, observer.floor(), 0);
     let (page, observer, look) = look_open(page, observer);
     assert_same(&rt, look, busy(1, 1));
     let Err((look, mut observer)) = observer.start() else {

@@ -55,6 +55,7 @@ fn open_ends(alloc: Global, count: usize) -> Result<Ends, AllocError>
     })
 }
 
+// begin passes
 /// Makes a pass at this clock, with a bandwidth figure of 0, and prints what it did.
 fn pass(rt: &HostRuntime, scheduler: &mut Scheduler, now: u64) -> anyhow::Result<()> {
     scheduler.pass(now, 0)?;
@@ -87,7 +88,9 @@ fn run(
     pass(rt, scheduler, 180)?;
     second.obey(rt, 181)
 }
+// end
 
+// begin main
 fn main(rt: HostRuntime) -> anyhow::Result<()> {
     let config = Config::read(rt.alloc(), TABLE)?;
     let Ends {
@@ -103,3 +106,4 @@ fn main(rt: HostRuntime) -> anyhow::Result<()> {
     };
     run(&rt, &mut scheduler, &mut first, &mut second)
 }
+// end

@@ -108,11 +108,35 @@ fn assert_in_order<R: Abort + AllocGlobal>(rt: &R, listed: &[Event]) -> Result<(
     Ok(())
 }
 
+/// Each pass in the list is the one of the history at its place, with all that it was given and did.
+fn assert_passes<R: Abort>(rt: &R, listed: &[Event], history: &[PassEntry]) {
+    let mut left = history.iter();
+    for event in listed {
+        if let Event::Decide(entry) = event {
+            let Some(meant) = left.next() else {
+                panic!(rt; "a pass more than the history has")
+            };
+            let (input, wanted) = (&entry.input, &meant.input);
+            assert_same(
+                rt,
+                (input.now, input.bandwidth),
+                (wanted.now, wanted.bandwidth),
+            );
+            assert_same(rt, input.seen.as_slice(), wanted.seen.as_slice());
+            assert_same(rt, input.rooms.as_slice(), wanted.rooms.as_slice());
+            assert_same(rt, entry.actions.as_slice(), meant.actions.as_slice());
+        }
+    }
+    assert!(rt; left.next().is_none());
+}
+
 #[test]
 fn linearised_run(rt: HostRuntime) -> Result<(), Fail> {
     let config = Config::read(rt.alloc(), ONE_THREAD)?;
     let listed = events(rt.alloc(), &config)?;
     assert_in_order(&rt, &listed)?;
+    let history = passes(rt.alloc())?;
+    assert_passes(&rt, &listed, &history);
     assert_same(&rt, core_after(rt.alloc(), &config, &listed), Ok(Some(0)));
     let refused = Stopped {
         at: 0,
