@@ -250,9 +250,9 @@ uint64_t caladan_bandwidth_limit(caladan *handle);
  * for CALADAN_MOST_ACTIONS. DONE: the actions are what the policy does on these looks after all passes
  * before, and that history is legal [passed]; of each look it says what was judged [judged]. UNFIT: a look
  * does not fit [unfit]. WRONG_COUNT exactly where there is not one look for each thread [wrong_count], else
- * NO_ROOM exactly where one of the rooms is too little [no_room], else DONE, UNFIT or NO_MEMORY [answers];
- * of a closed handle IS_CLOSED [closed]. Unless DONE nothing has changed, but that *made is 0 [refused].
- * No pass asks for memory, so none answers NO_MEMORY [not proved]. */
+ * NO_ROOM exactly where one of the rooms is too little [no_room], else DONE or UNFIT [answers]; of a closed
+ * handle IS_CLOSED [closed]; no other number, so no pass is refused for want of memory [own]. Unless DONE
+ * nothing has changed, but that *made is 0 [refused]. */
 uint8_t caladan_pass(caladan *handle, uint64_t now, uint64_t bandwidth, const caladan_look *looks, size_t count,
                      uint8_t *judged, size_t judged_room, caladan_action *actions, size_t room, size_t *made);
 
@@ -266,7 +266,7 @@ uint8_t caladan_pass(caladan *handle, uint64_t now, uint64_t bandwidth, const ca
  * record are as before, so its next record, or its successor's, counts as if the refused one had never been
  * [law refused_leaves_no_trace]. A history of such passes is legal [passed]; recorded are the looks that
  * were taken: caladan_taken makes them, and the judgement to be recorded of a refused one is CALADAN_BUSY
- * [tested]. Other answers are as those of caladan_pass [wrong_count, no_room, closed, refused]. */
+ * [tested]. Other answers are as those of caladan_pass [wrong_count, no_room, closed, own, refused]. */
 uint8_t caladan_pass_each(caladan *handle, uint64_t now, uint64_t bandwidth, const caladan_look *looks, size_t count,
                           uint8_t *judged, size_t judged_room, caladan_action *actions, size_t room, size_t *made);
 
