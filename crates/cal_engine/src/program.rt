@@ -20,8 +20,9 @@ use std::sync::Wait;
 use std::thread::Threads;
 
 /// Runs the program on its name and the words after it and on an input, and answers its exit
-/// status: 0 is done (help too), 1 is an illegal history, 2 is bad words or a refused input, 3 is
-/// memory, the writer, or a thread that could not be started. The words are read before the input.
+/// status: 0 is done (help too), 1 is an illegal history, 2 is bad arguments or rejected input, 3
+/// is memory, the writer, or a thread that could not be started. The words are read before the
+/// input.
 /// Only a run in threads, of the word `sim`, uses `rt`, and waits, at its joins.
 ///
 /// The answer goes to `output`, and help too; what is wrong with the words (`clap`'s text) or the

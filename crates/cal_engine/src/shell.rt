@@ -28,7 +28,7 @@ pub fn words_after_first<'a>(alloc: Global, named: &'a [String]) -> Result<Vec<&
 }
 
 /// Writes what `clap` says of the words, and answers the exit status: 0 for help and the version, 2
-/// for bad words. The faults are `Memory`, where the words were refused for want of it, and
+/// for bad arguments. The faults are `Memory`, where memory for the text was refused, and
 /// `Write`.
 pub fn refuse_words<W: Write, E: Write>(
     error: &Error,

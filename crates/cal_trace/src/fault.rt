@@ -47,7 +47,7 @@ impl FaultKind {
             FaultKind::Order => "cannot stand here",
             FaultKind::Range => "is out of range",
             FaultKind::Backwards => "goes back",
-            FaultKind::Memory => "could not be kept, for want of memory",
+            FaultKind::Memory => "could not be kept, out of memory",
             FaultKind::Repeated => "repeats an identity",
         }
     }

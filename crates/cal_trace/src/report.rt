@@ -25,7 +25,7 @@ use std::io::Write;
 /// look that was not kept and for each action, and at its end how many passes there are and a line
 /// for each task with the cores that it holds and leaves after the last pass.
 ///
-/// It keeps nothing of a pass that was written but its count, and takes no memory of its own. The
+/// It keeps only the number of passes written, and takes no memory of its own. The
 /// error is what the writer returned; how much was written is unspecified.
 #[derive(Drop)]
 pub struct Report {

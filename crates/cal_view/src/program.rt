@@ -13,8 +13,8 @@ use std::alloc::Global;
 use std::io::{BufWriter, Read, Write};
 
 /// Runs the program on its name and the words after it and on an input, and answers its exit
-/// status: 0 is done (help too), 2 is bad words or a refused input, 3 is memory or the writer. The
-/// words are read before the input.
+/// status: 0 is done (help too), 2 is bad arguments or rejected input, 3 is memory or the writer.
+/// The words are read before the input.
 ///
 /// The answer goes to `output`, and help too; what is wrong with the words (`clap`'s text) or the
 /// one line of a fault goes to `errors`.

@@ -43,7 +43,7 @@ pub enum Finding {
 }
 
 impl Refusal {
-    /// Its number, which is none that a call answers where it did something.
+    /// Its number, never 0: 0 means that the call did what it was asked.
     pub fn number(self) -> u8
         ensures refused { result ≢ 0 }
         ensures not_stopped { result ≢ 18 }

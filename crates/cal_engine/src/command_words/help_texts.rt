@@ -1,5 +1,5 @@
-//! What help says of each word below its options: what goes in and comes out, the exit statuses,
-//! and a whole small run to copy, which tools/examples makes.
+//! What help says of each subcommand below its options: what goes in and comes out, the exit
+//! statuses, and a whole small run to copy, which tools/examples makes.
 
 /// A help text with a whole small run to copy: what goes in and comes out, with the exit statuses;
 /// the command; and what stands after the task table, with what the run writes.
@@ -18,15 +18,15 @@ macro_rules! help_with_a_run {
     };
 }
 
-/// What help says of the program or of a word: what it is for, in a line, and what stands below its
-/// options.
+/// What help says of the program or of a subcommand: what it is for, in a line, and what stands
+/// below its options.
 #[derive(Clone, Copy)]
 pub struct Help {
     pub about: &'static str,
     pub after: &'static str,
 }
 
-/// Of a word of which help is not asked.
+/// Of a subcommand of which help is not asked.
 pub const NOTHING: Help = Help {
     about: "",
     after: "",
@@ -36,15 +36,15 @@ pub const NOTHING: Help = Help {
 pub const PROGRAM: Help = Help {
     about: "The core scheduler of Caladan over a task table and a trace on standard input",
     after: "\
-Without a word it runs `decide`. Each word reads one input from the standard input: a task table
-(TOML), the line ---, and a trace (CSV). `caladan_sim WORD --help` describes the trace and the
-output, with a whole input to copy; `man caladan-formats` describes everything.
+Without a subcommand it runs `decide`. Each subcommand reads one input from the standard input: a
+task table (TOML), the line ---, and a trace (CSV). `caladan_sim SUBCOMMAND --help` describes the
+trace and the output, with a whole input to copy; `man caladan-formats` describes everything.
 
-Exit status: 0 done, 1 an illegal history, 2 bad words or a refused input, 3 memory, output or a
+Exit status: 0 done, 1 an illegal history, 2 bad arguments or rejected input, 3 memory, output or a
 thread was refused. A fault is one line on the standard error.",
 };
 
-/// Of the word `decide`.
+/// Of the subcommand `decide`.
 pub const DECIDE: Help = Help {
     about: "Decide the passes of a signal trace",
     after: help_with_a_run!(
@@ -52,7 +52,7 @@ pub const DECIDE: Help = Help {
 Standard input: a task table (TOML), the line ---, and signals (CSV): for each pass a row with its
 clock and bandwidth figure, and what was found on the page of each kernel thread.
 Standard output: the report: what each pass did, and what each task has at the end.
-Exit status: 0 done, 2 a refused input, 3 memory or output was refused.",
+Exit status: 0 done, 2 rejected input, 3 memory or output was refused.",
         "caladan_sim decide",
         "\
 caladan-signals,2
@@ -70,7 +70,7 @@ task 0 lc held 1 leaving 0"
     ),
 };
 
-/// Of the word `lockstep`.
+/// Of the subcommand `lockstep`.
 pub const LOCKSTEP: Help = Help {
     about: "Make a whole run of arrivals on one thread",
     after: help_with_a_run!(
@@ -79,7 +79,7 @@ Standard input: a task table (TOML), the line ---, and arrivals (CSV): the clock
 of the kernel threads' turns, and the requests that come to the threads.
 Standard output: the history of the run, which `audit` reads after the table; with --summary, what
 each kernel thread did; with --report, what `audit` writes of that history above its last line.
-Exit status: 0 done, 2 a refused input, 3 memory or output was refused.",
+Exit status: 0 done, 2 rejected input, 3 memory or output was refused.",
         "caladan_sim lockstep",
         "\
 caladan-arrivals,1
@@ -103,7 +103,7 @@ end,2"
     ),
 };
 
-/// Of the word `sim`.
+/// Of the subcommand `sim`.
 pub const SIM: Help = Help {
     about: "Make a whole run of arrivals in threads",
     after: help_with_a_run!(
@@ -113,7 +113,7 @@ of the kernel threads' turns, and the requests that come to the threads.
 Standard output: the history of the run, which `audit` reads after the table; with --summary, what
 each kernel thread did; with --report, what `audit` writes of that history above its last line.
 Threads interleave differently on every run, so the output varies.
-Exit status: 0 done, 2 a refused input, 3 memory, output or a thread was refused.",
+Exit status: 0 done, 2 rejected input, 3 memory, output or a thread was refused.",
         "caladan_sim sim",
         "\
 caladan-arrivals,1
@@ -137,7 +137,7 @@ end,2"
     ),
 };
 
-/// Of the word `audit`.
+/// Of the subcommand `audit`.
 pub const AUDIT: Help = Help {
     about: "Audit a history against the policy",
     after: help_with_a_run!(
@@ -146,7 +146,7 @@ Standard input: a task table (TOML), the line ---, and a history (CSV), as `lock
 `caladan_view history` write it.
 Standard output: if every pass is the policy's, the report and the line `legal`; else the one line
 `illegal pass P`, where P is the first pass, from 0, that is not.
-Exit status: 0 legal, 1 illegal, 2 a refused input, 3 memory or output was refused.",
+Exit status: 0 legal, 1 illegal, 2 rejected input, 3 memory or output was refused.",
         "caladan_sim audit",
         "\
 caladan-history,2

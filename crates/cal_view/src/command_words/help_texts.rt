@@ -1,24 +1,24 @@
-//! What help says of each word below its options: what goes in and comes out, the exit statuses,
-//! and a whole small run to copy, which tools/examples makes.
+//! What help says of each subcommand below its options: what goes in and comes out, the exit
+//! statuses, and a whole small run to copy, which tools/examples makes.
 
 use cal_engine::help_with_a_run;
 
 /// Of the program as a whole.
 pub const PROGRAM: &str = "\
-Each word reads one input from the standard input: a task table (TOML), the line ---, and signals, a
-history or arrivals (CSV). `caladan_view WORD --help` says which and what is written, with a whole
-input to copy; `man caladan-formats` has all of it.
+Each subcommand reads one input from the standard input: a task table (TOML), the line ---, and
+signals, a history or arrivals (CSV). `caladan_view SUBCOMMAND --help` says which and what is
+written, with a whole input to copy; `man caladan-formats` has all of it.
 
-Exit status: 0 done, 2 bad words or a refused input, 3 memory or output was refused. A fault is one
-line on the standard error.";
+Exit status: 0 done, 2 bad arguments or rejected input, 3 memory or output was refused. A fault is
+one line on the standard error.";
 
-/// Of the word `history`.
+/// Of the subcommand `history`.
 pub const HISTORY: &str = help_with_a_run!(
     "\
 Standard input: a task table (TOML), the line ---, and signals (CSV), as `caladan_sim decide` reads.
 Standard output: the history that they lead to; with --table an input of `picture`, of `timeline`
 and of `caladan_sim audit`.
-Exit status: 0 done, 2 a refused input, 3 memory or output was refused.",
+Exit status: 0 done, 2 rejected input, 3 memory or output was refused.",
     "caladan_view history",
     "\
 caladan-signals,2
@@ -36,12 +36,12 @@ grant,0,0,3
 end,1"
 );
 
-/// Of the word `picture`.
+/// Of the subcommand `picture`.
 pub const PICTURE: &str = help_with_a_run!(
     "\
 Standard input: a task table (TOML), the line ---, and a history (CSV).
 Standard output: one SVG, which any browser opens.
-Exit status: 0 done, 2 a refused input, 3 memory or output was refused.",
+Exit status: 0 done, 2 rejected input, 3 memory or output was refused.",
     "caladan_view picture > picture.svg",
     "\
 caladan-history,2
@@ -54,12 +54,12 @@ end,2
 END"
 );
 
-/// Of the word `timeline`.
+/// Of the subcommand `timeline`.
 pub const TIMELINE: &str = help_with_a_run!(
     "\
 Standard input: a task table (TOML), the line ---, and a history (CSV).
 Standard output: trace events (JSON), which https://ui.perfetto.dev and chrome://tracing open.
-Exit status: 0 done, 2 a refused input, 3 memory or output was refused.",
+Exit status: 0 done, 2 rejected input, 3 memory or output was refused.",
     "caladan_view timeline > timeline.json",
     "\
 caladan-history,2
@@ -72,7 +72,7 @@ end,2
 END"
 );
 
-/// Of the word `measure`.
+/// Of the subcommand `measure`.
 pub const MEASURE: &str = help_with_a_run!(
     "\
 Standard input: a task table (TOML), the line ---, and arrivals (CSV), as `caladan_sim lockstep`
@@ -83,14 +83,14 @@ begun at the stamp of the first publication with it at work, and answered at the
 publication of the turn that served it. `response` is from arrival to answer and `wait` from arrival
 until begun, of those that were served: the least, by nearest rank the median, 90, 99 and 99.9 of
 100, and the greatest. `longest left` is from arrival to the last turn's clock, of those that were
-left. Of nothing there is a dash.
+left. A dash means there was nothing to measure.
 Of cores: the grants to the task's threads by class; the cores that it lost, to bans, to the
 bandwidth limit, to congested tasks; those that others lost for it; how often it was given a cap;
 the bans for its threads; the most cores that it held after a pass, and how many over the run's
 clock; and the part of the run's clock for which it was congested. `machine` is of the machine's
 core time: the parts held, being left, banned and empty, and free to be granted. A state lasts from
 its pass's clock to the next pass's.
-Exit status: 0 done, 2 a refused input, 3 memory or output was refused.",
+Exit status: 0 done, 2 rejected input, 3 memory or output was refused.",
     "caladan_view measure",
     "\
 caladan-arrivals,1
@@ -142,22 +142,22 @@ machine banned            0.000
 machine free              0.750"
 );
 
-/// Of the word `compare`.
+/// Of the subcommand `compare`.
 pub const COMPARE: &str = help_with_a_run!(
     "\
 Standard input: task tables (TOML), each ended by the line ---, and after the last of these lines
 arrivals (CSV).
 Standard output: the numbers that `caladan_view measure` gives of each table's run on the arrivals,
 a column for each table; beside each column but the first how much it is above or below the first;
-with --csv as CSV. A task that a table has not, and a change of nothing, has a dash. With --picture
-it is one SVG in place of the numbers: for each task the share of its requests that was answered
-within how long, and the cores that it held, table by table. The run below as a picture:
+with --csv as CSV. A missing task, and a change that cannot be computed, is shown as a dash. With
+--picture it is one SVG in place of the numbers: for each task the share of its requests answered
+within a time, and the cores that it held, table by table. The run below as a picture:
 `caladan_view compare --picture > runs.svg <<'END'` in place of its first line.
 With --vary the input is that of `measure`, with one table, and there is a column for each value:
 the table with that value at the key. Keys are cores, bandwidth_limit, and of task 1 task.1.kind,
 task.1.guaranteed, task.1.limit, task.1.delay and task.1.request. A value is written as in a table.
 To have the table as it is among the columns, name its own value, best as the first.
-Exit status: 0 done, 2 a refused input, 3 memory or output was refused. A table that is refused, or
+Exit status: 0 done, 2 rejected input, 3 memory or output was refused. A table that is refused, or
 has too few threads for the arrivals, is named by its number, from 0, or by its value.",
     "caladan_view compare",
     "\
