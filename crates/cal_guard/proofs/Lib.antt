@@ -6,6 +6,7 @@ pub mod Lasting
 pub mod Sent
 pub mod Low
 pub mod Standing
+pub mod Twins
 pub mod Wrong
 pub mod Taking
 pub mod Upto

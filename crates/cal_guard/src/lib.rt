@@ -13,8 +13,11 @@ mod guard;
 mod histories;
 mod laws;
 mod legality;
+mod pass_looks;
 mod passing;
 mod refusal;
+mod sizes;
+mod spare;
 
 pub use checking::{is_permitted, is_permitted_pass, permits};
 pub use gone::{gone_may_be_freed, permitted_gone_is_kept};

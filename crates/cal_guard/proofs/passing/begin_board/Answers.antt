@@ -1,0 +1,1 @@
+use Rattle.cal_guard.proofs.passing.begin_board.Goals as goal
