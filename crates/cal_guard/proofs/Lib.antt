@@ -12,4 +12,6 @@ pub mod Taking
 pub mod Upto
 pub mod Groups
 pub mod Between
+pub mod Results
 mod GoneLemmas
+mod Quiet

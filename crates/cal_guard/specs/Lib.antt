@@ -7,3 +7,4 @@ pub mod Passing
 pub mod Spare
 pub mod Guarded
 pub mod Gone
+pub mod Settled

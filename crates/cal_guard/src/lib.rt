@@ -16,6 +16,7 @@ mod legality;
 mod pass_looks;
 mod passing;
 mod refusal;
+mod settled;
 mod sizes;
 mod spare;
 
@@ -37,3 +38,4 @@ pub use laws::{
 };
 pub use legality::{legal_is_permitted, legal_is_right};
 pub use refusal::{Refused, Why};
+pub use settled::permitted_settled_is_no_news;

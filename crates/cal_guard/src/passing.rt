@@ -308,6 +308,7 @@ impl Passing {
         ensures keeping { KeepingAgrees result.board.keeping [] }
         ensures after { (table : Table) (input : Input) → input.seen ≡ [] →
             IsAfter result (setting table [] input) [] }
+        ensures made { result.made ≡ 0 }
         ensures ready { (table : Table) → IsReady table result.board }
     {
         Passing {

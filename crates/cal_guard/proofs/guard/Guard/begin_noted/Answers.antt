@@ -1,21 +1,12 @@
-use Rattle.std.proofs.Common.{rules, ◌≡◌, ◌++◌, ◌↔◌, [], ℕ, List, IsOk, IfOk, IfErr, OnErr, ◌+◌, ◌-◌, ◌*◌, ◌<◌, ◌≤◌, length, ◌/◌, ◌%◌, Bool, true, false, nat_eq, nat_lt, ◌∷◌, slice_index_or, slice_set, bit_and, bit_or, Fits, w8, w32, w64, Bor, MutBor}
-use Rattle.cal_machine.specs.Table.{Table}
-use Rattle.cal_policy.specs.declared.history.action.Action.{Action}
-use Rattle.cal_policy.specs.declared.history.entry.PassEntry.{PassEntry}
-use Rattle.cal_machine.specs.TableTasks.{threads_of_table}
-use Rattle.cal_policy.specs.declared.judgement.open_input.FoundLook.{FoundLook}
-use Rattle.cal_policy.specs.Judgement.Judging.{IsInput}
+use Rattle.std.proofs.Common.{◌≡◌, [], refl, sym, ap, subst, ◌∙◌}
+use Rattle.cal_policy.specs.Board.{IsStateAfter}
+use Rattle.cal_guard.specs.declared.passing.Passing.{Passing}
+use Rattle.cal_guard.specs.Spare.{GuardState}
 use Rattle.cal_policy.specs.Judgement.OpenInput.{judged_input}
-use Rattle.cal_policy.specs.Judgement.OpenPass.{IsOpenAt}
-use Rattle.cal_policy.specs.Setting.{setting}
-use Rattle.cal_policy.specs.Board.{HasSizes, IsReady, IsStateAfter}
-use Rattle.cal_guard.specs.Permitted.{ArePermitted, IsPermittedHistory}
-use Rattle.cal_guard.specs.Refusals.{MayEndWith, IsFirstWrong}
-use Rattle.cal_guard.specs.Guarded.{Keeps, IsWithin, IsGuardOf, and_then}
-use Rattle.cal_guard.specs.Passing.{AreFew, AreLooks, GoesBy}
-use Rattle.cal_policy.specs.declared.history.input.Input.{Input}
 use Rattle.cal_guard.proofs.guard.Guard.begin_noted.Goals as goal
 
--- src/guard.rt:120:5
 pub returns-clause-within : goal.returns-clause-within
-returns-clause-within c = ?
+returns-clause-within c = λ h found now bandwidth permitted keeps is.
+    let same : c.deref_mut.result.now ≡ c.args.self.now.passing = c.deref_mut.ensures.value ∙ ap (λ (g : GuardState). g.passing) c.self.view_is in
+    let P : Passing → Type 0 = λ p. IsStateAfter p.board h in
+    record { inside = c.begin_both.ensures.inside c.args.config.now h (judged_input c.args.config.now h now bandwidth found) (found, is, refl) permitted (subst P (sym same) keeps) }

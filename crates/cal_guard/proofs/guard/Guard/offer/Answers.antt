@@ -1,29 +1,48 @@
-use Rattle.std.proofs.Common.{rules, ◌≡◌, ◌++◌, ◌↔◌, [], ℕ, List, IsOk, IfOk, IfErr, OnErr, ◌+◌, ◌-◌, ◌*◌, ◌<◌, ◌≤◌, length, ◌/◌, ◌%◌, Bool, true, false, nat_eq, nat_lt, ◌∷◌, slice_index_or, slice_set, bit_and, bit_or, Fits, w8, w32, w64, Bor, MutBor}
-use Rattle.cal_machine.specs.Table.{Table}
+use Rattle.std.proofs.Common.{◌≡◌, ◌↔◌, ◌++◌, List, refl, sym, ap, subst, ◌∙◌}
+use Rattle.std.specs.Prelude.{IsOk}
 use Rattle.cal_policy.specs.declared.history.action.Action.{Action}
 use Rattle.cal_policy.specs.declared.history.entry.PassEntry.{PassEntry}
-use Rattle.cal_machine.specs.TableTasks.{threads_of_table}
-use Rattle.cal_policy.specs.declared.judgement.open_input.FoundLook.{FoundLook}
-use Rattle.cal_policy.specs.Judgement.Judging.{IsInput}
-use Rattle.cal_policy.specs.Judgement.OpenInput.{judged_input}
-use Rattle.cal_policy.specs.Judgement.OpenPass.{IsOpenAt}
-use Rattle.cal_policy.specs.Setting.{setting}
-use Rattle.cal_policy.specs.Board.{HasSizes, IsReady, IsStateAfter}
-use Rattle.cal_guard.specs.Permitted.{ArePermitted, IsPermittedHistory}
+use Rattle.cal_policy.specs.Setting.{Setting, Begun, setting, setting_at}
+use Rattle.cal_guard.specs.declared.passing.Passing.{Passing}
+use Rattle.cal_guard.specs.declared.refusal.Refused.{Refused}
 use Rattle.cal_guard.specs.Refusals.{MayEndWith, IsFirstWrong}
-use Rattle.cal_guard.specs.Guarded.{Keeps, IsWithin, IsGuardOf, and_then}
-use Rattle.cal_guard.specs.Passing.{AreFew, AreLooks, GoesBy}
-use Rattle.cal_policy.specs.declared.history.input.Input.{Input}
+use Rattle.cal_guard.specs.Guarded.{IsWithin}
+use Rattle.cal_guard.specs.Passing.{IsInside}
+use Rattle.cal_guard.specs.Spare.{GuardState}
+use Rattle.cal_guard.proofs.Results.{if_err}
 use Rattle.cal_guard.proofs.guard.Guard.offer.Goals as goal
 
--- src/guard.rt:94:5
 pub returns-clause-exact : goal.returns-clause-exact
-returns-clause-exact c = ?
+returns-clause-exact c = λ h acts within.
+    let same : c.deref_mut.result.now ≡ c.args.self.now.passing = c.deref_mut.ensures.value ∙ ap (λ (g : GuardState). g.passing) c.self.view_is in
+    let begun : Begun = record { history = h; seen = c.args.input.now.seen } in
+    let by = c.of-terms.ensures h in
+    let P : Passing → Type 0 = λ p. IsInside p (setting_at c.args.config.now c.of-terms.result begun) acts in
+    let T : Setting → Type 0 = λ t. IsInside c.args.self.now.passing t acts in
+    let inside = subst P (sym same) (subst T by within.inside) in
+    let Q : Setting → Type 0 = λ t. IsOk c.offer_both.result ↔ MayEndWith t acts c.args.actions.now in
+    subst Q (sym by) (c.offer_both.ensures.exact begun acts inside)
 
--- src/guard.rt:94:5
 pub returns-clause-taken : goal.returns-clause-taken
-returns-clause-taken c = ?
+returns-clause-taken c = λ ok h acts within.
+    let same : c.deref_mut.result.now ≡ c.args.self.now.passing = c.deref_mut.ensures.value ∙ ap (λ (g : GuardState). g.passing) c.self.view_is in
+    let begun : Begun = record { history = h; seen = c.args.input.now.seen } in
+    let by = c.of-terms.ensures h in
+    let P : Passing → Type 0 = λ p. IsInside p (setting_at c.args.config.now c.of-terms.result begun) acts in
+    let T : Setting → Type 0 = λ t. IsInside c.args.self.now.passing t acts in
+    let inside = subst P (sym same) (subst T by within.inside) in
+    let Q : Setting → Type 0 = λ t. IsInside c.offer_both.new.passing t (acts ++ c.args.actions.now) in
+    record { inside = subst Q (sym by) (c.offer_both.ensures.inside ok begun acts inside) }
 
--- src/guard.rt:94:5
 pub returns-clause-first : goal.returns-clause-first
-returns-clause-first c = ?
+returns-clause-first c = if_err c.offer_both.result _ _
+    (λ refused first h acts within.
+    let same : c.deref_mut.result.now ≡ c.args.self.now.passing = c.deref_mut.ensures.value ∙ ap (λ (g : GuardState). g.passing) c.self.view_is in
+    let begun : Begun = record { history = h; seen = c.args.input.now.seen } in
+    let by = c.of-terms.ensures h in
+    let P : Passing → Type 0 = λ p. IsInside p (setting_at c.args.config.now c.of-terms.result begun) acts in
+    let T : Setting → Type 0 = λ t. IsInside c.args.self.now.passing t acts in
+    let inside = subst P (sym same) (subst T by within.inside) in
+    let Q : Setting → Type 0 = λ t. IsFirstWrong t acts c.args.actions.now refused in
+    subst Q (sym by) (first begun acts inside))
+    c.offer_both.ensures.first
