@@ -1,5 +1,5 @@
 -- What is true of a state is true of its twin.
-use Rattle.std.proofs.Common.{◌≡◌, ℕ, ◌+◌, ◌<◌, ◌≤◌, zero, suc, Bool, cond, List, [], ◌∷◌, ◌++◌, length, Option, Some, None, get_or, refl, sym, ap, subst, ◌∙◌, arith, ⊎_elim}
+use Rattle.std.proofs.Common.{◌≡◌, ℕ, ◌+◌, ◌<◌, zero, suc, cond, List, [], ◌∷◌, length, Option, Some, None, get_or, refl, sym, ap, subst, ◌∙◌, arith, ⊎_elim}
 use Rattle.std.specs.List.{slice_get}
 use Rattle.std.specs.Option.{IfSome}
 use Rattle.std.proofs.lemmas.Bool.{cases_lt}
@@ -17,14 +17,14 @@ use Rattle.cal_policy.specs.declared.board.holders.Holder.TheVariants as holders
 use Rattle.cal_policy.specs.declared.board.holders.Placement as placements
 use Rattle.cal_policy.specs.declared.board.bans.BannedFor as bans
 use Rattle.cal_policy.specs.declared.judgement.open_pass.OpenPass.{OpenPass}
-use Rattle.cal_policy.specs.Judgement.OpenPass.{ShowNoted, noted_in}
+use Rattle.cal_policy.specs.Judgement.OpenPass.{noted_in}
 use Rattle.cal_policy.specs.Setting.{Setting}
-use Rattle.cal_policy.specs.Board.{Agrees, Stands, IsStateAfter, IsReady, BoardSound, placement_of, holder_in}
+use Rattle.cal_policy.specs.Board.{Agrees, Stands, IsStateAfter, IsReady, placement_of, holder_in}
 use Rattle.cal_policy.specs.Board.Survey.{Surveys}
 use Rattle.cal_guard.specs.declared.pass_looks.PassLooks.{PassLooks}
 use Rattle.cal_guard.specs.declared.pass_looks.PassLooks.TheVariants.{Listed, Noted}
 use Rattle.cal_guard.specs.declared.passing.Passing.{Passing}
-use Rattle.cal_guard.specs.Passing.{IsSetOfSent, IsAfter, IsInside, AreShown}
+use Rattle.cal_guard.specs.Passing.{IsInside, AreShown}
 use Rattle.cal_guard.specs.Spare.{AreTwins, IsSpareOf, HasPlaces}
 
 -- two boards that agree with the same actions agree with the same others

@@ -28,8 +28,8 @@ use crate::pass_looks::PassLooks;
 use crate::refusal::{Refused, Why};
 use cal_machine::{Config, ThreadSet};
 use cal_policy::state::{
-    Board, Holder, Terms, cap_of, command_for, core_changed_by, held_by, holds_for, is_banned, is_fit,
-    is_held, is_left, is_over, survey_of,
+    Board, Holder, Terms, cap_of, command_for, core_changed_by, held_by, holds_for, is_banned,
+    is_fit, is_held, is_left, is_over, survey_of,
 };
 use cal_policy::{Action, MOST_ACTIONS};
 
@@ -352,7 +352,7 @@ impl Passing {
     fn wrong_with(&self, config: &Config, terms: &Terms, action: Action) -> Option<Why>
         requires table { IsTable config.now }
         requires ready { IsReady config.now self.now.board }
-            ensures names { IfNone result (NamesTable config.now action) }
+        ensures names { IfNone result (NamesTable config.now action) }
         ensures few { IfNone result (self.now.made < MOST_ACTIONS) }
         ensures wrong { (h : Begun) (acts : List Action) →
             let s = setting_at config.now terms.entry.now h in
@@ -397,7 +397,7 @@ impl Passing {
     ) -> Result<(), Refused>
         requires table { IsTable config.now }
         requires ready { IsReady config.now self.old.board }
-            ensures exact { (h : Begun) (acts : List Action) →
+        ensures exact { (h : Begun) (acts : List Action) →
             let s = setting_at config.now terms.entry.now h in
             IsInside self.old s acts → IsOk result ↔ MayEndWith s acts actions.now }
         ensures inside { IsOk result → (h : Begun) (acts : List Action) →
@@ -435,8 +435,8 @@ impl Passing {
         ensures made { self.new.made ≡ self.old.made + length actions.now }
         ensures ready { IsReady config.now self.new.board }
     {
-        for action in actions {
-            self.take(config, *action);
+        for permitted in actions {
+            self.take(config, *permitted);
         }
     }
 }

@@ -1,1 +1,0 @@
-use Rattle.cal_guard.proofs.passing.begin_board.Goals as goal

@@ -1,5 +1,5 @@
 -- The core, the task and the thread are all as the actions say.
-use Rattle.std.proofs.Common.{◌≡◌, List, not, sym, ap, ◌∙◌}
+use Rattle.std.proofs.Common.{◌≡◌, List, not, ap, ◌∙◌}
 use Rattle.std.specs.Option.{option_or}
 use Rattle.cal_machine.specs.TableTasks.{owner_of}
 use Rattle.cal_policy.specs.declared.history.action.Action.{Action}

@@ -1,8 +1,6 @@
-use Rattle.std.proofs.Common.{◌≡◌, List, [], ◌++◌, length, refl, sym, subst, ◌∙◌, arith}
-use Rattle.cal_policy.specs.declared.history.action.Action.{Action}
-use Rattle.cal_policy.specs.Setting.{Setting, Begun, setting_at}
-use Rattle.cal_guard.specs.Passing.{IsInside, MayFollow}
-use Rattle.cal_guard.specs.Spare.{AreTwins, IsSpareOf}
+use Rattle.std.proofs.Common.{◌++◌, refl, arith}
+use Rattle.cal_policy.specs.Setting.{Setting, setting_at}
+use Rattle.cal_guard.specs.Spare.{AreTwins}
 use Rattle.cal_guard.proofs.Twins.{twin_inside, twin_back, copy_is_spare}
 use Rattle.cal_guard.proofs.spare.offer_both.Goals as goal
 

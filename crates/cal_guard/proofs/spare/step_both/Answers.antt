@@ -1,12 +1,8 @@
-use Rattle.std.proofs.Common.{◌≡◌, ◌↔◌, List, [], ◌++◌, refl, sym, subst, ◌∙◌, arith, false, true}
-use Rattle.cal_policy.specs.declared.history.action.Action.{Action}
-use Rattle.cal_policy.specs.declared.history.entry.PassEntry.{PassEntry}
+use Rattle.std.proofs.Common.{◌≡◌, [], ◌++◌, refl, sym, subst, arith, false, true}
 use Rattle.cal_policy.specs.declared.history.input.Input.{Input}
 use Rattle.cal_policy.specs.Setting.{Setting, Begun, setting, setting_at}
-use Rattle.cal_policy.specs.Board.{IsStateAfter}
-use Rattle.cal_guard.specs.Permitted.{IsPermittedHistory}
 use Rattle.cal_guard.specs.Refusals.{MayEndWith, IsFirstWrong}
-use Rattle.cal_guard.specs.Passing.{IsInside, GoesBy, next_setting}
+use Rattle.cal_guard.specs.Passing.{IsInside, next_setting}
 use Rattle.cal_guard.specs.Spare.{AreTwins}
 use Rattle.cal_guard.proofs.Taking.{whole, whole_back}
 use Rattle.cal_guard.proofs.Twins.{some_looks, twin_inside, twin_state, twin_back, copy_is_spare}

@@ -1,15 +1,11 @@
-use Rattle.std.proofs.Common.{◌≡◌, ◌↔◌, ◌++◌, List, refl, sym, ap, subst, ◌∙◌}
+use Rattle.std.proofs.Common.{◌≡◌, ◌↔◌, ◌++◌, sym, ap, subst, ◌∙◌}
 use Rattle.std.specs.Prelude.{IsOk}
-use Rattle.cal_policy.specs.declared.history.action.Action.{Action}
-use Rattle.cal_policy.specs.declared.history.entry.PassEntry.{PassEntry}
-use Rattle.cal_policy.specs.Setting.{Setting, Begun, setting, setting_at}
+use Rattle.cal_policy.specs.Setting.{Setting, Begun, setting_at}
 use Rattle.cal_policy.specs.declared.pass.terms.Terms.{Terms}
 use Rattle.cal_policy.specs.Judgement.OpenInput.{judged_looks}
 use Rattle.cal_policy.proofs.PassLemmas.Rooms.{noted_setting}
 use Rattle.cal_guard.specs.declared.passing.Passing.{Passing}
-use Rattle.cal_guard.specs.declared.refusal.Refused.{Refused}
 use Rattle.cal_guard.specs.Refusals.{MayEndWith, IsFirstWrong}
-use Rattle.cal_guard.specs.Guarded.{IsWithin}
 use Rattle.cal_guard.specs.Passing.{IsInside}
 use Rattle.cal_guard.specs.Spare.{GuardState}
 use Rattle.cal_guard.proofs.Results.{if_err}

@@ -1,4 +1,4 @@
-use Rattle.std.proofs.Common.{◌≡◌, ◌==◌, List, [], ◌∷◌, length, true, refl, sym, subst, ◌∙◌, arith}
+use Rattle.std.proofs.Common.{◌≡◌, List, [], refl, sym, subst, ◌∙◌}
 use Rattle.cal_policy.specs.declared.history.action.Action.{Action}
 use Rattle.cal_policy.specs.declared.history.entry.PassEntry.{PassEntry}
 use Rattle.cal_policy.specs.declared.history.input.Input.{Input}
@@ -6,7 +6,7 @@ use Rattle.cal_policy.specs.Setting.{setting}
 use Rattle.cal_policy.specs.Judgement.OpenInput.{judged_input}
 use Rattle.cal_policy.proofs.PassLemmas.Rooms.{noted_setting}
 use Rattle.cal_guard.specs.declared.pass_looks.PassLooks.TheVariants.{Noted}
-use Rattle.cal_guard.specs.Permitted.{ArePermitted, IsPermittedHistory}
+use Rattle.cal_guard.specs.Permitted.{ArePermitted}
 use Rattle.cal_guard.specs.Guarded.{Keeps, and_then}
 use Rattle.cal_guard.specs.Passing.{GoesBy}
 use Rattle.cal_guard.proofs.Results.{if_err, none_chosen}

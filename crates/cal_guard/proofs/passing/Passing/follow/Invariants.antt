@@ -5,9 +5,9 @@ use Rattle.cal_policy.specs.Board.{IsReady}
 use Rattle.cal_guard.specs.Passing.{IsAfter}
 use Rattle.cal_guard.proofs.passing.Passing.follow.Given as goal
 
-abbrev pub invariant-loop-action : goal.invariant-loop-action
-invariant-loop-action l = record {
-  after : (s : Setting) (acts : List Action) → IsAfter l.fn.self s acts → IsAfter l.self s (acts ++ take l.action-index l.actions);
-  made : l.self.made ≡ l.fn.self.made + l.action-index;
+abbrev pub invariant-loop-permitted : goal.invariant-loop-permitted
+invariant-loop-permitted l = record {
+  after : (s : Setting) (acts : List Action) → IsAfter l.fn.self s acts → IsAfter l.self s (acts ++ take l.permitted-index l.actions);
+  made : l.self.made ≡ l.fn.self.made + l.permitted-index;
   ready : IsReady l.config l.self.board;
 }

@@ -1,7 +1,7 @@
 use Rattle.std.proofs.Common.{[], ◌∷◌, length-append, subst, append_assoc, arith}
 use Rattle.cal_policy.specs.declared.history.action.Action.{Action}
 use Rattle.cal_policy.specs.History.{actions_of}
-use Rattle.cal_policy.specs.Setting.{Setting, so_far}
+use Rattle.cal_policy.specs.Setting.{so_far}
 use Rattle.cal_guard.specs.Passing.{HeldAreLow}
 use Rattle.cal_guard.proofs.Low.{low_push}
 use Rattle.cal_guard.proofs.Standing.{stands_more}
