@@ -63,7 +63,7 @@ shaped_in table h k i s orderly (Some entry) at seen is e = one (slice_get entry
         shown_shaped (last_shown (looks_of (take i h)) k) look s ((orderly.entries i entry at).looks.fit k look here) (sym (ap (λ o. option_and_then shown_by o) here) ∙ shows)
     one None here = let none : None ≡ Some s = sym (ap (λ (o : Option Seen). option_and_then shown_by o) here) ∙ shows in cc
 
-last_is_shaped : (table : Table) (h : List PassEntry) (k : ℕ) → IsOrderly table h → IsShaped (last_shown (looks_of h) k).rec
+pub last_is_shaped : (table : Table) (h : List PassEntry) (k : ℕ) → IsOrderly table h → IsShaped (last_shown (looks_of h) k).rec
 last_is_shaped table h k orderly = go (last_of (λ before seen. shown_at seen k) (looks_of h)) refl
   where
     go : (o : Option Shown) → last_of (λ before seen. shown_at seen k) (looks_of h) ≡ o → IsShaped (last_shown (looks_of h) k).rec

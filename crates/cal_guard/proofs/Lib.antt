@@ -6,9 +6,12 @@ pub mod Lasting
 pub mod Sent
 pub mod Low
 pub mod Standing
+pub mod Twins
 pub mod Wrong
 pub mod Taking
 pub mod Upto
 pub mod Groups
 pub mod Between
+pub mod Results
 mod GoneLemmas
+mod Quiet

@@ -1,12 +1,15 @@
--- The board stands in a pass, one action more.
-use Rattle.std.proofs.Common.{◌≡◌, List, [], ◌∷◌, ◌++◌, subst, append_assoc}
+-- The board stands in a pass: as it begins, and one action more.
+use Rattle.std.proofs.Common.{◌≡◌, List, [], ◌∷◌, ◌++◌, subst, append_assoc, sym, ◌∙◌}
 use Rattle.cal_policy.specs.declared.history.action.Action.{Action}
+use Rattle.cal_policy.specs.declared.history.input.Input.{Input}
 use Rattle.cal_policy.specs.declared.board.Board.{Board}
 use Rattle.cal_policy.specs.History.{actions_of, looks_of}
 use Rattle.cal_policy.specs.Setting.{Setting, so_far}
 use Rattle.cal_policy.specs.Board.{Agrees, HasGranted, Stands, KeepingAgrees, KeepsBefore}
 use Rattle.cal_policy.specs.declared.history.look.Seen.{Seen}
-use Rattle.cal_policy.proofs.PassLemmas.FromParts.{Stands_begin}
+use Rattle.cal_policy.proofs.PassLemmas.FromParts.{Stands_begin, Stands_end}
+use Rattle.cal_policy.proofs.HistoryLemmas.OneMore.{kept_push, shown_push}
+use Rattle.cal_guard.specs.Passing.{next_setting}
 
 pub stands_more : (b new : Board) (s : Setting) (acts : List Action) (a : Action) → Stands b s acts → new.keeping ≡ b.keeping → Agrees new (so_far s acts ++ a ∷ []) →
     HasGranted new.fresh (acts ++ a ∷ []) → Stands new s (acts ++ a ∷ [])
@@ -19,10 +22,21 @@ stands_more b new s acts a st same agrees fresh =
       shown = λ k lt. rw same (st.shown k lt);
     }
 
--- the board begins a pass
-pub begun : (s : Setting) (old new : Board) (seen : List Seen) → Agrees old (actions_of s.history) → KeepingAgrees old.keeping (looks_of s.history) →
-    ((x : List Action) → Agrees old x → Agrees new x) → HasGranted new.fresh [] → ((looks : List (List Seen)) → KeepingAgrees old.keeping looks → KeepingAgrees new.keeping (looks ++ seen ∷ [])) →
-    ((looks : List (List Seen)) → KeepingAgrees old.keeping looks → KeepsBefore new.keeping looks) → seen ≡ s.input.seen → Stands new s []
-begun s old new seen agrees kept more fresh keeping before same =
-    let K : List Seen → Type 0 = λ seen. KeepingAgrees new.keeping (looks_of s.history ++ seen ∷ []) in
-    Stands_begin s new (more (actions_of s.history) agrees) fresh (subst K same (keeping (looks_of s.history) kept)) (before (looks_of s.history) kept)
+-- a board that stands in a pass begins the next one, with these looks
+pub stands_next : (s : Setting) (acts : List Action) (input : Input) (old new : Board) → Stands old s acts → ((x : List Action) → Agrees old x → Agrees new x) → HasGranted new.fresh [] →
+    ((past : List (List Seen)) → KeepingAgrees old.keeping past → KeepingAgrees new.keeping (past ++ input.seen ∷ [])) →
+    ((past : List (List Seen)) → KeepingAgrees old.keeping past → KeepsBefore new.keeping past) → Stands new (next_setting s acts input) []
+stands_next s acts input old new st agrees fresh keeping before =
+    let next : Setting = next_setting s acts input in
+    let after = Stands_end s old acts st in
+    Stands_begin next new (agrees (actions_of next.history) after.actions) fresh (keeping (looks_of next.history) after.looks) (before (looks_of next.history) after.looks)
+
+-- the state before any pass, where a pass without looks begins
+pub stands_first : (s : Setting) (b : Board) → s.history ≡ [] → s.input.seen ≡ [] → Agrees b [] → HasGranted b.fresh [] → KeepingAgrees b.keeping [] → KeepsBefore b.keeping [] → Stands b s []
+stands_first s b none unseen agrees fresh keeping before = rw (none, unseen) (record {
+  agrees = agrees;
+  fresh = fresh;
+  kept = λ k lt. keeping.kept k lt ∙ sym (kept_push [] [] k);
+  before = λ k lt. before.before k lt;
+  shown = λ k lt. keeping.shown k lt ∙ sym (shown_push [] [] k);
+})

@@ -13,15 +13,15 @@ use Rattle.cal_guard.specs.Passing.{IsInside}
 
 -- what the guard keeps is the state that the history leaves
 abbrev pub Keeps : Guard → List PassEntry → Type 0
-Keeps guard history = IsStateAfter guard.passing.value.board history
+Keeps guard history = IsStateAfter guard.passing.board history
 
 -- the guard is inside a pass, after the actions acts of it
 pub record IsWithin (guard : Guard) (s : Setting) (acts : List Action) : Type 0 where
-  pub inside : IsInside guard.passing.value s acts
+  pub inside : IsInside guard.passing s acts
 
 -- the guard names no thread that is not the table's
 pub record IsGuardOf (table : Table) (guard : Guard) : Type 0 where
-  pub ready : IsReady table guard.passing.value.board
+  pub ready : IsReady table guard.passing.board
 
 -- the history, and then the pass on this input with these actions
 abbrev pub and_then : List PassEntry → Input → List Action → List PassEntry

@@ -4,5 +4,7 @@ pub mod Laws
 pub mod Causes
 pub mod Refusals
 pub mod Passing
+pub mod Spare
 pub mod Guarded
 pub mod Gone
+pub mod Settled

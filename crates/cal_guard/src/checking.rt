@@ -7,9 +7,10 @@ ghost use Rattle.cal_policy.specs.Judgement.Judging.{IsInput};
 ghost use Rattle.cal_guard.specs.Permitted.{ArePermitted, IsPermittedPass, IsPermittedHistory};
 
 use crate::histories::permitted_is_orderly;
+use crate::pass_looks::PassLooks;
 use crate::passing::Passing;
 use cal_machine::{Config, ThreadSet};
-use cal_policy::state::board_of;
+use cal_policy::state::{Terms, board_of};
 use cal_policy::{Action, Input, PassEntry, is_input};
 
 /// Whether these actions are permitted, each at its place, in a pass on this input after these
@@ -29,8 +30,9 @@ pub fn permits(config: &Config, before: &[PassEntry], input: &Input, actions: &[
         sent,
         made: 0,
     };
-    passing.begin(input.seen.as_slice());
-    passing.take_each(config, input, actions).is_ok()
+    passing.begin(PassLooks::Listed(input.seen.as_slice()));
+    let terms = Terms::of(config, input);
+    passing.take_each(config, &terms, actions).is_ok()
 }
 
 /// Whether the entry is a permitted pass after those before it.

@@ -1,36 +1,57 @@
 //! A guard that never looks back: it keeps the state after the history so far, and lets through
 //! what is permitted.
 
-ghost use Rattle.std.specs.Prelude.{◌≡◌, ◌++◌, ◌↔◌, [], List};
+ghost use Rattle.std.specs.Prelude.{◌≡◌, ◌++◌, ◌↔◌, [], ℕ, List};
 ghost use Rattle.std.specs.Prelude.{IsOk, IfOk, IfErr, OnErr};
 ghost use Rattle.cal_machine.specs.Table.{Table};
 ghost use Rattle.cal_policy.specs.declared.history.action.Action.{Action};
 ghost use Rattle.cal_policy.specs.declared.history.entry.PassEntry.{PassEntry};
+ghost use Rattle.cal_machine.specs.TableTasks.{threads_of_table};
+ghost use Rattle.cal_policy.specs.declared.judgement.open_input.FoundLook.{FoundLook};
 ghost use Rattle.cal_policy.specs.Judgement.Judging.{IsInput};
+ghost use Rattle.cal_policy.specs.Judgement.OpenInput.{judged_input};
+ghost use Rattle.cal_policy.specs.Judgement.OpenPass.{IsOpenAt};
 ghost use Rattle.cal_policy.specs.Setting.{setting};
 ghost use Rattle.cal_policy.specs.Board.{HasSizes, IsReady, IsStateAfter};
 ghost use Rattle.cal_guard.specs.Permitted.{ArePermitted, IsPermittedHistory};
 ghost use Rattle.cal_guard.specs.Refusals.{MayEndWith, IsFirstWrong};
 ghost use Rattle.cal_guard.specs.Guarded.{Keeps, IsWithin, IsGuardOf};
 ghost use Rattle.cal_guard.specs.Guarded.{and_then};
+ghost use Rattle.cal_guard.specs.Passing.{AreFew, AreLooks, GoesBy};
+ghost use Rattle.cal_policy.specs.declared.history.input.Input.{Input};
 
 use crate::histories::{doing_nothing_is_permitted, permitted_goes_on};
+use crate::pass_looks::PassLooks;
 use crate::passing::Passing;
 use crate::refusal::Refused;
+use crate::spare::{begin_both, offer_both, step_both};
 use cal_machine::Config;
-use cal_policy::state::Board;
-use cal_policy::{Action, Input};
+use cal_policy::state::{Board, Terms};
+use cal_policy::{Action, Input, OpenPass, open_pass_fits};
 use std::alloc::{AllocError, Global};
+use std::marker::Model;
 
-/// The state after the history so far, and the actions that the pass has so far. Only opening a
-/// guard takes memory; a pass with actions costs a copy of the state, which is put back where an
-/// action is not permitted, and, for each action, the cores and tasks.
+/// The state after the history so far, and the actions that the pass has so far; and a spare one,
+/// on which actions are tried. Only opening a guard takes memory. A pass that is permitted copies no
+/// state: its looks and actions are taken into both, and each action costs the cores and tasks once.
+/// Where an action is not permitted, the spare is made a copy of the state again.
 ///
 /// Every call is to be given the table that the guard was opened for. What a guard says holds of
 /// every permitted history with which it agrees.
 #[derive(Drop)]
 pub struct Guard {
     passing: Box<Passing>,
+    spare: Box<Passing>,
+}
+
+impl Model for Guard {
+    ghost use Rattle.cal_guard.specs.Spare.{GuardState, IsSpareOf};
+
+    ghost Value = { GuardState };
+
+    ghost view = { λ g. record { passing = g.passing.value } };
+
+    ghost invariant = { λ g. IsSpareOf g.passing.value g.spare.value };
 }
 
 impl Guard {
@@ -41,7 +62,8 @@ impl Guard {
     {
         config.limits();
         let passing = Box::new(alloc, Passing::new())?;
-        Ok(Guard { passing })
+        let spare = Box::new(alloc, Passing::new())?;
+        Ok(Guard { passing, spare })
     }
 
     /// The state that the history leaves. Within a pass it has the pass's looks too, and the
@@ -62,7 +84,8 @@ impl Guard {
         ensures of { IsGuardOf config.now self.new }
     {
         config.limits();
-        self.passing.begin(input.seen.as_slice());
+        let looks = PassLooks::Listed(input.seen.as_slice());
+        begin_both(config, &mut self.passing, &mut self.spare, looks);
     }
 
     /// Takes these actions into the pass, after those that it has, where each is permitted at its
@@ -89,33 +112,101 @@ impl Guard {
         ensures of { IsGuardOf config.now self.new }
     {
         config.limits();
-        let before = self.passing.duplicate();
-        match self.passing.take_each(config, input, actions) {
-            Ok(()) => Ok(()),
-            Err(refused) => {
-                *self.passing = before;
-                Err(refused)
-            }
-        }
+        let terms = Terms::of(config, input);
+        offer_both(config, &mut self.passing, &mut self.spare, &terms, actions)
     }
 
-    /// Takes in a pass that does nothing. Nothing is wrong with one, so no state is kept aside.
-    fn step_idle(&mut self, config: &Config, input: &Input)
-        requires of { IsGuardOf config.now self.old }
-        requires sizes { HasSizes config.now input.now }
-        ensures exact { (h : List PassEntry) → IsPermittedHistory config.now h →
-            ArePermitted (setting config.now h input.entry.now) [] }
-        ensures keeps { (h : List PassEntry) → IsPermittedHistory config.now h →
-            Keeps self.old h → Keeps self.new (and_then h input.entry.now []) }
-        ensures permitted { (h : List PassEntry) → IsPermittedHistory config.now h →
-            IsInput config.now h input.entry.now →
-            IsPermittedHistory config.now (and_then h input.entry.now []) }
+    /// Begins the next pass, on the looks that came in of it, without any action yet.
+    pub fn begin_noted(&mut self, config: &Config, looks: &OpenPass)
+        requires { IsGuardOf config.now self.old }
+        ensures within { (h : List PassEntry) (found : List FoundLook) (now bandwidth : ℕ) →
+            IsPermittedHistory config.now h → Keeps self.old h →
+            IsOpenAt config.now h found looks.entry.now → IsWithin self.new
+            (setting config.now h (judged_input config.now h now bandwidth found)) [] }
         ensures of { IsGuardOf config.now self.new }
     {
         config.limits();
-        doing_nothing_is_permitted();
-        permitted_goes_on();
-        self.passing.begin(input.seen.as_slice());
+        let noted = PassLooks::Noted(looks);
+        begin_both(config, &mut self.passing, &mut self.spare, noted);
+    }
+
+    /// `offer` in a pass that was begun on these looks, one of each thread, at this clock and
+    /// bandwidth figure.
+    pub fn offer_noted(
+        &mut self,
+        config: &Config,
+        now: u64,
+        bandwidth: u64,
+        looks: &OpenPass,
+        actions: &[Action],
+    ) -> Result<(), Refused>
+        requires of { IsGuardOf config.now self.old }
+        requires all { looks.now.count ≡ threads_of_table config.now }
+        ensures exact { (h : List PassEntry) (found : List FoundLook) (acts : List Action) →
+            IsOpenAt config.now h found looks.entry.now →
+            let s = setting config.now h (judged_input config.now h now bandwidth found) in
+            IsWithin self.old s acts → IsOk result ↔ MayEndWith s acts actions.now }
+        ensures taken { IsOk result → (h : List PassEntry) (found : List FoundLook)
+            (acts : List Action) → IsOpenAt config.now h found looks.entry.now →
+            let s = setting config.now h (judged_input config.now h now bandwidth found) in
+            IsWithin self.old s acts → IsWithin self.new s (acts ++ actions.now) }
+        ensures first { IfErr result (λ refused. (h : List PassEntry) (found : List FoundLook)
+            (acts : List Action) → IsOpenAt config.now h found looks.entry.now →
+            let s = setting config.now h (judged_input config.now h now bandwidth found) in
+            IsWithin self.old s acts → IsFirstWrong s acts actions.now refused) }
+        ensures unchanged { OnErr result (self.new ≡ self.old) }
+        ensures of { IsGuardOf config.now self.new }
+    {
+        config.limits();
+        let terms = Terms {
+            now,
+            bandwidth,
+            full: looks.full,
+        };
+        offer_both(config, &mut self.passing, &mut self.spare, &terms, actions)
+    }
+
+    /// Takes in a pass that does nothing. Nothing is wrong with one, so nothing is tried.
+    fn step_idle(&mut self, config: &Config, looks: PassLooks)
+        requires of { IsGuardOf config.now self.old }
+        requires few { AreFew looks }
+        ensures keeps { (h : List PassEntry) (input : Input) →
+            AreLooks looks.entry config.now h input.seen → IsPermittedHistory config.now h →
+            Keeps self.old h → Keeps self.new (and_then h input []) }
+        ensures of { IsGuardOf config.now self.new }
+    {
+        config.limits();
+        begin_both(config, &mut self.passing, &mut self.spare, looks);
+    }
+
+    /// Takes in a pass on these terms and looks with these actions, where they are permitted.
+    fn step_on(
+        &mut self,
+        config: &Config,
+        terms: &Terms,
+        looks: PassLooks,
+        chosen: &[Action],
+    ) -> Result<(), Refused>
+        requires of { IsGuardOf config.now self.old }
+        requires few { AreFew looks }
+        ensures exact { (h : List PassEntry) (input : Input) →
+            GoesBy config.now terms.entry.now looks.entry h input →
+            IsPermittedHistory config.now h → Keeps self.old h →
+            IsOk result ↔ ArePermitted (setting config.now h input) chosen.now }
+        ensures keeps { IsOk result → (h : List PassEntry) (input : Input) →
+            GoesBy config.now terms.entry.now looks.entry h input →
+            IsPermittedHistory config.now h → Keeps self.old h →
+            Keeps self.new (and_then h input chosen.now) }
+        ensures first { IfErr result (λ refused. (h : List PassEntry) (input : Input) →
+            GoesBy config.now terms.entry.now looks.entry h input →
+            IsPermittedHistory config.now h → Keeps self.old h →
+            IsFirstWrong (setting config.now h input) [] chosen.now refused) }
+        ensures unchanged { OnErr result (self.new ≡ self.old) }
+        ensures of { IsGuardOf config.now self.new }
+    {
+        config.limits();
+        let (passing, spare) = (&mut self.passing, &mut self.spare);
+        step_both(config, passing, spare, terms, looks, chosen)
     }
 
     /// Lets the next pass through, on an input that fits, with the actions that a policy chose,
@@ -138,20 +229,67 @@ impl Guard {
         ensures unchanged { OnErr result (self.new ≡ self.old) }
         ensures of { IsGuardOf config.now self.new }
     {
+        config.limits();
+        doing_nothing_is_permitted();
+        permitted_goes_on();
+        let looks = PassLooks::Listed(input.seen.as_slice());
         if chosen.is_empty() {
-            self.step_idle(config, input);
+            self.step_idle(config, looks);
             return Ok(());
         }
+        let terms = Terms::of(config, input);
+        self.step_on(config, &terms, looks, chosen)
+    }
+
+    /// `step` at this clock and bandwidth figure and on the looks that came in, one of each thread:
+    /// it is `step` on the input that is made of these looks, with no list of looks made.
+    pub fn pass(
+        &mut self,
+        config: &Config,
+        now: u64,
+        bandwidth: u64,
+        looks: &OpenPass,
+        chosen: &[Action],
+    ) -> Result<(), Refused>
+        requires of { IsGuardOf config.now self.old }
+        requires all { looks.now.count ≡ threads_of_table config.now }
+        ensures exact { (h : List PassEntry) (found : List FoundLook) →
+            IsPermittedHistory config.now h → Keeps self.old h →
+            IsOpenAt config.now h found looks.entry.now →
+            let s = setting config.now h (judged_input config.now h now bandwidth found) in
+            IsOk result ↔ ArePermitted s chosen.now }
+        ensures keeps { IsOk result → (h : List PassEntry) (found : List FoundLook) →
+            IsPermittedHistory config.now h → Keeps self.old h →
+            IsOpenAt config.now h found looks.entry.now →
+            let input = judged_input config.now h now bandwidth found in
+            Keeps self.new (and_then h input chosen.now) }
+        ensures permitted { IsOk result → (h : List PassEntry) (found : List FoundLook) →
+            IsPermittedHistory config.now h → Keeps self.old h →
+            IsOpenAt config.now h found looks.entry.now →
+            let input = judged_input config.now h now bandwidth found in
+            IsPermittedHistory config.now (and_then h input chosen.now) }
+        ensures first { IfErr result (λ refused. (h : List PassEntry) (found : List FoundLook) →
+            IsPermittedHistory config.now h → Keeps self.old h →
+            IsOpenAt config.now h found looks.entry.now →
+            let s = setting config.now h (judged_input config.now h now bandwidth found) in
+            IsFirstWrong s [] chosen.now refused) }
+        ensures unchanged { OnErr result (self.new ≡ self.old) }
+        ensures of { IsGuardOf config.now self.new }
+    {
         config.limits();
+        doing_nothing_is_permitted();
         permitted_goes_on();
-        let before = self.passing.duplicate();
-        self.passing.begin(input.seen.as_slice());
-        match self.passing.take_each(config, input, chosen) {
-            Ok(()) => Ok(()),
-            Err(refused) => {
-                *self.passing = before;
-                Err(refused)
-            }
+        open_pass_fits();
+        let noted = PassLooks::Noted(looks);
+        if chosen.is_empty() {
+            self.step_idle(config, noted);
+            return Ok(());
         }
+        let terms = Terms {
+            now,
+            bandwidth,
+            full: looks.full,
+        };
+        self.step_on(config, &terms, noted, chosen)
     }
 }

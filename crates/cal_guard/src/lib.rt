@@ -13,8 +13,12 @@ mod guard;
 mod histories;
 mod laws;
 mod legality;
+mod pass_looks;
 mod passing;
 mod refusal;
+mod settled;
+mod sizes;
+mod spare;
 
 pub use checking::{is_permitted, is_permitted_pass, permits};
 pub use gone::{gone_may_be_freed, permitted_gone_is_kept};
@@ -34,3 +38,4 @@ pub use laws::{
 };
 pub use legality::{legal_is_permitted, legal_is_right};
 pub use refusal::{Refused, Why};
+pub use settled::permitted_settled_is_no_news;

@@ -11,22 +11,27 @@ ghost use Rattle.cal_policy.specs.declared.history.entry.PassEntry.{PassEntry};
 ghost use Rattle.cal_policy.specs.declared.history.input.Input.{Input};
 ghost use Rattle.cal_machine.specs.TableTasks.{threads_of_table};
 ghost use Rattle.cal_policy.specs.Pass.Choice.{lowest_below};
-ghost use Rattle.cal_policy.specs.History.{actions_of, looks_of, holder_of};
-ghost use Rattle.cal_policy.specs.Setting.{Setting, setting, so_far};
-ghost use Rattle.cal_policy.specs.Board.{Agrees, KeepingAgrees, Stands, IsReady};
+ghost use Rattle.cal_policy.specs.History.{looks_of, holder_of};
+ghost use Rattle.cal_policy.specs.Setting.{Setting, Begun, setting, setting_at, so_far};
+ghost use Rattle.cal_policy.specs.Board.{Agrees, KeepingAgrees, KeepsBefore, HasGranted};
+ghost use Rattle.cal_policy.specs.Board.{Stands, IsReady, IsStateAfter};
+ghost use Rattle.cal_policy.specs.Board.KeepingSets.{KeepsSets};
+ghost use Rattle.cal_policy.specs.declared.history.look.Seen.{Seen};
 ghost use Rattle.cal_policy.specs.Board.{NamesCores, NamesTable};
 ghost use Rattle.cal_guard.specs.Permitted.{IsPermitted, IsPermittedHistory, core_revoked};
 ghost use Rattle.cal_guard.specs.Refusals as refusals;
 ghost use Rattle.cal_guard.specs.Refusals.{MayEndWith, IsFirstWrong};
-ghost use Rattle.cal_guard.specs.Passing.{IsSetOfSent, IsInside};
+ghost use Rattle.cal_guard.specs.Passing.{IsSetOfSent, IsAfter, IsInside, MayFollow};
+ghost use Rattle.cal_guard.specs.Passing.{AreFew, AreLooks, AreShown, next_setting};
 
+use crate::pass_looks::PassLooks;
 use crate::refusal::{Refused, Why};
 use cal_machine::{Config, ThreadSet};
 use cal_policy::state::{
-    Board, Holder, cap_of, command_for, core_changed_by, held_by, holds_for, is_banned, is_fit,
-    is_held, is_left, is_over, survey_of,
+    Board, Holder, Terms, cap_of, command_for, core_changed_by, held_by, holds_for, is_banned,
+    is_fit, is_held, is_left, is_over, survey_of,
 };
-use cal_policy::{Action, Input, MOST_ACTIONS, Seen};
+use cal_policy::{Action, MOST_ACTIONS};
 
 /// The state inside a pass.
 #[derive(Drop)]
@@ -47,30 +52,29 @@ fn unless(holds: bool, why: Why) -> Option<Why>
 }
 
 /// What is wrong with sending the thread a command.
-fn wrong_to_send(input: &Input, sent: &ThreadSet, thread: u8) -> Option<Why>
-    requires thread { thread < MOST_THREADS }
-    requires rooms { thread < length input.now.rooms }
-    ensures { (s : Setting) (acts : List Action) → s.input ≡ input.entry.now →
+fn wrong_to_send(terms: &Terms, sent: &ThreadSet, thread: u8) -> Option<Why>
+    requires { thread < MOST_THREADS }
+    ensures { (table : Table) (h : Begun) (acts : List Action) →
+        thread < threads_of_table table → let s = setting_at table terms.entry.now h in
         IsSetOfSent sent.now s acts → result ≡ refusals.wrong_to_send s acts thread }
 {
     let unsent = unless(!sent.has(thread as usize), Why::SecondCommand);
-    unless(input.rooms.as_slice()[thread as usize], Why::NoRoom).or(unsent)
+    unless(!terms.full.has(thread as usize), Why::NoRoom).or(unsent)
 }
 
 /// What is wrong with revoking the core.
 fn wrong_to_revoke(
     config: &Config,
-    input: &Input,
+    terms: &Terms,
     board: &Board,
     sent: &ThreadSet,
     core: u8,
 ) -> Option<Why>
     requires table { IsTable config.now }
     requires ready { IsReady config.now board.now }
-    requires rooms { length input.now.rooms ≡ threads_of_table config.now }
     requires core { core < config.now.cores }
-    ensures { (h : List PassEntry) (acts : List Action) →
-        let s = setting config.now h input.entry.now in
+    ensures { (h : Begun) (acts : List Action) →
+        let s = setting_at config.now terms.entry.now h in
         Agrees board.now (so_far s acts) → IsSetOfSent sent.now s acts →
         result ≡ refusals.wrong_to_revoke s acts (holder_of (so_far s acts) core) }
 {
@@ -78,7 +82,7 @@ fn wrong_to_revoke(
         Holder::Held(placement) => {
             let task = config.task_of(placement.thread as usize);
             unless(is_over(config, board, task), Why::AtGuarantee).or(wrong_to_send(
-                input,
+                terms,
                 sent,
                 placement.thread,
             ))
@@ -104,7 +108,7 @@ fn wrong_to_book(config: &Config, board: &Board, task: usize) -> Option<Why>
 /// What is wrong with granting the core to the thread.
 fn wrong_to_grant(
     config: &Config,
-    input: &Input,
+    terms: &Terms,
     board: &Board,
     sent: &ThreadSet,
     core: u8,
@@ -112,41 +116,39 @@ fn wrong_to_grant(
 ) -> Option<Why>
     requires table { IsTable config.now }
     requires ready { IsReady config.now board.now }
-    requires rooms { length input.now.rooms ≡ threads_of_table config.now }
     requires core { core < config.now.cores }
     requires thread { thread < threads_of_table config.now }
-    ensures { (h : List PassEntry) (acts : List Action) →
-        let s = setting config.now h input.entry.now in
+    ensures { (h : Begun) (acts : List Action) →
+        let s = setting_at config.now terms.entry.now h in
         Agrees board.now (so_far s acts) → IsSetOfSent sent.now s acts →
         result ≡ refusals.wrong_to_grant s acts core thread }
 {
     let task = config.task_of(thread as usize);
-    let books = wrong_to_book(config, board, task).or(wrong_to_send(input, sent, thread));
+    let books = wrong_to_book(config, board, task).or(wrong_to_send(terms, sent, thread));
     unless(!is_banned(board, core), Why::Banned).or(books)
 }
 
 /// What is wrong with an action that fits the state, by its kind.
 fn wrong_to_make(
     config: &Config,
-    input: &Input,
+    terms: &Terms,
     board: &Board,
     sent: &ThreadSet,
     action: Action,
 ) -> Option<Why>
     requires table { IsTable config.now }
     requires ready { IsReady config.now board.now }
-    requires rooms { length input.now.rooms ≡ threads_of_table config.now }
     requires names { NamesTable config.now action }
-    ensures { (h : List PassEntry) (acts : List Action) →
-        let s = setting config.now h input.entry.now in
+    ensures { (h : Begun) (acts : List Action) →
+        let s = setting_at config.now terms.entry.now h in
         Stands board.now s acts → IsSetOfSent sent.now s acts →
         result ≡ refusals.wrong_to_make s acts action }
 {
     match action {
         Action::Free { core } => unless(is_left(board, core), Why::NotLeft),
-        Action::Revoke { core, .. } => wrong_to_revoke(config, input, board, sent, core),
+        Action::Revoke { core, .. } => wrong_to_revoke(config, terms, board, sent, core),
         Action::Grant { core, thread, .. } => {
-            wrong_to_grant(config, input, board, sent, core, thread)
+            wrong_to_grant(config, terms, board, sent, core, thread)
         }
         Action::Unban { .. } | Action::Ban { .. } | Action::Cap { .. } => None,
     }
@@ -278,11 +280,35 @@ fn note_sent(config: &Config, board: &Board, sent: &mut ThreadSet, action: Actio
     }
 }
 
+/// Begins a pass on these looks in the state.
+fn begin_board(board: &mut Board, looks: PassLooks)
+    requires few { AreFew looks }
+    requires sets { KeepsSets board.old.keeping }
+    ensures agrees { (x : List Action) → Agrees board.old x → Agrees board.new x }
+    ensures fresh { HasGranted board.new.fresh [] }
+    ensures ready { (table : Table) → IsReady table board.old → IsReady table board.new }
+    ensures keeping { (table : Table) (h : List PassEntry) (seen : List Seen) →
+        AreLooks looks.entry table h seen → KeepingAgrees board.old.keeping (looks_of h) →
+        KeepingAgrees board.new.keeping (looks_of h ++ seen ∷ []) }
+    ensures shown { (past : List (List Seen)) (seen : List Seen) → AreShown looks.entry seen →
+        KeepingAgrees board.old.keeping past → KeepingAgrees board.new.keeping (past ++ seen ∷ []) }
+    ensures before { (past : List (List Seen)) → KeepingAgrees board.old.keeping past →
+        KeepsBefore board.new.keeping past }
+{
+    match looks {
+        PassLooks::Listed(listed) => board.begin(listed),
+        PassLooks::Noted(pass) => board.begin_noted(pass),
+    }
+}
+
 impl Passing {
     /// The state before any pass.
     pub fn new() -> Passing
         ensures agrees { Agrees result.board [] }
         ensures keeping { KeepingAgrees result.board.keeping [] }
+        ensures after { (table : Table) (input : Input) → input.seen ≡ [] →
+            IsAfter result (setting table [] input) [] }
+        ensures made { result.made ≡ 0 }
         ensures ready { (table : Table) → IsReady table result.board }
     {
         Passing {
@@ -304,30 +330,32 @@ impl Passing {
     }
 
     /// Begins the pass on these looks.
-    pub fn begin(&mut self, seen: &[Seen])
-        requires { length seen.now ≤ MOST_THREADS }
+    pub fn begin(&mut self, looks: PassLooks)
+        requires few { AreFew looks }
+        requires sets { KeepsSets self.old.board.keeping }
         ensures inside { (table : Table) (h : List PassEntry) (input : Input) →
-            seen.now ≡ input.seen → IsPermittedHistory table h →
-            Agrees self.old.board (actions_of h) →
-            KeepingAgrees self.old.board.keeping (looks_of h) →
-            IsInside self.new (setting table h input) [] }
+            AreLooks looks.entry table h input.seen → IsPermittedHistory table h →
+            IsStateAfter self.old.board h → IsInside self.new (setting table h input) [] }
+        ensures after { (s : Setting) (acts : List Action) (input : Input) →
+            AreShown looks.entry input.seen → IsAfter self.old s acts →
+            IsAfter self.new (next_setting s acts input) [] }
+        ensures made { self.new.made ≡ 0 }
         ensures ready { (table : Table) → IsReady table self.old.board →
             IsReady table self.new.board }
     {
-        self.board.begin(seen);
+        begin_board(&mut self.board, looks);
         self.sent = ThreadSet::empty();
         self.made = 0;
     }
 
     /// What is wrong with the next action.
-    fn wrong_with(&self, config: &Config, input: &Input, action: Action) -> Option<Why>
+    fn wrong_with(&self, config: &Config, terms: &Terms, action: Action) -> Option<Why>
         requires table { IsTable config.now }
         requires ready { IsReady config.now self.now.board }
-        requires rooms { length input.now.rooms ≡ threads_of_table config.now }
         ensures names { IfNone result (NamesTable config.now action) }
         ensures few { IfNone result (self.now.made < MOST_ACTIONS) }
-        ensures wrong { (h : List PassEntry) (acts : List Action) →
-            let s = setting config.now h input.entry.now in
+        ensures wrong { (h : Begun) (acts : List Action) →
+            let s = setting_at config.now terms.entry.now h in
             IsInside self.now s acts → result ≡ refusals.wrong_with s acts action }
     {
         if self.made >= MOST_ACTIONS {
@@ -337,7 +365,7 @@ impl Passing {
             return Some(Why::DoesNotFit);
         }
         let revoked = core_revoked_by(action);
-        let made = wrong_to_make(config, input, &self.board, &self.sent, action);
+        let made = wrong_to_make(config, terms, &self.board, &self.sent, action);
         made.or(left_undone(config, &self.board, revoked))
     }
 
@@ -347,10 +375,11 @@ impl Passing {
         requires ready { IsReady config.now self.old.board }
         requires names { NamesTable config.now action }
         requires few { self.old.made < MOST_ACTIONS }
-        ensures inside { (h : List PassEntry) (input : Input) (acts : List Action) →
-            let s = setting config.now h input in
-            IsInside self.old s acts → IsPermitted s acts action →
-            IsInside self.new s (acts ++ action ∷ []) }
+        ensures inside { (s : Setting) (acts : List Action) → IsInside self.old s acts →
+            IsPermitted s acts action → IsInside self.new s (acts ++ action ∷ []) }
+        ensures after { (s : Setting) (acts : List Action) → IsAfter self.old s acts →
+            IsAfter self.new s (acts ++ action ∷ []) }
+        ensures made { self.new.made ≡ self.old.made + 1 }
         ensures ready { IsReady config.now self.new.board }
     {
         note_sent(config, &self.board, &mut self.sent, action);
@@ -363,25 +392,28 @@ impl Passing {
     pub fn take_each(
         &mut self,
         config: &Config,
-        input: &Input,
+        terms: &Terms,
         actions: &[Action],
     ) -> Result<(), Refused>
         requires table { IsTable config.now }
         requires ready { IsReady config.now self.old.board }
-        requires rooms { length input.now.rooms ≡ threads_of_table config.now }
-        ensures exact { (h : List PassEntry) (acts : List Action) →
-            let s = setting config.now h input.entry.now in
+        ensures exact { (h : Begun) (acts : List Action) →
+            let s = setting_at config.now terms.entry.now h in
             IsInside self.old s acts → IsOk result ↔ MayEndWith s acts actions.now }
-        ensures inside { IsOk result → (h : List PassEntry) (acts : List Action) →
-            let s = setting config.now h input.entry.now in
+        ensures inside { IsOk result → (h : Begun) (acts : List Action) →
+            let s = setting_at config.now terms.entry.now h in
             IsInside self.old s acts → IsInside self.new s (acts ++ actions.now) }
-        ensures first { IfErr result (λ refused. (h : List PassEntry) (acts : List Action) →
-            let s = setting config.now h input.entry.now in
+        ensures after { IsOk result → (s : Setting) (acts : List Action) →
+            IsAfter self.old s acts → IsAfter self.new s (acts ++ actions.now) }
+        ensures follow { IsOk result → MayFollow config.now self.old.made actions.now }
+        ensures made { IsOk result → self.new.made ≡ self.old.made + length actions.now }
+        ensures first { IfErr result (λ refused. (h : Begun) (acts : List Action) →
+            let s = setting_at config.now terms.entry.now h in
             IsInside self.old s acts → IsFirstWrong s acts actions.now refused) }
         ensures ready { IsReady config.now self.new.board }
     {
         for (place, action) in actions.iter().enumerate() {
-            if let Some(why) = self.wrong_with(config, input, *action) {
+            if let Some(why) = self.wrong_with(config, terms, *action) {
                 return Err(Refused { place, why });
             }
             self.take(config, *action);
@@ -391,5 +423,20 @@ impl Passing {
             return Err(Refused { place, why });
         }
         Ok(())
+    }
+
+    /// Takes these actions, which were permitted where another state like this one was tried.
+    pub fn follow(&mut self, config: &Config, actions: &[Action])
+        requires table { IsTable config.now }
+        requires ready { IsReady config.now self.old.board }
+        requires follow { MayFollow config.now self.old.made actions.now }
+        ensures after { (s : Setting) (acts : List Action) → IsAfter self.old s acts →
+            IsAfter self.new s (acts ++ actions.now) }
+        ensures made { self.new.made ≡ self.old.made + length actions.now }
+        ensures ready { IsReady config.now self.new.board }
+    {
+        for permitted in actions {
+            self.take(config, *permitted);
+        }
     }
 }

@@ -85,6 +85,7 @@ impl Board {
     /// The state before any action and look.
     pub fn new() -> Board
         ensures agrees { Agrees result [] }
+        ensures fresh { HasGranted result.fresh [] }
         ensures keeping { KeepingAgrees result.keeping [] }
         ensures before { KeepsBefore result.keeping [] }
         ensures ready { (table : Table) → IsReady table result }

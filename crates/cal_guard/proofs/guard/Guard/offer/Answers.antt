@@ -1,5 +1,44 @@
-use Rattle.std.proofs.Common.{refl, ◌∙◌}
+use Rattle.std.proofs.Common.{◌≡◌, ◌↔◌, ◌++◌, sym, ap, subst, ◌∙◌}
+use Rattle.std.specs.Prelude.{IsOk}
+use Rattle.cal_policy.specs.Setting.{Setting, Begun, setting_at}
+use Rattle.cal_guard.specs.declared.passing.Passing.{Passing}
+use Rattle.cal_guard.specs.Refusals.{MayEndWith, IsFirstWrong}
+use Rattle.cal_guard.specs.Passing.{IsInside}
+use Rattle.cal_guard.specs.Spare.{GuardState}
+use Rattle.cal_guard.proofs.Results.{if_err}
 use Rattle.cal_guard.proofs.guard.Guard.offer.Goals as goal
 
-pub returns-in-Err-clause-unchanged : goal.returns-in-Err-clause-unchanged
-returns-in-Err-clause-unchanged c = rw (c.duplicate-before.ensures ∙ c.deref.ensures) refl
+pub returns-clause-exact : goal.returns-clause-exact
+returns-clause-exact c = λ h acts within.
+    let same : c.deref_mut.result.now ≡ c.args.self.now.passing = c.deref_mut.ensures.value ∙ ap (λ (g : GuardState). g.passing) c.self.view_is in
+    let begun : Begun = record { history = h; seen = c.args.input.now.seen } in
+    let by = c.of-terms.ensures h in
+    let P : Passing → Type 0 = λ p. IsInside p (setting_at c.args.config.now c.of-terms.result begun) acts in
+    let T : Setting → Type 0 = λ t. IsInside c.args.self.now.passing t acts in
+    let inside = subst P (sym same) (subst T by within.inside) in
+    let Q : Setting → Type 0 = λ t. IsOk c.offer_both.result ↔ MayEndWith t acts c.args.actions.now in
+    subst Q (sym by) (c.offer_both.ensures.exact begun acts inside)
+
+pub returns-clause-taken : goal.returns-clause-taken
+returns-clause-taken c = λ ok h acts within.
+    let same : c.deref_mut.result.now ≡ c.args.self.now.passing = c.deref_mut.ensures.value ∙ ap (λ (g : GuardState). g.passing) c.self.view_is in
+    let begun : Begun = record { history = h; seen = c.args.input.now.seen } in
+    let by = c.of-terms.ensures h in
+    let P : Passing → Type 0 = λ p. IsInside p (setting_at c.args.config.now c.of-terms.result begun) acts in
+    let T : Setting → Type 0 = λ t. IsInside c.args.self.now.passing t acts in
+    let inside = subst P (sym same) (subst T by within.inside) in
+    let Q : Setting → Type 0 = λ t. IsInside c.offer_both.new.passing t (acts ++ c.args.actions.now) in
+    record { inside = subst Q (sym by) (c.offer_both.ensures.inside ok begun acts inside) }
+
+pub returns-clause-first : goal.returns-clause-first
+returns-clause-first c = if_err c.offer_both.result _ _
+    (λ refused first h acts within.
+    let same : c.deref_mut.result.now ≡ c.args.self.now.passing = c.deref_mut.ensures.value ∙ ap (λ (g : GuardState). g.passing) c.self.view_is in
+    let begun : Begun = record { history = h; seen = c.args.input.now.seen } in
+    let by = c.of-terms.ensures h in
+    let P : Passing → Type 0 = λ p. IsInside p (setting_at c.args.config.now c.of-terms.result begun) acts in
+    let T : Setting → Type 0 = λ t. IsInside c.args.self.now.passing t acts in
+    let inside = subst P (sym same) (subst T by within.inside) in
+    let Q : Setting → Type 0 = λ t. IsFirstWrong t acts c.args.actions.now refused in
+    subst Q (sym by) (first begun acts inside))
+    c.offer_both.ensures.first

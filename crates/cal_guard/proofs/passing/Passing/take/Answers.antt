@@ -1,25 +1,31 @@
 use Rattle.std.proofs.Common.{[], ◌∷◌, length-append, subst, append_assoc, arith}
 use Rattle.cal_policy.specs.declared.history.action.Action.{Action}
 use Rattle.cal_policy.specs.History.{actions_of}
-use Rattle.cal_policy.specs.Setting.{Setting, setting, so_far}
+use Rattle.cal_policy.specs.Setting.{so_far}
 use Rattle.cal_guard.specs.Passing.{HeldAreLow}
 use Rattle.cal_guard.proofs.Low.{low_push}
 use Rattle.cal_guard.proofs.Standing.{stands_more}
 use Rattle.cal_guard.proofs.passing.Passing.take.Goals as goal
 
+pub returns-clause-after : goal.returns-clause-after
+returns-clause-after c = λ s acts is.
+    let a : Action = c.args.action in record {
+      stands = stands_more c.args.self.now.board c.apply.new.self s acts a is.stands c.apply.ensures.keeping
+          (c.apply.ensures.agrees (so_far s acts) is.stands.agrees) (c.apply.ensures.fresh acts is.stands.fresh);
+      sent = c.note_sent.ensures s acts is.stands.agrees is.sent;
+    }
+
 pub returns-clause-inside : goal.returns-clause-inside
-returns-clause-inside c = λ h input acts is permitted.
-    let table = c.args.config.now in
-    let s : Setting = setting table h input in
+returns-clause-inside c = λ s acts is permitted.
     let a : Action = c.args.action in
     let grown = length-append acts (a ∷ []) in
     let was = is.made in
     let lt = c.requires.few in
+    let after = returns-clause-after c s acts (record { stands = is.stands; sent = is.sent }) in
     record {
-      stands = stands_more c.args.self.now.board c.apply.new.self s acts a is.stands c.apply.ensures.keeping
-          (c.apply.ensures.agrees (so_far s acts) is.stands.agrees) (c.apply.ensures.fresh acts is.stands.fresh);
-      sent = c.note_sent.ensures s acts is.stands.agrees is.sent;
+      stands = after.stands;
+      sent = after.sent;
       made = omega (arith, grown, was);
       few = omega (arith, grown, was, lt);
-      low = subst (HeldAreLow table) (append_assoc (actions_of h) acts (a ∷ [])) (low_push table (so_far s acts) a permitted.fits is.low);
+      low = subst (HeldAreLow s.table) (append_assoc (actions_of s.history) acts (a ∷ [])) (low_push s.table (so_far s acts) a permitted.fits is.low);
     }

@@ -1,11 +1,13 @@
-use Rattle.std.proofs.Common.{◌≡◌, ℕ, ◌++◌, length, take, Some, None, true, false, refl, sym, ap, subst, ◌∙◌, arith, length-append}
+use Rattle.std.proofs.Common.{◌≡◌, ℕ, ◌+◌, ◌<◌, ◌++◌, length, take, Some, None, true, false, refl, sym, ap, subst, ◌∙◌, arith, length-append}
 use Rattle.std.proofs.lemmas.List.{take_all, append-nil}
 use Rattle.std.proofs.lemmas.Option.{slice_get-get_or, slice_get_past}
 use Rattle.cal_policy.specs.declared.history.action.Action.{Action}
-use Rattle.cal_policy.specs.Setting.{Setting, setting, so_far}
+use Rattle.cal_policy.specs.Setting.{Setting, setting_at, so_far}
 use Rattle.cal_policy.proofs.ListLemmas.Each.{each_more, each_all, each_at, after_more}
 use Rattle.cal_guard.specs.Permitted.{IsPermitted}
-use Rattle.cal_guard.specs.Passing.{IsInside}
+use Rattle.cal_guard.specs.Passing.{IsInside, IsAfter}
+use Rattle.cal_policy.specs.Board.{NamesTable}
+use Rattle.cal_policy.specs.declared.history.action.Action.TheVariants.{Free}
 use Rattle.cal_guard.specs.Refusals.{wrong_next}
 use Rattle.cal_guard.proofs.Sent.{not_some}
 use Rattle.cal_guard.proofs.Taking.{none_wrong}
@@ -16,8 +18,11 @@ pub loop-place-init : goal.loop-place-init
 loop-place-init c = record {
   run = λ h acts is. record {
     each = λ i lt a e. absurd (omega (arith, lt));
-    inside = subst (IsInside c.args.self.now (setting c.args.config.now h c.args.input.now)) (sym (append-nil acts)) is;
+    inside = subst (IsInside c.args.self.now (setting_at c.args.config.now c.args.terms.now h)) (sym (append-nil acts)) is;
   };
+  after = λ s acts is. subst (IsAfter c.args.self.now s) (sym (append-nil acts)) is;
+  follow = λ i lt a e. absurd (omega (arith, lt));
+  made = omega arith;
   ready = c.requires.ready;
 }
 
@@ -29,7 +34,7 @@ returns-in-Some-clause-exact c = λ h acts is.
     let run = c.loop-place.invariant.run h acts is in
     let n = c.loop-place.place in
     let actions = c.args.actions.now in
-    let s : Setting = setting c.args.config.now h c.args.input.now in
+    let s : Setting = setting_at c.args.config.now c.args.terms.now h in
     let P : ℕ → Action → Type 0 = λ j a. IsPermitted s (acts ++ take j actions) a in (
       λ yes. let no : false ≡ true = yes in cc,
       λ may.
@@ -43,7 +48,7 @@ returns-in-Some-clause-first c = λ h acts is.
     let run = c.loop-place.invariant.run h acts is in
     let n = c.loop-place.place in
     let actions = c.args.actions.now in
-    let s : Setting = setting c.args.config.now h c.args.input.now in record {
+    let s : Setting = setting_at c.args.config.now c.args.terms.now h in record {
       within = (let lt = c.loop-place-test.true in omega (arith, lt));
       before = λ i a lt e. run.each i lt a e;
       why = ap (wrong_next s (acts ++ take n actions)) (slice_get-get_or actions n _ c.loop-place-test.true) ∙ sym (c.wrong_with.ensures.wrong h (acts ++ take n actions) run.inside) ∙ c.in-Some.is;
@@ -61,13 +66,23 @@ loop-place-preserved c = record {
       let run = c.loop-place.invariant.run h acts is in
       let n = c.loop-place.place in
       let actions = c.args.actions.now in
-      let s : Setting = setting c.args.config.now h c.args.input.now in
+      let s : Setting = setting_at c.args.config.now c.args.terms.now h in
       let P : ℕ → Action → Type 0 = λ j a. IsPermitted s (acts ++ take j actions) a in
       let none = not_some c.wrong_with.result c.in_default.not-Some in
       let p = right s (acts ++ take n actions) _ run.inside.low (sym (c.wrong_with.ensures.wrong h (acts ++ take n actions) run.inside) ∙ none) in record {
         each = each_more P actions n _ run.each p;
-        inside = subst (IsInside c.take.new.self s) (after_more acts actions n _ c.loop-place-test.true) (c.take.ensures.inside h c.args.input.now (acts ++ take n actions) run.inside p);
+        inside = subst (IsInside c.take.new.self s) (after_more acts actions n _ c.loop-place-test.true) (c.take.ensures.inside s (acts ++ take n actions) run.inside p);
       };
+  after = λ s acts is.
+      let n = c.loop-place.place in
+      let actions = c.args.actions.now in
+      subst (IsAfter c.take.new.self s) (after_more acts actions n _ c.loop-place-test.true) (c.take.ensures.after s (acts ++ take n actions) (c.loop-place.invariant.after s acts is));
+  follow =
+      let P : ℕ → Action → Type 0 = λ i a. NamesTable c.args.config.now a × (c.args.self.now.made + i < 338) in
+      let few = c.in_default.ensures.few in
+      let made = c.loop-place.invariant.made in
+      each_more P c.args.actions.now c.loop-place.place (Free 0) c.loop-place.invariant.follow (c.in_default.ensures.names, omega (arith, few, made));
+  made = let made = c.loop-place.invariant.made in let more = c.take.ensures.made in omega (arith, made, more);
   ready = c.take.ensures.ready;
 }
 
@@ -79,7 +94,7 @@ returns-in-Some-left_undone-clause-exact c = λ h acts is.
     let run = c.loop-place.invariant.run h acts is in
     let n = c.loop-place.place in
     let actions = c.args.actions.now in
-    let s : Setting = setting c.args.config.now h c.args.input.now in
+    let s : Setting = setting_at c.args.config.now c.args.terms.now h in
     let whole : take n actions ≡ actions = take_all n actions c.loop-place-test.false in
     let inside = subst (λ l. IsInside c.loop-place.self s (acts ++ l)) whole run.inside in (
       λ yes. let no : false ≡ true = yes in cc,
@@ -91,7 +106,7 @@ returns-in-Some-left_undone-clause-first c = λ h acts is.
     let run = c.loop-place.invariant.run h acts is in
     let n = c.loop-place.place in
     let actions = c.args.actions.now in
-    let s : Setting = setting c.args.config.now h c.args.input.now in
+    let s : Setting = setting_at c.args.config.now c.args.terms.now h in
     let P : ℕ → Action → Type 0 = λ j a. IsPermitted s (acts ++ take j actions) a in
     let whole : take n actions ≡ actions = take_all n actions c.loop-place-test.false in
     let all : take (length actions) actions ≡ actions = take_all (length actions) actions (omega arith) in
@@ -110,7 +125,7 @@ returns-clause-exact c = λ h acts is.
     let run = c.loop-place.invariant.run h acts is in
     let n = c.loop-place.place in
     let actions = c.args.actions.now in
-    let s : Setting = setting c.args.config.now h c.args.input.now in
+    let s : Setting = setting_at c.args.config.now c.args.terms.now h in
     let P : ℕ → Action → Type 0 = λ j a. IsPermitted s (acts ++ take j actions) a in
     let inside = subst (λ l. IsInside c.loop-place.self s (acts ++ l)) (take_all n actions c.loop-place-test.false) run.inside in
     let sum = length-append acts actions in
@@ -129,8 +144,20 @@ returns-clause-inside c = λ ok h acts is.
     let run = c.loop-place.invariant.run h acts is in
     let n = c.loop-place.place in
     let actions = c.args.actions.now in
-    let s : Setting = setting c.args.config.now h c.args.input.now in
+    let s : Setting = setting_at c.args.config.now c.args.terms.now h in
     subst (λ l. IsInside c.loop-place.self s (acts ++ l)) (take_all n actions c.loop-place-test.false) run.inside
 
 pub returns-clause-ready : goal.returns-clause-ready
 returns-clause-ready c = c.loop-place.invariant.ready
+
+pub returns-clause-after : goal.returns-clause-after
+returns-clause-after c = λ ok s acts is.
+    subst (λ l. IsAfter c.loop-place.self s (acts ++ l)) (take_all c.loop-place.place c.args.actions.now c.loop-place-test.false) (c.loop-place.invariant.after s acts is)
+
+pub returns-clause-follow : goal.returns-clause-follow
+returns-clause-follow c = λ ok.
+    let P : ℕ → Action → Type 0 = λ i a. NamesTable c.args.config.now a × (c.args.self.now.made + i < 338) in
+    each_all P c.args.actions.now c.loop-place.place c.loop-place-test.false c.loop-place.invariant.follow
+
+pub returns-clause-made : goal.returns-clause-made
+returns-clause-made c = λ ok. let made = c.loop-place.invariant.made in let past = c.loop-place-test.false in omega (arith, made, past)

@@ -1,14 +1,16 @@
-use Rattle.std.proofs.Common.{List}
+use Rattle.std.proofs.Common.{◌≡◌, ℕ, ◌+◌, ◌<◌, List, ◌++◌, take, Some, slice_get}
 use Rattle.cal_policy.specs.declared.history.action.Action.{Action}
-use Rattle.cal_policy.specs.declared.history.entry.PassEntry.{PassEntry}
-use Rattle.cal_policy.specs.Setting.{setting}
-use Rattle.cal_policy.specs.Board.{IsReady}
-use Rattle.cal_guard.specs.Passing.{IsInside}
+use Rattle.cal_policy.specs.Setting.{Setting, Begun, setting_at}
+use Rattle.cal_policy.specs.Board.{IsReady, NamesTable}
+use Rattle.cal_guard.specs.Passing.{IsInside, IsAfter}
 use Rattle.cal_guard.proofs.Taking.{IsRun}
 use Rattle.cal_guard.proofs.passing.Passing.take_each.Given as goal
 
 abbrev pub invariant-loop-place : goal.invariant-loop-place
 invariant-loop-place l = record {
-  run : (h : List PassEntry) (acts : List Action) → IsInside l.fn.self (setting l.config h l.input) acts → IsRun (setting l.config h l.input) acts l.actions l.place l.self;
+  run : (h : Begun) (acts : List Action) → IsInside l.fn.self (setting_at l.config l.terms h) acts → IsRun (setting_at l.config l.terms h) acts l.actions l.place l.self;
+  after : (s : Setting) (acts : List Action) → IsAfter l.fn.self s acts → IsAfter l.self s (acts ++ take l.place l.actions);
+  follow : (i : ℕ) → i < l.place → (a : Action) → slice_get l.actions i ≡ Some a → NamesTable l.config a × (l.fn.self.made + i < 338);
+  made : l.self.made ≡ l.fn.self.made + l.place;
   ready : IsReady l.config l.self.board;
 }
