@@ -1,16 +1,21 @@
 //! Made histories: in each pass the Book takes the inputs that may be given, and does what the
-//! plain pass does. Looks are drawn by chance from fixed seeds: as before, newer, busy, refused by
-//! the commands sent or by what was shown; and clocks fall.
+//! plain pass does, on an input and on looks that come in one by one; and the guard lets each pass
+//! through. Looks are drawn by chance from fixed seeds: as before, newer, busy, refused by the
+//! commands sent or by what was shown; and clocks fall.
 
-ghost use Rattle.std.specs.Prelude.{◌≡◌, ◌<◌};
+ghost use Rattle.std.specs.Prelude.{◌≡◌, ◌<◌, IfOk};
+ghost use Rattle.cal_policy.specs.Board.KeepingSets.{KeepsSets};
 ghost use Rattle.cal_machine.specs.declared.numbering.TheConstants.{MOST_THREADS};
 ghost use Rattle.cal_policy.specs.Board.{HasSizes};
 ghost use Rattle.cal_policy.specs.Book.{IsBookOf};
+ghost use Rattle.cal_guard.specs.Guarded.{IsGuardOf};
 
-use cal_machine::Config;
+use cal_guard::Guard;
+use cal_machine::{Config, MOST_THREADS};
 use cal_policy::state::Board;
 use cal_policy::{
-    Actions, Book, Input, Look, PassEntry, Record, Rooms, SeenList, is_input, orderly, plain_pass,
+    Actions, Book, FoundLook, Input, Look, OpenPass, PassEntry, Record, is_input, orderly,
+    plain_pass,
 };
 use std::alloc::Global;
 use std::test::Fail;
@@ -100,28 +105,72 @@ fn found(draw: &mut Draw, config: &Config, board: &Board, k: usize, clock: u64) 
     }
 }
 
-/// The input of the next pass, as the book judges what is found.
-fn drawn_input(
+/// What is found of each thread, and whether its ring has room.
+fn drawn_looks(
     alloc: Global,
     config: &Config,
     book: &Book,
     draw: &mut Draw,
     clock: u64,
-) -> Result<Input, Fail> {
+) -> Result<Vec<FoundLook>, Fail> {
     config.limits();
-    let mut seen = Vec::with_capacity(alloc, config.threads())?;
-    let mut rooms = Vec::with_capacity(alloc, config.threads())?;
+    let mut looks = Vec::with_capacity(alloc, config.threads())?;
     for k in 0..config.threads() {
         let look = found(draw, config, book.board(), k, clock);
-        seen.push(book.judge(config, k, look))?;
-        rooms.push(draw.below(8) > 0)?;
+        let room = draw.below(8) > 0;
+        looks.push(FoundLook { look, room })?;
     }
-    Ok(Input {
-        now: clock,
-        bandwidth: draw.below(2000),
-        seen: SeenList::new(seen),
-        rooms: Rooms::new(rooms),
-    })
+    Ok(looks)
+}
+
+/// Takes in one look, and says whether it fits.
+fn take_in(came: &mut OpenPass, config: &Config, board: &Board, found: FoundLook) -> bool
+    requires { KeepsSets board.now.keeping }
+{
+    if came.count >= config.threads() || came.count >= MOST_THREADS {
+        return false;
+    }
+    came.pass_over(board, found) || came.look(config, board, found).is_ok()
+}
+
+/// Takes in the looks one by one, and says whether each of them fits.
+fn take_in_all(came: &mut OpenPass, config: &Config, board: &Board, looks: &[FoundLook]) -> bool
+    requires { KeepsSets board.now.keeping }
+{
+    came.begin();
+    for found in looks {
+        if !take_in(came, config, board, *found) {
+            return false;
+        }
+    }
+    true
+}
+
+/// Whether the book makes these actions of these looks, where they come in one by one.
+fn walks(
+    alloc: Global,
+    config: &Config,
+    book: &mut Book,
+    came: &mut OpenPass,
+    looks: &[FoundLook],
+    entry: &PassEntry,
+) -> Result<bool, Fail>
+    requires { IsBookOf config.now book.old }
+    ensures { IsBookOf config.now book.new }
+{
+    let fit = take_in_all(came, config, book.board(), looks);
+    if !fit || came.count != config.threads() {
+        return Ok(false);
+    }
+    let mut made = Actions::reserved(alloc)?;
+    book.pass(
+        config,
+        entry.input.now,
+        entry.input.bandwidth,
+        came,
+        &mut made,
+    );
+    Ok(made.as_slice() == entry.actions.as_slice())
 }
 
 /// The pass that the book makes on this input.
@@ -156,31 +205,93 @@ fn is_refused(config: &Config, before: &[PassEntry], input: &Input) -> bool {
     orderly(config, before) && !is_input(config, before, input)
 }
 
-/// Whether the book does in each pass of a drawn history what the plain pass does, and refuses what
-/// may not be given.
+/// Two books and a guard after the same passes.
+#[derive(Drop)]
+struct Together {
+    stepped: Book,
+    walked: Book,
+    came: Box<OpenPass>,
+    guard: Guard,
+    history: Vec<PassEntry>,
+}
+
+impl Together {
+    /// After no pass.
+    fn open(alloc: Global, config: &Config) -> Result<Together, Fail>
+        ensures stepped { IfOk result (λ all. IsBookOf config.now all.stepped) }
+        ensures walked { IfOk result (λ all. IsBookOf config.now all.walked) }
+        ensures guard { IfOk result (λ all. IsGuardOf config.now all.guard) }
+    {
+        Ok(Together {
+            stepped: Book::open(alloc, config)?,
+            walked: Book::open(alloc, config)?,
+            came: Box::new(alloc, OpenPass::new())?,
+            guard: Guard::open(alloc, config)?,
+            history: Vec::new(alloc),
+        })
+    }
+
+    /// Whether all do the same with these looks: the pass that the plain pass makes, or none.
+    fn agree(
+        &mut self,
+        alloc: Global,
+        config: &Config,
+        looks: &[FoundLook],
+        clock: u64,
+        bandwidth: u64,
+    ) -> Result<bool, Fail>
+        requires stepped { IsBookOf config.now self.old.stepped }
+        requires walked { IsBookOf config.now self.old.walked }
+        requires guard { IsGuardOf config.now self.old.guard }
+        ensures stepped { IsBookOf config.now self.new.stepped }
+        ensures walked { IsBookOf config.now self.new.walked }
+        ensures guard { IsGuardOf config.now self.new.guard }
+    {
+        if looks.len() != config.threads() {
+            return Ok(false);
+        }
+        let input = self.stepped.input(alloc, config, clock, bandwidth, looks)?;
+        if !self.stepped.fits(config, &input) {
+            let fit = take_in_all(&mut self.came, config, self.walked.board(), looks);
+            return Ok(!fit && is_refused(config, self.history.as_slice(), &input));
+        }
+        let entry = stepped(alloc, config, &mut self.stepped, input)?;
+        let alike = is_made(alloc, config, self.history.as_slice(), &entry)?
+            && walks(
+                alloc,
+                config,
+                &mut self.walked,
+                &mut self.came,
+                looks,
+                &entry,
+            )?
+            && self
+                .guard
+                .step(config, &entry.input, entry.actions.as_slice())
+                .is_ok();
+        self.history.push(entry)?;
+        Ok(alike)
+    }
+}
+
+/// Whether all do the same in each pass of a drawn history.
 fn are_alike(alloc: Global, config: &Config, seed: u64) -> Result<bool, Fail> {
     let mut draw = Draw { seed };
-    let mut book = Book::open(alloc, config)?;
-    let mut history = Vec::new(alloc);
+    let mut all = Together::open(alloc, config)?;
     for pass in 0..30u64 {
         let back = if draw.below(16) == 0 { 100 } else { 0 };
         let clock = (1000 + 20 * pass).saturating_sub(back);
-        let input = drawn_input(alloc, config, &book, &mut draw, clock)?;
-        if book.fits(config, &input) {
-            let entry = stepped(alloc, config, &mut book, input)?;
-            if !is_made(alloc, config, history.as_slice(), &entry)? {
-                return Ok(false);
-            }
-            history.push(entry)?;
-        } else if !is_refused(config, history.as_slice(), &input) {
+        let looks = drawn_looks(alloc, config, &all.stepped, &mut draw, clock)?;
+        let bandwidth = draw.below(2000);
+        if !all.agree(alloc, config, looks.as_slice(), clock, bandwidth)? {
             return Ok(false);
         }
     }
-    Ok(history.len() > 4)
+    Ok(all.history.len() > 4)
 }
 
 #[test]
-fn book_is_as_the_plain_pass(rt: HostRuntime) -> Result<(), Fail> {
+fn books_and_guard_are_as_the_plain_pass(rt: HostRuntime) -> Result<(), Fail> {
     let small = Config::read(rt.alloc(), SIXTEEN_THREADS.as_bytes())?;
     for seed in 0..980u64 {
         assert!(rt;
