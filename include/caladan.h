@@ -327,11 +327,13 @@ CALADAN_PLACE(caladan_thread_state, sent, 8);
 CALADAN_PLACE(caladan_thread_state, taken, 16);
 uint8_t caladan_thread(caladan *handle, size_t thread, caladan_thread_state *state);
 
-/* What the page of a thread must show once the thread is gone, as a look (with room): it has taken what
+/* What the page of a thread must show once the thread is gone, as a look without room: it has taken what
  * was sent, is on no core and has no request; misses and stamp are those that it showed last; its place is the
  * one after the last [told]. The host publishes it on the page, or gives the look itself to the next pass.
  * It fits, it is kept [told; law gone_is_kept], and that pass frees each core that the thread holds or
- * leaves [told; law gone_frees_its_cores]. LOST: no page can show it, because the thread has shown more
+ * leaves [told; law gone_frees_its_cores]. Give its thread a look without room in each later pass too, until
+ * its page has a successor: no pass sends a thread without room anything, so none grants it a core
+ * [law commands_go_where_is_room]; with room it may have a core again at once. LOST: no page can show it, because the thread has shown more
  * commands taken than were sent (only caladan_pass lets it), or a number is at its end [lost]. Of a thread
  * of the table DONE or LOST [there], else NO_SUCH [no_thread]; IS_CLOSED [closed]. Unless DONE *look is as
  * before [refused]. Nothing changes [same]; it is good for the next pass only. */
@@ -512,7 +514,8 @@ uint8_t caladan_guard_thread(caladan_guard *guard, size_t thread, caladan_thread
  * no_thread, closed, refused, same]. It fits and is kept [told; law permitted_gone_is_kept]. A guard frees
  * nothing itself: with this look the next pass is permitted that frees one core which the thread holds or
  * leaves (it has at most one [law threads_have_one_core]) and does nothing else
- * [told; law gone_may_be_freed]. */
+ * [told; law gone_may_be_freed]. While its looks have no room, no action that sends it a command is
+ * permitted [stopped; through]. */
 uint8_t caladan_guard_gone(caladan_guard *guard, size_t thread, caladan_look *look);
 
 /* Who has a core after the passes that went through, as caladan_holder says it [told, there, no_core,

@@ -242,7 +242,7 @@ static void try_guarded_gone(void) {
     handed is = hand(&guard, 101, looks, &freed, 1);
     CHECK(is.answer == CALADAN_NOT_PERMITTED && is.refused.why == CALADAN_WHY_NOT_LEFT);
     CHECK(caladan_guard_gone(&guard, LIAR, &gone) == CALADAN_DONE);
-    CHECK(!gone.busy && gone.room == 1 && gone.number == 6 && gone.taken == 1 && !gone.running && gone.misses == 7 && gone.stamp == 50 && !gone.queued);
+    CHECK(!gone.busy && gone.room == 0 && gone.number == 6 && gone.taken == 1 && !gone.running && gone.misses == 7 && gone.stamp == 50 && !gone.queued);
     looks[LIAR] = gone;
     is = hand(&guard, 101, looks, &freed, 1);
     CHECK(is.answer == CALADAN_DONE && is.judged[LIAR] == CALADAN_KEPT);
@@ -269,7 +269,7 @@ static void try_gone(void) {
     CHECK(caladan_room(state.sent, state.taken));
     CHECK(caladan_revoked(&handle, core, &thread) == CALADAN_NO_SUCH);
     CHECK(caladan_gone(&handle, LIAR, &gone) == CALADAN_DONE);
-    CHECK(!gone.busy && gone.number == 6 && gone.taken == 1 && !gone.running && gone.misses == 7 && gone.stamp == 50 && !gone.queued);
+    CHECK(!gone.busy && gone.room == 0 && gone.number == 6 && gone.taken == 1 && !gone.running && gone.misses == 7 && gone.stamp == 50 && !gone.queued);
     looks[LIAR] = gone;
     pass_each(&handle, 101, looks, &told);
     CHECK(told.answer == CALADAN_DONE && told.judged[LIAR] == CALADAN_KEPT);
@@ -280,6 +280,27 @@ static void try_gone(void) {
     pass_plain(&handle, 102, looks, &told);
     CHECK(told.answer == CALADAN_DONE && told.judged[LIAR] == CALADAN_AHEAD);
     CHECK(caladan_gone(&handle, LIAR, &gone) == CALADAN_LOST && gone.number == 6);
+    caladan_close(&handle);
+}
+
+/* A thread that is gone, while its sibling waits: its core is freed once, and in a hundred passes nothing is granted to it. */
+static void try_gone_beside_a_waiting_sibling(void) {
+    caladan handle = open_one();
+    caladan_look looks[THREADS], gone;
+    static passed told;
+    size_t freed = 0, granted = 0;
+    one_waits(looks);
+    pass_each(&handle, 100, looks, &told);
+    CHECK(grants_to(&told, LIAR) == 1 && caladan_gone(&handle, LIAR, &gone) == CALADAN_DONE);
+    looks[LIAR] = gone;
+    looks[0] = (caladan_look){.room = 1, .number = 1, .queued = 1, .oldest = 1, .stamp = 1};
+    for (uint64_t now = 101; now < 201; now++) {
+        pass_each(&handle, now, looks, &told);
+        CHECK(told.answer == CALADAN_DONE && told.judged[LIAR] == CALADAN_KEPT);
+        for (size_t i = 0; i < told.made; i++) freed += told.actions[i].kind == CALADAN_FREE;
+        granted += grants_to(&told, LIAR);
+    }
+    CHECK(freed == 1 && granted == 0);
     caladan_close(&handle);
 }
 
@@ -427,7 +448,7 @@ static void try_calls(void) {
     CHECK(caladan_thread(&handle, 3, &state) == CALADAN_DONE && state.task == 1 && state.sent == 0 && state.taken == 0);
     CHECK(caladan_gone(&closed, 0, &look) == CALADAN_IS_CLOSED && caladan_gone(&handle, THREADS, &look) == CALADAN_NO_SUCH);
     CHECK(caladan_gone(&handle, SIZE_MAX, &look) == CALADAN_NO_SUCH && look.number == 77);
-    CHECK(caladan_gone(&handle, 0, &look) == CALADAN_DONE && look.number == 1 && look.taken == 0 && look.room == 1);
+    CHECK(caladan_gone(&handle, 0, &look) == CALADAN_DONE && look.number == 1 && look.taken == 0 && look.room == 0);
     CHECK(caladan_revoked(&closed, 0, &thread) == CALADAN_IS_CLOSED && caladan_revoked(&handle, 9, &thread) == CALADAN_NO_SUCH && thread == 77);
     CHECK(!strcmp(caladan_answer_text(CALADAN_LOST), "no page can show that the thread is gone") && !strcmp(caladan_answer_text(200), "no answer"));
     CHECK(!strcmp(caladan_judgement_text(CALADAN_PLACE_FELL), "its place fell") && !strcmp(caladan_judgement_text(99), "no judgement"));
@@ -464,7 +485,7 @@ static void try_guard_calls(void) {
     CHECK(caladan_guard_thread(&guard, 3, &state) == CALADAN_DONE && state.task == 1 && state.sent == 0 && state.taken == 0);
     CHECK(caladan_guard_gone(&closed, 0, &look) == CALADAN_IS_CLOSED && caladan_guard_gone(&guard, THREADS, &look) == CALADAN_NO_SUCH);
     CHECK(caladan_guard_gone(&guard, SIZE_MAX, &look) == CALADAN_NO_SUCH && look.number == 77);
-    CHECK(caladan_guard_gone(&guard, 0, &look) == CALADAN_DONE && look.number == 1 && look.taken == 0 && look.room == 1);
+    CHECK(caladan_guard_gone(&guard, 0, &look) == CALADAN_DONE && look.number == 1 && look.taken == 0 && look.room == 0);
     CHECK(caladan_guard_revoked(&closed, 0, &thread) == CALADAN_IS_CLOSED && caladan_guard_revoked(&guard, 9, &thread) == CALADAN_NO_SUCH && thread == 77);
     CHECK(caladan_guard_close(&guard) == CALADAN_DONE && caladan_guard_close(&guard) == CALADAN_IS_CLOSED);
 }
@@ -479,6 +500,7 @@ int main(void) {
     }
     try_words();
     try_gone();
+    try_gone_beside_a_waiting_sibling();
     try_guarded_gone();
     for (int steps = 0; steps <= STEPS; steps++) {
         try_death(both, steps);

@@ -59,18 +59,19 @@ state_of table history thread = record {
   taken = (kept_by (looks_of history) thread).taken;
 }
 
--- a record and its place, as a look that C is told; there is room
+-- a record and its place, as a look that C is told; there is no room
 abbrev pub found_shown : Shown → Found
 found_shown shown = record {
   busy = 0;
-  room = 1;
+  room = 0;
   number = shown.number;
   second = 0;
   rec = shown.rec;
 }
 
 -- the look of a thread that is gone: a pass takes it as it is and keeps it, and every pass with it
--- frees each core that the thread holds or leaves
+-- frees each core that the thread holds or leaves. It has no room, and no pass grants a core to a
+-- thread whose ring has none (cal_laws: `commands_go_where_is_room`)
 pub record IsLookOfGone (table : Table) (history : List PassEntry) (k : ℕ)
     (look : Found) : Type 0 where
   pub is : look ≡ found_shown (shown_when_gone history k)

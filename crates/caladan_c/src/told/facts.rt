@@ -128,13 +128,14 @@ pub fn state_of_thread(config: &Config, board: &Board, thread: usize) -> Option<
     }
 }
 
-/// A record and its place, as C hands a look in; there is room.
+/// A record and its place, as C hands a look in; there is no room, so that nothing is granted to its
+/// thread.
 pub fn tell_shown(shown: Shown) -> Found
     ensures { result ≡ found_shown shown }
 {
     Found {
         busy: 0,
-        room: 1,
+        room: 0,
         number: shown.number,
         second: 0,
         rec: shown.rec,
