@@ -83,6 +83,13 @@ look_fits cores x k (Whole number rec) was is looked =
     let fit : IsFitShown (last_found was.looks) (shown_of (number, rec)) = follows was.looks (number, rec) (rw looked.looks at looked.found.1) in
     three (IsFitLook (last_found was.looks)) (nat_lt (sent_to x k) rec.taken) (is_foreign cores x k rec) number rec fit fit fit
 
+-- the next look of a thread, as judged, fits what it showed last
+pub next_fits : (table : Table) (history : List PassEntry) (k : ℕ) (look : Look) (was is : ObserverView) → was.looks ≡ looks_at history k → HasLooked was is look
+    → IsFitLook (last_shown (looks_of history) k) (judged table.cores (actions_of history) k look)
+next_fits table history k look was is same looked =
+    let last : last_found was.looks ≡ last_shown (looks_of history) k = ap last_found same ∙ found_last k history in
+    rw (← last) (look_fits table.cores (actions_of history) k look was is looked)
+
 -- the look of a judged one
 some_mapped : {X Y : Type 0} (f : X → Y) (o : Option X) (x : X) (y : Y) → o ≡ Some x → option_map f o ≡ Some y → f x ≡ y
 some_mapped f o x y is e = some_same (f x) y (sym (ap (option_map f) is) ∙ e)
@@ -98,9 +105,7 @@ found_is_input table history now bandwidth observers looked found pages same one
     rooms = length-map found (λ (one : FoundLook). one.room) ∙ one_each ∙ pages;
     fit = λ k seen e.
         let it = at_thread k seen e in
-        let fits = look_fits table.cores (actions_of history) k it.0.look it.2 it.3 (each k it.2 it.3 it.0 it.4 it.5 it.1) in
-        let last : last_found it.2.looks ≡ last_shown (looks_of history) k = ap last_found (looks k it.2 it.4) ∙ found_last k history in
-        rw (← it.6, ← last) fits;
+        rw (← it.6) (next_fits table history k it.0.look it.2 it.3 (looks k it.2 it.4) (each k it.2 it.3 it.0 it.4 it.5 it.1));
   };
   as_judged = λ k seen e.
       let it = at_thread k seen e in

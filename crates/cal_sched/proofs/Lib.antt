@@ -6,3 +6,4 @@ pub mod Fitting
 pub mod Sent
 pub mod Numbers
 pub mod Passed
+pub mod Past

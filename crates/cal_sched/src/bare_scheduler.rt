@@ -6,16 +6,21 @@ ghost use Rattle.cal_policy.specs.History.{actions_of, holder_of};
 ghost use Rattle.cal_machine.specs.TableTasks.{threads_of_table};
 ghost use Rattle.cal_policy.specs.declared.history.entry.TheConstants.{MOST_PASSES};
 ghost use Rattle.cal_sched.specs.declared.fault.PassFault.TheVariants.{HistoryFull};
+ghost use Rattle.cal_policy.specs.Book.{AgreesWith, IsBookOf};
 ghost use Rattle.cal_sched.specs.Passing.{IsPassed};
 ghost use Rattle.cal_sched.specs.Scheduler.{IsKept, HaveSeenNothing, HaveSentNothing};
 
 use crate::fault::PassFault;
 use crate::finding::find_each;
+use crate::found_pass::FoundPass;
+use crate::news::find_news;
 use crate::sending::send_commands;
 use cal_command::Sender;
 use cal_laws::{holders_are_of_their_last_run, threads_are_sent_one_command};
 use cal_machine::{Config, Past};
-use cal_policy::{Actions, Book, Holder, MOST_PASSES, OpenInput, PassEntry};
+use cal_policy::{
+    Actions, Book, Holder, MOST_PASSES, OpenInput, OpenPass, PassEntry, settled_is_no_news,
+};
 use cal_signal::Observer;
 use std::alloc::{AllocError, Global};
 use std::marker::Model;
@@ -26,15 +31,18 @@ use std::marker::Model;
 ///
 /// A contract sees the same as of a `Scheduler`: its table, its history, and its ends of the pages
 /// and rings, in thread order. Its history are the entries that its passes gave, in order, whatever
-/// became of them.
+/// became of them; a `step` adds the entry that a pass would have given.
 #[derive(Drop)]
 pub struct BareScheduler {
     alloc: Global,
     config: Config,
     book: Book,
-    past: Past<PassEntry>,
+    // what its passes were made of
+    past: Past<FoundPass>,
     // how many passes it has made
     passes: usize,
+    // what a step finds, in memory that each step uses again
+    looks: Box<OpenPass>,
     observers: Vec<Observer>,
     senders: Vec<Sender>,
 }
@@ -42,23 +50,25 @@ pub struct BareScheduler {
 impl Model for BareScheduler {
     ghost use Rattle.std.specs.Prelude.{◌≡◌, length};
     ghost use Rattle.cal_policy.specs.Book.{AgreesWith, IsBookOf};
+    ghost use Rattle.cal_sched.specs.Past.{history_of};
     ghost use Rattle.cal_sched.specs.Scheduler.{SchedulerView, IsKept};
 
     ghost Value = { SchedulerView };
 
     ghost view = { λ s. record {
       table = s.config;
-      history = s.past;
+      history = history_of s.config s.past;
       observers = s.observers.items;
       senders = s.senders.items;
     } };
 
     ghost invariant = { λ s. IsKept (record {
       table = s.config;
-      history = s.past;
+      history = history_of s.config s.past;
       observers = s.observers.items;
       senders = s.senders.items;
-    }) × AgreesWith s.book s.past × IsBookOf s.config s.book × (s.passes ≡ length s.past) };
+    }) × AgreesWith s.book (history_of s.config s.past) × IsBookOf s.config s.book
+        × (s.passes ≡ length (history_of s.config s.past)) };
 }
 
 /// What `Scheduler::new` or `BareScheduler::new` was given, where memory was refused.
@@ -81,6 +91,16 @@ pub struct BareEnd {
     pub observers: Vec<Observer>,
     /// Its senders, in thread order.
     pub senders: Vec<Sender>,
+}
+
+/// The book of no pass yet, and the memory of a step.
+fn take_memory(alloc: Global, config: &Config) -> Result<(Book, Box<OpenPass>), AllocError>
+    ensures agrees { IfOk result (λ taken. AgreesWith taken.0 []) }
+    ensures of { IfOk result (λ taken. IsBookOf config.now taken.0) }
+{
+    let book = Book::open(alloc, config)?;
+    let looks = Box::new(alloc, OpenPass::new())?;
+    Ok((book, looks))
 }
 
 impl BareScheduler {
@@ -107,13 +127,14 @@ impl BareScheduler {
             (refused.config ≡ config) × (refused.observers ≡ observers)
             × (refused.senders ≡ senders)) }
     {
-        match Book::open(alloc, &config) {
-            Ok(book) => Ok(BareScheduler {
+        match take_memory(alloc, &config) {
+            Ok((book, looks)) => Ok(BareScheduler {
                 alloc,
                 config,
                 book,
                 past: Past::none(),
                 passes: 0,
+                looks,
                 observers,
                 senders,
             }),
@@ -144,28 +165,87 @@ impl BareScheduler {
         if self.passes >= MOST_PASSES {
             return Err(PassFault::HistoryFull);
         }
-        let mut found = OpenInput::reserved(self.alloc, &self.config)?;
+        let mut input = OpenInput::reserved(self.alloc, &self.config)?;
         let mut actions = Actions::reserved(self.alloc)?;
+        let mut found = Past::none();
         find_each(
             &self.config,
             self.book.board(),
             self.observers.as_mut_slice(),
             self.senders.as_mut_slice(),
             &mut found,
+            &mut input,
         );
-        let input = found.finish(now, bandwidth);
+        let input = input.finish(now, bandwidth);
         self.book.step(&self.config, &input, &mut actions);
         let actions = actions.list();
-        let entry = PassEntry { input, actions };
+        let pass = FoundPass {
+            clock: now,
+            bandwidth,
+            found,
+        };
         send_commands(
             &self.config,
             &self.book,
             &self.past,
-            &entry,
+            &pass,
+            actions.as_slice(),
             self.senders.as_mut_slice(),
         );
+        self.past.note(&pass);
         self.passes += 1;
-        Ok(self.past.add(entry))
+        Ok(PassEntry { input, actions })
+    }
+
+    /// One pass, at this clock (in ticks) and bandwidth figure (in the unit of the table's limit),
+    /// as `pass` makes it, but with no entry: it puts the actions of the pass, and no others, into
+    /// `out`. It takes no memory, and waits for nobody.
+    ///
+    /// `HistoryFull` where it has made 1,048,576 passes, and for no other reason. Then nothing was
+    /// read and nothing has changed.
+    pub fn step(&mut self, now: u64, bandwidth: u64, out: &mut Actions) -> Result<(), PassFault>
+        ensures passed { IfOk result (λ _. IsPassed now bandwidth self.old self.new) }
+        ensures acted { IfOk result (λ _. (entry : PassEntry)
+            × (self.new.history ≡ self.old.history ++ entry ∷ []) × (out.new ≡ entry.actions)) }
+        ensures kept { IsKept self.new }
+        ensures full { (result ≡ Err HistoryFull) ↔ (MOST_PASSES ≤ length self.old.history) }
+        ensures refused { IfErr result (λ _. (self.new ≡ self.old) × (out.new ≡ out.old)) }
+        ensures only { IfErr result (λ fault. fault ≡ HistoryFull) }
+    {
+        if self.passes >= MOST_PASSES {
+            return Err(PassFault::HistoryFull);
+        }
+        self.config.limits();
+        settled_is_no_news();
+        self.looks.begin();
+        let mut found = Past::none();
+        find_news(
+            &self.config,
+            self.book.board(),
+            self.observers.as_mut_slice(),
+            self.senders.as_mut_slice(),
+            &mut found,
+            &mut self.looks,
+        );
+        out.clear();
+        self.book
+            .pass(&self.config, now, bandwidth, &self.looks, out);
+        let pass = FoundPass {
+            clock: now,
+            bandwidth,
+            found,
+        };
+        send_commands(
+            &self.config,
+            &self.book,
+            &self.past,
+            &pass,
+            out.as_slice(),
+            self.senders.as_mut_slice(),
+        );
+        self.past.note(&pass);
+        self.passes += 1;
+        Ok(())
     }
 
     /// How many passes it has made.

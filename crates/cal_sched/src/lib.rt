@@ -15,7 +15,9 @@
 mod bare_scheduler;
 mod fault;
 mod finding;
+mod found_pass;
 mod looking;
+mod news;
 mod scheduler;
 mod sending;
 mod watch;

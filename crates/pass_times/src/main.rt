@@ -1,19 +1,21 @@
 //! Times passes of the scheduler over pages and rings whose threads take what they are sent, work,
 //! yield and ask again, and beside each pass a bare reading of the same pages.
 //!
-//! Its words: passes, and the five rates of `Rates` in order. Its input: a task table. It prints
-//! nanoseconds a pass: of a bare reading, of a pass, of a pass in the first and in the last tenth;
-//! and how many records were published and actions made a pass. A pass that is refused ends it with
-//! an error: bench/measure_passes runs it, and nothing is promised of what it prints.
+//! Its words: `history` for a scheduler that keeps the entry of each pass, or `bare` for the steps
+//! of one that makes none; then passes, and the five rates of `Rates` in order. Its input: a task
+//! table. It prints nanoseconds a pass: of a bare reading, of a pass, of a pass in the first and in
+//! the last tenth; and how many records were published and actions made a pass. A pass that is
+//! refused ends it with an error: bench/measure_passes runs it, and nothing is promised of what it
+//! prints.
 #![tactic(auto)]
 
 mod load;
 mod random;
+mod timed;
 
 use anyhow::bail;
 use cal_machine::Config;
 use cal_run::{Worker, open_parts};
-use cal_sched::Scheduler;
 use cal_signal::Observer;
 use cal_trace::read_arrivals;
 use load::{Load, Rates};
@@ -21,6 +23,7 @@ use random::Random;
 use std::env;
 use std::io::{Read, Write};
 use std::time::Instant;
+use timed::Timed;
 
 /// What is added up over passes.
 #[derive(Clone, Copy)]
@@ -35,16 +38,16 @@ struct Sums {
 /// What is timed.
 #[derive(Drop)]
 struct Machine {
-    scheduler: Scheduler,
+    scheduler: Timed,
     observers: Vec<Observer>,
     loads: Vec<Load>,
     random: Random,
 }
 
 fn main(rt: HostRuntime) -> anyhow::Result<()> {
-    let words = given(&rt)?;
+    let (keeps, words) = given(&rt)?;
     let [passes, turns, yields, asks, begins, waits] = &words[..] else {
-        bail!("its words are six numbers");
+        bail!("its words are `history` or `bare`, and six numbers");
     };
     let rates = Rates {
         turns: *turns,
@@ -54,7 +57,7 @@ fn main(rt: HostRuntime) -> anyhow::Result<()> {
         waits: *waits,
     };
     let passes = *passes;
-    let mut machine = open(&rt)?;
+    let mut machine = open(&rt, keeps)?;
     let tenth = passes / 10;
     let first = machine.pass_often(&rt, 0, tenth, rates)?;
     let middle = machine.pass_often(&rt, tenth, passes.saturating_sub(tenth), rates)?;
@@ -73,13 +76,20 @@ fn main(rt: HostRuntime) -> anyhow::Result<()> {
     Ok(())
 }
 
-/// The words after the program's name, as numbers.
-fn given(rt: &HostRuntime) -> anyhow::Result<Vec<u64>> {
+/// Whether the first word after the program's name is `history`, where `bare` is the other one, and
+/// the words after it, as numbers.
+fn given(rt: &HostRuntime) -> anyhow::Result<(bool, Vec<u64>)> {
+    let mut words = env::args(rt)?.skip(1);
+    let keeps = match words.next() {
+        Some(word) if word.as_str() == "history" => true,
+        Some(word) if word.as_str() == "bare" => false,
+        _ => bail!("its first word is `history` or `bare`"),
+    };
     let mut numbers = Vec::new(rt.alloc());
-    for word in env::args(rt)?.skip(1) {
+    for word in words {
         numbers.push(word.parse()?)?;
     }
-    Ok(numbers)
+    Ok((keeps, numbers))
 }
 
 fn each(sum: u128, count: u64) -> u128 {
@@ -110,7 +120,7 @@ impl Sums {
 
 /// A scheduler over the table on the standard input, a second observer of each page, and what
 /// stands for each kernel thread.
-fn open(rt: &HostRuntime) -> anyhow::Result<Machine> {
+fn open(rt: &HostRuntime, keeps: bool) -> anyhow::Result<Machine> {
     let mut text = Vec::new(rt.alloc());
     rt.stdin().read_to_end(&mut text)?;
     let config = Config::read(rt.alloc(), text.as_slice())?;
@@ -118,7 +128,7 @@ fn open(rt: &HostRuntime) -> anyhow::Result<Machine> {
     let parts = open_parts(rt.alloc(), &config, &arrivals)?;
     let (observers, _) = parts.watch.end();
     Ok(Machine {
-        scheduler: parts.scheduler,
+        scheduler: Timed::of(rt.alloc(), parts.scheduler, keeps)?,
         observers,
         loads: loads_of(rt, parts.workers)?,
         random: Random::new(),
@@ -151,7 +161,7 @@ impl Machine {
             let now = p.saturating_mul(10).saturating_add(1000);
             let published = self.turn_each(now, rates);
             let begun = Instant::now(rt)?;
-            self.scheduler.pass(now.saturating_add(5), 0)?;
+            self.scheduler.pass(now.saturating_add(5))?;
             let passed = Instant::now(rt)?;
             self.read_each();
             let read = Instant::now(rt)?;
@@ -160,18 +170,10 @@ impl Machine {
                 reading: read.duration_since(passed).as_nanos(),
                 passing: passed.duration_since(begun).as_nanos(),
                 published,
-                actions: self.last_actions(),
+                actions: self.scheduler.last_actions(),
             });
         }
         Ok(sums)
-    }
-
-    /// How many actions the last pass made.
-    fn last_actions(&self) -> u64 {
-        match self.scheduler.history().last() {
-            Some(entry) => entry.actions.as_slice().len() as u64,
-            None => 0,
-        }
     }
 
     /// Some of the threads have a turn. How many of them published a record.

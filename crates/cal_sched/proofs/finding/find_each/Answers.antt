@@ -15,7 +15,8 @@ pub loop-k-init : goal.loop-k-init
 loop-k-init c = record {
   threads = refl;
   count = ap length c.requires.empty;
-  found = ([], record { pages = Below-none Looks c.args.observers.now; rings = Below-none Asks c.args.senders.now }, λ h agrees. c.requires.none h);
+  found = rw c.requires.nothing (record { pages = Below-none Looks c.args.observers.now; rings = Below-none Asks c.args.senders.now });
+  judged = λ h agrees. rw c.requires.nothing (c.requires.none h);
 }
 
 pub loop-k-preserved : goal.loop-k-preserved
@@ -25,8 +26,8 @@ loop-k-preserved c =
     let lt : k < c.threads-k-end.result = c.loop-k-test.true in
     let pages : length c.args.observers.now ≡ threads_of_table c.args.config.now = c.requires.pages in
     let rings : length c.args.senders.now ≡ threads_of_table c.args.config.now = c.requires.rings in
-    let found = c.loop-k.invariant.found.0 in
-    let below : FoundBelow k c.args.observers.now c.loop-k.observers c.args.senders.now c.loop-k.senders found = c.loop-k.invariant.found.1 in
+    let found = c.loop-k.found in
+    let below : FoundBelow k c.args.observers.now c.loop-k.observers c.args.senders.now c.loop-k.senders found = c.loop-k.invariant.found in
     let many_pages : length c.loop-k.observers ≡ length c.args.observers.now = below.pages.same_many in
     let many_rings : length c.loop-k.senders ≡ length c.args.senders.now = below.rings.same_many in
     let low_page : k < length c.loop-k.observers = omega arith in
@@ -47,17 +48,15 @@ loop-k-preserved c =
       kept = c.room-room.ensures.kept;
       known = c.room-room.ensures.known;
     }) in
+    let added : c.note.new.self ≡ found ++ one ∷ [] = c.note.ensures in
     record {
       threads = c.look.ensures.threads ∙ c.loop-k.invariant.threads;
       count = c.look.ensures.one ∙ ap (λ n. n + 1) c.loop-k.invariant.count;
-      found = (
-        found ++ one ∷ [],
-        record {
-          pages = Below-more Looks k c.args.observers.now c.loop-k.observers found c.observe-look.new.self one (omega arith) below.pages (λ w e. rw (some_same w was (sym e ∙ at)) looked);
-          rings = Below-more Asks k c.args.senders.now c.loop-k.senders found c.room-room.new.self one (omega arith) below.rings (λ w e. rw (some_same w had (sym e ∙ on)) asked);
-        },
-        λ h agrees. c.look.ensures.found h found agrees (c.loop-k.invariant.found.2 h agrees),
-      );
+      found = rw added (record {
+        pages = Below-more Looks k c.args.observers.now c.loop-k.observers found c.observe-look.new.self one (omega arith) below.pages (λ w e. rw (some_same w was (sym e ∙ at)) looked);
+        rings = Below-more Asks k c.args.senders.now c.loop-k.senders found c.room-room.new.self one (omega arith) below.rings (λ w e. rw (some_same w had (sym e ∙ on)) asked);
+      });
+      judged = λ h agrees. rw added (c.look.ensures.found h found agrees (c.loop-k.invariant.judged h agrees));
     }
 
 pub returns : goal.returns
@@ -70,13 +69,10 @@ returns c =
     let of : c.args.input.now.threads ≡ threads_of_table c.args.config.now = c.requires.threads in
     let same : c.loop-k.input.threads ≡ c.args.input.now.threads = c.loop-k.invariant.threads in
     let count : length c.loop-k.input.seen ≡ k = c.loop-k.invariant.count in
-    let found = c.loop-k.invariant.found.0 in
+    let found = c.loop-k.found in
     record {
       threads = same;
       full = omega arith;
-      found = (
-        found,
-        FoundBelow-all k c.args.observers.now c.loop-k.observers c.args.senders.now c.loop-k.senders found (omega arith) c.loop-k.invariant.found.1,
-        c.loop-k.invariant.found.2,
-      );
+      found = FoundBelow-all k c.args.observers.now c.loop-k.observers c.args.senders.now c.loop-k.senders found (omega arith) c.loop-k.invariant.found;
+      judged = c.loop-k.invariant.judged;
     }

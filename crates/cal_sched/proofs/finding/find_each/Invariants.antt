@@ -1,5 +1,4 @@
 use Rattle.std.proofs.Common.{◌≡◌, List, length}
-use Rattle.cal_policy.specs.declared.judgement.open_input.FoundLook.{FoundLook}
 use Rattle.cal_policy.specs.declared.history.entry.PassEntry.{PassEntry}
 use Rattle.cal_policy.specs.Board.{IsStateAfter}
 use Rattle.cal_policy.specs.Judgement.OpenInput.{IsOfFound}
@@ -10,7 +9,6 @@ abbrev pub invariant-loop-k : goal.invariant-loop-k
 invariant-loop-k l = record {
   threads : l.input.threads ≡ l.initial.input.threads;
   count : length l.input.seen ≡ l.k;
-  found : (found : List FoundLook)
-      × FoundBelow l.k l.initial.observers l.observers l.initial.senders l.senders found
-      × ((h : List PassEntry) → IsStateAfter l.board h → IsOfFound l.config h found l.input);
+  found : FoundBelow l.k l.initial.observers l.observers l.initial.senders l.senders l.found;
+  judged : (h : List PassEntry) → IsStateAfter l.board h → IsOfFound l.config h l.found l.input;
 }

@@ -1,5 +1,6 @@
 use Rattle.std.proofs.Common.{◌≡◌, ◌<◌, ap, ◌∙◌, arith}
 use Rattle.cal_policy.specs.History.{actions_of, holder_of}
+use Rattle.cal_sched.specs.Past.{history_of}
 use Rattle.cal_sched.specs.Scheduler.{SchedulerView}
 use Rattle.cal_sched.proofs.Numbers.{holder_kept}
 use Rattle.cal_sched.proofs.bare_scheduler.BareScheduler.holder.Goals as goal
@@ -8,7 +9,7 @@ pub returns : goal.returns
 returns c =
     let s : SchedulerView = record {
       table = c.self.inside.config;
-      history = c.self.inside.past;
+      history = history_of c.self.inside.config c.self.inside.past;
       observers = c.self.inside.observers.items;
       senders = c.self.inside.senders.items;
     } in

@@ -9,78 +9,91 @@ use Rattle.cal_policy.specs.Judgement.OpenInput.{judged_input}
 use Rattle.cal_policy.specs.Judgement.Judging.{IsInput}
 use Rattle.cal_policy.specs.Pass.{pass_of}
 use Rattle.cal_policy.specs.Setting.{setting}
-use Rattle.cal_sched.specs.Passing.{HaveFound, HaveSent, IsPassed, pass_on}
+use Rattle.cal_sched.specs.declared.found_pass.FoundPass.{FoundPass}
+use Rattle.cal_sched.specs.Passing.{HaveFound, HaveSent, IsPassed}
+use Rattle.cal_sched.specs.Past.{entry_of, history_of}
 use Rattle.cal_sched.specs.Scheduler.{SchedulerView, IsKept}
 use Rattle.cal_sched.proofs.Lists.{written_whole}
 use Rattle.cal_sched.proofs.Passed.{is_input, pass_made, may_send, kept_after}
+use Rattle.cal_sched.proofs.Past.{history_push}
 use Rattle.cal_sched.proofs.bare_scheduler.BareScheduler.pass.Goals as goal
-use Rattle.cal_sched.proofs.bare_scheduler.BareScheduler.pass.Goals.{After-as_mut_slice-3, After-add}
+use Rattle.cal_sched.proofs.bare_scheduler.BareScheduler.pass.Goals.{After-as_mut_slice-3, After-drop-pass}
 
 -- the scheduler as the pass begins
 abbrev start : After-as_mut_slice-3 → SchedulerView
 start c = record {
   table = c.self.inside.config;
-  history = c.self.inside.past;
+  history = history_of c.self.inside.config c.self.inside.past;
   observers = c.self.inside.observers.items;
   senders = c.self.inside.senders.items;
 }
 
--- its history with the pass
-abbrev after : After-as_mut_slice-3 → List PassEntry
-after c =
-    let s = start c in
-    s.history ++ pass_on s.table s.history (judged_input s.table s.history c.args.now c.args.bandwidth c.find_each.ensures.found.0) ∷ []
+-- what the pass is made of
+abbrev made : After-as_mut_slice-3 → FoundPass
+made c = record { clock = c.args.now; bandwidth = c.args.bandwidth; found = c.find_each.new.found }
 
--- what was found, decided and entered, as the commands are to be sent
-record Entered (c : After-as_mut_slice-3) : Type 0 where
+-- the pass, and the history with it
+abbrev entry : After-as_mut_slice-3 → PassEntry
+entry c = entry_of (start c).table (start c).history (made c)
+
+abbrev after : After-as_mut_slice-3 → List PassEntry
+after c = (start c).history ++ entry c ∷ []
+
+-- what was found and decided, as the commands are to be sent
+record Decided (c : After-as_mut_slice-3) : Type 0 where
   kept : IsKept (start c)
-  finds : HaveFound (start c).observers c.find_each.new.observers (start c).senders c.find_each.new.senders c.find_each.ensures.found.0
-  whole : c.self.inside.past ++ record { input = c.finish-input.result; actions = c.list-actions.result } ∷ [] ≡ after c
+  finds : HaveFound (start c).observers c.find_each.new.observers (start c).senders c.find_each.new.senders c.find_each.new.found
+  same : c.finish-input.result ≡ judged_input (start c).table (start c).history c.args.now c.args.bandwidth c.find_each.new.found
+  acts : c.step.new.out ≡ (entry c).actions
   agreed : AgreesWith c.step.new.self (after c)
   rung : take c.self.inside.senders.len (c.find_each.new.senders ++ drop (length c.find_each.new.senders) c.self.inside.senders.items) ≡ c.find_each.new.senders
 
-entered : (c : After-as_mut_slice-3) → Entered c
-entered c =
+decided : (c : After-as_mut_slice-3) → Decided c
+decided c =
     let s : SchedulerView = start c in
     let kept : IsKept s = c.self.invariant.0 in
     let agrees : AgreesWith c.self.inside.book s.history = c.self.invariant.1 in
     let looked : List ObserverView = c.find_each.new.observers in
     let asked : List SenderView = c.find_each.new.senders in
-    let found = c.find_each.ensures.found.0 in
+    let found = c.find_each.new.found in
     let pages : c.as_mut_slice.result.now ≡ s.observers = c.as_mut_slice.ensures.value in
     let rings : c.as_mut_slice-2.result.now ≡ s.senders = c.as_mut_slice-2.ensures.value in
-    let finds : HaveFound s.observers looked s.senders asked found = rw (pages, rings) at c.find_each.ensures.found.1 in
+    let finds : HaveFound s.observers looked s.senders asked found = rw (pages, rings) at c.find_each.ensures.found in
     let input : Input = c.finish-input.result in
     let same : input ≡ judged_input s.table s.history c.args.now c.args.bandwidth found =
-    c.finish-input.ensures.judged s.table s.history found (c.find_each.ensures.found.2 s.history (c.board.ensures.agrees s.history agrees)) in
+    c.finish-input.ensures.judged s.table s.history found (c.find_each.ensures.judged s.history (c.board.ensures.agrees s.history agrees)) in
     let fits : IsInput s.table s.history input =
     subst (IsInput s.table s.history) (sym same) (is_input s c.args.now c.args.bandwidth looked asked found kept finds) in
     let acts : c.step.new.out ≡ pass_of (setting s.table s.history input) = c.step.ensures.acts s.history kept.legal agrees fits in
-    let with : List Action → List PassEntry → List PassEntry = λ actions h. let e : PassEntry = record { input = input; actions = actions } in h ++ e ∷ [] in
-    let whole : with c.list-actions.result s.history ≡ after c =
-    pass_made s c.args.now c.args.bandwidth looked asked found input c.step.new.out c.list-actions.result (with c.list-actions.result s.history) same acts c.list-actions.ensures refl in
+    let with : List Action → List PassEntry = λ actions. let e : PassEntry = record { input = input; actions = actions } in s.history ++ e ∷ [] in
+    let whole : with c.step.new.out ≡ after c =
+    pass_made s c.args.now c.args.bandwidth looked asked found input c.step.new.out c.step.new.out (with c.step.new.out) same acts refl refl in
     let ring_items = c.self.inside.senders in
     let many_rings : length asked ≡ length ring_items.items = finds.rings in
     record {
       kept = kept;
       finds = finds;
-      whole = whole;
-      agreed = subst (AgreesWith c.step.new.self) (ap (λ (l : List Action). with l s.history) (sym c.list-actions.ensures) ∙ whole) (c.step.ensures.agrees s.history kept.legal agrees fits);
+      same = same;
+      acts = acts ∙ ap (λ (i : Input). pass_of (setting s.table s.history i)) same;
+      agreed = subst (AgreesWith c.step.new.self) whole (c.step.ensures.agrees s.history kept.legal agrees fits);
       rung = written_whole ring_items.len asked ring_items.items ring_items.ok.0 many_rings;
     }
 
-pub send_commands-requires : goal.send_commands-requires
-send_commands-requires c =
-    let was = entered c in
-    rw (was.whole, c.as_mut_slice-3.ensures.value, was.rung)
-    (may_send (start c) c.args.now c.args.bandwidth c.find_each.new.observers c.find_each.new.senders c.find_each.ensures.found.0 c.step.new.self was.kept was.finds was.agreed)
+pub send_commands-requires-clause-may : goal.send_commands-requires-clause-may
+send_commands-requires-clause-may c =
+    let was = decided c in
+    rw (c.as_mut_slice-3.ensures.value, was.rung)
+    (may_send (start c) c.args.now c.args.bandwidth c.find_each.new.observers c.find_each.new.senders c.find_each.new.found c.step.new.self was.kept was.finds was.agreed)
+
+pub send_commands-requires-clause-made : goal.send_commands-requires-clause-made
+send_commands-requires-clause-made c = c.as_slice.ensures ∙ c.list-actions.ensures ∙ (decided c).acts
 
 -- the pass at the end, and as it began to send
-abbrev sending : After-add → After-as_mut_slice-3
+abbrev sending : After-drop-pass → After-as_mut_slice-3
 sending c = (goal.at.invariant_of-self c).After-as_mut_slice-3
 
 -- the scheduler as the pass ends
-abbrev end : After-add → SchedulerView
+abbrev end : After-drop-pass → SchedulerView
 end c =
     let looked : List ObserverView = c.find_each.new.observers in
     let asked : List SenderView = c.find_each.new.senders in
@@ -88,21 +101,21 @@ end c =
     let pages = c.self.inside.observers in
     let rings = c.self.inside.senders in record {
       table = c.self.inside.config;
-      history = c.add.new.self;
+      history = history_of c.self.inside.config c.note.new.self;
       observers = take pages.len (looked ++ drop (length looked) pages.items);
       senders = take rings.len (sent ++ drop (length sent) (take rings.len (asked ++ drop (length asked) rings.items)));
     }
 
 -- what was sent; the ends that looked and sent are those that are kept
-record Sent (c : After-add) : Type 0 where
-  was : Entered (sending c)
+record Sent (c : After-drop-pass) : Type 0 where
+  was : Decided (sending c)
   sends : HaveSent c.find_each.new.senders c.send_commands.new.senders (after (sending c))
-  history : c.add.new.self ≡ after (sending c)
+  history : history_of c.self.inside.config c.note.new.self ≡ after (sending c)
   ends : end c ≡ record { table = c.self.inside.config; history = after (sending c); observers = c.find_each.new.observers; senders = c.send_commands.new.senders }
 
-all_sent : (c : After-add) → Sent c
+all_sent : (c : After-drop-pass) → Sent c
 all_sent c =
-    let was = entered (sending c) in
+    let was = decided (sending c) in
     let looked : List ObserverView = c.find_each.new.observers in
     let asked : List SenderView = c.find_each.new.senders in
     let sent : List SenderView = c.send_commands.new.senders in
@@ -111,34 +124,36 @@ all_sent c =
     let many_pages : length looked ≡ length pages.items = was.finds.pages in
     let paged : take pages.len (looked ++ drop (length looked) pages.items) ≡ looked = written_whole pages.len looked pages.items pages.ok.0 many_pages in
     let given : c.as_mut_slice-3.result.now ≡ asked = c.as_mut_slice-3.ensures.value ∙ was.rung in
-    let history : c.add.new.self ≡ after (sending c) = c.add.ensures.added ∙ was.whole in
-    let sends : HaveSent asked sent (after (sending c)) = rw (given, was.whole) at c.send_commands.ensures in
+    let history : history_of c.self.inside.config c.note.new.self ≡ after (sending c) =
+    ap (history_of c.self.inside.config) c.note.ensures ∙ history_push c.self.inside.config c.self.inside.past (made (sending c)) in
+    let sends : HaveSent asked sent (after (sending c)) = rw given at c.send_commands.ensures in
     let many_sent : length sent ≡ length asked = sends.rings in
     let many_rings : length asked ≡ length rings.items = was.finds.rings in
     let rung : take rings.len (sent ++ drop (length sent) asked) ≡ sent = written_whole rings.len sent asked (rings.ok.0 ∙ sym many_rings) many_sent in
     record { was = was; sends = sends; history = history; ends = rw (history, paged, was.rung, rung) refl }
 
-kept : (c : After-add) → IsKept (end c)
+kept : (c : After-drop-pass) → IsKept (end c)
 kept c =
     let all = all_sent c in
     let s : SchedulerView = start (sending c) in
     let len : c.self.inside.passes ≡ length s.history = c.self.invariant.3 in
     let room = c.if-self-ge-MOST_PASSES.false in
     let few : length s.history < 1048576 = omega (arith, len, room) in
-    rw all.ends (kept_after s c.args.now c.args.bandwidth c.find_each.new.observers c.find_each.new.senders c.find_each.ensures.found.0 c.send_commands.new.senders all.was.kept few all.was.finds all.sends)
+    rw all.ends (kept_after s c.args.now c.args.bandwidth c.find_each.new.observers c.find_each.new.senders c.find_each.new.found c.send_commands.new.senders all.was.kept few all.was.finds all.sends)
 
 pub invariant_of-self : goal.invariant_of-self
 invariant_of-self c =
     let all = all_sent c in
-    let counted : c.self.inside.passes + 1 ≡ length c.add.new.self =
-    ap (λ n. n + 1) c.self.invariant.3 ∙ sym (length-append c.self.inside.past _) ∙ ap length (sym c.add.ensures.added) in
+    let s : SchedulerView = start (sending c) in
+    let counted : c.self.inside.passes + 1 ≡ length (history_of c.self.inside.config c.note.new.self) =
+    ap (λ n. n + 1) c.self.invariant.3 ∙ sym (length-append s.history (entry (sending c) ∷ [])) ∙ ap length (sym all.history) in
     (kept c, rw all.history all.was.agreed, c.step.ensures.of, counted)
 
 pub returns-clause-passed : goal.returns-clause-passed
 returns-clause-passed c =
     let all = all_sent c in
     let at_start : IsPassed c.args.now c.args.bandwidth (start (sending c)) (end c) = rw all.ends (record {
-      found = c.find_each.ensures.found.0;
+      found = c.find_each.new.found;
       asked = c.find_each.new.senders;
       finds = all.was.finds;
       history = refl;
@@ -146,6 +161,17 @@ returns-clause-passed c =
       table = refl;
     }) in
     subst (λ (before : SchedulerView). IsPassed c.args.now c.args.bandwidth before (end c)) c.self.view_is at_start
+
+-- the entry that is handed out is the last one of the history
+pub returns-clause-entered : goal.returns-clause-entered
+returns-clause-entered c =
+    let all = all_sent c in
+    let s : SchedulerView = start (sending c) in
+    let handed : c.list-actions.result ≡ (entry (sending c)).actions = c.list-actions.ensures ∙ all.was.acts in
+    let with : Input → List Action → List PassEntry = λ input actions. let e : PassEntry = record { input = input; actions = actions } in s.history ++ e ∷ [] in
+    let listed : after (sending c) ≡ with c.finish-input.result c.list-actions.result =
+    ap (λ (i : Input). with i (entry (sending c)).actions) (sym all.was.same) ∙ ap (with c.finish-input.result) (sym handed) in
+    all.history ∙ listed ∙ ap (λ (v : SchedulerView). let e : PassEntry = record { input = c.finish-input.result; actions = c.list-actions.result } in v.history ++ e ∷ []) c.self.view_is
 
 pub returns-clause-kept : goal.returns-clause-kept
 returns-clause-kept = kept

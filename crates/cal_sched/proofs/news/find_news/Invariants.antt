@@ -1,0 +1,15 @@
+use Rattle.std.proofs.Common.{◌≡◌, List}
+use Rattle.cal_policy.specs.declared.history.entry.PassEntry.{PassEntry}
+use Rattle.cal_policy.specs.Board.{IsStateAfter}
+use Rattle.cal_policy.specs.Judgement.OpenPass.{IsOpenAt}
+use Rattle.cal_policy.specs.Judgement.Settled.{SettledAreNoNews}
+use Rattle.cal_sched.specs.Finding.{HaveFoundSo}
+use Rattle.cal_sched.proofs.Found.{FoundBelow}
+use Rattle.cal_sched.proofs.news.find_news.Given as goal
+
+abbrev pub invariant-loop-k : goal.invariant-loop-k
+invariant-loop-k l = record {
+  count : l.pass.count ≡ l.k;
+  found : FoundBelow l.k l.initial.observers l.observers l.initial.senders l.senders l.found;
+  taken : (h : List PassEntry) → SettledAreNoNews l.config h → IsStateAfter l.board h → HaveFoundSo h l.initial.observers → IsOpenAt l.config h l.found l.pass;
+}

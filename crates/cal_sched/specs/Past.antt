@@ -1,0 +1,22 @@
+-- The history of a scheduler, from what each of its passes was made of.
+use Rattle.std.specs.Prelude.{List, [], ◌∷◌, ◌++◌}
+use Rattle.cal_machine.specs.Table.{Table}
+use Rattle.cal_policy.specs.declared.history.entry.PassEntry.{PassEntry}
+use Rattle.cal_policy.specs.Judgement.OpenInput.{judged_input}
+use Rattle.cal_sched.specs.declared.found_pass.FoundPass.{FoundPass}
+use Rattle.cal_sched.specs.Passing.{pass_on}
+
+-- the pass on what was found, at this clock and bandwidth figure, after these passes
+abbrev pub entry_of : Table → List PassEntry → FoundPass → PassEntry
+entry_of table before made = pass_on table before
+    (judged_input table before made.clock made.bandwidth made.found)
+
+-- these passes and then those that were made of this, one after the other
+abbrev pub history_after : Table → List PassEntry → List FoundPass → List PassEntry
+history_after table before [] = before
+history_after table before (made ∷ more) =
+    history_after table (before ++ entry_of table before made ∷ []) more
+
+-- the passes that were made of this, the first one first
+abbrev pub history_of : Table → List FoundPass → List PassEntry
+history_of table all = history_after table [] all
