@@ -106,7 +106,6 @@ impl Gate {
     /// takes memory only for more than `MOST_ACTIONS` actions.
     pub fn pass(
         &mut self,
-        alloc: Global,
         given: Given<'_>,
         judged: &mut [u8],
         told: &[Told],

@@ -20,7 +20,6 @@ use crate::told::Told;
 use crate::walk::take_each;
 use cal_guard::{Refused, permitted_settled_is_no_news};
 use cal_policy::open_pass_fits;
-use std::alloc::Global;
 
 impl Gate {
     /// Lets the next pass through with the actions that C chose, each look by itself: a look that
@@ -29,7 +28,6 @@ impl Gate {
     /// takes memory only for more than `MOST_ACTIONS` actions.
     pub fn pass_each(
         &mut self,
-        alloc: Global,
         given: Given<'_>,
         judged: &mut [u8],
         told: &[Told],
