@@ -123,9 +123,9 @@ pub fn step_both(
             twins_are_spare(config, passing, spare);
             Ok(())
         }
-        Err(refused) => {
+        Err(first) => {
             *spare = passing.duplicate();
-            Err(refused)
+            Err(first)
         }
     }
 }

@@ -11,9 +11,8 @@ use Rattle.cal_policy.specs.declared.history.entry.PassEntry.{PassEntry}
 use Rattle.cal_policy.specs.declared.judgement.look_fault.LookFault.{LookFault}
 use Rattle.cal_policy.specs.declared.judgement.open_input.FoundLook.{FoundLook}
 use Rattle.cal_policy.specs.Judgement.OneByOne.{fault_of, refused_look, taken_found, taken_looks}
-use Rattle.cal_policy.specs.Judgement.OpenInput.{IsOfFound, OpenView}
 use Rattle.caladan_c.specs.Found.{found_of, look_in}
-use Rattle.caladan_c.specs.OneByOne.{IsTakenOf, said_of, is_unfit, IsFirstUnfit}
+use Rattle.caladan_c.specs.OneByOne.{said_of, is_unfit, IsFirstUnfit}
 use Rattle.caladan_c.specs.declared.found.Found.{Found}
 
 numbered_more : {X : Type 0} (n : ℕ) (xs : List X) (x : X) → enumerate_from n (xs ++ x ∷ []) ≡ enumerate_from n xs ++ (n + length xs, x) ∷ []
@@ -29,35 +28,6 @@ taken_more cores h xs x =
     let zero : 0 + length xs ≡ length xs = omega arith in
     ap (λ es. map (taken_found cores h) es) (numbered_more 0 xs x) ∙ map-append (taken_found cores h) (enumerate_from 0 xs) ((0 + length xs, x) ∷ [])
     ∙ ap (λ k. map (taken_found cores h) (enumerate_from 0 xs) ++ taken_found cores h (k, x) ∷ []) zero
-
--- the look that was taken came in
-pub taken_next : (table : Table) (h : List PassEntry) (looks : List Found) (one : Found) (k : ℕ) (found f : FoundLook) (fault : Option LookFault) (new : OpenView) →
-    length looks ≡ k → found ≡ found_of one → fault ≡ fault_of table.cores h k found.look →
-    f.look ≡ (if is_some fault then refused_look else found.look) → f.room ≡ found.room →
-    IsOfFound table h (taken_looks table.cores h (map found_of looks) ++ f ∷ []) new →
-    IsOfFound table h (taken_looks table.cores h (map found_of (looks ++ one ∷ []))) new
-taken_next table h looks one k found f fault new count is why look room given =
-    let cores = table.cores in
-    let of_fault : f.look ≡ (if is_some (fault_of cores h k found.look) then refused_look else found.look) =
-    look ∙ ap (λ (o : Option LookFault). if is_some o then refused_look else found.look) why in
-    let whole : f ≡ taken_found cores h (k, found) = λ i. record { look = of_fault i; room = room i } in
-    let same : f ≡ taken_found cores h (k, found_of one) = whole ∙ ap (λ (g : FoundLook). taken_found cores h (k, g)) is in
-    let place : k ≡ length (map found_of looks) = sym count ∙ sym (length-map looks found_of) in
-    let more : taken_looks cores h (map found_of looks) ++ f ∷ [] ≡ taken_looks cores h (map found_of (looks ++ one ∷ [])) =
-    ap (λ (g : FoundLook). taken_looks cores h (map found_of looks) ++ g ∷ []) (same ∙ ap (λ m. taken_found cores h (m, found_of one)) place)
-    ∙ sym (taken_more cores h (map found_of looks) (found_of one))
-    ∙ ap (λ xs. taken_looks cores h xs) (sym (map-append found_of looks (one ∷ []))) in
-    subst (λ (xs : List FoundLook). IsOfFound table h xs new) more given
-
--- what is taken of the first k looks, and of the next one
-pub taken_to : (table : Table) (h : List PassEntry) (looks : List Found) (k : ℕ) (d : Found) (new : OpenView) → k < length looks →
-    (length (take k looks) ≡ k → IsTakenOf table h (take k looks ++ get_or looks k d ∷ []) new) → IsTakenOf table h (take (k + 1) looks) new
-taken_to table h looks k d new lt given =
-    subst (λ (xs : List Found). IsTakenOf table h xs new) (sym (take_more looks k d lt)) (given (length-take-le k looks (let le : k ≤ length looks = omega arith in le)))
-
--- all the looks
-pub taken_all : (table : Table) (h : List PassEntry) (looks : List Found) (k : ℕ) (new : OpenView) → length looks ≤ k → IsTakenOf table h (take k looks) new → IsTakenOf table h looks new
-taken_all table h looks k new le given = subst (λ (xs : List Found). IsTakenOf table h xs new) (take_all k looks le) given
 
 set_same : (xs : List ℕ) (k v : ℕ) → k < length xs → slice_get (set xs k v) k ≡ Some v
 set_same [] k v lt = absurd (omega (arith, lt))

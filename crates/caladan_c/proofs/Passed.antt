@@ -1,31 +1,18 @@
 -- What a pass makes of a scheduler.
 use Rattle.std.proofs.Common.{◌≡◌, ℕ, ◌+◌, ◌<◌, ◌≤◌, ◌++◌, ◌∷◌, [], List, length, map, take, get_or, refl, sym, ap, subst, ◌∙◌}
-use Rattle.std.proofs.lemmas.List.{map_more}
 use Rattle.cal_machine.proofs.Last.{slice_get-last}
 use Rattle.cal_machine.specs.Table.{Table, IsTable}
 use Rattle.cal_policy.specs.declared.book.Book.{Book}
-use Rattle.cal_policy.specs.declared.judgement.open_input.FoundLook.{FoundLook}
 use Rattle.cal_policy.specs.declared.history.action.Action.{Action}
 use Rattle.cal_policy.specs.declared.history.entry.PassEntry.{PassEntry}
 use Rattle.cal_policy.specs.declared.history.input.Input.{Input}
 use Rattle.cal_policy.specs.Book.{AgreesWith}
-use Rattle.cal_policy.specs.Judgement.OpenInput.{IsOfFound, OpenView}
 use Rattle.cal_policy.specs.Judgement.Judging.{IsInput}
 use Rattle.cal_policy.specs.Laws.{LegalIsShort, OnePassMoreIsLegal}
 use Rattle.cal_policy.specs.Pass.{pass_of, IsLegal, IsPass}
 use Rattle.cal_policy.specs.Setting.{setting}
-use Rattle.caladan_c.specs.declared.found.Found.{Found}
-use Rattle.caladan_c.specs.Found.{found_of}
 use Rattle.caladan_c.specs.Passing.{StandsAfter, IsPassed, passed}
 use Rattle.caladan_c.specs.Standing.{Standing}
-
--- the next look was taken
-pub found_taken : (table : Table) (h : List PassEntry) (looks : List Found) (k : ℕ) (d : Found) (f : FoundLook) (new : OpenView)
-    → k < length looks → f ≡ found_of (get_or looks k d) → IsOfFound table h (map found_of (take k looks) ++ f ∷ []) new
-    → IsOfFound table h (map found_of (take (k + 1) looks)) new
-found_taken table h looks k d f new lt is given =
-    subst (λ (xs : List FoundLook). IsOfFound table h xs new)
-    (ap (λ (g : FoundLook). map found_of (take k looks) ++ g ∷ []) is ∙ sym (map_more found_of looks k d lt)) given
 
 -- the pass was made on an input that it may be given
 pub passed_after : (s : Standing) (h : List PassEntry) (input given : Input) (acts : List Action) (book : Book)

@@ -14,7 +14,6 @@ use Rattle.cal_policy.specs.declared.history.input.Input.{Input}
 use Rattle.cal_policy.specs.History.{looks_of}
 use Rattle.cal_policy.specs.History.Looks.{last_shown}
 use Rattle.cal_policy.specs.Judgement.OneByOne.{misfit_of, fault_of, taken_input, taken_looks}
-use Rattle.cal_policy.specs.Judgement.OpenInput.{OpenView, IsOfFound}
 use Rattle.cal_policy.specs.Judgement.OpenPass.{IsOpenAt}
 use Rattle.cal_policy.specs.declared.judgement.open_pass.OpenPass.{OpenPass}
 use Rattle.caladan_c.specs.Found.{look_in, found_of}
@@ -30,11 +29,6 @@ input_of_each table history now bandwidth looks =
 abbrev pub input_given_each : Table → List PassEntry → Given → Input
 input_given_each table history given =
     input_of_each table history given.now given.bandwidth given.looks.now
-
--- an input while its looks come in is what is taken of these
-abbrev pub IsTakenOf : Table → List PassEntry → List Found → OpenView → Type 0
-IsTakenOf table history looks given =
-    IsOfFound table history (taken_looks table.cores history (map found_of looks)) given
 
 -- the looks that came in one by one are what is taken of these
 abbrev pub IsTakenAt : Table → List PassEntry → List Found → OpenPass → Type 0

@@ -19,18 +19,17 @@ ghost use Rattle.std.specs.Option.{is_some, IfSome};
 
 use crate::answer::Refusal;
 use crate::given::Given;
-use crate::input::{judge_looks, nothing, with_room};
 use crate::recorded::read_actions;
 use crate::told::Told;
 use crate::told::counts::{Counts, counts_of_task};
 use crate::told::holder::holder_on;
-use crate::told::judgement::tell_judgements;
-use cal_guard::{Guard, Refused};
+use crate::told::judgement::tell_looks;
+use crate::walk::take_looks;
+use cal_guard::{Guard, Refused, permitted_settled_is_no_news};
 use cal_machine::{Config, ConfigFault};
-use cal_policy::{Action, Holder, Input, MOST_ACTIONS};
+use cal_policy::{Action, Holder, MOST_ACTIONS, OpenPass, open_pass_fits};
 use std::alloc::Global;
 use std::marker::Model;
-use std::mem;
 
 /// A table, the guard of the passes so far, and memory that each pass uses again.
 #[derive(Drop)]
@@ -39,8 +38,8 @@ pub struct Gate {
     guard: Guard,
     /// The actions of the last pass that was given.
     chosen: Vec<Action>,
-    /// Its input.
-    used: Input,
+    /// Its looks, in whose place those of the next one come.
+    looks: Box<OpenPass>,
 }
 
 impl Model for Gate {
@@ -68,12 +67,12 @@ impl Gate {
         let config = Config::read(alloc, table)?;
         let guard = Guard::open(alloc, &config)?;
         let chosen = Vec::with_capacity(alloc, MOST_ACTIONS)?;
-        let used = with_room(alloc, config.threads())?;
+        let looks = Box::new(alloc, OpenPass::new())?;
         Ok(Gate {
             config,
             guard,
             chosen,
-            used,
+            looks,
         })
     }
 
@@ -107,7 +106,6 @@ impl Gate {
     /// takes memory only for more than `MOST_ACTIONS` actions.
     pub fn pass(
         &mut self,
-        alloc: Global,
         given: Given<'_>,
         judged: &mut [u8],
         told: &[Told],
@@ -133,17 +131,21 @@ impl Gate {
         ensures refused { OnErr result ((self.new ≡ self.old) × (judged.new ≡ judged.old)) }
     {
         read_actions(&mut self.chosen, told)?;
-        let used = mem::replace(&mut self.used, nothing(alloc));
-        let input = judge_looks(used, &self.config, self.guard.board(), given)?;
-        self.used = input;
-        if !self.guard.board().made_fits(&self.config, &self.used) {
-            return Err(Refusal::Unfit);
-        }
+        take_looks(
+            &mut self.looks,
+            &self.config,
+            self.guard.board(),
+            given.looks,
+        )?;
+        self.config.limits();
+        permitted_settled_is_no_news();
+        open_pass_fits();
         let chosen = self.chosen.as_slice();
-        if let Err(refused) = self.guard.step(&self.config, &self.used, chosen) {
+        let (config, now, bandwidth) = (&self.config, given.now, given.bandwidth);
+        if let Err(refused) = self.guard.pass(config, now, bandwidth, &self.looks, chosen) {
             return Ok(Some(refused));
         }
-        tell_judgements(self.used.seen.as_slice(), judged);
+        tell_looks(&self.looks, judged);
         Ok(None)
     }
 }

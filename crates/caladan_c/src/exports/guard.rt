@@ -70,7 +70,6 @@ impl Gate {
     /// did nothing.
     fn pass_told(
         &mut self,
-        alloc: Global,
         given: Given<'_>,
         judged: &mut [u8],
         actions: &[Told],
@@ -108,7 +107,7 @@ impl Gate {
         if judged.len() < threads {
             return Err(Refusal::NoRoom);
         }
-        self.pass(alloc, given, judged, actions)
+        self.pass(given, judged, actions)
     }
 }
 
@@ -165,7 +164,7 @@ pub extern "C" fn caladan_guard_pass(
                 bandwidth,
                 looks,
             };
-            let answer = kept.pass_told(alloc, given, judged, actions);
+            let answer = kept.pass_told(given, judged, actions);
             *handle = GateHandle::of(kept);
             match answer {
                 Ok(None) => 0,

@@ -14,13 +14,12 @@ use super::Gate;
 use crate::answer::Refusal;
 use crate::found::Found;
 use crate::given::Given;
-use crate::input::{first_unfit, nothing, take_looks};
+use crate::input::first_unfit;
 use crate::recorded::read_actions;
 use crate::told::Told;
-use cal_guard::Refused;
-use cal_policy::taken_input_fits;
-use std::alloc::Global;
-use std::mem;
+use crate::walk::take_each;
+use cal_guard::{Refused, permitted_settled_is_no_news};
+use cal_policy::open_pass_fits;
 
 impl Gate {
     /// Lets the next pass through with the actions that C chose, each look by itself: a look that
@@ -29,7 +28,6 @@ impl Gate {
     /// takes memory only for more than `MOST_ACTIONS` actions.
     pub fn pass_each(
         &mut self,
-        alloc: Global,
         given: Given<'_>,
         judged: &mut [u8],
         told: &[Told],
@@ -51,12 +49,19 @@ impl Gate {
         ensures refused { OnErr result ((self.new ≡ self.old) × (judged.new ≡ judged.old)) }
     {
         read_actions(&mut self.chosen, told)?;
-        let used = mem::replace(&mut self.used, nothing(alloc));
-        let input = take_looks(used, &self.config, self.guard.board(), given, judged)?;
-        self.used = input;
-        taken_input_fits();
+        self.config.limits();
+        permitted_settled_is_no_news();
+        open_pass_fits();
+        take_each(
+            &mut self.looks,
+            &self.config,
+            self.guard.board(),
+            given.looks,
+            judged,
+        );
         let chosen = self.chosen.as_slice();
-        if let Err(refused) = self.guard.step(&self.config, &self.used, chosen) {
+        let (config, now, bandwidth) = (&self.config, given.now, given.bandwidth);
+        if let Err(refused) = self.guard.pass(config, now, bandwidth, &self.looks, chosen) {
             return Ok(Some(refused));
         }
         Ok(None)

@@ -2,7 +2,7 @@
 
 ghost use Rattle.std.specs.Prelude.{◌≡◌, ◌<◌, ◌≤◌, ℕ, Some, length, slice_get};
 ghost use Rattle.cal_machine.specs.declared.numbering.TheConstants.{MOST_THREADS};
-ghost use Rattle.caladan_c.specs.Told.{judgement_of, judgement_at, AreJudgements};
+ghost use Rattle.caladan_c.specs.Told.{judgement_of, judgement_at};
 
 use cal_policy::{OpenPass, Seen};
 
@@ -15,17 +15,6 @@ pub fn judgement(seen: Seen) -> u8
         Seen::Busy { .. } => 2,
         Seen::Ahead { .. } => 3,
         Seen::Foreign { .. } => 4,
-    }
-}
-
-/// Writes what was judged of each look.
-pub fn tell_judgements(seen: &[Seen], out: &mut [u8])
-    requires { length seen.now ≤ length out.old }
-    ensures size { length out.new ≡ length out.old }
-    ensures told { AreJudgements seen.now out.new }
-{
-    for k in 0..seen.len() {
-        out[k] = judgement(seen[k]);
     }
 }
 

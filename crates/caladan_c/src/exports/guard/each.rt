@@ -27,7 +27,6 @@ impl Gate {
     /// permitted; or says why it did nothing.
     fn pass_each_told(
         &mut self,
-        alloc: Global,
         given: Given<'_>,
         judged: &mut [u8],
         actions: &[Told],
@@ -61,7 +60,7 @@ impl Gate {
         if judged.len() < threads {
             return Err(Refusal::NoRoom);
         }
-        self.pass_each(alloc, given, judged, actions)
+        self.pass_each(given, judged, actions)
     }
 }
 
@@ -115,7 +114,7 @@ pub extern "C" fn caladan_guard_pass_each(
                 bandwidth,
                 looks,
             };
-            let answer = kept.pass_each_told(alloc, given, judged, actions);
+            let answer = kept.pass_each_told(given, judged, actions);
             *handle = GateHandle::of(kept);
             match answer {
                 Ok(None) => 0,
