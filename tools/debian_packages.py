@@ -45,7 +45,8 @@ def compress(file, made):
 def tar(root, made, out):
     """The folder as a .tar.xz."""
     name = os.path.basename(root)
-    staged.tool("tar", "--sort=name", f"--mtime=@{made.epoch}", "--owner=0", "--group=0", "--numeric-owner", "--format=gnu",
+    staged.tool("tar", "--sort=name", f"--mtime=@{made.epoch}", "--owner=0", "--group=0", "--numeric-owner",
+                "--format=gnu",
                 "-C", os.path.dirname(root), "-cf", f"{out}/{name}.tar", name)
     return compress(f"{out}/{name}.tar", made)
 
@@ -58,7 +59,8 @@ def sources(made, out):
 
 
 def needs(files):
-    """The packages that these programs and libraries depend on, as ldd names their files, with the C library's version."""
+    """The packages that these programs and libraries depend on, as ldd names their files, with the C library's
+    version."""
     found, newest = set(), (0, 0)
     for file in files:
         for path in re.findall(r"(?:=> |^\s+)(/\S+) \(0x", staged.tool("ldd", file), re.M):
@@ -113,7 +115,8 @@ def md5sums(root):
         for file in (os.path.join(at, it) for it in files if not at.startswith(f"{root}/DEBIAN")):
             if not os.path.islink(file):
                 with open(file, "rb") as it:
-                    lines.append(f"{hashlib.md5(it.read(), usedforsecurity=False).hexdigest()}  {os.path.relpath(file, root)}\n")
+                    sum_of_it = hashlib.md5(it.read(), usedforsecurity=False).hexdigest()
+                    lines.append(f"{sum_of_it}  {os.path.relpath(file, root)}\n")
     return "".join(sorted(lines, key=lambda it: it[34:]))
 
 
@@ -130,6 +133,7 @@ def package(name, at, made, out):
     architecture = re.search(r"^Architecture: (\S+)$", text, re.M)[1]
     file = f"{name}_{made.version}_{architecture}.deb"
     env = {**os.environ, "SOURCE_DATE_EPOCH": str(made.epoch)}
-    words = ["dpkg-deb", "--root-owner-group", "--threads-max=1", "-Zxz", f"-z{made.pressed}", "--build", at.root, f"{out}/{file}"]
+    words = ["dpkg-deb", "--root-owner-group", "--threads-max=1", "-Zxz", f"-z{made.pressed}", "--build", at.root,
+             f"{out}/{file}"]
     subprocess.run(words, env=env, stdout=subprocess.DEVNULL, check=True)
     return file

@@ -1,8 +1,10 @@
-"""What `rt ci` proved of a tree: kept by the gate below out/proof, which is in no repository, and told by a release's PROOF.
+"""What `rt ci` proved of a tree: kept by the gate below out/proof, which is in no repository, and told by a release's
+PROOF.
 
-The log is kept with the sum of the tree, which anybody can take of a clean checkout or of the release's sources:
+The log is kept with the sum of the tree, which anybody can take of a clean checkout or of the release's sources, in
+their folder, without .git and out/:
 
-    find . -type f -printf '%P\\0' | LC_ALL=C sort -z | xargs -0 sha256sum | sha256sum      # in the sources, without .git and out/
+    find . -type f -printf '%P\\0' | LC_ALL=C sort -z | xargs -0 sha256sum | sha256sum
 
 and with the sums of the programs that it left. `read` refuses a log that did not pass or that is another tree's."""
 import collections
@@ -16,16 +18,17 @@ from crates import TOP, below, crates, files_of
 
 KEPT = os.environ.get("CALADAN_PROOF", f"{TOP}/out/proof")
 BUILT = {"caladan_sim": "caladan_sim", "caladan_view": "caladan_view", "caladan_c": "libcaladan_c.a"}
-# Of a crate: how many of its functions were proved (None where `rt ci` took it from an earlier run, and says no number), how many
-# wrong bodies of it were refused, and how many of these only by a limit of the prover, which gave no verdict.
+# Of a crate: how many of its functions were proved (None where `rt ci` took it from an earlier run, and says no
+# number), how many wrong bodies of it were refused, and how many of these only by a limit of the prover, which gave no
+# verdict.
 Proved = collections.namedtuple("Proved", "functions refused limited")
 
 PROOF = """\
 What was proved of Doranjei {version}
 =================================
 
-`make dist` made this page from what `rt ci` printed over this very tree, and from README.md and docs/PROMISES.md: no number, sum or
-promise in it was written by hand.
+`make dist` made this page from what `rt ci` printed over this very tree, and from README.md and docs/PROMISES.md: no
+number, sum or promise in it was written by hand.
 
 Version    {version}
 Commit     {commit}
@@ -34,19 +37,21 @@ Kit        {kit}
 Logic      {logic}
 rt ci      {said}
 
-To check it: in the folder of the sources (doranjei-VERSION-source.tar.xz, or a checkout of the commit without .git) the sum of the
-tree is what this prints:
+To check it: in the folder of the sources (doranjei-VERSION-source.tar.xz, or a checkout of the commit without .git)
+the sum of the tree is what this prints:
 
     find . -type f -printf '%P\\0' | LC_ALL=C sort -z | xargs -0 sha256sum | sha256sum
 
-and with that kit `make check` in a checkout of the commit proves everything from nothing; `make dist` then makes such a page of what was proved there.
+and with that kit `make check` in a checkout of the commit proves everything from nothing; `make dist` then makes such a
+page of what was proved there.
 
 
 Proved, crate by crate
 ----------------------
 
-Each function of each crate keeps its contract, is safe, and returns (but for those that run threads, which wait at their joins).
-A wrong body is a body with a mistake in it that the prover must refuse, and refused: docs/WRONG_BODIES.md of the sources has each.
+Each function of each crate keeps its contract, is safe, and returns (but for those that run threads, which wait at
+their joins). A wrong body is a body with a mistake in it that the prover must refuse, and refused: docs/WRONG_BODIES.md
+of the sources has each.
 
 {rows}
 
@@ -71,8 +76,8 @@ The proved programs and the C library, as they were built
 
 {built}
 
-`strip` took names of debugging out of them, and they are the programs and the archive below; libcaladan_c.so is that archive and
-its heap, linked. caladand, libcaladan_rt.a and the clients are C, Python and Rust that is not proved.
+`strip` took names of debugging out of them, and they are the programs and the archive below; libcaladan_c.so is that
+archive and its heap, linked. caladand, libcaladan_rt.a and the clients are C, Python and Rust that is not proved.
 
 
 All files of the release but this one, by the folder of the prefix and by package
@@ -144,8 +149,8 @@ def crate_sum(name, kit):
 
 
 def numbers(log, kit):
-    """How many functions of each crate were proved, by this log or, where `rt ci` took the crate from an earlier run, by the log that
-    was kept here before, if the crate and those below it are the same; with the sum that tells."""
+    """How many functions of each crate were proved, by this log or, where `rt ci` took the crate from an earlier run,
+    by the log that was kept here before, if the crate and those below it are the same; with the sum that tells."""
     try:
         earlier = facts()["functions"]
     except Refused:
@@ -172,7 +177,8 @@ def keep(log):
 
 
 def keep_archive(line):
-    """Keeps the sum of the C library that was built after `rt ci` passed, and the line that says how much of it was proved."""
+    """Keeps the sum of the C library that was built after `rt ci` passed, and the line that says how much of it was
+    proved."""
     kept = facts()
     if kept["tree"] != tree_sum():
         raise Refused("the tree is another than `rt ci` passed")
@@ -187,7 +193,8 @@ def functions_in(line):
 
 
 def numbers_in(log):
-    """Of each crate that a log calls proved or kept the number that stands under its heading, None where there is none."""
+    """Of each crate that a log calls proved or kept the number that stands under its heading, None where there is
+    none."""
     heading, under, found = None, {}, {}
     for line in log.splitlines():
         told = re.fullmatch(r"rt: (\w+) (?:proved|is kept: an earlier run .*)", line)
@@ -204,7 +211,8 @@ def proved_crates(log):
     """Of each crate what a log says; a log that names a crate neither proved nor kept is refused."""
     found = numbers_in(log)
     refused = collections.Counter(re.findall(r"^(?:rt: )?must-fail (\w+)/[^:]*: refused, as it must be", log, re.M))
-    limited = collections.Counter(re.findall(r"^(?:rt: )?must-fail (\w+)/[^:]*: refused, as it must be \(only by a limit", log, re.M))
+    by_limit = r"^(?:rt: )?must-fail (\w+)/[^:]*: refused, as it must be \(only by a limit"
+    limited = collections.Counter(re.findall(by_limit, log, re.M))
     lacking = [it for it in crates() if it not in found]
     if lacking:
         raise Refused(f"the log of `rt ci` does not say of {lacking[0]} that it is proved")
@@ -253,13 +261,14 @@ def rows_of(proved):
         number = "(kept)" if it.functions is None else str(it.functions)
         yield f"{name.ljust(wide)}  {number.rjust(16)}  {str(it.refused).rjust(20)}"
     known = [it.functions for it in proved.values() if it.functions is not None]
-    yield f"{'together'.ljust(wide)}  {str(sum(known)).rjust(16)}  {str(sum(it.refused for it in proved.values())).rjust(20)}"
+    refused = sum(it.refused for it in proved.values())
+    yield f"{'together'.ljust(wide)}  {str(sum(known)).rjust(16)}  {str(refused).rjust(20)}"
     limited = sum(it.limited for it in proved.values())
     if limited:
         yield f"\n{limited} of the wrong bodies were refused only by a limit of the prover, which gave no verdict."
     if len(known) < len(proved):
-        yield ("\n(kept): `rt ci` took this crate from an earlier run of it on the same machine, which had proved the same files over the\n"
-               "same libraries, and printed no number. The sum is of the others.")
+        yield ("\n(kept): `rt ci` took this crate from an earlier run of it on the same machine, which had proved the\n"
+               "same files over the same libraries, and printed no number. The sum is of the others.")
 
 
 def text(version, commit, kept, said, proved, lines):

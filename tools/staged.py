@@ -1,5 +1,5 @@
-"""The files of a release, put below the folder where they are installed: as of Debian, a folder for each package, or as of a
-prefix, one folder for all. tools/make_release calls it."""
+"""The files of a release, put below the folder where they are installed: as of Debian, a folder for each package, or as
+of a prefix, one folder for all. tools/make_release calls it."""
 import collections
 import functools
 import glob
@@ -14,16 +14,18 @@ from crates import TOP, below, crates, kit, text_of
 
 # Where things go below a folder: Debian's places, or those of a prefix. `up` leads from lib to include.
 Layout = collections.namedtuple("Layout", "root prefix lib zsh unit up")
-# What a release is made from: the version that its files say, the time of all of them, the programs and the archive (None where it
-# is not there), the heap, a folder to build in, and how hard it is pressed, 0 to 9.
+# What a release is made from: the version that its files say, the time of all of them, the programs and the archive
+# (None where it is not there), the heap, a folder to build in, and how hard it is pressed, 0 to 9.
 Made = collections.namedtuple("Made", "version epoch programs archive heap folder pressed")
-PAGES = ["README.md", "CHANGELOG.md", "SECURITY.md", "docs/FORMATS.md", "docs/POLICY.md", "docs/MODEL.md", "docs/PROMISES.md"]
+PAGES = ["README.md", "CHANGELOG.md", "SECURITY.md", "docs/FORMATS.md", "docs/POLICY.md", "docs/MODEL.md",
+         "docs/PROMISES.md"]
 HEADERS = ["caladan.h", "caladan_history.h", "caladan_pages.h"]
 SONAME = "libcaladan_c.so"
 
 
 def debian(root, triplet):
-    return Layout(root, "usr", f"usr/lib/{triplet}", "usr/share/zsh/vendor-completions", "lib/systemd/system", "../../include")
+    return Layout(root, "usr", f"usr/lib/{triplet}", "usr/share/zsh/vendor-completions", "lib/systemd/system",
+                  "../../include")
 
 
 def flat(root):
@@ -75,7 +77,8 @@ def compressed(at):
 
 
 def programs(at, made):
-    """caladan_sim and caladan_view, stripped, with their manual pages and completions, the pages of docs/ and the examples."""
+    """caladan_sim and caladan_view, stripped, with their manual pages and completions, the pages of docs/ and the
+    examples."""
     man = os.path.normpath(f"{at.root}/{at.prefix}/share")
     for name in ("caladan_sim", "caladan_view"):
         program = write(at, f"{at.prefix}/bin/{name}", None, 0o755, made.programs[name])
@@ -98,7 +101,8 @@ def shared_object(at, made, archive, heap):
     with open(names, "w", encoding="utf-8") as it:
         it.write("{ global: caladan_*; local: *; };\n")
     so = f"{at.root}/{at.lib}/{SONAME}.{number}"
-    tool(os.environ.get("CC", "cc"), "-shared", "-o", so, f"-Wl,--version-script={names},-soname,{SONAME}.{number},-z,relro,-z,now",
+    tool(os.environ.get("CC", "cc"), "-shared", "-o", so,
+         f"-Wl,--version-script={names},-soname,{SONAME}.{number},-z,relro,-z,now",
          "-Wl,--whole-archive", archive, "-Wl,--no-whole-archive", heap)
     tool("strip", "--strip-unneeded", so)
     os.chmod(so, 0o644)
@@ -106,7 +110,8 @@ def shared_object(at, made, archive, heap):
 
 
 def library(at, made):
-    """The C library: the archive with its heap, the shared object, headers, pkg-config, CMake, and the clients as sources."""
+    """The C library: the archive with its heap, the shared object, headers, pkg-config, CMake, and the clients as
+    sources."""
     archive = write(at, f"{at.lib}/libcaladan_c.a", None, 0o644, made.archive)
     heap = write(at, f"{at.lib}/liblibc_c.a", None, 0o644, made.heap)
     shared_object(at, made, archive, heap)
@@ -115,7 +120,8 @@ def library(at, made):
     for it in HEADERS:
         put(at, f"{at.prefix}/include", f"{TOP}/include/{it}")
     write(at, f"{at.lib}/pkgconfig/caladan.pc", pkg_config(
-        at, "caladan", "The decisions of a core scheduler, proved", made.version, "${libdir}/libcaladan_c.a ${libdir}/liblibc_c.a"))
+        at, "caladan", "The decisions of a core scheduler, proved", made.version,
+        "${libdir}/libcaladan_c.a ${libdir}/liblibc_c.a"))
     for it in ("caladan-config.cmake", "caladan-config-version.cmake"):
         text = text_of(f"{TOP}/packaging/cmake/{it}").replace("@INCLUDE@", at.up)
         write(at, f"{at.lib}/cmake/caladan/{it}", text.replace("@VERSION@", made.version.partition("~")[0]))
@@ -129,7 +135,8 @@ def library(at, made):
 def pkg_config(at, name, about, version, libs):
     """A file for pkg-config that goes by where it lies itself, so that a prefix can be moved."""
     number = version.partition("~")[0]
-    return (f"libdir=${{pcfiledir}}/..\nincludedir=${{libdir}}/{at.up}\nName: {name}\nDescription: {about}\nVersion: {number}\n"
+    return (f"libdir=${{pcfiledir}}/..\nincludedir=${{libdir}}/{at.up}\n"
+            f"Name: {name}\nDescription: {about}\nVersion: {number}\n"
             f"Cflags: -I${{includedir}}\nLibs: {libs}\n")
 
 
@@ -143,7 +150,8 @@ def host_folder(at):
 def unit_text(at):
     """The unit, which starts the caladand that is installed with it."""
     text = text_of(f"{TOP}/host/caladand.service")
-    return re.sub(r"^(ExecStart=)\S*/caladand\b", rf"\1/usr/{os.path.basename(host_folder(at))}/caladand", text, flags=re.M)
+    there = f"/usr/{os.path.basename(host_folder(at))}/caladand"
+    return re.sub(r"^(ExecStart=)\S*/caladand\b", rf"\1{there}", text, flags=re.M)
 
 
 def runtime_sources(out):
@@ -153,7 +161,8 @@ def runtime_sources(out):
 
 
 def host(at, made):
-    """The host: its scheduler, stripped, the library by which processes attach, a manual page and a unit where host/ has them."""
+    """The host: its scheduler, stripped, the library by which processes attach, a manual page and a unit where host/
+    has them."""
     out = f"{made.folder}/host"
     given = [f"OUT={out}", "CFLAGS=-O2", f"ARCHIVE={made.archive}", f"CALADAN_HEAP={made.heap}"]
     tool("make", "-s", "-C", f"{TOP}/host", *given, f"{out}/caladand")
@@ -167,7 +176,8 @@ def host(at, made):
     tool("ar", "rcsD", archive, *objects)
     put(at, f"{at.prefix}/include", f"{TOP}/host/caladan_rt.h")
     write(at, f"{at.lib}/pkgconfig/caladan-rt.pc", pkg_config(
-        at, "caladan-rt", "The runtime of processes that caladand schedules", made.version, "${libdir}/libcaladan_rt.a -pthread"))
+        at, "caladan-rt", "The runtime of processes that caladand schedules", made.version,
+        "${libdir}/libcaladan_rt.a -pthread"))
     if os.path.isfile(f"{TOP}/host/caladand.8"):
         put(at, share(at, "man/man8"), f"{TOP}/host/caladand.8")
     if os.path.isfile(f"{TOP}/host/caladand.service"):
@@ -185,7 +195,8 @@ def kit_licences(*names):
         for it in [*below(name, uses, []), name]:
             wanted += [lib for lib in uses[it] if lib not in uses and lib not in wanted]
     for it in wanted:
-        wanted += [lib for lib in re.findall(r"^dep (\w+)$", text_of(f"{at}/rlibs/{it}.rlib/format"), re.M) if lib not in wanted]
+        uses = re.findall(r"^dep (\w+)$", text_of(f"{at}/rlibs/{it}.rlib/format"), re.M)
+        wanted += [lib for lib in uses if lib not in wanted]
     texts, without = collections.defaultdict(list), []
     for it in sorted(wanted):
         files = sorted(glob.glob(f"{at}/rattle/{it}/LICENSE*"))
