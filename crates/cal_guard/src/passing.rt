@@ -143,7 +143,7 @@ fn wrong_to_make(
         result ≡ refusals.wrong_to_make s acts action }
 {
     match action {
-        Action::Free { core } => unless(is_left(config, input, board, core), Why::NotLeft),
+        Action::Free { core } => unless(is_left(board, core), Why::NotLeft),
         Action::Revoke { core, .. } => wrong_to_revoke(config, input, board, sent, core),
         Action::Grant { core, thread, .. } => {
             wrong_to_grant(config, input, board, sent, core, thread)

@@ -1,4 +1,6 @@
 -- Bans, in words of their own.
 pub mod BanDue
+pub mod BansMade
+pub mod NoneDue
 pub mod Emptied
 pub mod ShownBans

@@ -32,10 +32,9 @@ MayBeEmpty s x holders.Free = Unit {0}
 MayBeEmpty s x (holders.Held placement) = IsOverWithRoom s x placement.thread
 MayBeEmpty s x (holders.Leaving placement cause) = Unit {0}
 
--- a ban of the sibling of core c is due for a thread: it holds c for a latency-critical task, its
--- kept record shows it at work there at a request begun too long ago, neither core is banned, and
--- the sibling may be kept empty
-pub record IsDue (s : Setting) (x : List Action) (c thread : ℕ) : Type 0 where
+-- a request runs too long on core c: a thread of a latency-critical task holds the core, and its
+-- kept record shows it at work there at a request begun too long ago
+pub record RunsTooLong (s : Setting) (x : List Action) (c thread : ℕ) : Type 0 where
   pub own : c < s.table.cores
   pub placement : placements.Placement
   pub held : holder_of x c ≡ holders.Held placement
@@ -46,6 +45,11 @@ pub record IsDue (s : Setting) (x : List Action) (c thread : ℕ) : Type 0 where
   pub begun : (kept_now s thread).started < s.input.now
   pub too_long : request_of s.table (owner_of s.table thread)
       < s.input.now - (kept_now s thread).started
+
+-- a ban of the sibling of core c is due for a thread: its request runs too long there, neither core
+-- is banned, and the sibling may be kept empty
+pub record IsDue (s : Setting) (x : List Action) (c thread : ℕ) : Type 0 where
+  pub request : RunsTooLong s x c thread
   pub not_banned : is_banned x c ≡ false
   pub beside_not_banned : is_banned x (sibling_of c) ≡ false
   pub may_be_empty : MayBeEmpty s x (holder_of x (sibling_of c))

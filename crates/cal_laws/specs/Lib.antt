@@ -10,6 +10,7 @@ pub mod Cause
 pub mod Caps
 pub mod Choice
 pub mod Bans
+pub mod DueBans
 pub mod OldDelay
 pub mod Runs
 pub mod Ends

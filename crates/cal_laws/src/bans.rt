@@ -5,6 +5,8 @@
 ghost use Rattle.cal_laws.specs.Bans.{NoBannedIsGranted, BansAreDue, NoPairIsBanned};
 ghost use Rattle.cal_laws.specs.Bans.{BannedAreEmptyAfterPasses, BannedAreEmptiedAtOnce};
 ghost use Rattle.cal_laws.specs.Bans.{BansEndUnshown, BansAreShownAfterPasses};
+ghost use Rattle.cal_laws.specs.DueBans.{BansEndInEachPass, NoBanIsLeftDue};
+ghost use Rattle.cal_laws.specs.DueBans.{LongRequestsHaveBannedSiblings};
 
 use cal_policy::{action_is_one_more, chosen_is_of_least_class, legal_is_apart, legal_is_sound};
 
@@ -24,6 +26,26 @@ pub fn bans_are_due()
     ensures { BansAreDue }
 {
     legal_is_sound();
+}
+
+/// Each pass comes to the end of its third part, where it has made its bans, and there none is left
+/// due. Later in the pass one may be due again: a grant may put a task above its guarantee.
+pub fn no_ban_is_left_due()
+    ensures end { BansEndInEachPass }
+    ensures none { NoBanIsLeftDue }
+{
+    action_is_one_more();
+}
+
+/// Where a pass has made its bans, a core is banned if a request of a latency-critical task is seen
+/// to run too long on its sibling, which the request's thread holds, and the core is free, being
+/// left, or held with room by a task above its guarantee. A neighbour within its guarantee, or whose
+/// ring is full, stays.
+pub fn long_requests_have_banned_siblings()
+    ensures { LongRequestsHaveBannedSiblings }
+{
+    no_ban_is_left_due();
+    banned_are_emptied_at_once();
 }
 
 /// A core and its sibling are never banned at once.

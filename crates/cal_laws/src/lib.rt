@@ -26,7 +26,8 @@ mod safe;
 pub use acknowledged::freed_cores_were_left;
 pub use bans::{
     banned_are_emptied_at_once, banned_are_empty_after_passes, bans_are_due,
-    bans_are_shown_after_passes, bans_end_unshown, no_banned_is_granted, no_pair_is_banned,
+    bans_are_shown_after_passes, bans_end_unshown, long_requests_have_banned_siblings,
+    no_ban_is_left_due, no_banned_is_granted, no_pair_is_banned,
 };
 pub use caps::caps_are_due;
 pub use cause::revocations_have_cause;

@@ -26,7 +26,7 @@ ghost use Rattle.cal_policy.specs.declared.history.entry.PassEntry.{PassEntry};
 ghost use Rattle.cal_policy.specs.declared.judgement.open_input.FoundLook.{FoundLook};
 ghost use Rattle.cal_policy.specs.History.{looks_of};
 ghost use Rattle.cal_policy.specs.Judgement.OpenInput.{judged_looks};
-ghost use Rattle.cal_policy.specs.Judgement.OpenPass.{IsOpenAt};
+ghost use Rattle.cal_policy.specs.Judgement.OpenPass.{IsOpenAt, ShowNoted};
 
 use crate::board::bans::Bans;
 use crate::board::caps::Caps;
@@ -214,6 +214,10 @@ impl Board {
         ensures keeping { (table : Table) (h : List PassEntry) (looks : List FoundLook) →
             KeepingAgrees self.old.keeping (looks_of h) → IsOpenAt table h looks pass.now →
             KeepingAgrees self.new.keeping (looks_of h ++ judged_looks table h looks ∷ []) }
+        // Whatever history the state is of, what was noted is taken as it stands.
+        ensures noted { (looks : List (List Seen)) (seen : List Seen) →
+            KeepingAgrees self.old.keeping looks → ShowNoted pass.now seen →
+            KeepingAgrees self.new.keeping (looks ++ seen ∷ []) }
         ensures before { (looks : List (List Seen)) → KeepingAgrees self.old.keeping looks →
             KeepsBefore self.new.keeping looks }
     {

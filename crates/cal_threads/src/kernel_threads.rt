@@ -1,7 +1,7 @@
 //! The threads of the kernel threads: what each promises, and how all are started and joined.
 
-ghost use Rattle.std.specs.Prelude.{◌≡◌, ◌≤◌, [], length, IfOk, IfErr, OnOk, vec_len};
-ghost use Rattle.std.specs.Prelude.{vec_capacity};
+ghost use Rattle.std.specs.Prelude.{◌≡◌, ◌≤◌, [], length, map, IfOk, IfErr, OnOk, Ok};
+ghost use Rattle.std.specs.Prelude.{vec_capacity, vec_len};
 ghost use Rattle.std.specs.List.{AllZip, Contains};
 ghost use Rattle.cal_run.specs.Workers.{FitSomeTable, HaveMade, seats_of};
 ghost use Rattle.cal_run.specs.declared.fault.SimFault.TheVariants.{Gate as GateFault, Spawn};
@@ -9,6 +9,7 @@ ghost use Rattle.cal_threads.specs.Faults.{IsLeastOfAll};
 ghost use Rattle.cal_threads.specs.Gates.{LetsEachThrough, MayRefuseOne};
 ghost use Rattle.cal_threads.specs.Promises.{IsKept, IsOf, MayEnd, MayGive};
 
+use crate::answers::Answers;
 use crate::faults::{both_or_least_fault, least};
 use crate::gate::Gate;
 use crate::working::make_turns;
@@ -33,7 +34,7 @@ impl<'a, G: Gate> Promise<Result<Worker, SimFault>> for Turned<'a, G> {
 }
 
 /// The thread of a kernel thread.
-type TurningThread<'a, G> = PromisedHandle<Result<Worker, SimFault>, Turned<'a, G>>;
+pub(crate) type TurningThread<'a, G> = PromisedHandle<Result<Worker, SimFault>, Turned<'a, G>>;
 
 /// Runs all kernel threads at the same time, each in a thread of its own, and gives them back in
 /// order. Where it does not, all that were started have still come to their end.
@@ -58,7 +59,7 @@ pub(crate) fn run_workers<'s, R: Threads, E, G: Gate + Sync>(
     let threads = Vec::with_capacity(alloc, workers.len())?;
     let back = Vec::with_capacity(alloc, workers.len())?;
     let (threads, started) = start_workers(scope, gate, arrivals, workers, threads);
-    let joined = join_workers(rt, threads, back);
+    let (joined, _) = join_workers(rt, threads, back);
     match both_or_least_fault(started, joined) {
         Ok((_, workers)) => Ok(workers),
         Err(fault) => Err(fault),
@@ -101,32 +102,35 @@ fn start_workers<'s, E, G: Gate + Sync>(
 }
 
 /// Joins each thread, and puts what comes back into `workers`, in order; or gives the least fault
-/// of those that do not come back. `workers` is empty and has room.
+/// of those that do not come back. `workers` is empty and has room. Beside it stands what each
+/// thread answered.
 #[tactic(auto, using(crate::proofs::Pairs::pairs_push))]
 fn join_workers<'a, G: Gate>(
     rt: &impl Threads,
     threads: Vec<TurningThread<'a, G>>,
     mut workers: Vec<Worker>,
-) -> Result<Vec<Worker>, SimFault>
+) -> (Result<Vec<Worker>, SimFault>, Answers)
     requires empty { workers.items ≡ [] }
     requires room { vec_len threads ≤ vec_capacity workers }
-    ensures made { IfOk result (λ v. AllZip (λ t w. IsKept G.answers_turn t.promise w)
+    ensures made { IfOk result.0 (λ v. AllZip (λ t w. IsKept G.answers_turn t.promise w)
         threads.entry.items v.items) }
-    ensures least { IfErr result (λ fault. (results : _)
-        × AllZip (λ t r. MayGive G.answers_turn t.promise r) threads.entry.items results
-        × IsLeastOfAll results fault) }
-    ensures ended { IfErr result (λ e. e ≡ GateFault → (t : _)
+    ensures answered { AllZip (λ t r. MayGive G.answers_turn t.promise r)
+        threads.entry.items result.1.noted }
+    ensures all { IfOk result.0 (λ v. result.1.noted ≡ map Ok v.items) }
+    ensures least { IfErr result.0 (IsLeastOfAll result.1.noted) }
+    ensures ended { IfErr result.0 (λ e. e ≡ GateFault → (t : _)
         × Contains threads.entry.items t × MayEnd G.answers_turn t.promise) }
 {
+    let mut answers = Answers::none();
     let mut fault = None;
     for thread in threads {
-        match thread.join(rt) {
+        match answers.join(rt, thread) {
             Ok(worker) => workers.push(worker).unwrap(),
             Err(other) => fault = Some(least(other, fault.unwrap_or(other))),
         }
     }
     match fault {
-        None => Ok(workers),
-        Some(fault) => Err(fault),
+        None => (Ok(workers), answers),
+        Some(fault) => (Err(fault), answers),
     }
 }

@@ -7,6 +7,7 @@
 //! Not promised: that a thread gets on, so that the run ends; that any two threads meet.
 #![tactic(auto)]
 
+mod answers;
 mod faults;
 mod gate;
 mod kernel_threads;

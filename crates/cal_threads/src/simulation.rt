@@ -24,7 +24,8 @@ use std::thread::Threads;
 /// answers false, that worker ends. Asks that the arrivals fit the table.
 ///
 /// Its outcome is the outcome of a run, whatever the order of the threads' steps, and the headline
-/// holds of it. Each pass and each turn of it is one that the gate let through.
+/// holds of it. To the question before each of its passes and turns the gate may have answered
+/// true, by its own `answers_pass` and `answers_turn`.
 ///
 /// `Memory` where memory was refused, `Spawn` where a thread could not be started, and `Gate` where
 /// the gate ended a worker, which comes only where it may answer false; of several faults the one

@@ -4,3 +4,4 @@ mod Gating
 mod OneMore
 mod NoneSuch
 mod OneByOne
+mod Walked

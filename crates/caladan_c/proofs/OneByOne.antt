@@ -23,7 +23,7 @@ numbered_more n (y ∷ ys) x =
     ap (λ zs. (n, y) ∷ zs) (numbered_more (n + 1) ys x ∙ ap (λ m. enumerate_from (n + 1) ys ++ (m, x) ∷ []) same)
 
 -- what is taken of one look more
-taken_more : (cores : ℕ) (h : List PassEntry) (xs : List FoundLook) (x : FoundLook) →
+pub taken_more : (cores : ℕ) (h : List PassEntry) (xs : List FoundLook) (x : FoundLook) →
     taken_looks cores h (xs ++ x ∷ []) ≡ taken_looks cores h xs ++ taken_found cores h (length xs, x) ∷ []
 taken_more cores h xs x =
     let zero : 0 + length xs ≡ length xs = omega arith in

@@ -15,6 +15,8 @@ use Rattle.cal_policy.specs.History.{looks_of}
 use Rattle.cal_policy.specs.History.Looks.{last_shown}
 use Rattle.cal_policy.specs.Judgement.OneByOne.{misfit_of, fault_of, taken_input, taken_looks}
 use Rattle.cal_policy.specs.Judgement.OpenInput.{OpenView, IsOfFound}
+use Rattle.cal_policy.specs.Judgement.OpenPass.{IsOpenAt}
+use Rattle.cal_policy.specs.declared.judgement.open_pass.OpenPass.{OpenPass}
 use Rattle.caladan_c.specs.Found.{look_in, found_of}
 use Rattle.caladan_c.specs.declared.found.Found.{Found}
 use Rattle.caladan_c.specs.declared.given.Given.{Given}
@@ -33,6 +35,11 @@ input_given_each table history given =
 abbrev pub IsTakenOf : Table → List PassEntry → List Found → OpenView → Type 0
 IsTakenOf table history looks given =
     IsOfFound table history (taken_looks table.cores history (map found_of looks)) given
+
+-- the looks that came in one by one are what is taken of these
+abbrev pub IsTakenAt : Table → List PassEntry → List Found → OpenPass → Type 0
+IsTakenAt table history looks came =
+    IsOpenAt table history (taken_looks table.cores history (map found_of looks)) came
 
 -- why a look was refused, as a number
 abbrev pub fault_number : LookFault → ℕ

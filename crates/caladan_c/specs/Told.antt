@@ -1,5 +1,8 @@
 -- What C is told of a pass: its actions, and what was judged of its looks.
-use Rattle.std.specs.Prelude.{◌≡◌, ℕ, List, length, Some, slice_get}
+use Rattle.std.specs.Prelude.{◌≡◌, ℕ, List, length, Some, slice_get, if◌then◌else◌}
+use Rattle.cal_machine.specs.ThreadSet.{has_thread}
+use Rattle.cal_policy.specs.declared.judgement.open_pass.OpenPass.{OpenPass}
+use Rattle.cal_policy.specs.Judgement.OpenPass.{noted_in}
 use Rattle.cal_policy.specs.declared.history.look.Seen.{Seen}
 use Rattle.cal_policy.specs.declared.history.look.Seen.TheVariants.{Whole, Busy, Ahead, Foreign}
 use Rattle.cal_policy.specs.declared.history.action.Action.{Action}
@@ -49,6 +52,10 @@ judgement_of (Whole number rec) = 1
 judgement_of (Busy first second) = 2
 judgement_of (Ahead number rec) = 3
 judgement_of (Foreign number rec) = 4
+
+-- what was judged of the look at thread k, as a number: of one that is not noted that it was kept
+abbrev pub judgement_at : OpenPass → ℕ → ℕ
+judgement_at came k = if has_thread came.listed k then judgement_of (noted_in came k) else 1
 
 -- of each look C was told what was judged of it
 abbrev pub AreJudgements : List Seen → List ℕ → Type 0

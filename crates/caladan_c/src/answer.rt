@@ -5,6 +5,7 @@ ghost use Rattle.caladan_c.specs.declared.answer.Refusal.TheVariants.{Memory, No
 ghost use Rattle.caladan_c.specs.declared.answer.Refusal.TheVariants.{NoJudgement, NoRoom, Unfit};
 ghost use Rattle.caladan_c.specs.declared.answer.Refusal.TheVariants.{WrongCount};
 
+use cal_policy::LookFault;
 use std::alloc::AllocError;
 
 /// Why a call did nothing. `refusal as u8` is its number.
@@ -65,5 +66,13 @@ impl From<AllocError> for Refusal {
 
     fn from(_e: AllocError) -> Refusal {
         Refusal::Memory
+    }
+}
+
+impl From<LookFault> for Refusal {
+    ghost from_gives = { λ _ e. e ≡ Unfit };
+
+    fn from(_why: LookFault) -> Refusal {
+        Refusal::Unfit
     }
 }

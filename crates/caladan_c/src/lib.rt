@@ -22,3 +22,4 @@ mod given;
 mod input;
 mod recorded;
 mod told;
+mod walk;

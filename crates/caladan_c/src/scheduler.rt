@@ -3,7 +3,7 @@
 mod each;
 mod facts;
 
-ghost use Rattle.std.specs.Prelude.{◌≡◌, ◌⊎◌, ◌≤◌, Err, IfOk, IfErr, OnErr, List, [], length};
+ghost use Rattle.std.specs.Prelude.{◌≡◌, ◌≤◌, Err, IfOk, IfErr, OnErr, List, [], length};
 ghost use Rattle.std.specs.Prelude.{nat_lt};
 ghost use Rattle.cal_machine.specs.Outcome.{Gives};
 ghost use Rattle.cal_machine.specs.Reading.{table_in};
@@ -18,15 +18,17 @@ ghost use Rattle.std.specs.Option.{is_some, IfSome};
 
 use crate::answer::Refusal;
 use crate::given::Given;
-use crate::input::{judge_looks, nothing, with_room};
 use crate::told::counts::{Counts, counts_of_task};
 use crate::told::holder::holder_on;
-use crate::told::judgement::tell_judgements;
+use crate::told::judgement::tell_looks;
+use crate::walk::take_looks;
 use cal_machine::{Config, ConfigFault};
-use cal_policy::{Action, Actions, Book, Holder, Input, legal_is_short, one_pass_more_is_legal};
+use cal_policy::{
+    Action, Actions, Book, Holder, OpenPass, legal_is_short, one_pass_more_is_legal,
+    open_pass_fits, settled_is_no_news,
+};
 use std::alloc::Global;
 use std::marker::Model;
-use std::mem;
 
 /// A table, the book of the passes so far, and the actions of the last one.
 #[derive(Drop)]
@@ -34,8 +36,8 @@ pub struct Scheduler {
     config: Config,
     book: Book,
     made: Actions,
-    /// The input of the last pass, whose memory the next one takes.
-    used: Input,
+    /// The looks of the last pass, in whose place those of the next one come.
+    looks: Box<OpenPass>,
 }
 
 impl Model for Scheduler {
@@ -51,7 +53,7 @@ impl Model for Scheduler {
 
 ghost use Rattle.caladan_c.specs.Passing.{StandsAfter, IsPassed};
 ghost use Rattle.caladan_c.specs.Told.{AreJudgements};
-ghost use Rattle.caladan_c.specs.declared.answer.Refusal.TheVariants.{Memory, Unfit};
+ghost use Rattle.caladan_c.specs.declared.answer.Refusal.TheVariants.{Unfit};
 
 impl Scheduler {
     /// A scheduler of this table that has made no pass, or the table's fault. It takes all the
@@ -63,12 +65,12 @@ impl Scheduler {
         let config = Config::read(alloc, table)?;
         let book = Book::open(alloc, &config)?;
         let made = Actions::reserved(alloc)?;
-        let used = with_room(alloc, config.threads())?;
+        let looks = Box::new(alloc, OpenPass::new())?;
         Ok(Scheduler {
             config,
             book,
             made,
-            used,
+            looks,
         })
     }
 
@@ -112,13 +114,8 @@ impl Scheduler {
     }
 
     /// Makes the next pass, whose actions are then in `made`, and tells what was judged of each
-    /// look; or says why it may not be given these looks.
-    pub fn pass(
-        &mut self,
-        alloc: Global,
-        given: Given<'_>,
-        judged: &mut [u8],
-    ) -> Result<(), Refusal>
+    /// look; or says that it may not be given these looks. It takes no memory.
+    pub fn pass(&mut self, given: Given<'_>, judged: &mut [u8]) -> Result<(), Refusal>
         requires count { length given.looks.now ≡ threads_of_table self.old.table }
         requires room { threads_of_table self.old.table ≤ length judged.old }
         ensures passed { IfOk result (λ _. (h : List PassEntry) → StandsAfter self.old h →
@@ -127,21 +124,29 @@ impl Scheduler {
             AreJudgements (input_given self.old.table h given.entry).seen judged.new) }
         ensures unfit { result ≡ Err Unfit → (h : List PassEntry) → StandsAfter self.old h →
             IsInput self.old.table h (input_given self.old.table h given.entry) → ⊥ }
-        ensures why { IfErr result (λ why. (why ≡ Unfit) ⊎ (why ≡ Memory)) }
+        ensures why { IfErr result (λ why. why ≡ Unfit) }
         ensures refused { OnErr result ((self.new ≡ self.old) × (judged.new ≡ judged.old)) }
     {
-        let used = mem::replace(&mut self.used, nothing(alloc));
-        let input = judge_looks(used, &self.config, self.book.board(), given)?;
-        self.used = input;
-        if !self.book.board().made_fits(&self.config, &self.used) {
-            return Err(Refusal::Unfit);
-        }
+        take_looks(
+            &mut self.looks,
+            &self.config,
+            self.book.board(),
+            given.looks,
+        )?;
         self.config.limits();
+        settled_is_no_news();
+        open_pass_fits();
         legal_is_short();
         one_pass_more_is_legal();
         self.made.clear();
-        self.book.step(&self.config, &self.used, &mut self.made);
-        tell_judgements(self.used.seen.as_slice(), judged);
+        self.book.pass(
+            &self.config,
+            given.now,
+            given.bandwidth,
+            &self.looks,
+            &mut self.made,
+        );
+        tell_looks(&self.looks, judged);
         Ok(())
     }
 }

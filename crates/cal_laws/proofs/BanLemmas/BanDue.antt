@@ -80,15 +80,17 @@ is_due s acts c thread h =
     let one = and_parts (not (is_banned x c)) (not (is_banned x (sibling_of c))) two.0 in
     let runs = holds_too_long s c thread (holder_of x c) parts.1 in
     record {
-      own = h.core;
-      placement = runs.placement;
-      held = runs.held;
-      runs = runs.runs;
-      critical = runs.critical;
-      shown = runs.shows.shown;
-      at_work = runs.shows.at_work;
-      begun = runs.shows.begun;
-      too_long = runs.shows.too_long;
+      request = record {
+        own = h.core;
+        placement = runs.placement;
+        held = runs.held;
+        runs = runs.runs;
+        critical = runs.critical;
+        shown = runs.shows.shown;
+        at_work = runs.shows.at_work;
+        begun = runs.shows.begun;
+        too_long = runs.shows.too_long;
+      };
       not_banned = not-true (is_banned x c) one.0;
       beside_not_banned = not-true (is_banned x (sibling_of c)) one.1;
       may_be_empty = empty_by s x (holder_of x (sibling_of c)) two.1;

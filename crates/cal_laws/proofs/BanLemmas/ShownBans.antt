@@ -130,7 +130,7 @@ ban_for_shown : ActionIsOneMore → (s : Setting) (acts : List Action) (by n : �
 ban_for_shown more s acts by n lt None e h = nothing_more (λ l. AreShown s l n) acts h
 ban_for_shown more s acts by n lt (Some thread) e h =
     ban_then more s acts (Ban (sibling_of by) thread (kept_now s thread).started) by n (is_held (holder_of (so_far s acts) (sibling_of by)))
-    (ban_shown more s acts by thread n (is_due s acts by thread (record { core = lt; due = e })).shown h)
+    (ban_shown more s acts by thread n (is_due s acts by thread (record { core = lt; due = e })).request.shown h)
 
 shown_kept : ActionIsOneMore → (s : Setting) → IsKept s (λ l. AreShown s l s.table.cores)
 shown_kept more s = record {

@@ -151,7 +151,7 @@ of_from_0 f xs k y e =
     (found.0, found.1, found.2 ∙ ap (λ m. f (m, found.0)) zero)
 
 -- what is taken fits, whatever was found
-taken_fits : (cores : ℕ) (h : List PassEntry) (k : ℕ) (look : Look) → IsFitLook (last_shown (looks_of h) k) (judged cores (actions_of h) k (taken_look cores h k look))
+pub taken_fits : (cores : ℕ) (h : List PassEntry) (k : ℕ) (look : Look) → IsFitLook (last_shown (looks_of h) k) (judged cores (actions_of h) k (taken_look cores h k look))
 taken_fits cores h k look = go (fault_of cores h k look) refl
   where
     go : (o : Option LookFault) → fault_of cores h k look ≡ o → IsFitLook (last_shown (looks_of h) k) (judged cores (actions_of h) k (taken_look cores h k look))

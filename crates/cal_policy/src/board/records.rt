@@ -20,7 +20,7 @@ ghost use Rattle.cal_policy.specs.declared.history.entry.PassEntry.{PassEntry};
 ghost use Rattle.cal_policy.specs.declared.judgement.open_input.FoundLook.{FoundLook};
 ghost use Rattle.cal_policy.specs.History.{looks_of};
 ghost use Rattle.cal_policy.specs.Judgement.OpenInput.{judged_looks};
-ghost use Rattle.cal_policy.specs.Judgement.OpenPass.{IsOpenAt};
+ghost use Rattle.cal_policy.specs.Judgement.OpenPass.{IsOpenAt, ShowNoted};
 
 use crate::board::unshown::note_left;
 use crate::history::look::Seen;
@@ -282,6 +282,9 @@ impl Keeping {
         ensures agrees { (table : Table) (h : List PassEntry) (looks : List FoundLook) →
             KeepingAgrees self.old (looks_of h) → IsOpenAt table h looks pass.now →
             KeepingAgrees self.new (looks_of h ++ judged_looks table h looks ∷ []) }
+        ensures noted { (looks : List (List Seen)) (seen : List Seen) →
+            KeepingAgrees self.old looks → ShowNoted pass.now seen →
+            KeepingAgrees self.new (looks ++ seen ∷ []) }
         ensures before { (looks : List (List Seen)) → KeepingAgrees self.old looks →
             KeepsBefore self.new looks }
         ensures sets { KeepsSets self.new }

@@ -1,7 +1,7 @@
 //! Readers that never end or fail, and a writer that fails.
 
 use crate::engine::given::{INPUT, REPORT};
-use cal_engine::{RunFault, decide, fault_line, status};
+use cal_engine::{RunFault, decide, fault_line, read_input, status};
 use std::alloc::Global;
 use std::io;
 use std::io::{Read, Write};
@@ -13,6 +13,20 @@ struct Endless;
 impl Read for Endless {
     fn read(&mut self, buf: &mut [u8]) -> io::Result<usize> {
         Ok(buf.len())
+    }
+}
+
+/// A reader that has so many bytes left.
+#[derive(Drop)]
+struct Bytes {
+    left: usize,
+}
+
+impl Read for Bytes {
+    fn read(&mut self, buf: &mut [u8]) -> io::Result<usize> {
+        let count = self.left.min(buf.len());
+        self.left -= count;
+        Ok(count)
     }
 }
 
@@ -69,6 +83,18 @@ fn a_reader_without_end_is_too_long(rt: HostRuntime) {
     let mut written = Vec::new(rt.alloc());
     let answer = decide(rt.alloc(), Endless, &mut written);
     assert!(rt; answer == Err(RunFault::Length) && written.is_empty());
+}
+
+/// How many bytes are read of an input of so many, or why none are.
+fn bytes_read(alloc: Global, left: usize) -> Result<usize, RunFault> {
+    let text = read_input(alloc, &mut Bytes { left })?;
+    Ok(text.len())
+}
+
+#[test]
+fn an_input_may_have_64_mib_and_not_a_byte_more(rt: HostRuntime) {
+    assert!(rt; bytes_read(rt.alloc(), 67_108_864) == Ok(67_108_864));
+    assert!(rt; bytes_read(rt.alloc(), 67_108_865) == Err(RunFault::Length));
 }
 
 /// What is answered where so many bytes are read before a read fails, and what is then written.

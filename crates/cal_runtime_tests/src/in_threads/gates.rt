@@ -1,4 +1,4 @@
-//! Gates at which workers wait for one another, and one that refuses.
+//! Gates at which workers wait for one another, and two that refuse.
 
 use super::{PREEMPTION, PREEMPTION_TABLE, run};
 use crate::given::{Did, ONE_THREAD, assert_same, does, first_passes, grant};
@@ -287,5 +287,57 @@ impl Gate for Refusing {
 fn gate_refuses(rt: HostRuntime) -> Result<(), Fail> {
     let answer = run(&rt, rt.alloc(), PREEMPTION_TABLE, PREEMPTION, &Refusing)?;
     assert_same(&rt, answer.map(|_| ()), Err(SimFault::Gate));
+    Ok(())
+}
+
+/// A question that a gate is asked.
+#[derive(Clone, Copy, Debug, PartialEq, Eq)]
+enum Question {
+    /// Before pass 1.
+    Pass,
+    /// Before turn 1 of thread 0.
+    Turn,
+}
+
+/// Answers this question by no once, and by yes from then on.
+#[derive(Drop)]
+struct NoOnce {
+    to: Question,
+    asked: AtomicU64,
+}
+
+impl NoOnce {
+    /// Whether it was asked before.
+    fn is_asked_again(&self) -> bool {
+        self.asked.fetch_add(1, Ordering::SeqCst) > 0
+    }
+}
+
+impl Gate for NoOnce {
+    ghost answers_pass = { λ gate p answer. Unit {0} };
+
+    ghost answers_turn = { λ gate k j answer. Unit {0} };
+
+    fn before_pass(&self, p: u64) -> bool {
+        self.to != Question::Pass || p != 1 || self.is_asked_again()
+    }
+
+    fn before_turn(&self, k: usize, j: u64) -> bool {
+        self.to != Question::Turn || k != 0 || j != 1 || self.is_asked_again()
+    }
+}
+
+// With `gate_asked_again` the run goes on.
+#[test]
+fn gate_is_not_asked_again(rt: HostRuntime) -> Result<(), Fail> {
+    for to in [Question::Pass, Question::Turn] {
+        let gate = NoOnce {
+            to,
+            asked: AtomicU64::new(0),
+        };
+        let answer = run(&rt, rt.alloc(), PREEMPTION_TABLE, PREEMPTION, &gate)?;
+        assert_same(&rt, answer.map(|_| ()), Err(SimFault::Gate));
+        assert_same(&rt, gate.asked.load(Ordering::SeqCst), 1);
+    }
     Ok(())
 }

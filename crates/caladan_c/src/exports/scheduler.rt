@@ -17,7 +17,7 @@ ghost use Rattle.caladan_c.specs.Found.{input_of, input_given};
 ghost use Rattle.caladan_c.specs.Opening.{Says};
 ghost use Rattle.caladan_c.specs.Passing.{StandsAfter, IsPassed, HasRoom, IsShort};
 ghost use Rattle.caladan_c.specs.Told.{AreTold, AreJudgements, counts_of, told_holder_of};
-ghost use Rattle.caladan_c.specs.declared.answer.Refusal.TheVariants.{Memory, NoRoom, Unfit};
+ghost use Rattle.caladan_c.specs.declared.answer.Refusal.TheVariants.{NoRoom, Unfit};
 ghost use Rattle.caladan_c.specs.declared.answer.Refusal.TheVariants.{WrongCount};
 
 use crate::answer::Refusal;
@@ -100,7 +100,6 @@ impl Scheduler {
     /// Makes the next pass and writes its actions: how many they are, or why it did nothing.
     fn pass_told(
         &mut self,
-        alloc: Global,
         given: Given<'_>,
         judged: &mut [u8],
         actions: &mut [Told],
@@ -119,9 +118,8 @@ impl Scheduler {
             result ≡ Err NoRoom }
         ensures answers { length given.entry.looks.now ≡ threads_of_table self.old.table →
             HasRoom (threads_of_table self.old.table) judged.old actions.old →
-            IfErr result (λ why. (why ≡ Unfit) ⊎ (why ≡ Memory)) }
-        ensures why { IfErr result (λ why. (why ≡ WrongCount) ⊎ (why ≡ NoRoom) ⊎ (why ≡ Unfit) ⊎
-            (why ≡ Memory)) }
+            IfErr result (λ why. why ≡ Unfit) }
+        ensures why { IfErr result (λ why. (why ≡ WrongCount) ⊎ (why ≡ NoRoom) ⊎ (why ≡ Unfit)) }
         ensures refused { OnErr result ((self.new ≡ self.old) × (actions.new ≡ actions.old) ×
             (judged.new ≡ judged.old)) }
     {
@@ -132,7 +130,7 @@ impl Scheduler {
         if judged.len() < threads || actions.len() < MOST_ACTIONS {
             return Err(Refusal::NoRoom);
         }
-        self.pass(alloc, given, judged)?;
+        self.pass(given, judged)?;
         Ok(tell_all(self.made(), actions))
     }
 }
@@ -140,8 +138,8 @@ impl Scheduler {
 /// Makes the next pass on what was found of each thread, in thread order, and writes its actions
 /// and what was judged of each look: 0; 10 the handle is closed; 13 there is not one look for each
 /// thread; 14 there is not room for `MOST_ACTIONS` actions and a judgement of each look; 15 a look
-/// does not fit what its thread showed before, or has not the right shape; 9 no memory. After
-/// another number than 0 nothing has changed, but that `made` is 0.
+/// does not fit what its thread showed before, or has not the right shape. After another number
+/// than 0 nothing has changed, but that `made` is 0.
 #[unsafe(no_mangle)]
 pub extern "C" fn caladan_pass(
     alloc: Global,
@@ -170,10 +168,9 @@ pub extern "C" fn caladan_pass(
         IsShort (threads_of_table s.table) judged.old actions.old → result ≡ 14) }
     ensures answers { ForSome handle.old.pointer.kept (λ s.
         length looks.now ≡ threads_of_table s.table →
-        HasRoom (threads_of_table s.table) judged.old actions.old → (result ≡ 0) ⊎ (result ≡ 15) ⊎
-        (result ≡ 9)) }
-    ensures own { (result ≡ 0) ⊎ (result ≡ 9) ⊎ (result ≡ 10) ⊎ (result ≡ 13) ⊎ (result ≡ 14) ⊎
-        (result ≡ 15) }
+        HasRoom (threads_of_table s.table) judged.old actions.old →
+        (result ≡ 0) ⊎ (result ≡ 15)) }
+    ensures own { (result ≡ 0) ⊎ (result ≡ 10) ⊎ (result ≡ 13) ⊎ (result ≡ 14) ⊎ (result ≡ 15) }
     ensures refused { result ≢ 0 → (handle.new.pointer.kept ≡ handle.old.pointer.kept)
         × (actions.new ≡ actions.old) × (judged.new ≡ judged.old) × (made.new ≡ 0) }
 {
@@ -186,7 +183,7 @@ pub extern "C" fn caladan_pass(
                 bandwidth,
                 looks,
             };
-            let answer = kept.pass_told(alloc, given, judged, actions);
+            let answer = kept.pass_told(given, judged, actions);
             *handle = SchedulerHandle::of(kept);
             match answer {
                 Ok(count) => {

@@ -1,6 +1,6 @@
 //! Passes that take looks one by one, and which look does not fit.
 
-ghost use Rattle.std.specs.Prelude.{◌≡◌, ◌≢◌, ◌⊎◌, IfOk, IfErr, OnErr, Err, List, length, false};
+ghost use Rattle.std.specs.Prelude.{◌≡◌, ◌≢◌, ◌⊎◌, IsOk, IfOk, IfErr, OnErr, Err, List, length, false};
 ghost use Rattle.std.specs.Option.{is_some, ForSome, IsSomeAnd};
 ghost use Rattle.cal_policy.specs.declared.history.entry.PassEntry.{PassEntry};
 ghost use Rattle.cal_machine.specs.TableTasks.{threads_of_table};
@@ -8,7 +8,7 @@ ghost use Rattle.caladan_c.specs.OneByOne.{input_of_each, input_given_each, AreS
 ghost use Rattle.caladan_c.specs.OneByOne.{IsFirstUnfit, AllFit};
 ghost use Rattle.caladan_c.specs.Passing.{StandsAfter, IsPassed, HasRoom, IsShort};
 ghost use Rattle.caladan_c.specs.Told.{AreTold};
-ghost use Rattle.caladan_c.specs.declared.answer.Refusal.TheVariants.{Memory, NoRoom};
+ghost use Rattle.caladan_c.specs.declared.answer.Refusal.TheVariants.{NoRoom};
 ghost use Rattle.caladan_c.specs.declared.answer.Refusal.TheVariants.{WrongCount};
 
 use crate::answer::Refusal;
@@ -25,7 +25,6 @@ impl Scheduler {
     /// it did nothing.
     fn pass_each_told(
         &mut self,
-        alloc: Global,
         given: Given<'_>,
         judged: &mut [u8],
         actions: &mut [Told],
@@ -41,10 +40,8 @@ impl Scheduler {
             IsShort (threads_of_table self.old.table) judged.old actions.old →
             result ≡ Err NoRoom }
         ensures answers { length given.entry.looks.now ≡ threads_of_table self.old.table →
-            HasRoom (threads_of_table self.old.table) judged.old actions.old →
-            IfErr result (λ why. why ≡ Memory) }
-        ensures why { IfErr result (λ why. (why ≡ WrongCount) ⊎ (why ≡ NoRoom) ⊎
-            (why ≡ Memory)) }
+            HasRoom (threads_of_table self.old.table) judged.old actions.old → IsOk result }
+        ensures why { IfErr result (λ why. (why ≡ WrongCount) ⊎ (why ≡ NoRoom)) }
         ensures refused { OnErr result ((self.new ≡ self.old) × (actions.new ≡ actions.old) ×
             (judged.new ≡ judged.old)) }
     {
@@ -55,7 +52,7 @@ impl Scheduler {
         if judged.len() < threads || actions.len() < MOST_ACTIONS {
             return Err(Refusal::NoRoom);
         }
-        self.pass_each(alloc, given, judged)?;
+        self.pass_each(given, judged);
         Ok(tell_all(self.made(), actions))
     }
 }
@@ -63,8 +60,8 @@ impl Scheduler {
 /// Makes the next pass as `caladan_pass` does, each look by itself: one that is unfit, ahead or
 /// foreign is taken as a busy one, so it stops nobody and leaves no trace. 0; 10 the handle is
 /// closed; 13 there is not one look for each thread; 14 there is not room for `MOST_ACTIONS`
-/// actions and a judgement of each look; 9 no memory. After another number than 0 nothing has
-/// changed, but that `made` is 0.
+/// actions and a judgement of each look. After another number than 0 nothing has changed, but that
+/// `made` is 0.
 #[unsafe(no_mangle)]
 pub extern "C" fn caladan_pass_each(
     alloc: Global,
@@ -90,10 +87,8 @@ pub extern "C" fn caladan_pass_each(
         IsShort (threads_of_table s.table) judged.old actions.old → result ≡ 14) }
     ensures answers { ForSome handle.old.pointer.kept (λ s.
         length looks.now ≡ threads_of_table s.table →
-        HasRoom (threads_of_table s.table) judged.old actions.old →
-        (result ≡ 0) ⊎ (result ≡ 9)) }
-    ensures own { (result ≡ 0) ⊎ (result ≡ 9) ⊎ (result ≡ 10) ⊎ (result ≡ 13) ⊎
-        (result ≡ 14) }
+        HasRoom (threads_of_table s.table) judged.old actions.old → result ≡ 0) }
+    ensures own { (result ≡ 0) ⊎ (result ≡ 10) ⊎ (result ≡ 13) ⊎ (result ≡ 14) }
     ensures refused { result ≢ 0 → (handle.new.pointer.kept ≡ handle.old.pointer.kept)
         × (actions.new ≡ actions.old) × (judged.new ≡ judged.old) × (made.new ≡ 0) }
 {
@@ -106,7 +101,7 @@ pub extern "C" fn caladan_pass_each(
                 bandwidth,
                 looks,
             };
-            let answer = kept.pass_each_told(alloc, given, judged, actions);
+            let answer = kept.pass_each_told(given, judged, actions);
             *handle = SchedulerHandle::of(kept);
             match answer {
                 Ok(count) => {

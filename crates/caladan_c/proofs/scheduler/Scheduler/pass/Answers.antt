@@ -1,34 +1,56 @@
-use Rattle.std.proofs.Common.{◌≡◌, true, List, map, sym, subst, ◌∙◌}
-use mathlib.Core.Bool.{true≢false}
+use Rattle.std.proofs.Common.{◌≡◌, List, map, refl, sym, ap, subst, ◌∙◌}
+use Rattle.cal_machine.specs.TableTasks.{threads_of_table}
 use Rattle.cal_policy.specs.declared.history.entry.PassEntry.{PassEntry}
-use Rattle.cal_policy.specs.declared.history.input.Input.{Input}
 use Rattle.cal_policy.specs.Judgement.Judging.{IsInput}
+use Rattle.cal_policy.specs.Judgement.OpenPass.{IsOpenAt}
 use Rattle.caladan_c.specs.Found.{found_of, input_of}
 use Rattle.caladan_c.specs.Passing.{StandsAfter, IsPassed}
+use Rattle.caladan_c.specs.Told.{AreJudgements}
 use Rattle.caladan_c.specs.Standing.{Standing}
+use Rattle.std.proofs.lemmas.List.{length-map}
 use Rattle.caladan_c.proofs.Passed.{passed_after}
+use Rattle.caladan_c.proofs.Walked.{told_as_judged}
 use Rattle.caladan_c.proofs.scheduler.Scheduler.pass.Goals as goal
 
 pub returns-clause-passed : goal.returns-clause-passed
 returns-clause-passed c =
     let s : Standing = record { table = c.self.inside.config; book = c.self.inside.book; made = c.self.inside.made } in
-    let new : Standing = record { table = s.table; book = c.step.new.self; made = c.step.new.out } in
-    let input : Input = c.in_ok-input.input in
-    let whole : (h : List PassEntry) → StandsAfter s h → IsPassed s h (input_of s.table h c.args.given.now c.args.given.bandwidth c.args.given.looks.now) new = λ h stands.
-    let is : IsInput s.table h input = (c.made_fits.ensures.fits h c.args.given.now c.args.given.bandwidth (map found_of c.args.given.looks.now) (c.board-2.ensures.agrees h stands.agrees) (c.in_ok-input.ensures.judged h (c.board.ensures.agrees h stands.agrees))).0 c.if-not-made_fits.false in
-    passed_after s h input (input_of s.table h c.args.given.now c.args.given.bandwidth c.args.given.looks.now) c.step.new.out c.step.new.self
-    c.one_pass_more_is_legal.ensures c.legal_is_short.ensures c.limits.ensures stands (c.in_ok-input.ensures.judged h (c.board.ensures.agrees h stands.agrees)) is
-    (c.step.ensures.acts h stands.legal stands.agrees is) (c.step.ensures.agrees h stands.legal stands.agrees is) in
-    let is : s ≡ c.args.self.now = c.self.view_is in
-    subst (λ (old : Standing). (h : List PassEntry) → StandsAfter old h → IsPassed old h (input_of old.table h c.args.given.now c.args.given.bandwidth c.args.given.looks.now) new) is whole
-
-pub returns-then-not-made_fits-clause-unfit : goal.returns-then-not-made_fits-clause-unfit
-returns-then-not-made_fits-clause-unfit c = λ _.
-    let s : Standing = record { table = c.self.inside.config; book = c.self.inside.book; made = c.self.inside.made } in
-    let whole : (h : List PassEntry) → StandsAfter s h → IsInput s.table h (input_of s.table h c.args.given.now c.args.given.bandwidth c.args.given.looks.now) → ⊥ = λ h stands given.
-    let same = c.in_ok-input.ensures.judged h (c.board.ensures.agrees h stands.agrees) in
-    let is : IsInput s.table h c.in_ok-input.input = subst (IsInput s.table h) (sym same) given in
-    let fits : c.made_fits.result ≡ true = (c.made_fits.ensures.fits h c.args.given.now c.args.given.bandwidth (map found_of c.args.given.looks.now) (c.board-2.ensures.agrees h stands.agrees) same).1 is in
-    true≢false (sym fits ∙ c.if-not-made_fits.true) in
+    let new : Standing = record { table = s.table; book = c.pass.new.self; made = c.pass.new.out } in
     let view : s ≡ c.args.self.now = c.self.view_is in
-    subst (λ (old : Standing). (h : List PassEntry) → StandsAfter old h → IsInput old.table h (input_of old.table h c.args.given.now c.args.given.bandwidth c.args.given.looks.now) → ⊥) view whole
+    let looks = c.args.given.looks.now in
+    let now = c.args.given.now in
+    let bandwidth = c.args.given.bandwidth in
+    let whole : (h : List PassEntry) → StandsAfter s h → IsPassed s h (input_of s.table h now bandwidth looks) new = λ h stands.
+    let quiet = c.settled_is_no_news.ensures s.table h c.limits.ensures stands.legal in
+    let came : IsOpenAt s.table h (map found_of looks) c.take_looks.new.came = c.in_ok-take_looks.ensures.taken h quiet (c.board.ensures.agrees h stands.agrees) in
+    let all = length-map looks found_of ∙ c.requires.count ∙ sym (ap (λ (o : Standing). threads_of_table o.table) view) in
+    let is : IsInput s.table h (input_of s.table h now bandwidth looks) = c.open_pass_fits.ensures s.table h now bandwidth (map found_of looks) c.take_looks.new.came came all in
+    let used : IsOpenAt s.table h (map found_of looks) c.deref.result.now = rw c.deref.ensures came in
+    passed_after s h (input_of s.table h now bandwidth looks) (input_of s.table h now bandwidth looks) c.pass.new.out c.pass.new.self
+    c.one_pass_more_is_legal.ensures c.legal_is_short.ensures c.limits.ensures stands refl is
+    (c.pass.ensures.acts h (map found_of looks) stands.legal stands.agrees used) (c.pass.ensures.agrees h (map found_of looks) stands.legal stands.agrees used) in
+    subst (λ (old : Standing). (h : List PassEntry) → StandsAfter old h → IsPassed old h (input_of old.table h now bandwidth looks) new) view whole
+
+pub returns-in_err-take_looks-clause-unfit : goal.returns-in_err-take_looks-clause-unfit
+returns-in_err-take_looks-clause-unfit c = λ _.
+    let s : Standing = record { table = c.self.inside.config; book = c.self.inside.book; made = c.self.inside.made } in
+    let view : s ≡ c.args.self.now = c.self.view_is in
+    let looks = c.args.given.looks.now in
+    let now = c.args.given.now in
+    let bandwidth = c.args.given.bandwidth in
+    let whole : (h : List PassEntry) → StandsAfter s h → IsInput s.table h (input_of s.table h now bandwidth looks) → ⊥ = λ h stands.
+    c.in_err-take_looks.ensures.unfit h now bandwidth (c.board.ensures.agrees h stands.agrees) in
+    subst (λ (old : Standing). (h : List PassEntry) → StandsAfter old h → IsInput old.table h (input_of old.table h now bandwidth looks) → ⊥) view whole
+
+pub returns-clause-judged : goal.returns-clause-judged
+returns-clause-judged c =
+    let s : Standing = record { table = c.self.inside.config; book = c.self.inside.book; made = c.self.inside.made } in
+    let view : s ≡ c.args.self.now = c.self.view_is in
+    let looks = c.args.given.looks.now in
+    let now = c.args.given.now in
+    let bandwidth = c.args.given.bandwidth in
+    let whole : (h : List PassEntry) → StandsAfter s h → AreJudgements (input_of s.table h now bandwidth looks).seen c.tell_looks.new.out = λ h stands.
+    let quiet = c.settled_is_no_news.ensures s.table h c.limits.ensures stands.legal in
+    let came : IsOpenAt s.table h (map found_of looks) c.take_looks.new.came = c.in_ok-take_looks.ensures.taken h quiet (c.board.ensures.agrees h stands.agrees) in
+    told_as_judged s.table h (map found_of looks) c.take_looks.new.came c.tell_looks.new.out came (rw c.deref-2.ensures at c.tell_looks.ensures) in
+    subst (λ (old : Standing). (h : List PassEntry) → StandsAfter old h → AreJudgements (input_of old.table h now bandwidth looks).seen c.tell_looks.new.out) view whole
