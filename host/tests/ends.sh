@@ -61,6 +61,21 @@ unkillable() { # nobody can be killed: a piece ends without who does not leave, 
     end $deaf $last
 }
 
+told_twice() { # the second signal waits for nobody
+    what="a scheduler that is told twice to end, beside a process that does not leave"
+    start -k 2000 -g 50000
+    only_child_of $scheduler && daemon=$child
+    go 60 "$bin/misbehave" "$name" 1 50 deaf
+    wait_for 20 counts 'actions_total{kind="grant"}' 1; note $? "$what: nothing was granted"
+    kill -TERM "$daemon"
+    sleep 0.3
+    kill -TERM "$daemon"
+    wait $scheduler; note $? "$what: its status"
+    says "of task 1 is (written off|killed)" # killed, where both signals came as one
+    wait
+    no_reports
+} 2> /dev/null
+
 hang_up() { # SIGHUP is SIGTERM: the piece is whole
     what="a scheduler whose terminal hangs up"
     begin -k 1000 -g 100000
