@@ -9,7 +9,7 @@
 #ifndef SO_PEERPIDFD
 #define SO_PEERPIDFD 77
 #endif
-#define GREETING ((uint64_t)1000000000) /* how long who connects may take to say who it is, and that it has mapped its segment */
+#define GREETING ((uint64_t)4000000000) /* how long who connects may take to say who it is, and that it has mapped its segment */
 
 unsigned number_of(const scheduler *s, const host_task *task) { return (unsigned)(task - s->task); }
 

@@ -49,17 +49,32 @@ unkillable() { # nobody can be killed: a piece ends without who does not leave, 
     wrap=("$bin/deny" kill)
     begin -k 500 -g 50000 -p 3000
     wrap=()
-    go 60 "$bin/misbehave" "$name" 1 50 deaf
+    go 90 "$bin/misbehave" "$name" 1 80 deaf
     wait_for 20 child_of $last
     deaf=$last
-    lc -s 3 > "$build/process.lc" 2>&1
-    served "$build/process.lc"
-    wait_for 30 has_pieces 2; note $? "$what: no second piece ended: $(tail -n 3 "$build/said")"
+    go 90 "$bin/load" lc -n "$name" -u 0 -k 200 -q 2000 -s 80
+    wait_for 60 has_pieces 2; note $? "$what: no second piece ended: $(tail -n 3 "$build/said")"
+    wait_for 60 counts 'actions_total{kind="grant"}' 20; note $? "$what: the other one is granted nothing"
     says "of task 1 cannot be killed \(Operation not permitted\)"
     says "of task 1 is written off"
     kill -0 $deaf 2> /dev/null; note $? "$what: it ended, and nothing was shown"
-    end $deaf
+    end $deaf $last
 }
+
+told_twice() { # the second signal waits for nobody
+    what="a scheduler that is told twice to end, beside a process that does not leave"
+    start -k 2000 -g 50000
+    only_child_of $scheduler && daemon=$child
+    go 60 "$bin/misbehave" "$name" 1 50 deaf
+    wait_for 20 counts 'actions_total{kind="grant"}' 1; note $? "$what: nothing was granted"
+    kill -TERM "$daemon"
+    sleep 0.3
+    kill -TERM "$daemon"
+    wait $scheduler; note $? "$what: its status"
+    says "of task 1 is (written off|killed)" # killed, where both signals came as one
+    wait
+    no_reports
+} 2> /dev/null
 
 hang_up() { # SIGHUP is SIGTERM: the piece is whole
     what="a scheduler whose terminal hangs up"
@@ -110,10 +125,10 @@ orphans() {
     what="a runtime that attaches to the next scheduler"
     begin_endless again
     wait_for 20 is_asleep "$runtime"; note $? "$what: it runs on without one"
-    start_as "$name" -k 1000 -g 20000
+    start_as "$name" -k 2000 -g 20000
     wait_for 20 counts attached_total 1; note $? "$what: it did not attach"
     wait_for 20 counts_on; note $? "$what: it does not work: $(cat "$build/said")"
-    lc -s 0.5 > "$build/process.lc" 2>&1
+    lc -s 1.5 > "$build/process.lc" 2>&1
     served "$build/process.lc"
     stop $last
     above 1 revoke

@@ -74,7 +74,7 @@ out_of_files() { # a process ends when there is neither a file nor memory for a 
     works
     wait $!; note $? "$what: who waited: $(cat "$build/process.lc")"
     stop
-    above 3 attached
+    above 2 attached
 } 2> /dev/null
 
 blocked_signals() { # servers that take signals by a file block all of them before they start anything
