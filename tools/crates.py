@@ -1,4 +1,5 @@
 """The crates of the repository, as crates.txt lists them, for the scripts that build them."""
+import hashlib
 import os
 import subprocess
 
@@ -32,6 +33,14 @@ def files_of(names, *parts):
             for at, folders, found in os.walk(f"{TOP}/crates/{name}/{part}"):
                 folders.sort()
                 yield from (f"{at}/{it}" for it in sorted(found))
+
+
+def sum_of(at, names, *parts):
+    """A sum of all that these crates are made from: their files in these folders, crates.txt, and the kit there."""
+    made = hashlib.sha256()
+    for file in [f"{TOP}/crates.txt", f"{at}/KIT-ID", *files_of(names, *parts)]:
+        made.update(f"{os.path.relpath(file, TOP)}\n{text_of(file)}\n".encode())
+    return made.hexdigest()
 
 
 def newest(names):
