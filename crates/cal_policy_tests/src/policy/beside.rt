@@ -177,12 +177,24 @@ fn walks(
 fn stepped(alloc: Global, config: &Config, book: &mut Book, input: Input) -> Result<PassEntry, Fail>
     requires of { IsBookOf config.now book.old }
     requires sizes { HasSizes config.now input }
-    ensures { IsBookOf config.now book.new }
+    ensures of { IsBookOf config.now book.new }
+    ensures sizes { IfOk result (λ entry. HasSizes config.now entry.input) }
 {
     let mut actions = Actions::reserved(alloc)?;
     book.step(config, &input, &mut actions);
     let actions = actions.to_list(alloc)?;
     Ok(PassEntry { input, actions })
+}
+
+/// Whether the guard lets the pass through.
+fn is_let_through(config: &Config, guard: &mut Guard, entry: &PassEntry) -> bool
+    requires of { IsGuardOf config.now guard.old }
+    requires sizes { HasSizes config.now entry.now.input }
+    ensures { IsGuardOf config.now guard.new }
+{
+    guard
+        .step(config, &entry.input, entry.actions.as_slice())
+        .is_ok()
 }
 
 /// Whether the plain pass on the input of this entry, after these, makes its actions.
@@ -243,9 +255,9 @@ impl Together {
         requires stepped { IsBookOf config.now self.old.stepped }
         requires walked { IsBookOf config.now self.old.walked }
         requires guard { IsGuardOf config.now self.old.guard }
-        ensures stepped { IsBookOf config.now self.new.stepped }
-        ensures walked { IsBookOf config.now self.new.walked }
-        ensures guard { IsGuardOf config.now self.new.guard }
+        ensures stepped { IfOk result (λ _. IsBookOf config.now self.new.stepped) }
+        ensures walked { IfOk result (λ _. IsBookOf config.now self.new.walked) }
+        ensures guard { IfOk result (λ _. IsGuardOf config.now self.new.guard) }
     {
         if looks.len() != config.threads() {
             return Ok(false);
@@ -256,21 +268,16 @@ impl Together {
             return Ok(!fit && is_refused(config, self.history.as_slice(), &input));
         }
         let entry = stepped(alloc, config, &mut self.stepped, input)?;
-        let alike = is_made(alloc, config, self.history.as_slice(), &entry)?
-            && walks(
-                alloc,
-                config,
-                &mut self.walked,
-                &mut self.came,
-                looks,
-                &entry,
-            )?
-            && self
-                .guard
-                .step(config, &entry.input, entry.actions.as_slice())
-                .is_ok();
+        if !is_made(alloc, config, self.history.as_slice(), &entry)? {
+            return Ok(false);
+        }
+        let (walked, came) = (&mut self.walked, &mut self.came);
+        if !walks(alloc, config, walked, came, looks, &entry)? {
+            return Ok(false);
+        }
+        let through = is_let_through(config, &mut self.guard, &entry);
         self.history.push(entry)?;
-        Ok(alike)
+        Ok(through)
     }
 }
 
