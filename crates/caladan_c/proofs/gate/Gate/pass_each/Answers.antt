@@ -62,3 +62,11 @@ returns-clause-judged c =
     let whole : (h : List PassEntry) → GuardsAfter g h → AreSaid g.table.cores h c.args.given.looks.now c.take_each.new.judged = λ h after.
     c.take_each.ensures.said h (c.permitted_settled_is_no_news.ensures g.table h after.permitted) (c.board.ensures.agrees h after.keeps) in
     subst (λ (old : Gated). (h : List PassEntry) → GuardsAfter old h → AreSaid old.table.cores h c.args.given.looks.now c.take_each.new.judged) view whole
+
+pub returns-in-Err-clause-judged : goal.returns-in-Err-clause-judged
+returns-in-Err-clause-judged c =
+    let g : Gated = record { table = c.self.inside.config; guard = c.self.inside.guard } in
+    let view : g ≡ c.args.self.now = c.self.view_is in
+    let whole : (h : List PassEntry) → GuardsAfter g h → AreSaid g.table.cores h c.args.given.looks.now c.take_each.new.judged = λ h after.
+    c.take_each.ensures.said h (c.permitted_settled_is_no_news.ensures g.table h after.permitted) (c.board.ensures.agrees h after.keeps) in
+    subst (λ (old : Gated). (h : List PassEntry) → GuardsAfter old h → AreSaid old.table.cores h c.args.given.looks.now c.take_each.new.judged) view whole
