@@ -4,3 +4,6 @@ pub mod Shorter
 pub mod Tables
 pub mod Columns
 pub mod Variations
+pub mod Lines
+pub mod ReadBack
+pub mod OwnValue

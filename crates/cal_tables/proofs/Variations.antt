@@ -7,7 +7,7 @@ use Rattle.cal_machine.specs.Table.{Table}
 use Rattle.cal_machine.specs.declared.fault.ConfigFault.{ConfigFault}
 use Rattle.cal_trace.specs.Rows.Text.{numbered}
 use Rattle.cal_trace.proofs.ListLemmas.Numbered.{concat-one, numbered-more}
-use Rattle.cal_tables.specs.Varied.{any_below}
+use Rattle.cal_tables.specs.Writing.{any_below}
 
 pub one_below_more : (f : ℕ → Bool) (n : ℕ) → any_below f (n + 1) ≡ (any_below f n || f n)
 one_below_more f n = rw (add-one n) refl

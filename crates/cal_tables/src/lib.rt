@@ -6,6 +6,7 @@
 mod comparing;
 mod core_rows;
 mod courses;
+mod laws;
 mod measuring;
 mod sheet;
 mod writing;
@@ -13,5 +14,6 @@ mod writing;
 pub use comparing::fault::ComparisonFault;
 pub use comparing::{Comparison, Variation, compare, compared, compared_values};
 pub use courses::{Courses, RunCourse, TaskCourse, courses_of, courses_of_values, run_course};
+pub use laws::{own_value_gives_the_table, text_is_read_back, varied_differs_at_its_key};
 pub use measuring::{RunNumbers, measure, measured_run};
 pub use sheet::NumberForm;

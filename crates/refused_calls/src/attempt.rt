@@ -1,10 +1,12 @@
 //! Tries of a call.
 
+use cal_engine::RunFault;
 use cal_kthread::TurnFault;
 use cal_machine::ConfigFault;
 use cal_run::SimFault;
 use cal_sched::PassFault;
-use cal_trace::{FaultKind, TraceFault};
+use cal_tables::ComparisonFault;
+use cal_trace::{FaultKind, TraceFault, WriteFault};
 use cal_world::{Illegal, Stopped};
 use std::alloc::{AllocError, AllocFailed};
 use std::io;
@@ -17,6 +19,8 @@ pub enum Fault {
     Memory,
     /// A thread could not be started.
     Spawn,
+    /// The writer answered an error.
+    Write,
     /// Anything else.
     Other,
 }
@@ -94,6 +98,33 @@ impl From<SimFault> for Fault {
     }
 }
 
+impl From<WriteFault> for Fault {
+    fn from(_e: WriteFault) -> Fault {
+        Fault::Write
+    }
+}
+
+impl From<RunFault> for Fault {
+    fn from(fault: RunFault) -> Fault {
+        match fault {
+            RunFault::Config(fault) => Fault::from(fault),
+            RunFault::Trace(fault) => Fault::from(fault),
+            RunFault::Memory => Fault::Memory,
+            RunFault::Spawn => Fault::Spawn,
+            RunFault::Write => Fault::Write,
+            RunFault::Read | RunFault::Length | RunFault::Separator | RunFault::Gate => {
+                Fault::Other
+            }
+        }
+    }
+}
+
+impl From<ComparisonFault> for Fault {
+    fn from(why: ComparisonFault) -> Fault {
+        Fault::from(why.fault)
+    }
+}
+
 /// The error of a program whose words or input are not as they must be, or of a call that answered
 /// what it must not.
 pub fn wrong() -> io::Error {
@@ -131,6 +162,7 @@ pub fn tell(rt: &HostRuntime, fault: Fault) -> io::Result<()> {
     let line = match fault {
         Fault::Memory => b"memory\n".as_slice(),
         Fault::Spawn => b"spawn\n".as_slice(),
+        Fault::Write => b"write\n".as_slice(),
         Fault::Other => b"another fault\n".as_slice(),
     };
     rt.stdout().write_all(line)

@@ -14,6 +14,8 @@ use std::io;
 /// An input of a task table and a trace.
 #[derive(Drop)]
 pub struct Given<'a> {
+    /// All of it.
+    pub text: &'a [u8],
     /// The text of the table.
     pub table: &'a [u8],
     /// The table.
@@ -30,6 +32,7 @@ impl<'a> Given<'a> {
         };
         match Config::read(alloc, table) {
             Ok(config) => Ok(Given {
+                text,
                 table,
                 config,
                 trace,

@@ -9,8 +9,10 @@
 
 mod attempt;
 mod copies;
+mod engines;
 mod full;
 mod given;
+mod opening;
 mod order;
 mod policy;
 mod reading;
@@ -19,6 +21,7 @@ mod scheduling;
 mod texts;
 mod turning;
 mod worlds;
+mod writing;
 
 use attempt::wrong;
 use given::Given;
@@ -78,6 +81,11 @@ fn call_more<H: Threads + Wait + Sync>(
     match word {
         "audit" => policy::audit_whole(rt, given),
         "auditor" => policy::audit_in_turn(rt, given),
+        "open_page" => opening::page(rt),
+        "open_watched" => opening::watched(rt),
+        "open_ring" => opening::ring(rt),
+        "open_book" => opening::book(rt, given),
+        "open_guard" => opening::guard(rt, given),
         "open_threads" => scheduling::threads(rt, given),
         "scheduler" => scheduling::scheduler(rt, given),
         "watch" => scheduling::watch(rt, given),
@@ -86,9 +94,29 @@ fn call_more<H: Threads + Wait + Sync>(
         "start" => worlds::start(rt, given),
         "step" => worlds::steps(rt, given),
         "run_events" => worlds::whole(rt, given),
+        _ => call_whole(host, rt, word, given),
+    }
+}
+
+/// Whole runs, and what is written of them.
+fn call_whole<H: Threads + Wait + Sync>(
+    host: &H,
+    rt: &HostRuntime,
+    word: &str,
+    given: &Given,
+) -> io::Result<bool> {
+    match word {
         "linearise" => order::of_run(rt, given),
         "lockstep" => runs::on_one_thread(rt, given),
         "simulate" => runs::in_threads(host, rt, given),
+        "write_history" => writing::history(rt, given),
+        "write_report" => writing::report(rt, given),
+        "decide" => engines::decided(rt, given),
+        "run_audit" => engines::audited(rt, given),
+        "run_lockstep" => engines::on_one_thread(rt, given),
+        "run_sim" => engines::in_threads(host, rt, given),
+        "measure" => engines::measured(rt, given),
+        "compare" => engines::compared(rt, given),
         "full_history" => full::full_history(rt, given),
         "full_journal" => full::full_journal(rt, given),
         _ => Err(wrong()),

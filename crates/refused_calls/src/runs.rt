@@ -40,7 +40,8 @@ pub fn in_threads<H: Threads + Wait + Sync>(
     Ok(true)
 }
 
-fn write_verdict(rt: &HostRuntime, given: &Given, history: &[PassEntry]) -> io::Result<()> {
+/// That a history is legal, and how many passes it has.
+pub fn write_verdict(rt: &HostRuntime, given: &Given, history: &[PassEntry]) -> io::Result<()> {
     let passes = history.len();
     match audit(rt.alloc(), &given.config, history)? {
         Verdict::Legal => writeln!(&mut rt.stdout(), "legal, {passes} passes"),

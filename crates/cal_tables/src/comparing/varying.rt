@@ -5,9 +5,10 @@ ghost use Rattle.std.specs.Prelude.{◌<◌, length, slice_get, string_bytes};
 ghost use Rattle.std.specs.List.{concat};
 ghost use Rattle.cal_engine.specs.Outcome.{ConfigDecided};
 ghost use Rattle.cal_trace.specs.Rows.Text.{numbered};
-ghost use Rattle.cal_tables.specs.Varied.{AreVaried, any_below, field_key, field_line, has_key};
-ghost use Rattle.cal_tables.specs.Varied.{is_field, key_line, kind_text, task_text, varied};
-ghost use Rattle.cal_tables.specs.Varied.{varied_text};
+ghost use Rattle.cal_tables.specs.TableText.{field_key, kind_text, text_of_lines};
+ghost use Rattle.cal_tables.specs.Varied.{AreVaried, has_key, varied, varied_lines};
+ghost use Rattle.cal_tables.specs.Writing.{any_below, field_line, is_field, is_place, key_line};
+ghost use Rattle.cal_tables.specs.Writing.{task_text};
 
 use crate::comparing::fault::{ComparisonFault, fault_of};
 use cal_engine::RunFault;
@@ -118,8 +119,8 @@ fn put_task(
     ensures { OnOk result (string_bytes text.new ≡ string_bytes text.old
         ++ task_text setting.entry.key.now setting.entry.value.now number task) }
 {
-    text.push_str("[[task]]\n")?;
-    put_kind(alloc, text, setting, number, task.kind)?;
+    text.push_str("\n[[task]]\n")?;
+    put_number(alloc, text, setting, number, "delay", task.delay)?;
     put_number(
         alloc,
         text,
@@ -128,8 +129,8 @@ fn put_task(
         "guaranteed",
         task.guaranteed as u64,
     )?;
+    put_kind(alloc, text, setting, number, task.kind)?;
     put_number(alloc, text, setting, number, "limit", task.limit as u64)?;
-    put_number(alloc, text, setting, number, "delay", task.delay)?;
     put_number(alloc, text, setting, number, "request", task.request)?;
     Ok(())
 }
@@ -154,13 +155,14 @@ fn put_tasks(
 /// The table as a text, in which the value stands at the key.
 fn varied_text(alloc: Global, table: &Config, setting: Setting<'_>) -> Result<String, AllocError>
     ensures { IfOk result (λ text. string_bytes text
-        ≡ varied_text setting.entry.key.now setting.entry.value.now table.now) }
+        ≡ text_of_lines
+        (varied_lines setting.entry.key.now setting.entry.value.now table.now)) }
 {
     let mut text = String::new(alloc);
-    let cores = table.machine().cores() as u64;
-    put_top(alloc, &mut text, setting, "cores", cores)?;
     let limit = table.bandwidth_limit();
     put_top(alloc, &mut text, setting, "bandwidth_limit", limit)?;
+    let cores = table.machine().cores() as u64;
+    put_top(alloc, &mut text, setting, "cores", cores)?;
     put_tasks(alloc, &mut text, setting, table)?;
     Ok(text)
 }
@@ -177,12 +179,12 @@ fn is_key_of(alloc: Global, key: &str, task: usize, name: &str) -> Result<bool, 
 fn is_field(alloc: Global, key: &str, task: usize) -> Result<bool, AllocError>
     ensures { IfOk result (λ is_so. is_so ≡ is_field key.now task) }
 {
-    let kind = is_key_of(alloc, key, task, "kind")?;
-    let guaranteed = is_key_of(alloc, key, task, "guaranteed")?;
-    let limit = is_key_of(alloc, key, task, "limit")?;
     let delay = is_key_of(alloc, key, task, "delay")?;
+    let guaranteed = is_key_of(alloc, key, task, "guaranteed")?;
+    let kind = is_key_of(alloc, key, task, "kind")?;
+    let limit = is_key_of(alloc, key, task, "limit")?;
     let request = is_key_of(alloc, key, task, "request")?;
-    Ok(kind || guaranteed || limit || delay || request)
+    Ok(delay || guaranteed || kind || limit || request)
 }
 
 /// Whether one of so many tasks has a key.
@@ -198,12 +200,19 @@ fn any_has(alloc: Global, key: &str, tasks: usize) -> Result<bool, AllocError>
     Ok(has)
 }
 
+/// Whether a key is the place of a line.
+fn is_place(alloc: Global, key: &str, table: &Config) -> Result<bool, AllocError>
+    ensures { IfOk result (λ has. has ≡ is_place key.now table.now) }
+{
+    let of_task = any_has(alloc, key, table.tasks())?;
+    Ok("bandwidth_limit" == key || "cores" == key || of_task)
+}
+
 /// Whether a table has a key.
 fn has_key(alloc: Global, key: &str, table: &Config) -> Result<bool, AllocError>
     ensures { IfOk result (λ has. has ≡ has_key key.now table.now) }
 {
-    let of_task = any_has(alloc, key, table.tasks())?;
-    Ok("cores" == key || "bandwidth_limit" == key || of_task)
+    is_place(alloc, key, table)
 }
 
 /// The table with this value at this key. The fault is that of the table; a key that it has not is

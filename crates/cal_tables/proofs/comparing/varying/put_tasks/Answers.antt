@@ -1,6 +1,6 @@
 use Rattle.std.proofs.Common.{◌<◌, ◌++◌, length, string_bytes, ap, ◌∙◌, arith}
 use Rattle.cal_machine.specs.Tasks.{no_task}
-use Rattle.cal_tables.specs.Varied.{task_text}
+use Rattle.cal_tables.specs.Writing.{task_text}
 use Rattle.cal_tables.proofs.Variations.{one_text_more}
 use Rattle.cal_tables.proofs.comparing.varying.put_tasks.Goals as goal
 

@@ -1,7 +1,7 @@
 use Rattle.std.proofs.Common.{◌≡◌, ◌++◌, string_bytes, take}
 use Rattle.std.specs.List.{concat}
 use Rattle.cal_trace.specs.Rows.Text.{numbered}
-use Rattle.cal_tables.specs.Varied.{task_text}
+use Rattle.cal_tables.specs.Writing.{task_text}
 use Rattle.cal_tables.proofs.comparing.varying.put_tasks.Given as goal
 
 abbrev pub invariant-loop-number : goal.invariant-loop-number

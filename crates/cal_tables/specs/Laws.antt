@@ -1,0 +1,30 @@
+-- What a variation is, in words of its own.
+use Rattle.std.specs.Prelude.{◌≡◌, ℕ, true, List, Ok}
+use Rattle.std.specs.List.{Contains}
+use Rattle.cal_machine.specs.Reading.{table_in}
+use Rattle.cal_machine.specs.Table.{Table, IsTable}
+use Rattle.cal_tables.specs.TableText.{Line, lines_of, text_of_lines}
+use Rattle.cal_tables.specs.Varied.{has_key, varied, varied_lines}
+
+-- a table's text is read as that table
+abbrev pub TextIsReadBack : Type 0
+TextIsReadBack = (table : Table) → IsTable table →
+    table_in (text_of_lines (lines_of table)) ≡ Ok table
+
+-- the table has the key, and this value there
+pub record IsOwnValue (table : Table) (key value : List ℕ) : Type 0 where
+  pub has : has_key key table ≡ true
+  pub own : (line : Line) → Contains (lines_of table) line → line.place ≡ key →
+      line.value ≡ value
+
+-- a key varied to its own value gives the table
+abbrev pub OwnValueGivesTheTable : Type 0
+OwnValueGivesTheTable = (table : Table) (key value : List ℕ) → IsTable table →
+    IsOwnValue table key value → varied table key value ≡ Ok table
+
+-- a table whose lines are those of another, but for the value at the key, is what that one gives
+-- with the value there: so the two differ at that key alone
+abbrev pub VariedDiffersAtItsKey : Type 0
+VariedDiffersAtItsKey = (table other : Table) (key value : List ℕ) → IsTable other →
+    has_key key table ≡ true → lines_of other ≡ varied_lines key value table →
+    varied table key value ≡ Ok other

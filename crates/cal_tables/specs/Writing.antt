@@ -1,0 +1,41 @@
+-- What the functions that write a varied table cite: its lines, each where it is written.
+use Rattle.std.specs.Prelude.{◌||◌, bytes_eq, ℕ, zero, suc, Bool, false, List, [], ◌∷◌, codes}
+use Rattle.std.specs.Prelude.{decimal, length}
+use Rattle.std.specs.List.{concat}
+use Rattle.cal_machine.specs.Table.{Table}
+use Rattle.cal_machine.specs.declared.task.Task.{Task}
+use Rattle.cal_tables.specs.TableText.{field_key, kind_text, line_of, line_text}
+use Rattle.cal_tables.specs.Varied.{with_value}
+
+-- the line at this place, with the value, where the place is the key, else with what is there
+abbrev pub key_line : List ℕ → List ℕ → List ℕ → List ℕ → List ℕ → List ℕ
+key_line key value place name own = line_text (with_value key value (line_of place [] name own))
+
+abbrev pub field_line : List ℕ → List ℕ → ℕ → List ℕ → List ℕ → List ℕ
+field_line key value t name own = key_line key value (field_key t name) name own
+
+-- task t of a table
+abbrev pub task_text : List ℕ → List ℕ → ℕ → Task → List ℕ
+task_text key value t task = concat (codes "\n[[task]]\n"
+    ∷ field_line key value t (codes "delay") (decimal task.delay)
+    ∷ field_line key value t (codes "guaranteed") (decimal task.guaranteed)
+    ∷ field_line key value t (codes "kind") (kind_text task.kind)
+    ∷ field_line key value t (codes "limit") (decimal task.limit)
+    ∷ field_line key value t (codes "request") (decimal task.request) ∷ [])
+
+-- the key is one of task t
+abbrev pub is_field : List ℕ → ℕ → Bool
+is_field key t = bytes_eq (field_key t (codes "delay")) key
+    || bytes_eq (field_key t (codes "guaranteed")) key
+    || bytes_eq (field_key t (codes "kind")) key || bytes_eq (field_key t (codes "limit")) key
+    || bytes_eq (field_key t (codes "request")) key
+
+-- f holds of a number below n
+abbrev pub any_below : (ℕ → Bool) → ℕ → Bool
+any_below f zero = false
+any_below f (suc n) = any_below f n || f n
+
+-- the key is the place of a line of the table
+abbrev pub is_place : List ℕ → Table → Bool
+is_place key table = bytes_eq (codes "bandwidth_limit") key || bytes_eq (codes "cores") key
+    || any_below (is_field key) (length table.tasks)

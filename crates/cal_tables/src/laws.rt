@@ -1,0 +1,21 @@
+//! Laws of variations, each the contract of a function that does nothing.
+
+ghost use Rattle.cal_tables.specs.Laws.{OwnValueGivesTheTable, TextIsReadBack};
+ghost use Rattle.cal_tables.specs.Laws.{VariedDiffersAtItsKey};
+
+/// The text of a table, line by line as it is varied, is read as that table.
+pub fn text_is_read_back()
+    ensures { TextIsReadBack }
+{}
+
+/// A key of a table varied to the value that it has there gives the table.
+pub fn own_value_gives_the_table()
+    ensures { OwnValueGivesTheTable }
+{}
+
+/// A table whose lines are those of another, but for the value at a key, is what that one gives with
+/// the value there. So where a value is written as a table's own text has it, in decimal digits or as
+/// a kind between quotes, the varied table differs from the table at the key alone.
+pub fn varied_differs_at_its_key()
+    ensures { VariedDiffersAtItsKey }
+{}

@@ -1,0 +1,68 @@
+//! Pages, rings, books and guards of nothing yet.
+
+use crate::attempt::{answer, begin};
+use crate::given::Given;
+use cal_command::open_ring;
+use cal_guard::Guard;
+use cal_machine::Command;
+use cal_policy::Book;
+use cal_signal::{Record, open_page, open_watched};
+use std::io;
+use std::io::Write;
+
+/// A page, and the first record on it.
+pub fn page(rt: &HostRuntime) -> io::Result<bool> {
+    begin(rt)?;
+    let Some((mut publisher, mut observer)) = answer(rt, open_page(rt.alloc()))? else {
+        return Ok(false);
+    };
+    let place = publisher.publish(Record::ZERO);
+    writeln!(&mut rt.stdout(), "{place:?} {:?}", observer.observe())?;
+    Ok(true)
+}
+
+/// A page with a watch, and the first record on it.
+pub fn watched(rt: &HostRuntime) -> io::Result<bool> {
+    begin(rt)?;
+    let Some((mut publisher, mut observer, mut watcher)) = answer(rt, open_watched(rt.alloc()))?
+    else {
+        return Ok(false);
+    };
+    let place = publisher.publish(Record::ZERO);
+    let (look, other) = (observer.observe(), watcher.observe());
+    writeln!(&mut rt.stdout(), "{place:?} {look:?} {other:?}")?;
+    Ok(true)
+}
+
+/// A ring, and the first command through it.
+pub fn ring(rt: &HostRuntime) -> io::Result<bool> {
+    begin(rt)?;
+    let Some((mut sender, mut taker)) = answer(rt, open_ring(rt.alloc()))? else {
+        return Ok(false);
+    };
+    if sender.room() {
+        sender.send(Command::Park);
+    }
+    writeln!(&mut rt.stdout(), "{:?}", taker.take())?;
+    Ok(true)
+}
+
+/// A book of no history.
+pub fn book(rt: &HostRuntime, given: &Given) -> io::Result<bool> {
+    begin(rt)?;
+    let Some(_book) = answer(rt, Book::open(rt.alloc(), &given.config))? else {
+        return Ok(false);
+    };
+    writeln!(&mut rt.stdout(), "a book")?;
+    Ok(true)
+}
+
+/// A guard of no history.
+pub fn guard(rt: &HostRuntime, given: &Given) -> io::Result<bool> {
+    begin(rt)?;
+    let Some(_guard) = answer(rt, Guard::open(rt.alloc(), &given.config))? else {
+        return Ok(false);
+    };
+    writeln!(&mut rt.stdout(), "a guard")?;
+    Ok(true)
+}
