@@ -123,9 +123,9 @@ pub fn step_both(
             twins_are_spare(config, passing, spare);
             Ok(())
         }
-        Err(first) => {
+        Err(refused) => {
             *spare = passing.duplicate();
-            Err(first)
+            Err(refused)
         }
     }
 }

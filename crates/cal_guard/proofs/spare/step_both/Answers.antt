@@ -70,7 +70,7 @@ returns-in-Err-clause-first c = λ h input by permitted is.
     let begun : Begun = record { history = h; seen = input.seen } in
     let P : Setting → Type 0 = λ t. IsInside c.begin.new.self t [] in
     let inside = subst P by.same (c.begin.ensures.inside c.args.config.now h input by.seen permitted (twin_state c.args.passing.now c.args.spare.now c.requires.spare.twins h is)) in
-    let F : Setting → Type 0 = λ t. IsFirstWrong t [] c.args.chosen.now c.in-Err.first in
+    let F : Setting → Type 0 = λ t. IsFirstWrong t [] c.args.chosen.now c.in-Err.refused in
     subst F (sym by.same) (c.in-Err.ensures.first begun [] inside)
 
 pub returns-in-Err-clause-spare : goal.returns-in-Err-clause-spare
