@@ -49,7 +49,8 @@ killed_midway() { # what was recorded up to the last second is there
     passes=$(grep -c '^pass,' "$part")
     [ "$passes" -gt 100 ]; note $? "$what: it has $passes passes"
     # all but the last pass, which may be cut, are a legal history
-    { tac "$part" | sed '1,/^pass,/d' | tac; echo "end,$((passes - 1))"; } > "$build/cut"
+    awk '/^pass,/ { printf "%s", held; held = ""; seen++ } { held = held $0 "\n" } END { print "end," seen - 1 }' \
+        "$part" > "$build/cut"
     is_legal "$table" "$build/cut"; note $? "$what: it is not legal"
     kill -TERM $last 2> /dev/null
     wait
