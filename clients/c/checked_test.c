@@ -22,19 +22,12 @@ static void come(void) {
 #define CALADAN_SWAP(at, expected, value, order) \
     (come(), atomic_compare_exchange_strong_explicit(at, expected, value, memory_order_##order, memory_order_relaxed))
 #include "caladan_pages.h"
+#include "check.h"
 
 static caladan_page page;
 static caladan_ring ring;
 static caladan_publisher publisher;
 static uint64_t by_handler, by_turns; /* the command that the handler took; how many turns it had */
-static int failed;
-#define CHECK(is)                                                              \
-    do {                                                                       \
-        if (!(is)) {                                                           \
-            fprintf(stderr, "checked_test: line %d: not %s\n", __LINE__, #is); \
-            failed = 1;                                                        \
-        }                                                                      \
-    } while (0)
 
 static void start(void) {
     memset(&page, 0, sizeof page);

@@ -2,6 +2,7 @@
  * end: each field is told another number, which follows from what was handed in. That the library reads and writes looks and
  * actions there the examples show (clients/c/decide.c, audit.c), by every kind of them. Prints 'layout_test: ok'. */
 #include "caladan.h"
+#include "check.h"
 #include <stdio.h>
 
 static const char TABLE[] = "cores = 4\nbandwidth_limit = 4328719365\n" /* 0x0102030405 */
@@ -10,15 +11,6 @@ static const char TABLE[] = "cores = 4\nbandwidth_limit = 4328719365\n" /* 0x010
                             "delay = 73588229205\nrequest = 440092104960\n"; /* 0x1122334455, 0x6677889900 */
 enum { THREADS = 8, LEAVES = 3, STAYS = 6, CANARY = 0xa5 };
 typedef uint8_t judgements[THREADS];
-
-static int failed;
-#define CHECK(is)                                                             \
-    do {                                                                      \
-        if (!(is)) {                                                          \
-            fprintf(stderr, "layout_test: line %d: not %s\n", __LINE__, #is); \
-            failed = 1;                                                       \
-        }                                                                     \
-    } while (0)
 
 /* A struct that is told, and what lies behind it. */
 #define WATCHED(kind) struct { kind told; unsigned char behind[64]; }

@@ -7,6 +7,7 @@
  * 'lies: ok'. */
 #define _GNU_SOURCE
 #include "caladan_pages.h"
+#include "check.h"
 #include <signal.h>
 #include <stdio.h>
 #include <string.h>
@@ -18,15 +19,6 @@ static const char TABLE[] = "cores = 4\nbandwidth_limit = 1000\n"
                             "[[task]]\nkind = \"lc\"\nguaranteed = 1\nlimit = 2\ndelay = 10\nrequest = 50\n"
                             "[[task]]\nkind = \"be\"\nguaranteed = 0\nlimit = 2\ndelay = 0\nrequest = 0\n";
 enum { THREADS = 4, LIAR = 1, STEPS = CALADAN_WORDS + 2 };
-
-static int failed;
-#define CHECK(is)                                                          \
-    do {                                                                   \
-        if (!(is)) {                                                       \
-            fprintf(stderr, "lies: line %d: not %s\n", __LINE__, #is);     \
-            failed = 1;                                                    \
-        }                                                                  \
-    } while (0)
 
 static caladan open_one(void) {
     caladan handle = CALADAN_CLOSED;
