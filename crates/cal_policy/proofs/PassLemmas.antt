@@ -5,6 +5,7 @@ pub mod Bandwidth
 pub mod Best
 pub mod Branches
 pub mod Commands
+pub mod Early
 pub mod Fits
 pub mod FromParts
 pub mod LegalOrderly
@@ -12,6 +13,7 @@ pub mod Legality
 pub mod Length
 pub mod Preempting
 pub mod Made
+pub mod NoneOpen
 pub mod NothingDue
 pub mod Pairs
 pub mod PartSoFar

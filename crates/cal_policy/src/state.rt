@@ -2,6 +2,7 @@
 //! it, or tells what it is. Whoever only wants this policy's passes needs none of this.
 
 pub use crate::board::Board;
+pub use crate::board::core_sets::next_core;
 pub use crate::board::cores::{is_banned, is_held};
 pub use crate::board::counts::{booked_by, cap_of, held_by, holds_for, is_over};
 pub use crate::board::holders::{Holder, Placement, core_changed_by};

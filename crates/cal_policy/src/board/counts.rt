@@ -1,6 +1,6 @@
 //! How many cores tasks have.
 
-ghost use Rattle.std.specs.Prelude.{◌≡◌, ℕ, ◌<◌, true, length, List};
+ghost use Rattle.std.specs.Prelude.{◌≡◌, ℕ, ◌<◌, ◌≤◌, true, false, length, List};
 ghost use Rattle.std.specs.Option.{IfSome};
 ghost use Rattle.cal_machine.specs.Table.{IsTable};
 ghost use Rattle.cal_machine.specs.declared.task_table.TheConstants.{MOST_TASKS};
@@ -8,6 +8,7 @@ ghost use Rattle.cal_machine.specs.TableTasks.{threads_of_table};
 ghost use Rattle.cal_policy.specs.declared.history.action.Action.{Action};
 ghost use Rattle.cal_policy.specs.Board.Counts as counts;
 ghost use Rattle.cal_policy.specs.Board.Counts.{is_held_for};
+ghost use Rattle.cal_policy.specs.Board.Losing.{secure_of};
 ghost use Rattle.cal_policy.specs.Board.{Agrees, IsReady, holder_in, placement_of};
 
 use crate::board::Board;
@@ -57,6 +58,35 @@ pub fn is_over(config: &Config, board: &Board, task: usize) -> bool
     ensures { (x : List Action) → Agrees board.now x → result ≡ counts.is_over config.now x task }
 {
     config.task(task).guaranteed < held_by(config, board, task)
+}
+
+/// How many of its cores a task cannot lose to another: a latency-critical one as many as it is
+/// guaranteed, a best-effort one none.
+fn secure(config: &Config, task: usize) -> u8
+    requires task { task < length config.now.tasks }
+    ensures { result ≡ secure_of config.now task }
+{
+    if config.is_latency_critical(task) {
+        config.task(task).guaranteed
+    } else {
+        0
+    }
+}
+
+/// Whether some task holds a core that it may lose to another.
+pub fn some_may_lose(config: &Config, board: &Board) -> bool
+    requires table { IsTable config.now }
+    requires ready { IsReady config.now board.now }
+    ensures { result ≡ false → (x : List Action) → Agrees board.now x → (t : ℕ) →
+        t < length config.now.tasks →
+        counts.held_by config.now x t ≤ secure_of config.now t }
+{
+    for task in 0..config.tasks() {
+        if secure(config, task) < held_by(config, board, task) {
+            return true;
+        }
+    }
+    false
 }
 
 /// The cap of a task: its last one, else its limit.

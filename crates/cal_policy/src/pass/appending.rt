@@ -21,6 +21,7 @@ pub fn make(config: &Config, board: &mut Board, out: &mut Actions, action: Optio
     ensures out { out.new ≡ out.old ++ option_to_list action }
     ensures stands { (s : Setting) → Stands board.old s out.old → Stands board.new s out.new }
     ensures ready { IsReady config.now board.new }
+    ensures same { action ≡ None → board.new ≡ board.old }
     ensures length { length out.new ≤ length out.old + 1 }
 {
     match action {

@@ -169,6 +169,7 @@ impl Pass<'_> {
             let s = setting_in self.now h in
             both_of result ≡ in_pair (rules.bans_at s) acts pair }
         ensures names { BothName self.now.config.now result }
+        ensures alone { result.first ≡ None → result.second ≡ None }
     {
         let lower = self.ban_beside(2 * pair);
         match lower.first {
@@ -192,13 +193,18 @@ fn some_is_over(config: &Config, board: &Board) -> bool
     false
 }
 
-/// Whether some task may be over: one was before, or one is.
-fn some_may_be_over(config: &Config, board: &Board, before: bool) -> bool
+/// Whether some task may be over after what a pair gave: one may have been before, or one is. Where
+/// the pair gave nothing no task is asked again, since nothing has changed.
+fn some_may_be_over(config: &Config, board: &Board, before: bool, given: Option<Action>) -> bool
     requires table { IsTable config.now }
     requires ready { IsReady config.now board.now }
+    requires same { given ≡ None → before ≡ false → NoneOver config.now board.now }
     ensures { result ≡ false → NoneOver config.now board.now }
 {
-    before || some_is_over(config, board)
+    match given {
+        None => before,
+        Some(_) => before || some_is_over(config, board),
+    }
 }
 
 /// The next core from this one on that may give rise to a ban.
@@ -241,7 +247,7 @@ pub fn ban_siblings(config: &Config, terms: &Terms, board: &mut Board, out: &mut
         };
         let both = pass.ban_in_pair(pair);
         make_both(config, board, out, both);
-        over = some_may_be_over(config, board, over);
+        over = some_may_be_over(config, board, over, both.first);
         next = pair + 1;
     }
 }

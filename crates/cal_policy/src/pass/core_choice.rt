@@ -19,7 +19,7 @@ ghost use Rattle.cal_policy.specs.Pass.Among.{class_among};
 ghost use Rattle.cal_policy.specs.Pass.AtHand.{IsAtHand, StandsIn, setting_in};
 
 use crate::board::core_sets::next_core;
-use crate::board::counts::holds_for;
+use crate::board::counts::{holds_for, some_may_lose};
 use crate::board::holders::{Holder, Placement};
 use crate::board::survey::survey_of;
 use crate::history::core_class::CoreClass;
@@ -48,6 +48,20 @@ fn idle_class(config: &Config, task: usize, beside: Holder, last: Option<Placeme
 }
 
 impl Pass<'_> {
+    /// The class that a core has while nobody has it and it is not banned.
+    fn class_if_idle(&self, task: usize, core: u8) -> CoreClass
+        requires at_hand { IsAtHand self.now }
+        requires core { core < self.now.config.now.cores }
+        ensures { (x : List Action) → Agrees self.now.board.now x →
+            result ≡ grants.idle_class self.now.config.now task (holder_of x (sibling_of core))
+            (last_thread x core) }
+    {
+        let sibling = self.config.machine().sibling(core);
+        let beside = self.board.holding.holders[sibling as usize];
+        let last = self.board.holding.granted[core as usize];
+        idle_class(self.config, task, beside, last)
+    }
+
     /// The class of a core that nobody has, unless it is banned.
     fn free_class(&self, task: usize, core: u8) -> Option<CoreClass>
         requires at_hand { IsAtHand self.now }
@@ -59,12 +73,7 @@ impl Pass<'_> {
     {
         match self.board.bans.bans[core as usize] {
             Some(_) => None,
-            None => {
-                let sibling = self.config.machine().sibling(core);
-                let beside = self.board.holding.holders[sibling as usize];
-                let last = self.board.holding.granted[core as usize];
-                Some(idle_class(self.config, task, beside, last))
-            }
+            None => Some(self.class_if_idle(task, core)),
         }
     }
 
@@ -169,6 +178,30 @@ impl Pass<'_> {
         best
     }
 
+    /// The core of the least class for the task among the idle ones, of those with that class the
+    /// lowest. The first one beside a core that the task holds ends it: no class comes before its.
+    fn choose_idle(&self, task: usize) -> Option<Candidate<CoreClass>>
+        requires at_hand { IsAtHand self.now }
+        requires task { task < length self.now.config.now.tasks }
+        ensures choice { (h : Begun) (acts : List Action) → StandsIn self.now h acts →
+            result ≡ best_below comes_before
+            (class_among self.now.board.now.open_cores.idle (setting_in self.now h) acts task)
+            self.now.config.now.cores }
+        ensures below { IfSome result (λ best. best.number < self.now.config.now.cores) }
+    {
+        let mut best: Option<Candidate<CoreClass>> = None;
+        let mut first = 0;
+        while let Some(core) = next_core(self.config, &self.board.open_cores.idle, first) {
+            let class = self.class_if_idle(task, core);
+            best = first_class(best, Some(class), core);
+            if let CoreClass::Sibling = class {
+                return best;
+            }
+            first = core + 1;
+        }
+        best
+    }
+
     /// Whether the other task may be preempted for this one: it holds a core, and what it holds has
     /// a class for this one.
     fn may_be_preempted(&self, task: usize, other: usize) -> bool
@@ -200,6 +233,19 @@ impl Pass<'_> {
         false
     }
 
+    /// Whether some task may be given a core: one is idle, or some task may lose one.
+    pub fn some_core_is_open(&self) -> bool
+        requires at_hand { IsAtHand self.now }
+        ensures { result ≡ false → (h : Begun) (acts : List Action) → StandsIn self.now h acts →
+            (task : ℕ) → task < length self.now.config.now.tasks →
+            grants.choice_of (setting_in self.now h) acts task ≡ None }
+    {
+        match next_core(self.config, &self.board.open_cores.idle, 0) {
+            Some(_) => true,
+            None => some_may_lose(self.config, self.board),
+        }
+    }
+
     /// The core of the least class for the task, of those with that class the lowest. A free core
     /// that is not banned is of a lesser class than any that is held, so those that are taken are
     /// gone over only where there is none, and some task may be preempted.
@@ -210,7 +256,7 @@ impl Pass<'_> {
             result ≡ grants.choice_of (setting_in self.now h) acts task }
         ensures below { IfSome result (λ best. best.number < self.now.config.now.cores) }
     {
-        if let Some(idle) = self.choose_among(task, &self.board.open_cores.idle) {
+        if let Some(idle) = self.choose_idle(task) {
             return Some(idle);
         }
         if !self.may_preempt_any(task) {

@@ -40,6 +40,7 @@ pub fn make_both(config: &Config, board: &mut Board, out: &mut Actions, both: Co
     ensures stands { (s : Setting) → Stands board.old s out.old → Stands board.new s out.new }
     ensures ready { IsReady config.now board.new }
     ensures length { length out.new ≤ length out.old + 2 }
+    ensures same { both.first ≡ None → both.second ≡ None → board.new ≡ board.old }
 {
     make(config, board, out, both.first);
     make(config, board, out, both.second);

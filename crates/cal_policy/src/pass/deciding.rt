@@ -88,11 +88,7 @@ pub fn decide_noted(
     ensures ready { IsReady config.now board.new }
 {
     config.limits();
-    let terms = Terms {
-        now,
-        bandwidth,
-        full: looks.full,
-    };
+    let terms = Terms::of_noted(config, now, bandwidth, looks);
     board.begin_noted(looks);
     make_parts(config, &terms, board, out);
 }

@@ -138,7 +138,7 @@ fn grant_of_kind(
 }
 
 /// Gives each task of this kind, by number, what it gets. Only those with a thread that waits are
-/// gone over.
+/// gone over, and only while some core is open to one.
 pub fn grants_of_kind(
     config: &Config,
     terms: &Terms,
@@ -160,6 +160,14 @@ pub fn grants_of_kind(
     let mut reached = 0;
     let mut first = 0;
     while let Some(waiting) = board.keeping.waiting.next(first, threads) {
+        let pass = Pass {
+            config,
+            terms,
+            board,
+        };
+        if !pass.some_core_is_open() {
+            return;
+        }
         let task = config.task_of(waiting);
         grant_of_kind(config, terms, board, out, kind, task);
         let (begin, count) = config.threads_of(task);

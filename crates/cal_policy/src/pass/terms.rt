@@ -1,12 +1,17 @@
 //! What a pass goes by beside the task table and the state.
 
 ghost use Rattle.std.specs.Prelude.{◌≡◌, ◌≤◌, List, length};
+ghost use Rattle.cal_machine.specs.TableTasks.{threads_of_table};
 ghost use Rattle.cal_machine.specs.declared.numbering.TheConstants.{MOST_THREADS};
 ghost use Rattle.cal_policy.specs.declared.history.entry.PassEntry.{PassEntry};
+ghost use Rattle.cal_policy.specs.declared.judgement.open_input.FoundLook.{FoundLook};
 ghost use Rattle.cal_policy.specs.Board.{HasSizes};
+ghost use Rattle.cal_policy.specs.Judgement.OpenInput.{judged_input, judged_looks};
+ghost use Rattle.cal_policy.specs.Judgement.OpenPass.{IsOpenAt};
 ghost use Rattle.cal_policy.specs.Setting.{Begun, rooms_from, setting, setting_at};
 
 use crate::history::input::Input;
+use crate::judgement::open_pass::OpenPass;
 use cal_machine::{Config, ThreadSet};
 
 /// What a pass goes by beside the task table and the state: its clock, its bandwidth figure, and
@@ -47,6 +52,26 @@ impl Terms {
             now: input.now,
             bandwidth: input.bandwidth,
             full: full_rings(input.rooms.as_slice()),
+        }
+    }
+
+    /// Those of a pass at this clock and bandwidth figure on the looks that came in, one of each
+    /// thread.
+    pub fn of_noted(config: &Config, now: u64, bandwidth: u64, looks: &OpenPass) -> Terms
+        requires all { looks.now.count ≡ threads_of_table config.now }
+        ensures { (h : List PassEntry) (found : List FoundLook) →
+            IsOpenAt config.now h found looks.now →
+            setting config.now h (judged_input config.now h now bandwidth found)
+            ≡ setting_at config.now result (record {
+              history = h;
+              seen = judged_looks config.now h found;
+            }) }
+    {
+        config.limits();
+        Terms {
+            now,
+            bandwidth,
+            full: looks.full,
         }
     }
 }

@@ -48,5 +48,5 @@ returns-then-not-some_may_be_preempted-clause-choice c = λ h acts s.
 
 pub returns-clause-choice : goal.returns-clause-choice
 returns-clause-choice c = λ h acts s.
-    c.choose_among-2.ensures.choice h acts s
+    c.choose_among.ensures.choice h acts s
     ∙ sym (joined c.args.self.now h acts c.args.task _ c.requires.at_hand s (c.in_default.ensures.choice h acts s))

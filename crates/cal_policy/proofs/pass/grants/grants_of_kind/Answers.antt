@@ -1,10 +1,11 @@
 -- Each task of the kind with a thread that waits gives what is due, and the tasks between give nothing.
-use Rattle.std.proofs.Common.{◌≡◌, ℕ, ◌+◌, ◌≤◌, Bool, length, arith}
+use Rattle.std.proofs.Common.{◌≡◌, ℕ, ◌+◌, ◌≤◌, Bool, refl, length, arith}
 use Rattle.cal_machine.proofs.ThreadNumbers.{first_next, next_le}
 use Rattle.cal_machine.specs.Tasks.{first_thread, task_at}
 use Rattle.cal_policy.specs.Setting.{setting_at}
 use Rattle.cal_policy.specs.Pass.Grants.{grant_of_kind_at, is_of_kind}
 use Rattle.cal_policy.proofs.ListLemmas.OneNumberMore.{count_more, count_within, count_grows}
+use Rattle.cal_policy.proofs.PassLemmas.NoneOpen.{none_given}
 use Rattle.cal_policy.proofs.PassLemmas.NothingDue.{none_waits, task_not_before, threads_between}
 use Rattle.cal_policy.proofs.PassLemmas.PartSoFar.{Reached_one, Reached_skip}
 use Rattle.cal_policy.proofs.pass.grants.grants_of_kind.Goals as goal
@@ -63,5 +64,20 @@ returns-clause-acts c = λ h st.
 
 pub returns-clause-length : goal.returns-clause-length
 returns-clause-length c =
+    let i = c.loop-waiting.invariant in
+    omega (arith, i.length, count_grows (is_of_kind c.args.kind c.args.config.now) c.loop-waiting.reached (length c.args.config.now.tasks) i.reached)
+
+-- where no core is open to a task, the tasks that are left get nothing
+pub returns-then-not-some_core_is_open-clause-acts : goal.returns-then-not-some_core_is_open-clause-acts
+returns-then-not-some_core_is_open-clause-acts c = λ h st.
+    let i = c.loop-waiting.invariant in
+    let table = c.args.config.now in
+    let s = setting_at table c.args.terms.now h in
+    let r = i.acts h st in
+    Reached_skip (grant_of_kind_at c.args.kind s) s c.args.out.now _ c.loop-waiting.board c.loop-waiting.reached (length table.tasks) i.reached
+    (λ u a b. none_given c.args.kind s c.loop-waiting.out u (c.if-not-some_core_is_open.ensures refl h c.loop-waiting.out r.1 u b)) r
+
+pub returns-then-not-some_core_is_open-clause-length : goal.returns-then-not-some_core_is_open-clause-length
+returns-then-not-some_core_is_open-clause-length c =
     let i = c.loop-waiting.invariant in
     omega (arith, i.length, count_grows (is_of_kind c.args.kind c.args.config.now) c.loop-waiting.reached (length c.args.config.now.tasks) i.reached)
