@@ -1,4 +1,10 @@
--- When the plain data that a pass keeps is what the actions and looks so far say.
+-- When the plain data that a pass keeps is what the actions and looks so far say, in these words:
+--   `IsReady`       what the board has beside cores, bans, caps and records goes by those
+--   `IsOfTable`     it is ready for a table, and the table is an accepted one
+--   `IsStateAfter`  it is the state that a history leaves
+--   `Stands`        it is the state within a pass, after some of its actions
+--   `Agrees`, `KeepingAgrees`  their parts: of the actions so far, and of the looks so far
+-- What holds a board, as a book or a guard, says the same of it by the first and the third.
 pub mod CoreSets
 pub mod Counts
 pub mod KeepingSets
@@ -183,12 +189,6 @@ pub record Stands (b : Board) (s : Setting) (acts : List Action) : Type 0 where
   pub shown : (k : ℕ) → k < MOST_THREADS →
       slice_index_or b.keeping.shown k nothing_shown
       ≡ last_shown (looks_of s.history ++ s.input.seen ∷ []) k
-
--- the board agrees with the history followed by this entry
-pub record AgreesAfter (b : Board) (history : List PassEntry) (entry : PassEntry) : Type 0 where
-  pub actions : Agrees b (actions_of (history ++ entry ∷ []))
-  pub looks : KeepingAgrees b.keeping (looks_of (history ++ entry ∷ []))
-  pub before : KeepsBefore b.keeping (looks_of history)
 
 -- one look and one answer on room for each thread
 pub record HasSizes (table : Table) (input : Input) : Type 0 where

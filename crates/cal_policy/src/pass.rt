@@ -19,7 +19,8 @@ ghost use Rattle.std.specs.Prelude.{◌≡◌, ◌<◌};
 ghost use Rattle.cal_machine.specs.TableTasks.{threads_of_table};
 ghost use Rattle.cal_policy.specs.Setting as rules;
 ghost use Rattle.cal_policy.specs.Setting.{Begun};
-ghost use Rattle.cal_policy.specs.Pass.AtHand.{IsAtHand, setting_in};
+ghost use Rattle.cal_policy.specs.Board.{IsOfTable};
+ghost use Rattle.cal_policy.specs.Pass.AtHand.{setting_in};
 
 use crate::board::Board;
 use crate::pass::terms::Terms;
@@ -37,7 +38,7 @@ pub struct Pass<'a> {
 impl Pass<'_> {
     /// Whether the command ring of a thread has room.
     pub fn has_room(&self, thread: usize) -> bool
-        requires at_hand { IsAtHand self.now }
+        requires at_hand { IsOfTable self.now.config.now self.now.board.now }
         requires thread { thread < threads_of_table self.now.config.now }
         ensures { (h : Begun) → result ≡ rules.has_room (setting_in self.now h) thread }
     {

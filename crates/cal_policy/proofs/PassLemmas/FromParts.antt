@@ -13,7 +13,7 @@ use Rattle.cal_policy.specs.Pass.Bandwidth.{bandwidth_part}
 use Rattle.cal_machine.specs.declared.task.Kind.TheVariants as kinds
 use Rattle.cal_policy.specs.Pass.Grants.{grants_of_kind}
 use Rattle.cal_policy.specs.Pass.{pass_of, followed}
-use Rattle.cal_policy.specs.Board.{Agrees, HasGranted, KeepingAgrees, KeepsBefore, Stands, AgreesAfter}
+use Rattle.cal_policy.specs.Board.{Agrees, HasGranted, KeepingAgrees, KeepsBefore, Stands, IsStateAfter}
 use Rattle.cal_policy.proofs.PassLemmas.Apart.{frees_apart}
 use Rattle.cal_policy.proofs.PassLemmas.Pairs.{so_far_more}
 use Rattle.cal_policy.proofs.BoardLemmas.Replayed.{actions_push, looks_push}
@@ -47,23 +47,26 @@ Stands_begin s b a f k p = record {
 }
 
 -- where it ends: the board agrees with the history followed by that pass
-pub Stands_end : (s : Setting) (b : Board) (acts : List Action) → Stands b s acts → AgreesAfter b s.history (record { input = s.input; actions = acts })
+pub Stands_end : (s : Setting) (b : Board) (acts : List Action) → Stands b s acts →
+    IsStateAfter b (s.history ++ record { input = s.input; actions = acts } ∷ []) × KeepsBefore b.keeping (looks_of s.history)
 Stands_end s b acts st =
     let entry : PassEntry = record { input = s.input; actions = acts } in
     let P : List Action → Type 0 = λ x. Agrees b x in
-    let Q : List (List Seen) → Type 0 = λ looks. KeepingAgrees b.keeping looks in
-    record {
-      actions = subst P (sym (actions_push s.history entry)) st.agrees;
-      looks = subst Q (sym (looks_push s.history entry)) (record { kept = st.kept; shown = st.shown });
-      before = record { before = st.before };
-    }
+    let Q : List (List Seen) → Type 0 = λ looks. KeepingAgrees b.keeping looks in (
+      record {
+        actions = subst P (sym (actions_push s.history entry)) st.agrees;
+        looks = subst Q (sym (looks_push s.history entry)) (record { kept = st.kept; shown = st.shown });
+      },
+      record { before = st.before },
+    )
 
 -- the same said of another name of the setting
 pub decided : (s other : Setting) → s ≡ other → (b : Board) (acts : List Action) → (acts ≡ pass_of s) × Stands b s acts →
-    (acts ≡ pass_of other) × AgreesAfter b other.history (record { input = other.input; actions = acts })
+    (acts ≡ pass_of other) × IsStateAfter b (other.history ++ record { input = other.input; actions = acts } ∷ []) × KeepsBefore b.keeping (looks_of other.history)
 decided s other e b acts r =
-    let P : Setting → Type 0 = λ one. (acts ≡ pass_of one) × AgreesAfter b one.history (record { input = one.input; actions = acts }) in
-    subst P e (r.0, Stands_end s b acts r.1)
+    let P : Setting → Type 0 = λ one. (acts ≡ pass_of one) × IsStateAfter b (one.history ++ record { input = one.input; actions = acts } ∷ []) × KeepsBefore b.keeping (looks_of one.history) in
+    let end = Stands_end s b acts r.1 in
+    subst P e (r.0, end.0, end.1)
 
 -- one action more, to which the board was brought up
 pub Stands_push : (b b2 : Board) (s : Setting) (acts : List Action) (a : Action) → Agrees b2 (so_far s acts ++ a ∷ []) → HasGranted b2.fresh (acts ++ a ∷ []) →

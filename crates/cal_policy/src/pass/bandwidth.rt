@@ -13,7 +13,7 @@ ghost use Rattle.cal_policy.specs.Setting.{Begun, setting_at, so_far};
 ghost use Rattle.cal_policy.specs.Pass.Bandwidth as rules;
 ghost use Rattle.cal_policy.specs.Board.Counts.{is_held_for};
 ghost use Rattle.cal_policy.specs.Board.{Stands, IsReady, IsOfTable, NamesTable, holder_in};
-ghost use Rattle.cal_policy.specs.Pass.AtHand.{IsAtHand, StandsIn, setting_in};
+ghost use Rattle.cal_policy.specs.Pass.AtHand.{setting_in};
 ghost use Rattle.cal_policy.specs.Board.Losing.{HoldsCore};
 ghost use Rattle.cal_policy.specs.Pass.Coupled.{both_of, BothName};
 
@@ -50,9 +50,10 @@ impl Pass<'_> {
     /// The task that can lose the core: the one whose thread holds it, where the thread's ring has
     /// room.
     fn task_that_can_lose(&self, core: u8) -> Option<usize>
-        requires at_hand { IsAtHand self.now }
+        requires at_hand { IsOfTable self.now.config.now self.now.board.now }
         requires core { core < self.now.config.now.cores }
-        ensures lose { (h : Begun) (acts : List Action) → StandsIn self.now h acts →
+        ensures lose { (h : Begun) (acts : List Action) →
+            Stands self.now.board.now (setting_in self.now h) acts →
             let s = setting_in self.now h in
             (t : ℕ) → rules.can_lose s (so_far s acts) t core ≡ rules.is_number t result }
         ensures task { IfSome result (λ t. t < length self.now.config.now.tasks) }
@@ -75,8 +76,9 @@ impl Pass<'_> {
 
     /// For each task the highest core that it can lose.
     fn cores_to_lose(&self) -> [Option<u8>; MOST_TASKS]
-        requires at_hand { IsAtHand self.now }
-        ensures lose { (h : Begun) (acts : List Action) → StandsIn self.now h acts →
+        requires at_hand { IsOfTable self.now.config.now self.now.board.now }
+        ensures lose { (h : Begun) (acts : List Action) →
+            Stands self.now.board.now (setting_in self.now h) acts →
             let s = setting_in self.now h in
             (t : ℕ) → t < MOST_TASKS →
             slice_index_or result t None ≡ rules.core_to_lose s (so_far s acts) t }
@@ -93,9 +95,10 @@ impl Pass<'_> {
 
     /// The misses of a thread since the pass before.
     fn new_misses(&self, thread: usize) -> u64
-        requires at_hand { IsAtHand self.now }
+        requires at_hand { IsOfTable self.now.config.now self.now.board.now }
         requires thread { thread < MOST_THREADS }
-        ensures { (h : Begun) (acts : List Action) → StandsIn self.now h acts →
+        ensures { (h : Begun) (acts : List Action) →
+            Stands self.now.board.now (setting_in self.now h) acts →
             result ≡ rules.new_misses (setting_in self.now h) thread }
     {
         let misses = self.board.keeping.kept[thread].misses;
@@ -104,9 +107,10 @@ impl Pass<'_> {
 
     /// The misses of all threads of a task since the pass before.
     fn task_misses(&self, task: usize) -> u128
-        requires at_hand { IsAtHand self.now }
+        requires at_hand { IsOfTable self.now.config.now self.now.board.now }
         requires task { task < length self.now.config.now.tasks }
-        ensures { (h : Begun) (acts : List Action) → StandsIn self.now h acts →
+        ensures { (h : Begun) (acts : List Action) →
+            Stands self.now.board.now (setting_in self.now h) acts →
             result ≡ rules.task_misses (setting_in self.now h) task }
     {
         let (first, count) = self.config.threads_of(task);
@@ -119,9 +123,10 @@ impl Pass<'_> {
 
     /// The misses of a best-effort task with a core that it can lose.
     fn victim_rank(&self, highest: &[Option<u8>; MOST_TASKS], task: usize) -> Option<u128>
-        requires at_hand { IsAtHand self.now }
+        requires at_hand { IsOfTable self.now.config.now self.now.board.now }
         requires task { task < length self.now.config.now.tasks }
-        ensures { (h : Begun) (acts : List Action) → StandsIn self.now h acts →
+        ensures { (h : Begun) (acts : List Action) →
+            Stands self.now.board.now (setting_in self.now h) acts →
             let s = setting_in self.now h in
             slice_index_or highest.now task None ≡ rules.core_to_lose s (so_far s acts) task →
             result ≡ rules.victim_rank s (so_far s acts) task }
@@ -137,8 +142,9 @@ impl Pass<'_> {
 
     /// The task with the most misses, of those with as many the one with the least number.
     fn victim(&self, highest: &[Option<u8>; MOST_TASKS]) -> Option<Candidate<u128>>
-        requires at_hand { IsAtHand self.now }
-        ensures victim { (h : Begun) (acts : List Action) → StandsIn self.now h acts →
+        requires at_hand { IsOfTable self.now.config.now self.now.board.now }
+        ensures victim { (h : Begun) (acts : List Action) →
+            Stands self.now.board.now (setting_in self.now h) acts →
             let s = setting_in self.now h in
             ((t : ℕ) → t < MOST_TASKS →
             slice_index_or highest.now t None ≡ rules.core_to_lose s (so_far s acts) t) →
@@ -156,10 +162,11 @@ impl Pass<'_> {
 
     /// The cap of a task one below what it holds, and the revocation of the core that it loses.
     fn cut(&self, task: u8, core: Option<u8>) -> Coupled
-        requires at_hand { IsAtHand self.now }
+        requires at_hand { IsOfTable self.now.config.now self.now.board.now }
         requires task { task < MOST_TASKS }
         requires core { HoldsCore self.now.config.now self.now.board.now task core }
-        ensures cut { (h : Begun) (acts : List Action) → StandsIn self.now h acts →
+        ensures cut { (h : Begun) (acts : List Action) →
+            Stands self.now.board.now (setting_in self.now h) acts →
             let s = setting_in self.now h in
             both_of result ≡ rules.cut_at s (so_far s acts) task core }
         ensures names { BothName self.now.config.now result }
@@ -180,8 +187,9 @@ impl Pass<'_> {
 
     /// What the victim loses.
     fn cut_victim(&self) -> Coupled
-        requires at_hand { IsAtHand self.now }
-        ensures cut { (h : Begun) (acts : List Action) → StandsIn self.now h acts →
+        requires at_hand { IsOfTable self.now.config.now self.now.board.now }
+        ensures cut { (h : Begun) (acts : List Action) →
+            Stands self.now.board.now (setting_in self.now h) acts →
             let s = setting_in self.now h in
             both_of result ≡ rules.cut_of s (so_far s acts) (rules.victim_of s (so_far s acts)) }
         ensures names { BothName self.now.config.now result }
@@ -195,9 +203,10 @@ impl Pass<'_> {
 
     /// A cap one higher, where the task is a best-effort one below its limit by its cap.
     fn rise(&self, task: usize) -> Option<Action>
-        requires at_hand { IsAtHand self.now }
+        requires at_hand { IsOfTable self.now.config.now self.now.board.now }
         requires task { task < length self.now.config.now.tasks }
-        ensures rise { (h : Begun) (acts : List Action) → StandsIn self.now h acts →
+        ensures rise { (h : Begun) (acts : List Action) →
+            Stands self.now.board.now (setting_in self.now h) acts →
             let s = setting_in self.now h in
             option_to_list result ≡ rules.rise_of s (so_far s acts)
             (if rules.is_capped s (so_far s acts) task then Some task else None) }
@@ -216,8 +225,9 @@ impl Pass<'_> {
 
     /// The rise of the least-numbered capped task.
     fn first_rise(&self) -> Option<Action>
-        requires at_hand { IsAtHand self.now }
-        ensures rise { (h : Begun) (acts : List Action) → StandsIn self.now h acts →
+        requires at_hand { IsOfTable self.now.config.now self.now.board.now }
+        ensures rise { (h : Begun) (acts : List Action) →
+            Stands self.now.board.now (setting_in self.now h) acts →
             let s = setting_in self.now h in
             option_to_list result ≡ rules.rise_of s (so_far s acts)
             (lowest_below (rules.is_capped s (so_far s acts))
@@ -234,8 +244,9 @@ impl Pass<'_> {
 
     /// What is due for the bandwidth.
     fn bandwidth_due(&self) -> Coupled
-        requires at_hand { IsAtHand self.now }
-        ensures due { (h : Begun) (acts : List Action) → StandsIn self.now h acts →
+        requires at_hand { IsOfTable self.now.config.now self.now.board.now }
+        ensures due { (h : Begun) (acts : List Action) →
+            Stands self.now.board.now (setting_in self.now h) acts →
             both_of result ≡ rules.bandwidth_part (setting_in self.now h) acts }
         ensures names { BothName self.now.config.now result }
     {

@@ -17,7 +17,7 @@ ghost use Rattle.cal_policy.specs.Board.Counts.{is_held};
 ghost use Rattle.cal_policy.specs.Setting.{Begun, setting_at, so_far};
 ghost use Rattle.cal_policy.specs.Pass.Bans as rules;
 ghost use Rattle.cal_policy.specs.Board.{Stands, IsReady, IsOfTable, NamesTable};
-ghost use Rattle.cal_policy.specs.Pass.AtHand.{IsAtHand, StandsIn, setting_in};
+ghost use Rattle.cal_policy.specs.Pass.AtHand.{setting_in};
 ghost use Rattle.cal_policy.specs.Pass.Coupled.{both_of, BothName};
 ghost use Rattle.cal_policy.specs.Pass.ToBan.{NoneOver, cores_to_ban};
 
@@ -43,9 +43,10 @@ fn runs_too_long(clock: u64, rec: &Record, core: u8, limit: u64) -> bool
 impl Pass<'_> {
     /// The thread that holds the core for a latency-critical task, where its request runs too long.
     fn too_long_on(&self, core: u8) -> Option<u8>
-        requires at_hand { IsAtHand self.now }
+        requires at_hand { IsOfTable self.now.config.now self.now.board.now }
         requires core { core < self.now.config.now.cores }
-        ensures due { (h : Begun) (acts : List Action) → StandsIn self.now h acts →
+        ensures due { (h : Begun) (acts : List Action) →
+            Stands self.now.board.now (setting_in self.now h) acts →
             let s = setting_in self.now h in
             result ≡ rules.too_long_on s core (holder_of (so_far s acts) core) }
         ensures thread { IfSome result (λ thread.
@@ -71,9 +72,10 @@ impl Pass<'_> {
     /// Whether the core may be emptied: it is free, being left, or held by a thread whose ring has
     /// room and whose task is over.
     fn may_be_emptied(&self, core: u8) -> bool
-        requires at_hand { IsAtHand self.now }
+        requires at_hand { IsOfTable self.now.config.now self.now.board.now }
         requires core { core < self.now.config.now.cores }
-        ensures { (h : Begun) (acts : List Action) → StandsIn self.now h acts →
+        ensures { (h : Begun) (acts : List Action) →
+            Stands self.now.board.now (setting_in self.now h) acts →
             let s = setting_in self.now h in
             result ≡ rules.may_be_emptied s (so_far s acts) (holder_of (so_far s acts) core) }
     {
@@ -89,9 +91,10 @@ impl Pass<'_> {
 
     /// Whether neither the core nor its sibling is banned, and the sibling may be emptied.
     fn may_ban_beside(&self, core: u8) -> bool
-        requires at_hand { IsAtHand self.now }
+        requires at_hand { IsOfTable self.now.config.now self.now.board.now }
         requires core { core < self.now.config.now.cores }
-        ensures { (h : Begun) (acts : List Action) → StandsIn self.now h acts →
+        ensures { (h : Begun) (acts : List Action) →
+            Stands self.now.board.now (setting_in self.now h) acts →
             let s = setting_in self.now h in result ≡ rules.may_ban_beside s (so_far s acts) core }
     {
         let beside = self.config.machine().sibling(core);
@@ -102,9 +105,10 @@ impl Pass<'_> {
 
     /// The thread for whose request on the core the sibling is to be banned, where a ban is due.
     fn ban_due(&self, core: u8) -> Option<u8>
-        requires at_hand { IsAtHand self.now }
+        requires at_hand { IsOfTable self.now.config.now self.now.board.now }
         requires core { core < self.now.config.now.cores }
-        ensures due { (h : Begun) (acts : List Action) → StandsIn self.now h acts →
+        ensures due { (h : Begun) (acts : List Action) →
+            Stands self.now.board.now (setting_in self.now h) acts →
             let s = setting_in self.now h in result ≡ rules.ban_due s (so_far s acts) core }
         ensures thread { IfSome result (λ thread.
             thread < threads_of_table self.now.config.now) }
@@ -119,9 +123,10 @@ impl Pass<'_> {
 
     /// The revocation of a core that is banned for core `by`, where it is held.
     fn ban_revocation(&self, core: u8, by: u8) -> Option<Action>
-        requires at_hand { IsAtHand self.now }
+        requires at_hand { IsOfTable self.now.config.now self.now.board.now }
         requires core { core < self.now.config.now.cores }
-        ensures due { (h : Begun) (acts : List Action) → StandsIn self.now h acts →
+        ensures due { (h : Begun) (acts : List Action) →
+            Stands self.now.board.now (setting_in self.now h) acts →
             option_to_list result
             ≡ (if is_held (holder_of (so_far (setting_in self.now h) acts) core)
             then Revoke core (causes.Ban by) ∷ [] else []) }
@@ -138,9 +143,10 @@ impl Pass<'_> {
 
     /// The ban that a core gives rise to, and where the banned core is held its revocation.
     fn ban_beside(&self, core: u8) -> Coupled
-        requires at_hand { IsAtHand self.now }
+        requires at_hand { IsOfTable self.now.config.now self.now.board.now }
         requires core { core < self.now.config.now.cores }
-        ensures due { (h : Begun) (acts : List Action) → StandsIn self.now h acts →
+        ensures due { (h : Begun) (acts : List Action) →
+            Stands self.now.board.now (setting_in self.now h) acts →
             let s = setting_in self.now h in both_of result ≡ rules.bans_at s acts core }
         ensures names { BothName self.now.config.now result }
         ensures alone { result.first ≡ None → result.second ≡ None }
@@ -163,9 +169,10 @@ impl Pass<'_> {
     /// What the cores of this pair give rise to: once the one bans the other, that one bans
     /// nothing.
     fn ban_in_pair(&self, pair: u8) -> Coupled
-        requires at_hand { IsAtHand self.now }
+        requires at_hand { IsOfTable self.now.config.now self.now.board.now }
         requires pair { 2 * pair + 1 < self.now.config.now.cores }
-        ensures due { (h : Begun) (acts : List Action) → StandsIn self.now h acts →
+        ensures due { (h : Begun) (acts : List Action) →
+            Stands self.now.board.now (setting_in self.now h) acts →
             let s = setting_in self.now h in
             both_of result ≡ in_pair (rules.bans_at s) acts pair }
         ensures names { BothName self.now.config.now result }

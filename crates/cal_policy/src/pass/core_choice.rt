@@ -12,11 +12,11 @@ ghost use Rattle.cal_policy.specs.Setting.{Begun, so_far, has_room};
 ghost use Rattle.cal_policy.specs.History.{holder_of, last_thread, is_banned};
 ghost use Rattle.cal_policy.specs.Pass.Grants as grants;
 ghost use Rattle.cal_policy.specs.Pass.Grants.{class_by, is_granted_in, none_leaves_for};
-ghost use Rattle.cal_policy.specs.Board.{Agrees, placement_of};
+ghost use Rattle.cal_policy.specs.Board.{IsOfTable, Stands, Agrees, placement_of};
 ghost use Rattle.cal_policy.specs.Board.Counts.{held_by};
 ghost use Rattle.cal_policy.specs.Pass.Choice.{best_below};
 ghost use Rattle.cal_policy.specs.Pass.Among.{class_among};
-ghost use Rattle.cal_policy.specs.Pass.AtHand.{IsAtHand, StandsIn, setting_in};
+ghost use Rattle.cal_policy.specs.Pass.AtHand.{setting_in};
 
 use crate::board::core_sets::next_core;
 use crate::board::counts::{holds_for, some_may_lose};
@@ -50,7 +50,7 @@ fn idle_class(config: &Config, task: usize, beside: Holder, last: Option<Placeme
 impl Pass<'_> {
     /// The class that a core has while nobody has it and it is not banned.
     fn class_if_idle(&self, task: usize, core: u8) -> CoreClass
-        requires at_hand { IsAtHand self.now }
+        requires at_hand { IsOfTable self.now.config.now self.now.board.now }
         requires core { core < self.now.config.now.cores }
         ensures { (x : List Action) → Agrees self.now.board.now x →
             result ≡ grants.idle_class self.now.config.now task (holder_of x (sibling_of core))
@@ -64,7 +64,7 @@ impl Pass<'_> {
 
     /// The class of a core that nobody has, unless it is banned.
     fn free_class(&self, task: usize, core: u8) -> Option<CoreClass>
-        requires at_hand { IsAtHand self.now }
+        requires at_hand { IsOfTable self.now.config.now self.now.board.now }
         requires core { core < self.now.config.now.cores }
         ensures { (x : List Action) → Agrees self.now.board.now x →
             result ≡ (if is_banned x core then None
@@ -81,7 +81,7 @@ impl Pass<'_> {
     /// of a best-effort one, `LatencyCriticalBurstable` of a latency-critical one that is over,
     /// where the task has booked less than it is guaranteed.
     fn preempt_class(&self, task: usize, other: usize) -> Option<CoreClass>
-        requires at_hand { IsAtHand self.now }
+        requires at_hand { IsOfTable self.now.config.now self.now.board.now }
         requires task { task < length self.now.config.now.tasks }
         requires other { other < length self.now.config.now.tasks }
         ensures { (x : List Action) → Agrees self.now.board.now x →
@@ -103,7 +103,7 @@ impl Pass<'_> {
     /// Whether a core may be preempted for the task at all: it is latency-critical, and no core is
     /// being left for it.
     fn may_preempt_any(&self, task: usize) -> bool
-        requires at_hand { IsAtHand self.now }
+        requires at_hand { IsOfTable self.now.config.now self.now.board.now }
         requires task { task < length self.now.config.now.tasks }
         ensures { (h : Begun) (acts : List Action) →
             let s = setting_in self.now h in
@@ -119,11 +119,12 @@ impl Pass<'_> {
     /// Whether a core that `thread` holds may be preempted for the task: one may be at all, the
     /// thread's ring has room, and the core was not granted in this pass.
     fn may_preempt(&self, task: usize, core: u8, thread: u8) -> bool
-        requires at_hand { IsAtHand self.now }
+        requires at_hand { IsOfTable self.now.config.now self.now.board.now }
         requires task { task < length self.now.config.now.tasks }
         requires core { core < self.now.config.now.cores }
         requires thread { thread < threads_of_table self.now.config.now }
-        ensures { (h : Begun) (acts : List Action) → StandsIn self.now h acts →
+        ensures { (h : Begun) (acts : List Action) →
+            Stands self.now.board.now (setting_in self.now h) acts →
             let s = setting_in self.now h in
             result ≡ (tasks.is_latency_critical self.now.config.now task && has_room s thread
             && not (is_granted_in acts core) && none_leaves_for s (so_far s acts) task) }
@@ -136,12 +137,13 @@ impl Pass<'_> {
 
     /// The class of a core by its holder.
     fn class_by_holder(&self, task: usize, core: u8, holder: Holder) -> Option<CoreClass>
-        requires at_hand { IsAtHand self.now }
+        requires at_hand { IsOfTable self.now.config.now self.now.board.now }
         requires task { task < length self.now.config.now.tasks }
         requires core { core < self.now.config.now.cores }
         requires holder { IfSome (placement_of holder)
             (λ placement. placement.thread < threads_of_table self.now.config.now) }
-        ensures { (h : Begun) (acts : List Action) → StandsIn self.now h acts →
+        ensures { (h : Begun) (acts : List Action) →
+            Stands self.now.board.now (setting_in self.now h) acts →
             result ≡ class_by (setting_in self.now h) acts task core holder }
     {
         match holder {
@@ -160,9 +162,10 @@ impl Pass<'_> {
     /// The core of the least class for the task among those of a set, of those with that class the
     /// lowest.
     fn choose_among(&self, task: usize, cores: &CoreSet) -> Option<Candidate<CoreClass>>
-        requires at_hand { IsAtHand self.now }
+        requires at_hand { IsOfTable self.now.config.now self.now.board.now }
         requires task { task < length self.now.config.now.tasks }
-        ensures choice { (h : Begun) (acts : List Action) → StandsIn self.now h acts →
+        ensures choice { (h : Begun) (acts : List Action) →
+            Stands self.now.board.now (setting_in self.now h) acts →
             result ≡ best_below comes_before
             (class_among cores.now (setting_in self.now h) acts task) self.now.config.now.cores }
         ensures below { IfSome result (λ best. best.number < self.now.config.now.cores) }
@@ -181,9 +184,10 @@ impl Pass<'_> {
     /// The core of the least class for the task among the idle ones, of those with that class the
     /// lowest. The first one beside a core that the task holds ends it: no class comes before its.
     fn choose_idle(&self, task: usize) -> Option<Candidate<CoreClass>>
-        requires at_hand { IsAtHand self.now }
+        requires at_hand { IsOfTable self.now.config.now self.now.board.now }
         requires task { task < length self.now.config.now.tasks }
-        ensures choice { (h : Begun) (acts : List Action) → StandsIn self.now h acts →
+        ensures choice { (h : Begun) (acts : List Action) →
+            Stands self.now.board.now (setting_in self.now h) acts →
             result ≡ best_below comes_before
             (class_among self.now.board.now.open_cores.idle (setting_in self.now h) acts task)
             self.now.config.now.cores }
@@ -205,7 +209,7 @@ impl Pass<'_> {
     /// Whether the other task may be preempted for this one: it holds a core, and what it holds has
     /// a class for this one.
     fn may_be_preempted(&self, task: usize, other: usize) -> bool
-        requires at_hand { IsAtHand self.now }
+        requires at_hand { IsOfTable self.now.config.now self.now.board.now }
         requires task { task < length self.now.config.now.tasks }
         requires other { other < length self.now.config.now.tasks }
         ensures { (x : List Action) → Agrees self.now.board.now x →
@@ -218,7 +222,7 @@ impl Pass<'_> {
 
     /// Whether some task may be preempted for this one.
     fn some_may_be_preempted(&self, task: usize) -> bool
-        requires at_hand { IsAtHand self.now }
+        requires at_hand { IsOfTable self.now.config.now self.now.board.now }
         requires task { task < length self.now.config.now.tasks }
         ensures none { result ≡ false → (x : List Action) → Agrees self.now.board.now x →
             (other : ℕ) → other < length self.now.config.now.tasks →
@@ -235,8 +239,9 @@ impl Pass<'_> {
 
     /// Whether some task may be given a core: one is idle, or some task may lose one.
     pub fn some_core_is_open(&self) -> bool
-        requires at_hand { IsAtHand self.now }
-        ensures { result ≡ false → (h : Begun) (acts : List Action) → StandsIn self.now h acts →
+        requires at_hand { IsOfTable self.now.config.now self.now.board.now }
+        ensures { result ≡ false → (h : Begun) (acts : List Action) →
+            Stands self.now.board.now (setting_in self.now h) acts →
             (task : ℕ) → task < length self.now.config.now.tasks →
             grants.choice_of (setting_in self.now h) acts task ≡ None }
     {
@@ -250,9 +255,10 @@ impl Pass<'_> {
     /// that is not banned is of a lesser class than any that is held, so those that are taken are
     /// gone over only where there is none, and some task may be preempted.
     pub fn choose_core(&self, task: usize) -> Option<Candidate<CoreClass>>
-        requires at_hand { IsAtHand self.now }
+        requires at_hand { IsOfTable self.now.config.now self.now.board.now }
         requires task { task < length self.now.config.now.tasks }
-        ensures choice { (h : Begun) (acts : List Action) → StandsIn self.now h acts →
+        ensures choice { (h : Begun) (acts : List Action) →
+            Stands self.now.board.now (setting_in self.now h) acts →
             result ≡ grants.choice_of (setting_in self.now h) acts task }
         ensures below { IfSome result (λ best. best.number < self.now.config.now.cores) }
     {

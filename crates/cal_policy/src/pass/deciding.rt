@@ -1,6 +1,6 @@
 //! A pass, from its parts in their order.
 
-ghost use Rattle.std.specs.Prelude.{◌≡◌, [], List};
+ghost use Rattle.std.specs.Prelude.{◌≡◌, ◌++◌, ◌∷◌, [], List};
 ghost use Rattle.cal_policy.specs.declared.history.entry.PassEntry.{PassEntry};
 ghost use Rattle.cal_policy.specs.declared.judgement.open_input.FoundLook.{FoundLook};
 ghost use Rattle.cal_machine.specs.TableTasks.{threads_of_table};
@@ -11,7 +11,7 @@ ghost use Rattle.cal_policy.specs.Judgement.OpenPass.{IsOpenAt};
 ghost use Rattle.cal_policy.specs.Pass.Bans.{NoPairBanned};
 ghost use Rattle.cal_policy.specs.Pass.{pass_of};
 ghost use Rattle.cal_policy.specs.Board.{Agrees, KeepingAgrees, Stands};
-ghost use Rattle.cal_policy.specs.Board.{IsReady, IsOfTable, AgreesAfter, HasSizes};
+ghost use Rattle.cal_policy.specs.Board.{IsReady, IsOfTable, IsStateAfter, KeepsBefore, HasSizes};
 ghost use Rattle.cal_policy.specs.Board.KeepingSets.{FitAfter};
 
 use crate::board::Board;
@@ -55,7 +55,8 @@ pub fn decide(config: &Config, input: &Input, board: &mut Board, out: &mut Actio
         Agrees board.old (actions_of h) → KeepingAgrees board.old.keeping (looks_of h) →
         FitAfter (looks_of h) input.entry.now.seen →
         (out.new ≡ pass_of (setting config.now h input.entry.now))
-        × AgreesAfter board.new h (record { input = input.entry.now; actions = out.new }) }
+        × IsStateAfter board.new (h ++ record { input = input.entry.now; actions = out.new } ∷ [])
+        × KeepsBefore board.new.keeping (looks_of h) }
     ensures ready { IsReady config.now board.new }
 {
     config.limits();
@@ -81,10 +82,10 @@ pub fn decide_noted(
         Agrees board.old (actions_of h) → KeepingAgrees board.old.keeping (looks_of h) →
         IsOpenAt config.now h found looks.entry.now →
         (out.new ≡ pass_of (setting config.now h (judged_input config.now h now bandwidth found)))
-        × AgreesAfter board.new h (record {
+        × IsStateAfter board.new (h ++ record {
           input = judged_input config.now h now bandwidth found;
           actions = out.new;
-        }) }
+        } ∷ []) × KeepsBefore board.new.keeping (looks_of h) }
     ensures ready { IsReady config.now board.new }
 {
     config.limits();

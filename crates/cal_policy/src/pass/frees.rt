@@ -9,7 +9,7 @@ ghost use Rattle.cal_policy.specs.declared.history.action.Action.{Action};
 ghost use Rattle.cal_policy.specs.Setting.{Begun, Setting, setting_at, so_far, kept_now};
 ghost use Rattle.cal_policy.specs.Pass.Frees.{has_left, shows_left, free_at, frees};
 ghost use Rattle.cal_policy.specs.History.{holder_of};
-ghost use Rattle.cal_policy.specs.Pass.AtHand.{IsAtHand, StandsIn, setting_in};
+ghost use Rattle.cal_policy.specs.Pass.AtHand.{setting_in};
 ghost use Rattle.cal_policy.specs.Board.{BoardSound, Stands, IsReady, IsOfTable, NamesTable, kept_number};
 
 use crate::board::Board;
@@ -53,9 +53,10 @@ pub fn is_left(board: &Board, core: u8) -> bool
 impl Pass<'_> {
     /// The Free of a core whose thread has left it.
     fn free_due(&self, core: u8) -> Option<Action>
-        requires at_hand { IsAtHand self.now }
+        requires at_hand { IsOfTable self.now.config.now self.now.board.now }
         requires core { core < self.now.config.now.cores }
-        ensures due { (h : Begun) (acts : List Action) → StandsIn self.now h acts →
+        ensures due { (h : Begun) (acts : List Action) →
+            Stands self.now.board.now (setting_in self.now h) acts →
             option_to_list result ≡ free_at (setting_in self.now h) acts core }
         ensures names { IfSome result (NamesTable self.now.config.now) }
     {

@@ -11,7 +11,7 @@ ghost use Rattle.cal_policy.specs.Pass.Grants as rules;
 ghost use Rattle.cal_policy.specs.Pass.Grants.{grant_of, grant_at, grant_of_kind_at};
 ghost use Rattle.cal_policy.specs.Pass.Grants.{tasks_of_kind};
 ghost use Rattle.cal_policy.specs.Board.{Stands, IsReady, IsOfTable, NamesTable};
-ghost use Rattle.cal_policy.specs.Pass.AtHand.{IsAtHand, StandsIn, setting_in};
+ghost use Rattle.cal_policy.specs.Pass.AtHand.{setting_in};
 
 use crate::board::Board;
 use crate::board::counts::cap_of;
@@ -29,9 +29,10 @@ impl Pass<'_> {
     /// Whether the task may book one more core: it books fewer than its limit and, if it is
     /// best-effort, fewer than its cap.
     fn may_book(&self, task: usize) -> bool
-        requires at_hand { IsAtHand self.now }
+        requires at_hand { IsOfTable self.now.config.now self.now.board.now }
         requires task { task < length self.now.config.now.tasks }
-        ensures { (h : Begun) (acts : List Action) → StandsIn self.now h acts →
+        ensures { (h : Begun) (acts : List Action) →
+            Stands self.now.board.now (setting_in self.now h) acts →
             let s = setting_in self.now h in result ≡ rules.may_book s (so_far s acts) task }
     {
         let booked = survey_of(self.config, self.board).booked[task];
@@ -47,7 +48,7 @@ impl Pass<'_> {
         thread: Candidate<u128>,
         core: Option<Candidate<CoreClass>>,
     ) -> Option<Action>
-        requires at_hand { IsAtHand self.now }
+        requires at_hand { IsOfTable self.now.config.now self.now.board.now }
         requires task { task < length self.now.config.now.tasks }
         requires thread { thread.number < limit_of self.now.config.now task }
         requires core { IfSome core (λ best. best.number < self.now.config.now.cores) }
@@ -74,9 +75,10 @@ impl Pass<'_> {
     /// What the task gets, if it is congested and may book one more core. No core is looked for
     /// where none of its threads may be granted one.
     fn grant_due(&self, task: usize) -> Option<Action>
-        requires at_hand { IsAtHand self.now }
+        requires at_hand { IsOfTable self.now.config.now self.now.board.now }
         requires task { task < length self.now.config.now.tasks }
-        ensures due { (h : Begun) (acts : List Action) → StandsIn self.now h acts →
+        ensures due { (h : Begun) (acts : List Action) →
+            Stands self.now.board.now (setting_in self.now h) acts →
             option_to_list result ≡ grant_at (setting_in self.now h) acts task }
         ensures names { IfSome result (NamesTable self.now.config.now) }
     {

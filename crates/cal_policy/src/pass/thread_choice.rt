@@ -6,7 +6,8 @@ ghost use Rattle.cal_policy.specs.declared.history.action.Action.{Action};
 ghost use Rattle.cal_machine.specs.TableTasks.{threads_of_table, limit_of};
 ghost use Rattle.cal_policy.specs.Setting.{Begun, so_far};
 ghost use Rattle.cal_policy.specs.Pass.Grants as grants;
-ghost use Rattle.cal_policy.specs.Pass.AtHand.{IsAtHand, StandsIn, setting_in};
+ghost use Rattle.cal_policy.specs.Board.{IsOfTable, Stands};
+ghost use Rattle.cal_policy.specs.Pass.AtHand.{setting_in};
 
 use crate::board::survey::survey_of;
 use crate::pass::Pass;
@@ -16,9 +17,10 @@ impl Pass<'_> {
     /// The thread's delay, where it may be granted a core: it holds and leaves none, and its ring
     /// has room.
     fn thread_rank(&self, thread: usize) -> Option<u128>
-        requires at_hand { IsAtHand self.now }
+        requires at_hand { IsOfTable self.now.config.now self.now.board.now }
         requires thread { thread < threads_of_table self.now.config.now }
-        ensures { (h : Begun) (acts : List Action) → StandsIn self.now h acts →
+        ensures { (h : Begun) (acts : List Action) →
+            Stands self.now.board.now (setting_in self.now h) acts →
             let s = setting_in self.now h in
             result ≡ grants.thread_rank s (so_far s acts) thread }
     {
@@ -34,9 +36,10 @@ impl Pass<'_> {
     /// The task's thread with the greatest delay, of those that may be granted a core; of those
     /// with as great a delay the first. It is counted from the task's first thread.
     pub fn choose_thread(&self, task: usize) -> Option<Candidate<u128>>
-        requires at_hand { IsAtHand self.now }
+        requires at_hand { IsOfTable self.now.config.now self.now.board.now }
         requires task { task < length self.now.config.now.tasks }
-        ensures choice { (h : Begun) (acts : List Action) → StandsIn self.now h acts →
+        ensures choice { (h : Begun) (acts : List Action) →
+            Stands self.now.board.now (setting_in self.now h) acts →
             let s = setting_in self.now h in
             result ≡ grants.thread_choice s (so_far s acts) task }
         ensures below { IfSome result (λ best. best.number < limit_of self.now.config.now task) }

@@ -9,7 +9,7 @@ ghost use Rattle.cal_policy.specs.History.Lists.{in_pair};
 ghost use Rattle.cal_policy.specs.Setting.{Begun, setting_at, so_far};
 ghost use Rattle.cal_policy.specs.Pass.Bans.{NoPairBanned, still_shows, unban_at, unbans};
 ghost use Rattle.cal_policy.specs.Board.{Stands, IsReady, IsOfTable, NamesTable};
-ghost use Rattle.cal_policy.specs.Pass.AtHand.{IsAtHand, StandsIn, setting_in};
+ghost use Rattle.cal_policy.specs.Pass.AtHand.{setting_in};
 
 use crate::board::Board;
 use crate::board::core_sets::next_core;
@@ -31,9 +31,10 @@ fn shows_still(rec: &Record, core: u8, started: u64) -> bool
 impl Pass<'_> {
     /// The end of the core's ban, where it has one that ends.
     fn unban_due(&self, core: u8) -> Option<Action>
-        requires at_hand { IsAtHand self.now }
+        requires at_hand { IsOfTable self.now.config.now self.now.board.now }
         requires core { core < self.now.config.now.cores }
-        ensures due { (h : Begun) (acts : List Action) → StandsIn self.now h acts →
+        ensures due { (h : Begun) (acts : List Action) →
+            Stands self.now.board.now (setting_in self.now h) acts →
             option_to_list result ≡ unban_at (setting_in self.now h) acts core }
         ensures names { IfSome result (NamesTable self.now.config.now) }
     {
@@ -49,11 +50,11 @@ impl Pass<'_> {
 
     /// The end of the ban on a core of this pair. At most one of the two cores is banned.
     fn unban_in_pair(&self, pair: u8) -> Option<Action>
-        requires at_hand { IsAtHand self.now }
+        requires at_hand { IsOfTable self.now.config.now self.now.board.now }
         requires pair { 2 * pair + 1 < self.now.config.now.cores }
         ensures due { (h : Begun) (acts : List Action) →
             let s = setting_in self.now h in
-            NoPairBanned (so_far s acts) → StandsIn self.now h acts →
+            NoPairBanned (so_far s acts) → Stands self.now.board.now (setting_in self.now h) acts →
             option_to_list result ≡ in_pair (unban_at s) acts pair }
         ensures names { IfSome result (NamesTable self.now.config.now) }
     {

@@ -9,11 +9,10 @@ returns-clause-acts c = λ h found legal agrees looks.
 
 pub returns-clause-agrees : goal.returns-clause-agrees
 returns-clause-agrees c = λ h found legal agrees looks.
-    let after = (c.decide_noted.ensures.acts h found (orderly_apart c.args.config.now h (legal_orderly c.args.config.now h c.limits.ensures legal))
-    (rw c.deref_mut.ensures.value agrees.actions) (rw c.deref_mut.ensures.value agrees.looks) looks).1 in
-    record { actions = after.actions; looks = after.looks }
+    (c.decide_noted.ensures.acts h found (orderly_apart c.args.config.now h (legal_orderly c.args.config.now h c.limits.ensures legal))
+    (rw c.deref_mut.ensures.value agrees.actions) (rw c.deref_mut.ensures.value agrees.looks) looks).1
 
 pub returns-clause-before : goal.returns-clause-before
 returns-clause-before c = λ h found legal agrees looks.
     (c.decide_noted.ensures.acts h found (orderly_apart c.args.config.now h (legal_orderly c.args.config.now h c.limits.ensures legal))
-    (rw c.deref_mut.ensures.value agrees.actions) (rw c.deref_mut.ensures.value agrees.looks) looks).1.before
+    (rw c.deref_mut.ensures.value agrees.actions) (rw c.deref_mut.ensures.value agrees.looks) looks).2

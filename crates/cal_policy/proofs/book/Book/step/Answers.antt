@@ -9,11 +9,10 @@ returns-clause-acts c = λ h legal agrees input.
 
 pub returns-clause-agrees : goal.returns-clause-agrees
 returns-clause-agrees c = λ h legal agrees input.
-    let after = (c.decide.ensures.acts h (orderly_apart c.args.config.now h (legal_orderly c.args.config.now h c.limits.ensures legal))
-    (rw c.deref_mut.ensures.value agrees.actions) (rw c.deref_mut.ensures.value agrees.looks) input.looks.fit).1 in
-    record { actions = after.actions; looks = after.looks }
+    (c.decide.ensures.acts h (orderly_apart c.args.config.now h (legal_orderly c.args.config.now h c.limits.ensures legal))
+    (rw c.deref_mut.ensures.value agrees.actions) (rw c.deref_mut.ensures.value agrees.looks) input.looks.fit).1
 
 pub returns-clause-before : goal.returns-clause-before
 returns-clause-before c = λ h legal agrees input.
     (c.decide.ensures.acts h (orderly_apart c.args.config.now h (legal_orderly c.args.config.now h c.limits.ensures legal))
-    (rw c.deref_mut.ensures.value agrees.actions) (rw c.deref_mut.ensures.value agrees.looks) input.looks.fit).1.before
+    (rw c.deref_mut.ensures.value agrees.actions) (rw c.deref_mut.ensures.value agrees.looks) input.looks.fit).2

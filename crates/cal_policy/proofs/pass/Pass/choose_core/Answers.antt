@@ -11,14 +11,15 @@ use Rattle.cal_policy.specs.Setting.{so_far}
 use Rattle.cal_policy.specs.Pass.Choice.{best_below}
 use Rattle.cal_policy.specs.History.CoreClasses.{comes_before}
 use Rattle.cal_policy.specs.Pass.Among.{class_among}
-use Rattle.cal_policy.specs.Pass.AtHand.{IsAtHand, StandsIn, setting_in}
+use Rattle.cal_policy.specs.Board.{IsOfTable, Stands}
+use Rattle.cal_policy.specs.Pass.AtHand.{setting_in}
 use Rattle.cal_policy.specs.Pass.Grants.{choice_of}
 use Rattle.cal_policy.proofs.BoardLemmas.TwoSets.{choice_joins, idle_choice, none_taken}
 use Rattle.cal_policy.proofs.PassLemmas.Preempting.{none_preempted}
 use Rattle.cal_policy.proofs.pass.Pass.choose_core.Goals as goal
 
 joined : (pass : Pass) (h : Begun) (acts : List Action) (task : ℕ) (free : Option (Candidate CoreClass)) →
-    IsAtHand pass → StandsIn pass h acts →
+    IsOfTable pass.config.now pass.board.now → Stands pass.board.now (setting_in pass h) acts →
     free ≡ best_below comes_before (class_among pass.board.now.open_cores.idle (setting_in pass h) acts task) pass.config.now.cores →
     choice_of (setting_in pass h) acts task
     ≡ option_or free (best_below comes_before (class_among pass.board.now.sets.taken (setting_in pass h) acts task) pass.config.now.cores)

@@ -15,12 +15,13 @@ use Rattle.cal_policy.specs.History.CoreClasses.{comes_before}
 use Rattle.cal_policy.proofs.ListLemmas.OneNumberMore.{best_more}
 use Rattle.cal_policy.proofs.BoardLemmas.TwoSets.{best_skip}
 use Rattle.cal_policy.proofs.PassLemmas.Early.{IsLeast, class_of_idle, least_found, least_stays}
-use Rattle.cal_policy.specs.Pass.AtHand.{IsAtHand, StandsIn, setting_in}
+use Rattle.cal_policy.specs.Board.{IsOfTable, Stands}
+use Rattle.cal_policy.specs.Pass.AtHand.{setting_in}
 use Rattle.cal_policy.proofs.pass.Pass.choose_idle.Goals as goal
 
 -- with the next idle core the choice is that of the cores up to it
 reached : (pass : Pass) (h : Begun) (acts : List Action) (task first core : ℕ) (best new : Option (Candidate CoreClass)) (class : CoreClass) →
-    IsAtHand pass → StandsIn pass h acts → first ≤ core → core < pass.config.now.cores →
+    IsOfTable pass.config.now pass.board.now → Stands pass.board.now (setting_in pass h) acts → first ≤ core → core < pass.config.now.cores →
     ((k : ℕ) → first ≤ k → k < core → has pass.board.now.open_cores.idle k ≡ false) → has pass.board.now.open_cores.idle core ≡ true →
     best ≡ best_below comes_before (class_among pass.board.now.open_cores.idle (setting_in pass h) acts task) first →
     class ≡ idle_class pass.config.now task (holder_of (so_far (setting_in pass h) acts) (sibling_of core)) (last_thread (so_far (setting_in pass h) acts) core) →
