@@ -28,7 +28,8 @@ pub stands_next : (s : Setting) (acts : List Action) (input : Input) (old new : 
     ((past : List (List Seen)) → KeepingAgrees old.keeping past → KeepsBefore new.keeping past) → Stands new (next_setting s acts input) []
 stands_next s acts input old new st agrees fresh keeping before =
     let next : Setting = next_setting s acts input in
-    let after = Stands_end s old acts st in
+    let end = Stands_end s old acts st in
+    let after = end.0 in
     Stands_begin next new (agrees (actions_of next.history) after.actions) fresh (keeping (looks_of next.history) after.looks) (before (looks_of next.history) after.looks)
 
 -- the state before any pass, where a pass without looks begins

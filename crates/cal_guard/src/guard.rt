@@ -158,11 +158,7 @@ impl Guard {
         ensures of { IsGuardOf config.now self.new }
     {
         config.limits();
-        let terms = Terms {
-            now,
-            bandwidth,
-            full: looks.full,
-        };
+        let terms = Terms::of_noted(config, now, bandwidth, looks);
         offer_both(config, &mut self.passing, &mut self.spare, &terms, actions)
     }
 
@@ -285,11 +281,7 @@ impl Guard {
             self.step_idle(config, noted);
             return Ok(());
         }
-        let terms = Terms {
-            now,
-            bandwidth,
-            full: looks.full,
-        };
+        let terms = Terms::of_noted(config, now, bandwidth, looks);
         self.step_on(config, &terms, noted, chosen)
     }
 }

@@ -29,7 +29,7 @@ use crate::refusal::{Refused, Why};
 use cal_machine::{Config, ThreadSet};
 use cal_policy::state::{
     Board, Holder, Terms, cap_of, command_for, core_changed_by, held_by, holds_for, is_banned,
-    is_fit, is_held, is_left, is_over, survey_of,
+    is_fit, is_held, is_left, is_over, next_core, survey_of,
 };
 use cal_policy::{Action, MOST_ACTIONS};
 
@@ -189,16 +189,19 @@ fn is_left_held(board: &Board, revoked: Option<u8>, core: u8) -> bool
     is_banned(board, core) && is_held(board, core) && !is_core(revoked, core)
 }
 
-/// The lowest core that is banned and held, and is not the one that is revoked.
+/// The lowest core that is banned and held, and is not the one that is revoked. Only those that are
+/// banned are gone over.
 fn lowest_left_held(config: &Config, board: &Board, revoked: Option<u8>) -> Option<u8>
     ensures { (x : List Action) → Agrees board.now x →
         result ≡ lowest_below (refusals.is_left_held x revoked) config.now.cores }
 {
     config.limits();
-    for core in 0..config.machine().cores() {
+    let mut first = 0;
+    while let Some(core) = next_core(config, &board.sets.banned, first) {
         if is_left_held(board, revoked, core) {
             return Some(core);
         }
+        first = core + 1;
     }
     None
 }

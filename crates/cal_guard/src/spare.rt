@@ -31,6 +31,16 @@ fn twins_are_spare(config: &Config, passing: &Passing, spare: &Passing)
     board_has_places(&spare.board);
 }
 
+/// Makes the spare a copy of the state again. It stands by itself, so that only what is refused pays
+/// for the room of a copy.
+#[cold]
+#[inline(never)]
+fn put_back(passing: &Passing, spare: &mut Passing)
+    ensures { spare.new ≡ passing.now }
+{
+    *spare = passing.duplicate();
+}
+
 /// Begins the pass on these looks in both.
 pub fn begin_both(config: &Config, passing: &mut Passing, spare: &mut Passing, looks: PassLooks)
     requires few { AreFew looks }
@@ -79,7 +89,7 @@ pub fn offer_both(
             Ok(())
         }
         Err(refused) => {
-            *spare = passing.duplicate();
+            put_back(passing, spare);
             Err(refused)
         }
     }
@@ -124,7 +134,7 @@ pub fn step_both(
             Ok(())
         }
         Err(refused) => {
-            *spare = passing.duplicate();
+            put_back(passing, spare);
             Err(refused)
         }
     }

@@ -1,4 +1,4 @@
-use Rattle.std.proofs.Common.{◌≡◌, List, None}
+use Rattle.std.proofs.Common.{◌≡◌, ◌≤◌, ◌-◌, List, None}
 use Rattle.cal_policy.specs.declared.history.action.Action.{Action}
 use Rattle.cal_policy.specs.Board.{Agrees}
 use Rattle.cal_policy.specs.Pass.Choice.{lowest_below}
@@ -6,4 +6,10 @@ use Rattle.cal_guard.specs.Refusals as refusals
 use Rattle.cal_guard.proofs.passing.lowest_left_held.Given as goal
 
 abbrev pub invariant-loop-core : goal.invariant-loop-core
-invariant-loop-core l = (x : List Action) → Agrees l.board x → lowest_below (refusals.is_left_held x l.revoked) l.core ≡ None
+invariant-loop-core l = record {
+  none : (x : List Action) → Agrees l.board x → lowest_below (refusals.is_left_held x l.revoked) l.first ≡ None;
+  first : l.first ≤ l.config.cores;
+}
+
+abbrev pub decreases-loop-core : goal.decreases-loop-core
+decreases-loop-core l = l.config.cores - l.first

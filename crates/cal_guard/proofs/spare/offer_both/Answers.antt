@@ -46,4 +46,4 @@ returns-in-Err-clause-first c = λ h acts is. c.in-Err.ensures.first h acts
     (twin_inside c.args.passing.now c.args.spare.now c.requires.spare.twins (setting_at c.args.config.now c.args.terms.now h) acts is)
 
 pub returns-in-Err-clause-spare : goal.returns-in-Err-clause-spare
-returns-in-Err-clause-spare c = copy_is_spare c.args.passing.now c.args.spare.now c.duplicate.result c.requires.spare.twins c.duplicate.ensures
+returns-in-Err-clause-spare c = copy_is_spare c.args.passing.now c.args.spare.now c.put_back.new.spare c.requires.spare.twins c.put_back.ensures

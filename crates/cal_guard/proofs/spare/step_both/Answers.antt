@@ -74,4 +74,4 @@ returns-in-Err-clause-first c = λ h input by permitted is.
     subst F (sym by.same) (c.in-Err.ensures.first begun [] inside)
 
 pub returns-in-Err-clause-spare : goal.returns-in-Err-clause-spare
-returns-in-Err-clause-spare c = copy_is_spare c.args.passing.now c.args.spare.now c.duplicate.result c.requires.spare.twins c.duplicate.ensures
+returns-in-Err-clause-spare c = copy_is_spare c.args.passing.now c.args.spare.now c.put_back.new.spare c.requires.spare.twins c.put_back.ensures

@@ -3,7 +3,6 @@ use Rattle.std.specs.Prelude.{IsOk}
 use Rattle.cal_policy.specs.Setting.{Setting, Begun, setting_at}
 use Rattle.cal_policy.specs.declared.pass.terms.Terms.{Terms}
 use Rattle.cal_policy.specs.Judgement.OpenInput.{judged_looks}
-use Rattle.cal_policy.proofs.PassLemmas.Rooms.{noted_setting}
 use Rattle.cal_guard.specs.declared.passing.Passing.{Passing}
 use Rattle.cal_guard.specs.Refusals.{MayEndWith, IsFirstWrong}
 use Rattle.cal_guard.specs.Passing.{IsInside}
@@ -15,9 +14,9 @@ pub returns-clause-exact : goal.returns-clause-exact
 returns-clause-exact c = λ h found acts is within.
     let same : c.deref_mut.result.now ≡ c.args.self.now.passing = c.deref_mut.ensures.value ∙ ap (λ (g : GuardState). g.passing) c.self.view_is in
     let table = c.args.config.now in
-    let terms : Terms = record { now = c.args.now; bandwidth = c.args.bandwidth; full = c.args.looks.now.full } in
+    let terms : Terms = c.of_noted-terms.result in
     let begun : Begun = record { history = h; seen = judged_looks table h found } in
-    let by = sym (noted_setting table h c.args.now c.args.bandwidth found c.args.looks.now is c.requires.all) in
+    let by = c.of_noted-terms.ensures h found is in
     let P : Passing → Type 0 = λ p. IsInside p (setting_at table terms begun) acts in
     let T : Setting → Type 0 = λ t. IsInside c.args.self.now.passing t acts in
     let inside = subst P (sym same) (subst T by within.inside) in
@@ -28,9 +27,9 @@ pub returns-clause-taken : goal.returns-clause-taken
 returns-clause-taken c = λ ok h found acts is within.
     let same : c.deref_mut.result.now ≡ c.args.self.now.passing = c.deref_mut.ensures.value ∙ ap (λ (g : GuardState). g.passing) c.self.view_is in
     let table = c.args.config.now in
-    let terms : Terms = record { now = c.args.now; bandwidth = c.args.bandwidth; full = c.args.looks.now.full } in
+    let terms : Terms = c.of_noted-terms.result in
     let begun : Begun = record { history = h; seen = judged_looks table h found } in
-    let by = sym (noted_setting table h c.args.now c.args.bandwidth found c.args.looks.now is c.requires.all) in
+    let by = c.of_noted-terms.ensures h found is in
     let P : Passing → Type 0 = λ p. IsInside p (setting_at table terms begun) acts in
     let T : Setting → Type 0 = λ t. IsInside c.args.self.now.passing t acts in
     let inside = subst P (sym same) (subst T by within.inside) in
@@ -42,9 +41,9 @@ returns-clause-first c = if_err c.offer_both.result _ _
     (λ refused first h found acts is within.
     let same : c.deref_mut.result.now ≡ c.args.self.now.passing = c.deref_mut.ensures.value ∙ ap (λ (g : GuardState). g.passing) c.self.view_is in
     let table = c.args.config.now in
-    let terms : Terms = record { now = c.args.now; bandwidth = c.args.bandwidth; full = c.args.looks.now.full } in
+    let terms : Terms = c.of_noted-terms.result in
     let begun : Begun = record { history = h; seen = judged_looks table h found } in
-    let by = sym (noted_setting table h c.args.now c.args.bandwidth found c.args.looks.now is c.requires.all) in
+    let by = c.of_noted-terms.ensures h found is in
     let P : Passing → Type 0 = λ p. IsInside p (setting_at table terms begun) acts in
     let T : Setting → Type 0 = λ t. IsInside c.args.self.now.passing t acts in
     let inside = subst P (sym same) (subst T by within.inside) in

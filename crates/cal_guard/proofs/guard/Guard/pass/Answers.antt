@@ -4,7 +4,6 @@ use Rattle.cal_policy.specs.declared.history.entry.PassEntry.{PassEntry}
 use Rattle.cal_policy.specs.declared.history.input.Input.{Input}
 use Rattle.cal_policy.specs.Setting.{setting}
 use Rattle.cal_policy.specs.Judgement.OpenInput.{judged_input}
-use Rattle.cal_policy.proofs.PassLemmas.Rooms.{noted_setting}
 use Rattle.cal_guard.specs.declared.pass_looks.PassLooks.TheVariants.{Noted}
 use Rattle.cal_guard.specs.Permitted.{ArePermitted}
 use Rattle.cal_guard.specs.Guarded.{Keeps, and_then}
@@ -37,22 +36,22 @@ returns-then-is_empty-clause-permitted c = λ ok h found permitted keeps is.
 pub returns-clause-exact : goal.returns-clause-exact
 returns-clause-exact c = λ h found permitted keeps is.
     let input : Input = judged_input c.args.config.now h c.args.now c.args.bandwidth found in
-    let by : GoesBy c.args.config.now (record { now = c.args.now; bandwidth = c.args.bandwidth; full = c.args.looks.now.full }) (Noted c.args.looks) h input =
-    record { seen = (found, is, refl); same = sym (noted_setting c.args.config.now h c.args.now c.args.bandwidth found c.args.looks.now is c.requires.all) } in
+    let by : GoesBy c.args.config.now c.of_noted-terms.result (Noted c.args.looks) h input =
+    record { seen = (found, is, refl); same = c.of_noted-terms.ensures h found is } in
     c.step_on.ensures.exact h input by permitted keeps
 
 pub returns-clause-keeps : goal.returns-clause-keeps
 returns-clause-keeps c = λ ok h found permitted keeps is.
     let input : Input = judged_input c.args.config.now h c.args.now c.args.bandwidth found in
-    let by : GoesBy c.args.config.now (record { now = c.args.now; bandwidth = c.args.bandwidth; full = c.args.looks.now.full }) (Noted c.args.looks) h input =
-    record { seen = (found, is, refl); same = sym (noted_setting c.args.config.now h c.args.now c.args.bandwidth found c.args.looks.now is c.requires.all) } in
+    let by : GoesBy c.args.config.now c.of_noted-terms.result (Noted c.args.looks) h input =
+    record { seen = (found, is, refl); same = c.of_noted-terms.ensures h found is } in
     c.step_on.ensures.keeps ok h input by permitted keeps
 
 pub returns-clause-permitted : goal.returns-clause-permitted
 returns-clause-permitted c = λ ok h found permitted keeps is.
     let input : Input = judged_input c.args.config.now h c.args.now c.args.bandwidth found in
-    let by : GoesBy c.args.config.now (record { now = c.args.now; bandwidth = c.args.bandwidth; full = c.args.looks.now.full }) (Noted c.args.looks) h input =
-    record { seen = (found, is, refl); same = sym (noted_setting c.args.config.now h c.args.now c.args.bandwidth found c.args.looks.now is c.requires.all) } in
+    let by : GoesBy c.args.config.now c.of_noted-terms.result (Noted c.args.looks) h input =
+    record { seen = (found, is, refl); same = c.of_noted-terms.ensures h found is } in
     let entry : PassEntry = record { input = input; actions = c.args.chosen.now } in
     c.permitted_goes_on.ensures c.args.config.now h entry permitted (record { input = c.open_pass_fits.ensures c.args.config.now h c.args.now c.args.bandwidth found c.args.looks.now is (sym is.count ∙ c.requires.all); actions = (c.step_on.ensures.exact h input by permitted keeps).0 ok })
 
@@ -60,7 +59,7 @@ pub returns-clause-first : goal.returns-clause-first
 returns-clause-first c = if_err c.step_on.result _ _
     (λ refused first h found permitted keeps is.
     let input : Input = judged_input c.args.config.now h c.args.now c.args.bandwidth found in
-    let by : GoesBy c.args.config.now (record { now = c.args.now; bandwidth = c.args.bandwidth; full = c.args.looks.now.full }) (Noted c.args.looks) h input =
-    record { seen = (found, is, refl); same = sym (noted_setting c.args.config.now h c.args.now c.args.bandwidth found c.args.looks.now is c.requires.all) } in
+    let by : GoesBy c.args.config.now c.of_noted-terms.result (Noted c.args.looks) h input =
+    record { seen = (found, is, refl); same = c.of_noted-terms.ensures h found is } in
     first h input by permitted keeps)
     c.step_on.ensures.first

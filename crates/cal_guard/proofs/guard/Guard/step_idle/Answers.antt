@@ -13,4 +13,4 @@ returns-clause-keeps c = λ h input looks permitted keeps.
     let s : Setting = setting c.args.config.now h input in
     let begun = c.begin_both.ensures.inside c.args.config.now h input looks permitted (subst P (sym same) keeps) in
     let after = Stands_end s c.begin_both.new.passing.board [] begun.stands in
-    record { actions = after.actions; looks = after.looks }
+    after.0

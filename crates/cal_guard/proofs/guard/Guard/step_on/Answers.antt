@@ -20,7 +20,7 @@ returns-clause-keeps c = λ ok h input by permitted keeps.
     let inside = c.step_both.ensures.inside ok h input by permitted (subst P (sym same) keeps) in
     let s : Setting = setting c.args.config.now h input in
     let after = Stands_end s c.step_both.new.passing.board c.args.chosen.now inside.stands in
-    record { actions = after.actions; looks = after.looks }
+    after.0
 
 pub returns-clause-first : goal.returns-clause-first
 returns-clause-first c = if_err c.step_both.result _ _
