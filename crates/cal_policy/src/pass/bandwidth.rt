@@ -74,7 +74,7 @@ impl Pass<'_> {
     }
 
     /// For each task the highest core that it can lose.
-    fn cores_to_lose(&self) -> [Option<u8>; MOST_TASKS]
+    pub fn cores_to_lose(&self) -> [Option<u8>; MOST_TASKS]
         requires at_hand { IsAtHand self.now }
         ensures lose { (h : Begun) (acts : List Action) → StandsIn self.now h acts →
             let s = setting_in self.now h in
@@ -92,7 +92,7 @@ impl Pass<'_> {
     }
 
     /// The misses of a thread since the pass before.
-    fn new_misses(&self, thread: usize) -> u64
+    pub fn new_misses(&self, thread: usize) -> u64
         requires at_hand { IsAtHand self.now }
         requires thread { thread < MOST_THREADS }
         ensures { (h : Begun) (acts : List Action) → StandsIn self.now h acts →
@@ -103,7 +103,7 @@ impl Pass<'_> {
     }
 
     /// The misses of all threads of a task since the pass before.
-    fn task_misses(&self, task: usize) -> u128
+    pub fn task_misses(&self, task: usize) -> u128
         requires at_hand { IsAtHand self.now }
         requires task { task < length self.now.config.now.tasks }
         ensures { (h : Begun) (acts : List Action) → StandsIn self.now h acts →
@@ -136,7 +136,7 @@ impl Pass<'_> {
     }
 
     /// The task with the most misses, of those with as many the one with the least number.
-    fn victim(&self, highest: &[Option<u8>; MOST_TASKS]) -> Option<Candidate<u128>>
+    pub fn victim(&self, highest: &[Option<u8>; MOST_TASKS]) -> Option<Candidate<u128>>
         requires at_hand { IsAtHand self.now }
         ensures victim { (h : Begun) (acts : List Action) → StandsIn self.now h acts →
             let s = setting_in self.now h in
@@ -233,7 +233,7 @@ impl Pass<'_> {
     }
 
     /// What is due for the bandwidth.
-    fn bandwidth_due(&self) -> Coupled
+    pub fn bandwidth_due(&self) -> Coupled
         requires at_hand { IsAtHand self.now }
         ensures due { (h : Begun) (acts : List Action) → StandsIn self.now h acts →
             both_of result ≡ rules.bandwidth_part (setting_in self.now h) acts }
