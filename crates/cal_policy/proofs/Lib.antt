@@ -3,3 +3,4 @@ pub mod BoardLemmas
 pub mod HistoryLemmas
 pub mod PassLemmas
 pub mod JudgementLemmas
+pub mod ExplainLemmas

@@ -8,3 +8,4 @@ pub mod Limits
 pub mod Book
 pub mod Verdict
 pub mod Auditor
+pub mod Explain

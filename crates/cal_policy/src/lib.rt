@@ -8,6 +8,7 @@
 mod auditor;
 mod board;
 mod book;
+pub mod explain;
 mod history;
 mod judgement;
 mod laws;

@@ -75,7 +75,7 @@ impl Pass<'_> {
     }
 
     /// For each task the highest core that it can lose.
-    fn cores_to_lose(&self) -> [Option<u8>; MOST_TASKS]
+    pub fn cores_to_lose(&self) -> [Option<u8>; MOST_TASKS]
         requires at_hand { IsOfTable self.now.config.now self.now.board.now }
         ensures lose { (h : Begun) (acts : List Action) →
             Stands self.now.board.now (setting_in self.now h) acts →
@@ -94,7 +94,7 @@ impl Pass<'_> {
     }
 
     /// The misses of a thread since the pass before.
-    fn new_misses(&self, thread: usize) -> u64
+    pub fn new_misses(&self, thread: usize) -> u64
         requires at_hand { IsOfTable self.now.config.now self.now.board.now }
         requires thread { thread < MOST_THREADS }
         ensures { (h : Begun) (acts : List Action) →
@@ -106,7 +106,7 @@ impl Pass<'_> {
     }
 
     /// The misses of all threads of a task since the pass before.
-    fn task_misses(&self, task: usize) -> u128
+    pub fn task_misses(&self, task: usize) -> u128
         requires at_hand { IsOfTable self.now.config.now self.now.board.now }
         requires task { task < length self.now.config.now.tasks }
         ensures { (h : Begun) (acts : List Action) →
@@ -141,7 +141,7 @@ impl Pass<'_> {
     }
 
     /// The task with the most misses, of those with as many the one with the least number.
-    fn victim(&self, highest: &[Option<u8>; MOST_TASKS]) -> Option<Candidate<u128>>
+    pub fn victim(&self, highest: &[Option<u8>; MOST_TASKS]) -> Option<Candidate<u128>>
         requires at_hand { IsOfTable self.now.config.now self.now.board.now }
         ensures victim { (h : Begun) (acts : List Action) →
             Stands self.now.board.now (setting_in self.now h) acts →
@@ -243,7 +243,7 @@ impl Pass<'_> {
     }
 
     /// What is due for the bandwidth.
-    fn bandwidth_due(&self) -> Coupled
+    pub fn bandwidth_due(&self) -> Coupled
         requires at_hand { IsOfTable self.now.config.now self.now.board.now }
         ensures due { (h : Begun) (acts : List Action) →
             Stands self.now.board.now (setting_in self.now h) acts →

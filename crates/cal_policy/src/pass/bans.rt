@@ -42,7 +42,7 @@ fn runs_too_long(clock: u64, rec: &Record, core: u8, limit: u64) -> bool
 
 impl Pass<'_> {
     /// The thread that holds the core for a latency-critical task, where its request runs too long.
-    fn too_long_on(&self, core: u8) -> Option<u8>
+    pub fn too_long_on(&self, core: u8) -> Option<u8>
         requires at_hand { IsOfTable self.now.config.now self.now.board.now }
         requires core { core < self.now.config.now.cores }
         ensures due { (h : Begun) (acts : List Action) →
@@ -71,7 +71,7 @@ impl Pass<'_> {
 
     /// Whether the core may be emptied: it is free, being left, or held by a thread whose ring has
     /// room and whose task is over.
-    fn may_be_emptied(&self, core: u8) -> bool
+    pub fn may_be_emptied(&self, core: u8) -> bool
         requires at_hand { IsOfTable self.now.config.now self.now.board.now }
         requires core { core < self.now.config.now.cores }
         ensures { (h : Begun) (acts : List Action) →
@@ -142,7 +142,7 @@ impl Pass<'_> {
     }
 
     /// The ban that a core gives rise to, and where the banned core is held its revocation.
-    fn ban_beside(&self, core: u8) -> Coupled
+    pub fn ban_beside(&self, core: u8) -> Coupled
         requires at_hand { IsOfTable self.now.config.now self.now.board.now }
         requires core { core < self.now.config.now.cores }
         ensures due { (h : Begun) (acts : List Action) →

@@ -136,7 +136,7 @@ impl Pass<'_> {
     }
 
     /// The class of a core by its holder.
-    fn class_by_holder(&self, task: usize, core: u8, holder: Holder) -> Option<CoreClass>
+    pub fn class_by_holder(&self, task: usize, core: u8, holder: Holder) -> Option<CoreClass>
         requires at_hand { IsOfTable self.now.config.now self.now.board.now }
         requires task { task < length self.now.config.now.tasks }
         requires core { core < self.now.config.now.cores }

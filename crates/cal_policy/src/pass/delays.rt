@@ -46,7 +46,7 @@ impl Pass<'_> {
     }
 
     /// The delay of a task: the greatest of its threads'. Only those that wait are gone over.
-    fn task_delay(&self, task: usize) -> u64
+    pub fn task_delay(&self, task: usize) -> u64
         requires at_hand { IsOfTable self.now.config.now self.now.board.now }
         requires task { task < length self.now.config.now.tasks }
         ensures { (h : Begun) (acts : List Action) →

@@ -52,7 +52,7 @@ pub fn is_left(board: &Board, core: u8) -> bool
 
 impl Pass<'_> {
     /// The Free of a core whose thread has left it.
-    fn free_due(&self, core: u8) -> Option<Action>
+    pub fn free_due(&self, core: u8) -> Option<Action>
         requires at_hand { IsOfTable self.now.config.now self.now.board.now }
         requires core { core < self.now.config.now.cores }
         ensures due { (h : Begun) (acts : List Action) →

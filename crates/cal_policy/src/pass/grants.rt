@@ -28,7 +28,7 @@ use cal_machine::{Config, Kind};
 impl Pass<'_> {
     /// Whether the task may book one more core: it books fewer than its limit and, if it is
     /// best-effort, fewer than its cap.
-    fn may_book(&self, task: usize) -> bool
+    pub fn may_book(&self, task: usize) -> bool
         requires at_hand { IsOfTable self.now.config.now self.now.board.now }
         requires task { task < length self.now.config.now.tasks }
         ensures { (h : Begun) (acts : List Action) →
@@ -74,7 +74,7 @@ impl Pass<'_> {
 
     /// What the task gets, if it is congested and may book one more core. No core is looked for
     /// where none of its threads may be granted one.
-    fn grant_due(&self, task: usize) -> Option<Action>
+    pub fn grant_due(&self, task: usize) -> Option<Action>
         requires at_hand { IsOfTable self.now.config.now self.now.board.now }
         requires task { task < length self.now.config.now.tasks }
         ensures due { (h : Begun) (acts : List Action) →

@@ -30,7 +30,7 @@ fn shows_still(rec: &Record, core: u8, started: u64) -> bool
 
 impl Pass<'_> {
     /// The end of the core's ban, where it has one that ends.
-    fn unban_due(&self, core: u8) -> Option<Action>
+    pub fn unban_due(&self, core: u8) -> Option<Action>
         requires at_hand { IsOfTable self.now.config.now self.now.board.now }
         requires core { core < self.now.config.now.cores }
         ensures due { (h : Begun) (acts : List Action) →

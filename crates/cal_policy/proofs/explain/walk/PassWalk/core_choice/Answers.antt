@@ -1,0 +1,10 @@
+use Rattle.std.proofs.Common.{◌≡◌, subst}
+use Rattle.cal_policy.specs.Pass.Grants.{choice_of}
+use Rattle.cal_policy.specs.Setting.{Setting, so_far}
+use Rattle.cal_policy.proofs.explain.walk.PassWalk.core_choice.Goals as goal
+
+pub returns-clause-choice : goal.returns-clause-choice
+returns-clause-choice c = λ h w.
+    let made = c.args.self.now.made.items in
+    let P : Setting → Type 0 = λ s. c.choose_core.result ≡ choice_of s made c.args.task in
+    subst P (c.pass.ensures.setting h) (c.choose_core.ensures.choice h made (c.pass.ensures.stands h w))

@@ -1,0 +1,4 @@
+-- A pass turn by turn, and how things stand at a turn.
+pub mod Turns
+pub mod Walks
+pub mod Asked

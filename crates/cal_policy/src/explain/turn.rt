@@ -1,0 +1,91 @@
+//! The turns of a pass, in their order.
+
+ghost use Rattle.std.specs.Prelude.{◌≡◌, ◌++◌, List};
+ghost use Rattle.cal_machine.specs.Table.{IsTable};
+ghost use Rattle.cal_policy.specs.Explain.Turns as turns;
+ghost use Rattle.cal_policy.specs.Explain.Turns.{IsTurn, made_before, made_in};
+ghost use Rattle.cal_policy.specs.Setting.{Setting};
+
+use crate::history::action::{Action, Cause};
+use cal_machine::Config;
+
+/// The parts of a pass, in their order.
+#[derive(Clone, Copy, Debug, PartialEq, Eq)]
+pub enum Part {
+    /// Cores that their threads have left become free.
+    Frees,
+    /// Bans whose request is no longer shown end.
+    Unbans,
+    /// Siblings of cores whose request runs too long are banned.
+    Bans,
+    /// Over the bandwidth limit a task is cut, else a cap rises.
+    Bandwidth,
+    /// Congested tasks get a core.
+    Grants,
+}
+
+/// The part of a pass that makes such an action.
+pub fn part_of(action: Action) -> Part
+    ensures { result ≡ turns.part_of action }
+{
+    match action {
+        Action::Free { .. } => Part::Frees,
+        Action::Unban { .. } => Part::Unbans,
+        Action::Ban { .. } => Part::Bans,
+        Action::Cap { .. } => Part::Bandwidth,
+        Action::Grant { .. } => Part::Grants,
+        Action::Revoke { cause, .. } => match cause {
+            Cause::Ban { .. } => Part::Bans,
+            Cause::Bandwidth => Part::Bandwidth,
+            Cause::Preempt { .. } => Part::Grants,
+        },
+    }
+}
+
+/// A turn of a pass: a core's or a task's in one of its parts. The parts come in the order of this
+/// list; in each its cores or tasks go upwards.
+#[derive(Clone, Copy, Debug, PartialEq, Eq)]
+pub enum Turn {
+    /// Whether the core becomes free.
+    Free { core: u8 },
+    /// Whether the core's ban ends.
+    Unban { core: u8 },
+    /// Whether the core's sibling is banned.
+    Ban { core: u8 },
+    /// Whom the bandwidth figure costs a core, or gives back a step of its cap.
+    Bandwidth,
+    /// What the task gets, if it is latency-critical.
+    LatencyCritical { task: u8 },
+    /// What the task gets, if it is best-effort.
+    BestEffort { task: u8 },
+    /// The pass is made.
+    End,
+}
+
+/// The turn after this one.
+pub fn turn_after(config: &Config, turn: Turn) -> Turn
+    requires table { IsTable config.now }
+    requires turn { IsTurn config.now turn }
+    ensures follows { (s : Setting) → s.table ≡ config.now →
+        made_before s result ≡ made_before s turn ++ made_in s (made_before s turn) turn }
+    ensures turn { IsTurn config.now result }
+{
+    let cores = config.machine().cores();
+    let tasks = config.tasks() as u8;
+    match turn {
+        Turn::Free { core } if core + 1 < cores => Turn::Free { core: core + 1 },
+        Turn::Free { .. } => Turn::Unban { core: 0 },
+        Turn::Unban { core } if core + 1 < cores => Turn::Unban { core: core + 1 },
+        Turn::Unban { .. } => Turn::Ban { core: 0 },
+        Turn::Ban { core } if core + 1 < cores => Turn::Ban { core: core + 1 },
+        Turn::Ban { .. } => Turn::Bandwidth,
+        Turn::Bandwidth => Turn::LatencyCritical { task: 0 },
+        Turn::LatencyCritical { task } if task + 1 < tasks => {
+            Turn::LatencyCritical { task: task + 1 }
+        }
+        Turn::LatencyCritical { .. } => Turn::BestEffort { task: 0 },
+        Turn::BestEffort { task } if task + 1 < tasks => Turn::BestEffort { task: task + 1 },
+        Turn::BestEffort { .. } => Turn::End,
+        Turn::End => Turn::End,
+    }
+}
