@@ -3,6 +3,7 @@
 -- thread which finds no work gives up its core, and first tries to steal from the others of its
 -- task, is Caladan's.
 pub mod Agreement
+pub mod Entries
 pub mod Thread
 pub mod Turns
 use Rattle.std.specs.Prelude.{ℕ, zero, suc, ◌+◌, ◌-◌, ◌^◌, ◌<◌, min, ◌&&◌, not}

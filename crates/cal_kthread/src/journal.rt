@@ -1,6 +1,7 @@
 //! What a kernel thread did.
 
 pub mod entry;
+pub mod kept;
 
 use crate::journal::entry::Entry;
 use cal_machine::Listed;

@@ -1,5 +1,6 @@
-//! A kernel thread and its turns.
-ghost use Rattle.std.specs.Prelude.{◌≡◌, ◌+◌, ◌<◌, ◌≤◌, ◌↔◌, Err, IfOk, IfSome, MatchResult};
+//! A kernel thread that keeps its journal, and its turns.
+ghost use Rattle.std.specs.Prelude.{◌≡◌, ◌+◌, ◌<◌, ◌≤◌, ◌↔◌, [], Err, IfOk, IfSome};
+ghost use Rattle.std.specs.Prelude.{MatchResult};
 ghost use Rattle.std.specs.Vec.{vec_len, vec_capacity};
 ghost use Rattle.cal_kthread.specs.declared.fault.TurnFault.TheVariants.{JournalFull};
 ghost use Rattle.cal_kthread.specs.Journal.{IsJournal, records_of, commands_of};
@@ -8,10 +9,12 @@ ghost use Rattle.cal_kthread.specs.Turn.{Answers, AreAnswers, IsFull, noted, tur
 ghost use Rattle.cal_kthread.specs.Turn.Turns.{IsOneTurn};
 ghost use Rattle.cal_signal.specs.Pages.{last_published};
 
+use crate::bare_thread::BareThread;
 use crate::fault::TurnFault;
+use crate::journal::Journal;
 use crate::journal::entry::Entry;
-use crate::turn::thread::Thread;
 use cal_machine::Request;
+use std::alloc::Global;
 use std::marker::Model;
 
 /// The most entries of a journal.
@@ -27,33 +30,37 @@ pub const TURN_ENTRIES: usize = 6;
 /// task, and what it is at.
 #[derive(Drop)]
 pub struct KernelThread {
-    /// Its number, in thread order from 0.
-    pub(crate) number: u8,
+    /// The thread.
+    pub(crate) bare: BareThread,
     /// What it did, in order: a vector, since a `Journal` does not grow. `end` makes one of it.
     pub(crate) journal: Vec<Entry>,
-    /// All else: its ends of page, ring and queues, and what it is at.
-    pub(crate) thread: Thread,
 }
 
 impl Model for KernelThread {
-    ghost use Rattle.std.specs.Prelude.{◌≤◌, length};
+    ghost use Rattle.std.specs.Prelude.{◌≡◌, ◌≤◌, length};
     ghost use Rattle.cal_kthread.specs.Turn.Thread.{KernelView};
-    ghost use Rattle.cal_kthread.specs.Turn.Agreement.{Agrees};
     ghost use Rattle.cal_kthread.specs.declared.kernel_thread.TheConstants.{MOST_ENTRIES};
 
     ghost Value = { KernelView };
 
-    ghost view = { λ k. record {
-      number = k.number;
-      journal = k.journal.items;
-      thread = k.thread;
-    } };
+    ghost view = { λ k. k.bare };
 
-    ghost invariant = { λ k. Agrees k.journal.items k.thread
+    ghost invariant = { λ k. (k.journal.items ≡ k.bare.journal)
         × (length k.journal.items ≤ MOST_ENTRIES) };
 }
 
 impl KernelThread {
+    /// A thread that did nothing yet, with a journal.
+    pub(crate) fn new(alloc: Global, bare: BareThread) -> KernelThread
+        requires { bare.journal ≡ [] }
+        ensures { result ≡ bare }
+    {
+        KernelThread {
+            bare,
+            journal: Vec::new(alloc),
+        }
+    }
+
     /// One turn: a request arrives, a command is taken, the current request is worked on, the front
     /// is filled, and a record is published; what was done goes into the journal. `now` is in clock
     /// ticks. Waits for nobody.
@@ -83,21 +90,17 @@ impl KernelThread {
         ensures page { records_of self.new.journal ≡ self.new.thread.publisher.published }
         ensures ring { commands_of self.new.journal ≡ self.new.thread.taker.taken }
     {
+        self.bare.agrees();
         if self.journal.len() > MOST_ENTRIES - TURN_ENTRIES {
             return Err(TurnFault::JournalFull);
         }
         self.journal.reserve(TURN_ENTRIES)?;
-        let arrival = self.thread.arrive(now, request)?;
-        let taking = self.thread.take(now);
-        let provision = self.thread.provide(now);
-        let work = self.thread.work();
-        self.thread.fill_front();
-        let publication = self.thread.publish(now);
-        note(&mut self.journal, arrival);
-        note(&mut self.journal, taking);
-        note(&mut self.journal, provision);
-        note(&mut self.journal, work);
-        note(&mut self.journal, Some(publication));
+        let entries = self.bare.turn(now, request)?;
+        note(&mut self.journal, entries.arrived);
+        note(&mut self.journal, entries.took);
+        note(&mut self.journal, entries.stole);
+        note(&mut self.journal, entries.worked);
+        note(&mut self.journal, Some(entries.published));
         Ok(())
     }
 
@@ -105,8 +108,7 @@ impl KernelThread {
     pub fn clock(&self) -> u64
         ensures { result ≡ (last_published self.now.thread.publisher.published).stamp }
     {
-        let (_, last) = self.thread.publisher.last();
-        last.stamp
+        self.bare.clock()
     }
 
     /// What it did so far, in order.
@@ -114,7 +116,17 @@ impl KernelThread {
         ensures journal { result.now ≡ self.now.journal }
         ensures is_journal { IsJournal self.now.journal }
     {
+        self.bare.agrees();
         self.journal.as_slice()
+    }
+
+    /// The same thread without its journal, and its journal. Takes no memory.
+    pub fn into_parts(self) -> (BareThread, Journal)
+        ensures thread { result.0 ≡ self }
+        ensures journal { result.1 ≡ self.journal }
+    {
+        let KernelThread { bare, journal } = self;
+        (bare, Journal::new(journal))
     }
 }
 

@@ -12,6 +12,7 @@ ghost use Rattle.cal_kthread.specs.Places.{Each};
 ghost use Rattle.cal_kthread.specs.Team.{IsTeam, place_of};
 ghost use Rattle.cal_kthread.specs.Turn.Thread.{IsFresh};
 
+use crate::bare_thread::BareThread;
 use crate::kernel_thread::KernelThread;
 use crate::team::linking::link_task;
 use crate::team::opening::{Opened, open_thread};
@@ -34,6 +35,19 @@ pub struct Team {
     pub watchers: Vec<Observer>,
 }
 
+/// A team of kernel threads that keep no journals, with the other ends as of a `Team`.
+#[derive(Drop)]
+pub struct BareTeam {
+    /// The kernel threads.
+    pub threads: Vec<BareThread>,
+    /// The first observer of each thread's page.
+    pub observers: Vec<Observer>,
+    /// The end of each thread's ring that sends.
+    pub senders: Vec<Sender>,
+    /// The second observer of each thread's page.
+    pub watchers: Vec<Observer>,
+}
+
 /// A team of kernel threads, one for each of the table's: each with a page, a ring and a queue of
 /// its own, and with one share of the queue of each other thread of its task. Fails only when out
 /// of memory.
@@ -44,13 +58,13 @@ pub fn open_threads(alloc: Global, config: &Config) -> Result<Team, AllocError>
     ensures team { IfOk result (λ team. IsTeam (map (λ k. place_of k.thread) team.threads.items)) }
     ensures thieves { IfOk result (λ team. AreLinked config.now.tasks team.threads.items) }
 {
-    let Team {
-        mut threads,
+    let BareTeam {
+        threads,
         observers,
         senders,
         watchers,
-    } = open_each(alloc, config.threads())?;
-    link_tasks(config, threads.as_mut_slice())?;
+    } = open_bare_threads(alloc, config)?;
+    let threads = with_journals(alloc, threads)?;
     Ok(Team {
         threads,
         observers,
@@ -59,8 +73,43 @@ pub fn open_threads(alloc: Global, config: &Config) -> Result<Team, AllocError>
     })
 }
 
+/// The same team, of threads that keep no journals. Fails only when out of memory.
+pub fn open_bare_threads(alloc: Global, config: &Config) -> Result<BareTeam, AllocError>
+    ensures count { IfOk result (λ team. length team.threads.items ≡ threads_in config.now.tasks) }
+    ensures opened { IfOk result (λ team.
+        AreOpened team.threads.items team.observers.items team.senders.items team.watchers.items) }
+    ensures team { IfOk result (λ team. IsTeam (map (λ k. place_of k.thread) team.threads.items)) }
+    ensures thieves { IfOk result (λ team. AreLinked config.now.tasks team.threads.items) }
+{
+    let BareTeam {
+        mut threads,
+        observers,
+        senders,
+        watchers,
+    } = open_each(alloc, config.threads())?;
+    link_tasks(config, threads.as_mut_slice())?;
+    Ok(BareTeam {
+        threads,
+        observers,
+        senders,
+        watchers,
+    })
+}
+
+/// The same threads, in the same order, each with a journal. Fails only when out of memory.
+fn with_journals(alloc: Global, threads: Vec<BareThread>) -> Result<Vec<KernelThread>, AllocError>
+    requires fresh { Each (λ thread. IsFresh (unlinked thread)) threads.items }
+    ensures same { IfOk result (λ kept. kept.items ≡ threads.items) }
+{
+    let mut kept = Vec::new(alloc);
+    for thread in threads {
+        kept.push(KernelThread::new(alloc, thread))?;
+    }
+    Ok(kept)
+}
+
 /// That many threads, which have no thieves yet.
-fn open_each(alloc: Global, count: usize) -> Result<Team, AllocError>
+fn open_each(alloc: Global, count: usize) -> Result<BareTeam, AllocError>
     requires { count ≤ MOST_THREADS }
     ensures count { IfOk result (λ team. length team.threads.items ≡ count) }
     ensures opened { IfOk result (λ team.
@@ -83,7 +132,7 @@ fn open_each(alloc: Global, count: usize) -> Result<Team, AllocError>
         senders.push(sender)?;
         watchers.push(watcher)?;
     }
-    Ok(Team {
+    Ok(BareTeam {
         threads,
         observers,
         senders,
@@ -92,7 +141,7 @@ fn open_each(alloc: Global, count: usize) -> Result<Team, AllocError>
 }
 
 /// The threads of each task get their thieves.
-fn link_tasks(config: &Config, threads: &mut [KernelThread]) -> Result<(), AllocError>
+fn link_tasks(config: &Config, threads: &mut [BareThread]) -> Result<(), AllocError>
     requires count { length threads.old ≡ threads_in config.now.tasks }
     requires fresh { Each IsFresh threads.old }
     ensures same { IfOk result (λ _. map unlinked threads.new ≡ map unlinked threads.old) }

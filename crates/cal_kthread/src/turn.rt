@@ -1,6 +1,7 @@
 //! What a kernel thread has, and the steps of its turns.
 
 pub mod current;
+pub mod entries;
 pub mod steps;
 pub mod thread;
 pub mod victims;

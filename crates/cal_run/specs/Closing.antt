@@ -10,7 +10,7 @@ use Rattle.cal_kthread.specs.End.Account.{IsAccounted, KeepsItsWork}
 use Rattle.cal_kthread.specs.End.HandingOut.{HandedOutNothing, RunView, run_of}
 use Rattle.cal_kthread.specs.Journal.{IsJournal, commands_of, records_of}
 use Rattle.cal_kthread.specs.Team.{place_of_rest}
-use Rattle.cal_kthread.specs.declared.end.kernel_end.KernelEnd.{KernelEnd}
+use Rattle.cal_kthread.specs.End.Rest.{EndView}
 use Rattle.cal_kthread.specs.declared.journal.entry.Entry.{Entry}
 use Rattle.cal_linear.specs.Runs.{AreFirst, page_at}
 use Rattle.cal_linear.specs.Steps.{journal_at}
@@ -18,7 +18,7 @@ use Rattle.cal_run.specs.Workers.{Seat, seat_of}
 use Rattle.cal_run.specs.declared.workers.worker.Worker.{Worker}
 
 -- what a thread had over its turns, and has at its end
-abbrev pub seat_of_end : KernelEnd → Seat
+abbrev pub seat_of_end : EndView → Seat
 seat_of_end e = record {
   page = e.publisher.page;
   ring = e.taker.ring;
@@ -33,7 +33,7 @@ pub record IsWholeRun (run : RunView) : Type 0 where
 
 -- a thread ended: it keeps its seat and its journal, its work is accounted for, and nothing of it
 -- was handed out
-pub record IsEndOf (worker : Worker) (e : KernelEnd) : Type 0 where
+pub record IsEndOf (worker : Worker) (e : EndView) : Type 0 where
   pub seat : seat_of_end e ≡ seat_of worker.thread
   pub journal : e.journal ≡ worker.thread.journal
   pub whole : IsWholeRun (run_of e)
@@ -41,7 +41,7 @@ pub record IsEndOf (worker : Worker) (e : KernelEnd) : Type 0 where
   pub untouched : HandedOutNothing e
 
 -- so did each thread, in thread order
-abbrev pub AreEndsOf : List Worker → List KernelEnd → Type 0
+abbrev pub AreEndsOf : List Worker → List EndView → Type 0
 AreEndsOf = AllZip IsEndOf
 
 -- the pages and the rings of these runs, in thread order

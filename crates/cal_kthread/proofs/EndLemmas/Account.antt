@@ -10,7 +10,6 @@ use Rattle.cal_kthread.specs.Turn.Agreement.{Agrees, held}
 use Rattle.cal_kthread.specs.Turn.Thread.{ThreadView}
 use Rattle.cal_kthread.specs.declared.turn.current.Current.{Current}
 use Rattle.cal_kthread.specs.declared.journal.entry.Entry.{Entry}
-use Rattle.cal_kthread.specs.declared.end.kernel_end.KernelEnd.{KernelEnd}
 use Rattle.cal_kthread.specs.declared.turn.victims.Victim.{Victim}
 use Rattle.cal_kthread.specs.declared.queue.waiting.Waiting.{Waiting}
 use Rattle.cal_kthread.specs.End.Account.{IsAccounted, KeepsItsWork, IsSettled, IsDrained, Gathers, HasArrived, stripped, taken_of, stolen_weight, handed_of, kept_of, victims_at, times, names_of, requests_of, waiting_names, StaysSettled}
@@ -19,23 +18,23 @@ use Rattle.cal_kthread.specs.Journal.{arrivals_of, served_of}
 use Rattle.cal_kthread.specs.Places.{Each, one_if}
 use Rattle.cal_kthread.specs.Queue.{QueueId}
 use Rattle.cal_kthread.specs.Queue.Rule.{weigh, TookWhatCame}
-use Rattle.cal_kthread.specs.End.Rest.{RestView, HandsOut, HandsOutOf, to_hand_out}
+use Rattle.cal_kthread.specs.End.Rest.{EndView, RestView, HandsOut, HandsOutOf, to_hand_out}
 use Rattle.cal_kthread.specs.Team.{Place, place_of_rest, thief_place, lent, lent_to}
 use Rattle.cal_kthread.proofs.ListSums.{weigh-append, weigh-set, weigh-one-more, weigh-map, weigh-each, weigh-plus, member, heavy, each-set, map-append, map-at, within, at-get_or}
 use Rattle.cal_kthread.proofs.TeamLemmas.Gathering.{place, victims_of}
 
-abbrev queued : (Waiting → ℕ) → KernelEnd → ℕ
+abbrev queued : (Waiting → ℕ) → EndView → ℕ
 queued h e = weigh h e.rest.queue.had + handed_of h e
 
-abbrev served_weight : (ℕ → ℕ) → KernelEnd → ℕ
+abbrev served_weight : (ℕ → ℕ) → EndView → ℕ
 served_weight p e = weigh p (served_of e.journal)
 
-abbrev Gone : List KernelEnd → Type 0
+abbrev Gone : List EndView → Type 0
 Gone ends = (gone : List Waiting) × ((p : ℕ → ℕ) → weigh p (waiting_names gone) ≡ weigh (served_weight p) ends)
     × ((h : Waiting → ℕ) → weigh (λ e. taken_of h e + handed_of h e) ends ≡ weigh h gone + weigh (kept_of h) ends)
 
 -- a thread whose turns are over keeps what it kept in its turns
-pub ended : (e : KernelEnd) (entries : List Entry) (t u : ThreadView) (current : Option Waiting) → Agrees entries t → u ≡ t → e.journal ≡ entries
+pub ended : (e : EndView) (entries : List Entry) (t u : ThreadView) (current : Option Waiting) → Agrees entries t → u ≡ t → e.journal ≡ entries
     → current ≡ option_map (λ (c : Current). c.waiting) u.current
     → e.rest ≡ record { queue = u.queue; victims = u.victims; held = option_to_list current ++ option_to_list u.front; left = [] }
     → e.rest.queue.handed ≡ [] → KeepsItsWork e
@@ -51,7 +50,7 @@ ended e entries t u current agrees same entries_are current_is rest_is none_hand
 }
 
 -- what each thread served, end to end
-collected : (ends : List KernelEnd) → Each KeepsItsWork ends → Gone ends
+collected : (ends : List EndView) → Each KeepsItsWork ends → Gone ends
 collected [] all = ([], λ p. refl, λ h. refl)
 collected (e ∷ es) all = let r = all 0 e refl in let t = collected es (λ i. all (suc i)) in (
   r.gone ++ t.0,
@@ -60,26 +59,26 @@ collected (e ∷ es) all = let r = all 0 e refl in let t = collected es (λ i. a
   λ h. let a = weigh-append h r.gone t.0 in let b = r.kept h in let c = t.2 h in omega (arith, a, b, c),
 )
 
-nothing-lent : (j : ℕ) (ends : List KernelEnd) → Each (λ e. e.rest.victims ≡ []) ends → lent j (map place ends) ≡ 0
+nothing-lent : (j : ℕ) (ends : List EndView) → Each (λ e. e.rest.victims ≡ []) ends → lent j (map place ends) ≡ 0
 nothing-lent j [] all = refl
 nothing-lent j (e ∷ es) all = let a : lent_to j (place e) ≡ 0 = ap (λ (vs : List Victim). weigh (λ (t : ℕ × QueueId). one_if (nat_eq t.0 j)) (map thief_place vs)) (all 0 e refl) in
     let b = nothing-lent j es (λ i. all (suc i)) in omega (arith, a, b)
 
-module _ (before after : List KernelEnd) (work : Each KeepsItsWork before) (gathered : Gathers before after)
+module _ (before after : List EndView) (work : Each KeepsItsWork before) (gathered : Gathers before after)
     (none : (j : ℕ) → j < length after → victims_at j after ≡ []) where
   no-victims : Each (λ e. e.rest.victims ≡ []) after
   no-victims j e at = sym (at-get_or (map victims_of after) j (victims_of e) [] (at_map victims_of after j e at)) ∙ none j (within after j e at)
 
   -- an end is one of those before, but for its shares and its thieves
-  was : (j : ℕ) (e : KernelEnd) → get_elem? after j ≡ some e → (o : KernelEnd) × (get_elem? before j ≡ some o) × (stripped o ≡ stripped e)
+  was : (j : ℕ) (e : EndView) → get_elem? after j ≡ some e → (o : EndView) × (get_elem? before j ≡ some o) × (stripped o ≡ stripped e)
   was j e at = map-at stripped before j (stripped e) (subst (λ l. get_elem? l j ≡ some (stripped e)) gathered.same (at_map stripped after j e at))
 
-  same-sum : (g : KernelEnd → ℕ) → weigh (λ e. g (stripped e)) after ≡ weigh (λ e. g (stripped e)) before
+  same-sum : (g : EndView → ℕ) → weigh (λ e. g (stripped e)) after ≡ weigh (λ e. g (stripped e)) before
   same-sum g = sym (weigh-map g stripped after) ∙ ap (weigh g) gathered.same ∙ weigh-map g stripped before
 
   arrived : Each (λ e. requests_of e.rest.queue.pushed ≡ arrivals_of e.journal) after
   arrived j e at = let o = was j e at in let w = work j o.0 o.1 in
-      sym (ap (λ (x : KernelEnd). requests_of x.rest.queue.pushed) o.2) ∙ w.arrived ∙ ap (λ (x : KernelEnd). arrivals_of x.journal) o.2
+      sym (ap (λ (x : EndView). requests_of x.rest.queue.pushed) o.2) ∙ w.arrived ∙ ap (λ (x : EndView). arrivals_of x.journal) o.2
 
   pub settles : IsSettled after
   settles = let gone = collected before work in record {
@@ -123,13 +122,13 @@ pub weigh-length : (ws : List Waiting) → weigh one_each ws ≡ length ws
 weigh-length [] = refl
 weigh-length (w ∷ ws) = let e = weigh-length ws in omega (arith, e)
 
-module _ (before after : KernelEnd) (w : Waiting) (hands : HandsOut w before.rest after.rest) where
+module _ (before after : EndView) (w : Waiting) (hands : HandsOut w before.rest after.rest) where
   abbrev step : HandsOutSome before.rest after.rest
   step = moved before.rest.held w before.rest after.rest refl hands
 
   -- what it handed out is handed on from what it kept
   pub keeps-work : after ≡ record before { rest = after.rest } → KeepsItsWork before → KeepsItsWork after
-  keeps-work is work = let m = step in let j : after.journal ≡ before.journal = ap (λ (x : KernelEnd). x.journal) is in record {
+  keeps-work is work = let m = step in let j : after.journal ≡ before.journal = ap (λ (x : EndView). x.journal) is in record {
     gone = work.gone;
     arrived = ap requests_of m.pushed ∙ work.arrived ∙ sym (ap arrivals_of j);
     served = work.served ∙ sym (ap served_of j);
@@ -160,21 +159,21 @@ pub one-fewer : (w : Waiting) (before after : RestView) → HandsOut w before af
 one-fewer w before after hands came = fewer-of before.held w before after refl hands came
 
 -- what one end hands out leaves the team settled
-pub still-settled : (ends : List KernelEnd) (k : ℕ) (e after : KernelEnd) → IsSettled ends → get_elem? ends k ≡ some e
+pub still-settled : (ends : List EndView) (k : ℕ) (e after : EndView) → IsSettled ends → get_elem? ends k ≡ some e
     → HandsOutSome e.rest after.rest → after.journal ≡ e.journal → IsSettled (set ends k after)
 still-settled ends k e after settled at m j = record {
   gone = settled.gone;
-  arrived = each-set (λ (x : KernelEnd). requests_of x.rest.queue.pushed ≡ arrivals_of x.journal) ends k after settled.arrived
+  arrived = each-set (λ (x : EndView). requests_of x.rest.queue.pushed ≡ arrivals_of x.journal) ends k after settled.arrived
       (ap requests_of m.pushed ∙ settled.arrived k e at ∙ sym (ap arrivals_of j));
   served = λ p. let a = settled.served p in let b = weigh-set (served_weight p) ends k e after at in let c : served_weight p after ≡ served_weight p e = ap (λ (l : List Entry). weigh p (served_of l)) j in omega (arith, a, b, c);
-  shares = each-set (λ (x : KernelEnd). x.rest.queue.shares ≡ 16) ends k after settled.shares (ap (λ (p : Place). p.shares) m.place ∙ settled.shares k e at);
+  shares = each-set (λ (x : EndView). x.rest.queue.shares ≡ 16) ends k after settled.shares (ap (λ (p : Place). p.shares) m.place ∙ settled.shares k e at);
   kept = λ h. let a = settled.kept h in let b = weigh-set (queued h) ends k e after at in let c = weigh-set (kept_of h) ends k e after at in
       let d = ap (weigh h) m.had in let f = m.kept h in omega (arith, a, b, c, d, f);
 }
 
 pub stays-settled : StaysSettled
 stays-settled ends k e after w settled at hands is =
-    still-settled ends k e after settled at (moved e.rest.held w e.rest after.rest refl hands) (ap (λ (x : KernelEnd). x.journal) is)
+    still-settled ends k e after settled at (moved e.rest.held w e.rest after.rest refl hands) (ap (λ (x : EndView). x.journal) is)
 
 one-true : (b : Bool) → 0 < one_if b → b ≡ true
 one-true true p = refl
@@ -196,11 +195,11 @@ same-equal r s p = let a = both-true (nat_eq r.id s.id) (nat_eq r.work s.work &&
     let i = eqb-true r.id s.id a.0 in let w = eqb-true r.work s.work b.0 in let m = eqb-true r.misses s.misses (one-true (nat_eq r.misses s.misses) b.1) in
     λ k. record { id = i k; work = w k; misses = m k }
 
-module _ (ends : List KernelEnd) (settled : IsSettled ends) (drained : Each IsDrained ends) where
-  abbrev pushed_of : (Waiting → ℕ) → KernelEnd → ℕ
+module _ (ends : List EndView) (settled : IsSettled ends) (drained : Each IsDrained ends) where
+  abbrev pushed_of : (Waiting → ℕ) → EndView → ℕ
   pushed_of h e = weigh h e.rest.queue.pushed
 
-  abbrev left_of : (Waiting → ℕ) → KernelEnd → ℕ
+  abbrev left_of : (Waiting → ℕ) → EndView → ℕ
   left_of h e = weigh h e.rest.left
 
   whole : (h : Waiting → ℕ) → weigh (pushed_of h) ends ≡ weigh h settled.gone + weigh (left_of h) ends
@@ -219,24 +218,24 @@ module _ (ends : List KernelEnd) (settled : IsSettled ends) (drained : Each IsDr
 
   each-name : (id : ℕ) → weigh (λ j. times id (names_of (arrivals_of j))) (map (λ e. e.journal) ends)
       ≡ weigh (λ j. times id (served_of j)) (map (λ e. e.journal) ends) + weigh (λ l. times id (names_of l)) (map (λ e. requests_of e.rest.left) ends)
-  each-name id = let a = weigh-map (λ (j : List Entry). times id (names_of (arrivals_of j))) (λ (e : KernelEnd). e.journal) ends in
-      let b = weigh-each (λ (e : KernelEnd). times id (names_of (arrivals_of e.journal))) (pushed_of (named id)) ends
+  each-name id = let a = weigh-map (λ (j : List Entry). times id (names_of (arrivals_of j))) (λ (e : EndView). e.journal) ends in
+      let b = weigh-each (λ (e : EndView). times id (names_of (arrivals_of e.journal))) (pushed_of (named id)) ends
       (λ i e at. ap (λ (rs : List Request). times id (names_of rs)) (sym (settled.arrived i e at)) ∙ times-of id e.rest.queue.pushed) in
-      let c = weigh-map (λ (j : List Entry). times id (served_of j)) (λ (e : KernelEnd). e.journal) ends in
+      let c = weigh-map (λ (j : List Entry). times id (served_of j)) (λ (e : EndView). e.journal) ends in
       let d = settled.served (is_name id) in let e = weigh-map (is_name id) (λ (w : Waiting). w.request.id) settled.gone in
-      let f = weigh-map (λ (l : List Request). times id (names_of l)) (λ (e : KernelEnd). requests_of e.rest.left) ends in
-      let g = weigh-each (λ (e : KernelEnd). times id (names_of (requests_of e.rest.left))) (left_of (named id)) ends (λ i e at. times-of id e.rest.left) in
+      let f = weigh-map (λ (l : List Request). times id (names_of l)) (λ (e : EndView). requests_of e.rest.left) ends in
+      let g = weigh-each (λ (e : EndView). times id (names_of (requests_of e.rest.left))) (left_of (named id)) ends (λ i e at. times-of id e.rest.left) in
       let w = whole (named id) in omega (arith, a, b, c, d, e, f, g, w)
 
   -- where a request was handed out, an equal one was pushed
-  has-arrived : (k i : ℕ) (e : KernelEnd) (w : Waiting) → get_elem? ends k ≡ some e → get_elem? e.rest.left i ≡ some w → HasArrived (map (λ x. x.journal) ends) w.request
+  has-arrived : (k i : ℕ) (e : EndView) (w : Waiting) → get_elem? ends k ≡ some e → get_elem? e.rest.left i ≡ some w → HasArrived (map (λ x. x.journal) ends) w.request
   has-arrived k i e w at here =
       let h : Waiting → ℕ = λ x. one_if (same x.request w.request) in
       let a : h w ≡ 1 = same-self w.request in let b = member h e.rest.left i w here in let c = member (left_of h) ends k e at in let d = whole h in
       let from = heavy (pushed_of h) ends (omega (arith, a, b, c, d)) in let arrival = heavy h from.1.rest.queue.pushed from.3 in (
         from.0,
         from.1.journal,
-        at_map (λ (x : KernelEnd). x.journal) ends from.0 from.1 from.2,
+        at_map (λ (x : EndView). x.journal) ends from.0 from.1 from.2,
         (
           arrival.0,
           arrival.1.request,
@@ -248,7 +247,7 @@ module _ (ends : List KernelEnd) (settled : IsSettled ends) (drained : Each IsDr
   pub accounted : IsAccounted (map (λ e. e.journal) ends) (map (λ e. requests_of e.rest.left) ends)
   accounted = record {
     each = each-name;
-    equal = λ k left at i r here. let e = map-at (λ (x : KernelEnd). requests_of x.rest.left) ends k left at in
+    equal = λ k left at i r here. let e = map-at (λ (x : EndView). requests_of x.rest.left) ends k left at in
         let w = map-at (λ (x : Waiting). x.request) e.0.rest.left i r (subst (λ l. get_elem? l i ≡ some r) (sym e.2) here) in
         subst (HasArrived (map (λ x. x.journal) ends)) w.2 (has-arrived k i e.0 w.0 e.1 w.1);
   }

@@ -8,8 +8,7 @@ use Rattle.cal_machine.specs.declared.request.Request.{Request}
 use Rattle.cal_kthread.specs.End.Account.{IsAccounted, IsDrained, IsSettled, requests_of, stripped}
 use Rattle.cal_kthread.specs.End.HandingOut.{HandedOutNothing, HandsOutSome, RunView, left_of, run_of}
 use Rattle.cal_kthread.specs.Places.{Each}
-use Rattle.cal_kthread.specs.End.Rest.{RestView, HandsOut, HandsOutOf}
-use Rattle.cal_kthread.specs.declared.end.kernel_end.KernelEnd.{KernelEnd}
+use Rattle.cal_kthread.specs.End.Rest.{EndView, RestView, HandsOut, HandsOutOf}
 use Rattle.cal_kthread.specs.declared.queue.waiting.Waiting.{Waiting}
 use Rattle.cal_kthread.proofs.EndLemmas.Account.{accounted, moved, still-settled}
 use Rattle.cal_kthread.proofs.ListSums.{map-append, map-at, map-set-like, within}
@@ -33,19 +32,19 @@ pub one-more-left : (before after : RestView) (w : Waiting) → HandsOut w befor
 one-more-left before after w hands = ap requests_of (left-of before.held w before after hands) ∙ map-append (λ (x : Waiting). x.request) before.left (w ∷ [])
 
 -- the gathering of shares hands out nothing
-pub still-untouched : (before after : List KernelEnd) → map stripped after ≡ map stripped before → Each HandedOutNothing before → Each HandedOutNothing after
+pub still-untouched : (before after : List EndView) → map stripped after ≡ map stripped before → Each HandedOutNothing before → Each HandedOutNothing after
 still-untouched before after same none j e at =
     let o = map-at stripped before j (stripped e) (subst (λ l. get_elem? l j ≡ some (stripped e)) same (at_map stripped after j e at)) in
-    ap (λ (x : KernelEnd). x.rest.left) (sym o.2) ∙ none j o.0 o.1
+    ap (λ (x : EndView). x.rest.left) (sym o.2) ∙ none j o.0 o.1
 
 -- the ends before k handed out all that they had, into these lists, and the others nothing
-pub record HandedUpTo (k : ℕ) (first ends : List KernelEnd) (lefts : List (List Request)) : Type 0 where
+pub record HandedUpTo (k : ℕ) (first ends : List EndView) (lefts : List (List Request)) : Type 0 where
   pub settled : IsSettled ends
   pub same : map run_of ends ≡ map run_of first
   pub count : length ends ≡ length first
   pub lists : lefts ≡ map left_of (take k ends)
-  pub drained : (j : ℕ) (e : KernelEnd) → get_elem? ends j ≡ some e → j < k → IsDrained e
-  pub untouched : (j : ℕ) (e : KernelEnd) → get_elem? ends j ≡ some e → k ≤ j → HandedOutNothing e
+  pub drained : (j : ℕ) (e : EndView) → get_elem? ends j ≡ some e → j < k → IsDrained e
+  pub untouched : (j : ℕ) (e : EndView) → get_elem? ends j ≡ some e → k ≤ j → HandedOutNothing e
 
 take-set : {T : Type 0} (xs : List T) (k : ℕ) (x y : T) → get_elem? xs k ≡ some x → take (k + 1) (set xs k y) ≡ take k xs ++ y ∷ []
 take-set {T = T} xs k x y at = subst (λ n. take n (set xs k y) ≡ take k xs ++ y ∷ []) (let e : suc k ≡ k + 1 = omega arith in e) (by-suc xs k at)
@@ -56,7 +55,7 @@ take-set {T = T} xs k x y at = subst (λ n. take n (set xs k y) ≡ take k xs ++
     by-suc (z ∷ zs) (suc k) at = ap (λ l. z ∷ l) (by-suc zs k at)
 
 -- one end more
-pub one-end-more : (k : ℕ) (first ends : List KernelEnd) (lefts : List (List Request)) (e after : KernelEnd) (left : List Request) → HandedUpTo k first ends lefts
+pub one-end-more : (k : ℕ) (first ends : List EndView) (lefts : List (List Request)) (e after : EndView) (left : List Request) → HandedUpTo k first ends lefts
     → get_elem? ends k ≡ some e → run_of after ≡ run_of e → HandsOutSome e.rest after.rest → left ≡ left_of after → IsDrained after
     → HandedUpTo (k + 1) first (set ends k after) (lefts ++ left ∷ [])
 one-end-more k first ends lefts e after left so_far at same moves list drained = record {
@@ -71,7 +70,7 @@ one-end-more k first ends lefts e after left so_far at same moves list drained =
 }
 
 -- all ends handed out what they had
-pub all-accounted : (k : ℕ) (first ends : List KernelEnd) (lefts : List (List Request)) → HandedUpTo k first ends lefts → length ends ≤ k
+pub all-accounted : (k : ℕ) (first ends : List EndView) (lefts : List (List Request)) → HandedUpTo k first ends lefts → length ends ≤ k
     → (lefts ≡ map left_of ends) × IsAccounted (map (λ e. e.journal) ends) lefts
 all-accounted k first ends lefts handed over =
     let lists : lefts ≡ map left_of ends = handed.lists ∙ ap (map left_of) (take_all k ends over) in

@@ -5,31 +5,33 @@ use mathlib.Core.Option.{some}
 use lib.ListN.{get_elem?}
 use Rattle.crossbeam_deque.proofs.Lists.{at_map}
 use Rattle.cal_kthread.specs.End.Account.{Gathers, stripped, taken_of, stolen_weight, victims_at}
-use Rattle.cal_kthread.specs.declared.end.kernel_end.KernelEnd.{KernelEnd}
 use Rattle.cal_kthread.specs.declared.turn.victims.Victim.{Victim}
 use Rattle.cal_kthread.specs.declared.queue.waiting.Waiting.{Waiting}
 use Rattle.cal_kthread.specs.Queue.{QueueId}
 use Rattle.cal_kthread.specs.Queue.Rule.{weigh}
-use Rattle.cal_kthread.specs.End.Rest.{RestView}
+use Rattle.cal_kthread.specs.End.Rest.{EndView, RestView}
 use Rattle.cal_kthread.specs.Team.{IsTeam, Place, place_of_rest, thief_place, queues_of}
 use Rattle.cal_kthread.proofs.TeamLemmas.Shares.{returned}
 use Rattle.cal_kthread.proofs.ListSums.{weigh-append, weigh-set, weigh-one-more, map-set-like, map-append, map-at, within, at-get_or}
 
-abbrev pub place : KernelEnd → Place
+abbrev pub place : EndView → Place
 place e = place_of_rest e.rest
 
-abbrev pub victims_of : KernelEnd → List Victim
+abbrev pub victims_of : EndView → List Victim
 victims_of e = e.rest.victims
 
-module _ (ends : List KernelEnd) (k : ℕ) (giver : KernelEnd) (given : RestView) (v : Victim) where
-  abbrev gave : KernelEnd
-  gave = record giver { rest = given }
+module _ (ends : List EndView) (k : ℕ) (giver gave : EndView) (v : Victim) where
+  abbrev given : RestView
+  given = gave.rest
 
-  abbrev between : List KernelEnd
+  abbrev between : List EndView
   between = set ends k gave
 
-  module _ (team : IsTeam (map place ends)) (at : get_elem? ends k ≡ some giver) (given_is : given ≡ record giver.rest { victims = given.victims })
-      (last : giver.rest.victims ≡ given.victims ++ v ∷ []) where
+  module _ (team : IsTeam (map place ends)) (at : get_elem? ends k ≡ some giver) (gave_is : gave ≡ record giver { rest = record giver.rest { victims = gave.rest.victims } })
+      (last : giver.rest.victims ≡ gave.rest.victims ++ v ∷ []) where
+    given_is : given ≡ record giver.rest { victims = given.victims }
+    given_is = ap (λ (e : EndView). e.rest) gave_is
+
     place-gave : place gave ≡ record (place giver) { thieves = map thief_place given.victims }
     place-gave = ap place_of_rest given_is
 
@@ -43,7 +45,7 @@ module _ (ends : List KernelEnd) (k : ℕ) (giver : KernelEnd) (given : RestView
     queues-between = ap queues_of (map-set place ends k gave) ∙ map-set-like (λ (p : Place). p.queue) (map place ends) k (place giver) (place gave) (at_map place ends k giver at) queue-gave
 
     -- the thread from which the thief steals is there, and the queue is its own
-    pub keeper : (e : KernelEnd) × (get_elem? between v.number ≡ some e) × (e.rest.queue.queue ≡ v.thief.queue)
+    pub keeper : (e : EndView) × (get_elem? between v.number ≡ some e) × (e.rest.queue.queue ≡ v.thief.queue)
     keeper = let t : get_elem? (place giver).thieves (length (map thief_place given.victims)) ≡ some (v.number, v.thief.queue) =
         subst (λ ts. get_elem? ts (length (map thief_place given.victims)) ≡ some (v.number, v.thief.queue)) (sym last-thief) (at-end (map thief_place given.victims) (v.number, v.thief.queue)) in
         let q = team.thieves k (place giver) (at_map place ends k giver at) (length (map thief_place given.victims)) (v.number, v.thief.queue) t in
@@ -57,15 +59,18 @@ module _ (ends : List KernelEnd) (k : ℕ) (giver : KernelEnd) (given : RestView
     pub keeper-within : v.number < length between
     keeper-within = within between v.number keeper.0 keeper.1
 
-    pub keeper-queue : (d : KernelEnd) → v.thief.queue ≡ (get_or between v.number d).rest.queue.queue
-    keeper-queue d = sym keeper.2 ∙ ap (λ (e : KernelEnd). e.rest.queue.queue) (sym (at-get_or between v.number keeper.0 d keeper.1))
+    pub keeper-queue : (d : EndView) → v.thief.queue ≡ (get_or between v.number d).rest.queue.queue
+    keeper-queue d = sym keeper.2 ∙ ap (λ (e : EndView). e.rest.queue.queue) (sym (at-get_or between v.number keeper.0 d keeper.1))
 
-    module _ (owner : KernelEnd) (taken : RestView) (there : get_elem? between v.number ≡ some owner)
-        (taken_is : taken ≡ record owner.rest { queue = record owner.rest.queue { shares = owner.rest.queue.shares + 1; had = owner.rest.queue.had ++ v.thief.had } }) where
-      abbrev took : KernelEnd
-      took = record owner { rest = taken }
+    module _ (owner took : EndView) (there : get_elem? between v.number ≡ some owner)
+        (took_is : took ≡ record owner { rest = record owner.rest { queue = record owner.rest.queue { shares = owner.rest.queue.shares + 1; had = owner.rest.queue.had ++ v.thief.had } } }) where
+      abbrev taken : RestView
+      taken = took.rest
 
-      abbrev after : List KernelEnd
+      taken_is : taken ≡ record owner.rest { queue = record owner.rest.queue { shares = owner.rest.queue.shares + 1; had = owner.rest.queue.had ++ v.thief.had } }
+      taken_is = ap (λ (e : EndView). e.rest) took_is
+
+      abbrev after : List EndView
       after = set between v.number took
 
       place-took : place took ≡ record (place owner) { shares = (place owner).shares + 1 }
@@ -86,8 +91,8 @@ module _ (ends : List KernelEnd) (k : ℕ) (giver : KernelEnd) (given : RestView
           team (at_map place ends k giver at) last-thief (subst (λ ps. get_elem? ps v.number ≡ some (place owner)) places-between (at_map place between v.number owner there)))
 
       same-after : map stripped after ≡ map stripped ends
-      same-after = map-set-like stripped between v.number owner took there (ap (λ (r : RestView). stripped (record owner { rest = r })) taken_is)
-          ∙ map-set-like stripped ends k giver gave at (ap (λ (r : RestView). stripped (record giver { rest = r })) given_is)
+      same-after = map-set-like stripped between v.number owner took there (ap stripped took_is)
+          ∙ map-set-like stripped ends k giver gave at (ap stripped gave_is)
 
       taken-after : (h : Waiting → ℕ) → weigh (taken_of h) after ≡ weigh (taken_of h) ends
       taken-after h = let a = weigh-set (taken_of h) ends k giver gave at in let b = weigh-set (taken_of h) between v.number owner took there in

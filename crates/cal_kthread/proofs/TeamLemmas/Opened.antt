@@ -1,5 +1,5 @@
 -- A new team: thread after thread is opened, and task after task is linked.
-use Rattle.std.proofs.Common.{◌≡◌, ℕ, zero, suc, ◌+◌, ◌-◌, ◌<◌, ◌≤◌, ◌⊎◌, nat_eq, List, [], ◌∷◌, ◌++◌, map, length, take, drop, sym, refl, ap, ◌∙◌, subst, ⊎_elim, arith}
+use Rattle.std.proofs.Common.{◌≡◌, ℕ, zero, suc, ◌+◌, ◌-◌, ◌<◌, ◌≤◌, nat_eq, List, [], ◌∷◌, ◌++◌, map, length, take, drop, sym, refl, ap, ◌∙◌, subst, ⊎_elim, arith}
 use native.Mathlib.Decide.{ℕ_discrete}
 use mathlib.Core.Option.{some, some-ne-none}
 use lib.ListN.{get_elem?}
@@ -33,6 +33,14 @@ still-fresh t f = record { journal = f.journal; published = f.published; taken =
 -- without thieves nothing was stolen
 fresh-idle : (t : KernelView) → IsFresh t → StoleNothing t
 fresh-idle t f k v e = absurd (some-ne-none v (sym (subst (λ vs. get_elem? vs k ≡ some v) f.victims e)))
+
+-- the first of the threads that are still to come did nothing yet
+pub next-is-fresh : (threads before after : List KernelView) (t : KernelView) → before ++ t ∷ after ≡ threads → Each (λ thread. IsFresh (unlinked thread)) threads → t.journal ≡ []
+next-is-fresh threads before after t split fresh = (fresh (length before) t (subst (λ l. get_elem? l (length before) ≡ some t) split (seam before))).journal
+  where
+    seam : (ts : List KernelView) → get_elem? (ts ++ t ∷ after) (length ts) ≡ some t
+    seam [] = refl
+    seam (x ∷ ts) = seam ts
 
 pub all-idle : (threads : List KernelView) → Each IsFresh threads → Each StoleNothing threads
 all-idle threads fresh k t e = fresh-idle t (fresh k t e)

@@ -8,7 +8,7 @@ use Rattle.cal_machine.specs.declared.request.Request.{Request}
 use Rattle.cal_command.specs.Rings.{RingId, TakerView}
 use Rattle.cal_signal.specs.Ends.{PublisherView}
 use Rattle.cal_kthread.specs.declared.turn.current.Current.{Current}
-use Rattle.cal_kthread.specs.declared.end.kernel_end.KernelEnd.{KernelEnd}
+use Rattle.cal_kthread.specs.End.Rest.{EndView}
 use Rattle.cal_kthread.specs.declared.turn.victims.Victim.{Victim}
 use Rattle.cal_kthread.specs.declared.queue.waiting.Waiting.{Waiting}
 use Rattle.cal_kthread.specs.Queue.{QueueId, QueueView}
@@ -107,7 +107,7 @@ same-places f g (x ∷ xs) (y ∷ ys) long same = let here = same 0 x y refl ref
 
 pub ends-team : EndsAreATeam
 ends-team threads ends team same =
-    subst IsTeam (sym (same-places (λ (t : KernelView). place_of t.thread) (λ (e : KernelEnd). place_of_rest e.rest) threads ends same.count same.places)) team
+    subst IsTeam (sym (same-places (λ (t : KernelView). place_of t.thread) (λ (e : EndView). place_of_rest e.rest) threads ends same.count same.places)) team
 
 -- one more at the end of each of two lists
 push-both : {T U : Type 0} (R : T → U → Type 0) (xs : List T) (ys : List U) (x : T) (y : U) → length ys ≡ length xs
@@ -126,5 +126,5 @@ no-ends-yet = record { count = refl; places = λ k thread e here there. absurd (
 pub one-end-more : OneEndMore
 one-end-more threads ends thread e have here = record {
   count = let a = length-append ends (e ∷ []) in let b = length-append threads (thread ∷ []) in let c = have.count in omega (arith, a, b, c);
-  places = push-both (λ (t : KernelView) (x : KernelEnd). place_of_rest x.rest ≡ place_of t.thread) threads ends thread e have.count have.places here;
+  places = push-both (λ (t : KernelView) (x : EndView). place_of_rest x.rest ≡ place_of t.thread) threads ends thread e have.count have.places here;
 }

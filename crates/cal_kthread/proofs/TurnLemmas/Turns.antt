@@ -18,6 +18,7 @@ use Rattle.cal_kthread.specs.Journal.{arrival_in, arrivals_of, record_in, record
 use Rattle.cal_kthread.specs.Queue.{QueueView}
 use Rattle.cal_kthread.specs.Turn.Thread.{ThreadView, KernelView}
 use Rattle.cal_kthread.specs.Turn.{Answers, arrived, taken, provided, worked, worked_on, served, shown, noted, turned}
+use Rattle.cal_kthread.specs.Turn.Entries.{entries_of}
 use Rattle.cal_kthread.specs.Turn.Turns.{IsOneTurn, Given, AreTurns, OneTurnMore, TurnsAddUp}
 use Rattle.cal_kthread.proofs.TeamLemmas.Turns.{Kept, kept, unpublished}
 
@@ -79,6 +80,21 @@ no-record (Some e) between = filter-one record_in e between.1
 put : (journal : List Entry) (o : Option Entry) → noted journal o ≡ journal ++ option_to_list o
 put journal None = sym (append-nil journal)
 put journal (Some e) = refl
+
+-- the entries of a turn, put in one after the other
+pub noted-all : (journal : List Entry) (a b c d : Option Entry) (e : Entry)
+    → noted (noted (noted (noted (noted journal a) b) c) d) (Some e) ≡ journal ++ entries_of (record { arrived = a; took = b; stole = c; worked = d; published = e })
+noted-all journal a b c d e =
+    let x = option_to_list a in
+    let y = option_to_list b in
+    let z = option_to_list c in
+    let w = option_to_list d in
+    ap (λ l. l ++ e ∷ []) (put (noted (noted (noted journal a) b) c) d ∙ ap (λ l. l ++ w) (put (noted (noted journal a) b) c ∙ ap (λ l. l ++ z) (put (noted journal a) b ∙ ap (λ l. l ++ y) (put journal a))))
+    ∙ append_assoc (journal ++ x ++ y ++ z) w (e ∷ [])
+    ∙ append_assoc (journal ++ x ++ y) z (w ++ e ∷ [])
+    ∙ append_assoc (journal ++ x) y (z ++ (w ++ e ∷ []))
+    ∙ append_assoc journal x (y ++ (z ++ (w ++ e ∷ [])))
+    ∙ ap (λ l. journal ++ l) (sym (append_assoc x y (z ++ (w ++ e ∷ []))) ∙ sym (append_assoc (x ++ y) z (w ++ e ∷ [])) ∙ sym (append_assoc (x ++ y ++ z) w (e ∷ [])))
 
 all-none : {Y : Type 0} (h : Entry → Option Y) (a b c : List Entry) → filter_map h a ≡ [] → filter_map h b ≡ [] → filter_map h c ≡ [] → filter_map h (a ++ b ++ c) ≡ []
 all-none h a b c x y z = filter_map-append h (a ++ b) c ∙ ap (λ l. l ++ filter_map h c) (filter_map-append h a b ∙ (λ i. x i ++ y i)) ∙ z

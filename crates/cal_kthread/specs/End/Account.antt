@@ -4,13 +4,12 @@ use mathlib.Core.Option.{some}
 use lib.ListN.{get_elem?}
 use Rattle.cal_machine.specs.declared.request.Request.{Request}
 use Rattle.cal_kthread.specs.declared.journal.entry.Entry.{Entry}
-use Rattle.cal_kthread.specs.declared.end.kernel_end.KernelEnd.{KernelEnd}
 use Rattle.cal_kthread.specs.declared.turn.victims.Victim.{Victim}
 use Rattle.cal_kthread.specs.declared.queue.waiting.Waiting.{Waiting}
 use Rattle.cal_kthread.specs.Journal.{arrivals_of, served_of}
 use Rattle.cal_kthread.specs.Places.{Each, Somewhere, one_if}
 use Rattle.cal_kthread.specs.Queue.Rule.{queue_shares, weigh, AllTaken}
-use Rattle.cal_kthread.specs.End.Rest.{HandsOut}
+use Rattle.cal_kthread.specs.End.Rest.{EndView, HandsOut}
 use Rattle.cal_kthread.specs.Team.{IsTeam, place_of_rest}
 
 -- how often a name stands in a list
@@ -45,26 +44,26 @@ waiting_names = map (λ waiting. waiting.request.id)
 abbrev pub stolen_weight : (Waiting → ℕ) → List Victim → ℕ
 stolen_weight h victims = weigh (λ v. weigh h v.thief.had) victims
 
-abbrev pub taken_of : (Waiting → ℕ) → KernelEnd → ℕ
+abbrev pub taken_of : (Waiting → ℕ) → EndView → ℕ
 taken_of h e = weigh h e.rest.queue.had + stolen_weight h e.rest.victims
 
 -- what it handed out from its queue; and what it still holds and all that it handed out
-abbrev pub handed_of : (Waiting → ℕ) → KernelEnd → ℕ
+abbrev pub handed_of : (Waiting → ℕ) → EndView → ℕ
 handed_of h e = weigh h e.rest.queue.handed
 
-abbrev pub kept_of : (Waiting → ℕ) → KernelEnd → ℕ
+abbrev pub kept_of : (Waiting → ℕ) → EndView → ℕ
 kept_of h e = weigh h e.rest.held + weigh h e.rest.left
 
 -- What arrived at a thread went into its queue, and what it took from queues was served, or it
 -- still holds it, or it handed it out.
-pub record KeepsItsWork (e : KernelEnd) : Type 0 where
+pub record KeepsItsWork (e : EndView) : Type 0 where
   pub gone : List Waiting
   pub arrived : requests_of e.rest.queue.pushed ≡ arrivals_of e.journal
   pub served : waiting_names gone ≡ served_of e.journal
   pub kept : (h : Waiting → ℕ) → taken_of h e + handed_of h e ≡ weigh h gone + kept_of h e
 
 -- The same of all threads together, when each queue's shares are with its own end.
-pub record IsSettled (ends : List KernelEnd) : Type 0 where
+pub record IsSettled (ends : List EndView) : Type 0 where
   pub gone : List Waiting
   pub arrived : Each (λ e. requests_of e.rest.queue.pushed ≡ arrivals_of e.journal) ends
   pub served : (p : ℕ → ℕ) → weigh p (waiting_names gone)
@@ -75,13 +74,13 @@ pub record IsSettled (ends : List KernelEnd) : Type 0 where
       ≡ weigh h gone + weigh (kept_of h) ends
 
 -- its `left` answered None
-pub record IsDrained (e : KernelEnd) : Type 0 where
+pub record IsDrained (e : EndView) : Type 0 where
   pub held : e.rest.held ≡ []
   pub queue : AllTaken e.rest.queue.pushed e.rest.queue.had e.rest.queue.handed
 
 -- an end except the shares and the thieves that it has: what the gathering of the shares leaves as
 -- it was
-abbrev pub stripped : KernelEnd → KernelEnd
+abbrev pub stripped : EndView → EndView
 stripped e = record e {
   rest = record e.rest {
     queue = record e.rest.queue { shares = 0; had = [] };
@@ -90,11 +89,11 @@ stripped e = record e {
 }
 
 -- the thieves of the thread k
-abbrev pub victims_at : ℕ → List KernelEnd → List Victim
+abbrev pub victims_at : ℕ → List EndView → List Victim
 victims_at k ends = slice_index_or (map (λ e. e.rest.victims) ends) k []
 
 -- Shares and what was stolen moved between the ends of a team, and nothing else.
-pub record Gathers (before after : List KernelEnd) : Type 0 where
+pub record Gathers (before after : List EndView) : Type 0 where
   pub team : IsTeam (map (λ e. place_of_rest e.rest) after)
   pub same : map stripped after ≡ map stripped before
   pub taken : (h : Waiting → ℕ) → weigh (taken_of h) after ≡ weigh (taken_of h) before
@@ -102,7 +101,7 @@ pub record Gathers (before after : List KernelEnd) : Type 0 where
 -- The law of handing out: when all shares are gathered, what one end hands out leaves the team
 -- settled.
 abbrev pub StaysSettled : Type 0
-StaysSettled = (ends : List KernelEnd) (k : ℕ) (e after : KernelEnd) (waiting : Waiting) →
+StaysSettled = (ends : List EndView) (k : ℕ) (e after : EndView) (waiting : Waiting) →
     IsSettled ends → get_elem? ends k ≡ some e
     → HandsOut waiting e.rest after.rest → after ≡ record e { rest = after.rest } →
     IsSettled (slice_set ends k after)
@@ -110,5 +109,5 @@ StaysSettled = (ends : List KernelEnd) (k : ℕ) (e after : KernelEnd) (waiting 
 -- The law of the account: when all shares are gathered and each end's `left` answered None, the
 -- account holds of the journals and of all that was handed out.
 abbrev pub DrainedIsAccounted : Type 0
-DrainedIsAccounted = (ends : List KernelEnd) → IsSettled ends → Each IsDrained ends
+DrainedIsAccounted = (ends : List EndView) → IsSettled ends → Each IsDrained ends
     → IsAccounted (map (λ e. e.journal) ends) (map (λ e. requests_of e.rest.left) ends)

@@ -5,10 +5,9 @@ use Rattle.cal_machine.specs.declared.request.Request.{Request}
 use Rattle.cal_signal.specs.Ends.{PublisherView}
 use Rattle.cal_kthread.specs.End.Account.{requests_of}
 use Rattle.cal_kthread.specs.Queue.Rule.{weigh}
-use Rattle.cal_kthread.specs.End.Rest.{RestView}
+use Rattle.cal_kthread.specs.End.Rest.{EndView, RestView}
 use Rattle.cal_kthread.specs.Team.{place_of_rest}
 use Rattle.cal_kthread.specs.declared.journal.entry.Entry.{Entry}
-use Rattle.cal_kthread.specs.declared.end.kernel_end.KernelEnd.{KernelEnd}
 use Rattle.cal_kthread.specs.declared.queue.waiting.Waiting.{Waiting}
 
 -- what a thread's turns came to: its number, what it did, and its ends of its page and its ring
@@ -18,7 +17,7 @@ pub record RunView : Type 0 where
   pub publisher : PublisherView
   pub taker : TakerView
 
-abbrev pub run_of : KernelEnd → RunView
+abbrev pub run_of : EndView → RunView
 run_of e = record {
   number = e.number;
   journal = e.journal;
@@ -27,10 +26,10 @@ run_of e = record {
 }
 
 -- the requests that it handed out so far, in order
-abbrev pub left_of : KernelEnd → List Request
+abbrev pub left_of : EndView → List Request
 left_of e = requests_of e.rest.left
 
-abbrev pub HandedOutNothing : KernelEnd → Type 0
+abbrev pub HandedOutNothing : EndView → Type 0
 HandedOutNothing e = e.rest.left ≡ []
 
 -- Some requests were handed out, and nothing else changed: what came out of the queue meanwhile,

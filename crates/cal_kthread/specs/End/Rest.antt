@@ -1,5 +1,8 @@
 -- What a contract sees of a kernel thread's work when its turns are over.
 use Rattle.std.specs.Prelude.{◌≡◌, ℕ, ◌+◌, ◌-◌, Option, None, IfSome, List, [], ◌∷◌, ◌++◌, length}
+use Rattle.cal_command.specs.Rings.{TakerView}
+use Rattle.cal_signal.specs.Ends.{PublisherView}
+use Rattle.cal_kthread.specs.declared.journal.entry.Entry.{Entry}
 use Rattle.cal_kthread.specs.declared.queue.waiting.Waiting.{Waiting}
 use Rattle.cal_kthread.specs.declared.turn.victims.Victim.{Victim}
 use Rattle.cal_kthread.specs.Queue.{QueueView}
@@ -11,6 +14,15 @@ pub record RestView : Type 0 where
   pub victims : List Victim
   pub held : List Waiting
   pub left : List Waiting
+
+-- what a kernel thread came to: its number, what it did, its ends of its page and its ring, and the
+-- rest of its work
+pub record EndView : Type 0 where
+  pub number : ℕ
+  pub journal : List Entry
+  pub publisher : PublisherView
+  pub taker : TakerView
+  pub rest : RestView
 
 -- the current request is handed out before the front, and the front before the queue
 pub record IsInOrder (current front current_out front_out : Option Waiting)

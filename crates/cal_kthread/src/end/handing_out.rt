@@ -5,8 +5,9 @@ ghost use Rattle.cal_kthread.specs.End.HandingOut.{HandedOutNothing, HandsOutSom
 ghost use Rattle.cal_kthread.specs.Places.{Each};
 ghost use Rattle.cal_kthread.specs.Queue.Rule.{queue_shares};
 
-use crate::end::kernel_end::KernelEnd;
+use crate::end::kernel_end::ThreadEnd;
 use crate::end::request_list::RequestList;
+use crate::journal::kept::Kept;
 use std::alloc::{AllocError, Global};
 
 /// The requests that each thread of a team had left, in thread order: all that its `left` hands out
@@ -15,7 +16,10 @@ use std::alloc::{AllocError, Global};
 ///
 /// Fails only when out of memory; what was handed out by then is gone. Either way an end keeps its
 /// number, its journal and its ends of its page and its ring.
-pub fn hand_out_all(alloc: Global, ends: &mut [KernelEnd]) -> Result<Vec<RequestList>, AllocError>
+pub fn hand_out_all<J: Kept>(
+    alloc: Global,
+    ends: &mut [ThreadEnd<J>],
+) -> Result<Vec<RequestList>, AllocError>
     requires settled { IsSettled ends.old }
     requires untouched { Each HandedOutNothing ends.old }
     ensures same { map run_of ends.new ≡ map run_of ends.old }
@@ -32,7 +36,7 @@ pub fn hand_out_all(alloc: Global, ends: &mut [KernelEnd]) -> Result<Vec<Request
 }
 
 /// The requests that one thread had left.
-fn hand_out(alloc: Global, end: &mut KernelEnd) -> Result<RequestList, AllocError>
+fn hand_out<J: Kept>(alloc: Global, end: &mut ThreadEnd<J>) -> Result<RequestList, AllocError>
     requires shares { end.old.rest.queue.shares ≡ queue_shares }
     requires untouched { HandedOutNothing end.old }
     ensures same { run_of end.new ≡ run_of end.old }

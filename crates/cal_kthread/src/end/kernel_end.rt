@@ -1,5 +1,5 @@
 //! A kernel thread whose turns are over.
-ghost use Rattle.std.specs.Prelude.{◌≡◌, ◌+◌, [], IfSome, MatchOption, option_map};
+ghost use Rattle.std.specs.Prelude.{◌≡◌, ◌+◌, ◌++◌, [], ◌∷◌, IfSome, MatchOption, option_map};
 ghost use Rattle.cal_kthread.specs.End.Account.{KeepsItsWork};
 ghost use Rattle.cal_kthread.specs.Turn.Agreement.{held};
 ghost use Rattle.cal_kthread.specs.Journal.{IsJournal, commands_of, records_of};
@@ -9,24 +9,30 @@ ghost use Rattle.cal_kthread.specs.End.Rest.{HandsOut, to_hand_out};
 ghost use Rattle.cal_kthread.specs.Team.{place_of, place_of_rest};
 ghost use Rattle.cal_kthread.specs.declared.queue.waiting.Waiting.{Waiting};
 
+use crate::bare_thread::BareThread;
 use crate::end::rest::Rest;
 use crate::journal::Journal;
+use crate::journal::entry::Entry;
+use crate::journal::kept::Kept;
 use crate::kernel_thread::KernelThread;
+use crate::queue::Thief;
 use crate::queue::waiting::Waiting;
 use crate::turn::current::Current;
 use crate::turn::thread::Thread;
+use crate::turn::victims::Victim;
 use cal_command::Taker;
-use cal_machine::Request;
+use cal_machine::{Past, Request};
 use cal_signal::Publisher;
+use std::marker::Model;
 
 /// A kernel thread whose turns are over: its number, what it did, its ends of its page and its
 /// ring, and the rest of its work.
 #[derive(Drop)]
-pub struct KernelEnd {
+pub struct ThreadEnd<J: Kept> {
     /// The thread's number, in thread order from 0.
     pub number: u8,
     /// What it did.
-    pub journal: Journal,
+    pub journal: J,
     /// The end of its page that publishes.
     pub publisher: Publisher,
     /// The end of its ring that takes.
@@ -34,6 +40,26 @@ pub struct KernelEnd {
     /// Its queue, its thieves, and the requests that it still has.
     pub rest: Rest,
 }
+
+impl<J: Kept> Model for ThreadEnd<J> {
+    ghost use Rattle.cal_kthread.specs.End.Rest.{EndView};
+
+    ghost Value = { EndView };
+
+    ghost view = { λ e. record {
+      number = e.number;
+      journal = J.entries e.journal;
+      publisher = e.publisher;
+      taker = e.taker;
+      rest = e.rest;
+    } };
+}
+
+/// The end of a thread that kept its journal.
+pub type KernelEnd = ThreadEnd<Journal>;
+
+/// The end of a thread that kept no journal.
+pub type BareThreadEnd = ThreadEnd<Past<Entry>>;
 
 impl KernelThread {
     /// Ends the thread after its last turn. Takes no memory.
@@ -54,9 +80,46 @@ impl KernelThread {
         ensures place { place_of_rest result.rest ≡ place_of self.thread }
         ensures work { KeepsItsWork result }
     {
-        let KernelThread {
+        let (bare, journal) = self.into_parts();
+        let ThreadEnd {
+            number,
+            publisher,
+            taker,
+            rest,
+            ..
+        } = bare.end();
+        ThreadEnd {
             number,
             journal,
+            publisher,
+            taker,
+            rest,
+        }
+    }
+}
+
+impl BareThread {
+    /// Ends the thread after its last turn, as of a `KernelThread`. Takes no memory.
+    pub fn end(self) -> BareThreadEnd
+        ensures number { result.number ≡ self.number }
+        ensures journal { result.journal ≡ self.journal }
+        ensures is_journal { IsJournal result.journal }
+        ensures page { records_of result.journal ≡ result.publisher.published }
+        ensures ring { commands_of result.journal ≡ result.taker.taken }
+        ensures ends { (result.publisher ≡ self.thread.publisher)
+            × (result.taker ≡ self.thread.taker) }
+        ensures rest { result.rest ≡ record {
+          queue = self.thread.queue;
+          victims = self.thread.victims;
+          held = held self.thread;
+          left = [];
+        } }
+        ensures place { place_of_rest result.rest ≡ place_of self.thread }
+        ensures work { KeepsItsWork result }
+    {
+        let BareThread {
+            number,
+            past,
             thread,
         } = self;
         let Thread {
@@ -68,9 +131,9 @@ impl KernelThread {
             front,
             ..
         } = thread;
-        KernelEnd {
+        ThreadEnd {
             number,
-            journal: Journal::new(journal),
+            journal: past,
             publisher,
             taker,
             rest: Rest::new(queue, victims, waiting_of(current), front),
@@ -88,7 +151,7 @@ fn waiting_of(current: Option<Current>) -> Option<Waiting>
     }
 }
 
-impl KernelEnd {
+impl<J: Kept> ThreadEnd<J> {
     /// Hands out the next request that was not served: the current one, the front, then one from
     /// the queue. None where none was found.
     ///
@@ -116,5 +179,32 @@ impl KernelEnd {
     {
         let waiting = self.rest.hand_out()?;
         Some(waiting.request)
+    }
+
+    /// Gives up the last of the thieves.
+    pub(crate) fn give_back(&mut self) -> Option<Victim>
+        ensures { MatchOption result
+            ((self.new ≡ self.old) × (self.old.rest.victims ≡ []))
+            (λ victim. (self.new ≡ record self.old {
+              rest = record self.old.rest { victims = self.new.rest.victims };
+            })
+            × (self.old.rest.victims ≡ self.new.rest.victims ++ victim ∷ [])) }
+    {
+        self.rest.give_back()
+    }
+
+    /// Takes a share of its queue back, with what its thief stole.
+    pub(crate) fn absorb(&mut self, thief: Thief)
+        requires { thief.queue ≡ self.old.rest.queue.queue }
+        ensures { self.new ≡ record self.old {
+          rest = record self.old.rest {
+            queue = record self.old.rest.queue {
+              shares = self.old.rest.queue.shares + 1;
+              had = self.old.rest.queue.had ++ thief.had;
+            };
+          };
+        } }
+    {
+        self.rest.absorb(thief);
     }
 }

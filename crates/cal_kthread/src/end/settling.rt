@@ -7,7 +7,8 @@ ghost use Rattle.cal_kthread.specs.End.HandingOut.{HandedOutNothing, run_of};
 ghost use Rattle.cal_kthread.specs.Places.{Each};
 ghost use Rattle.cal_kthread.specs.Team.{IsTeam, place_of_rest};
 
-use crate::end::kernel_end::KernelEnd;
+use crate::end::kernel_end::ThreadEnd;
+use crate::journal::kept::Kept;
 use crate::turn::victims::Victim;
 use cal_machine::Config;
 
@@ -17,7 +18,7 @@ use cal_machine::Config;
 ///
 /// What was handed out and what is still there stays. `hand_out_all` then gives what is left, and
 /// the account; it holds too where each `left` is called up to its None: see `laws`.
-pub fn settle(config: &Config, ends: &mut [KernelEnd])
+pub fn settle<J: Kept>(config: &Config, ends: &mut [ThreadEnd<J>])
     requires count { length ends.old ≡ threads_in config.now.tasks }
     requires team { IsTeam (map (λ e. place_of_rest e.rest) ends.old) }
     requires work { Each KeepsItsWork ends.old }
@@ -32,7 +33,7 @@ pub fn settle(config: &Config, ends: &mut [KernelEnd])
 }
 
 /// The thread's thieves give their shares back, each with what it stole.
-fn give_all(ends: &mut [KernelEnd], k: usize)
+fn give_all<J: Kept>(ends: &mut [ThreadEnd<J>], k: usize)
     requires thread { k < length ends.old }
     requires team { IsTeam (map (λ e. place_of_rest e.rest) ends.old) }
     ensures gathered { Gathers ends.old ends.new }
@@ -44,7 +45,7 @@ fn give_all(ends: &mut [KernelEnd], k: usize)
 
 /// The last of the thread's thieves gives its share back, with what it stole. False where there is
 /// none.
-fn give_last(ends: &mut [KernelEnd], k: usize) -> bool
+fn give_last<J: Kept>(ends: &mut [ThreadEnd<J>], k: usize) -> bool
     requires thread { k < length ends.old }
     requires team { IsTeam (map (λ e. place_of_rest e.rest) ends.old) }
     ensures none { IsFalse result → (ends.new ≡ ends.old) × (victims_at k ends.old ≡ []) }
@@ -53,9 +54,9 @@ fn give_last(ends: &mut [KernelEnd], k: usize) -> bool
         length (victims_at k ends.new) + 1 ≡ length (victims_at k ends.old) }
     ensures others { (j : ℕ) → j ≢ k → victims_at j ends.new ≡ victims_at j ends.old }
 {
-    let Some(Victim { number, thief }) = ends[k].rest.give_back() else {
+    let Some(Victim { number, thief }) = ends[k].give_back() else {
         return false;
     };
-    ends[number as usize].rest.absorb(thief);
+    ends[number as usize].absorb(thief);
     true
 }

@@ -6,7 +6,7 @@ ghost use Rattle.cal_machine.specs.declared.task_table.TheConstants.{MOST_LIMIT}
 ghost use Rattle.cal_kthread.specs.Team.Linking.{Lends, IsLinked, Links, shares_at, wrapped};
 ghost use Rattle.cal_kthread.specs.Team.{IsTeam, place_of};
 
-use crate::kernel_thread::KernelThread;
+use crate::bare_thread::BareThread;
 use crate::queue::Thief;
 use crate::turn::thread::Thread;
 use crate::turn::victims::Victim;
@@ -38,7 +38,7 @@ impl Thread {
     }
 }
 
-impl KernelThread {
+impl BareThread {
     /// A thief at its queue.
     fn lend(&mut self) -> Result<Thief, AllocError>
         requires { 1 < self.old.thread.queue.shares }
@@ -71,7 +71,7 @@ impl KernelThread {
 }
 
 /// The thread `robber` gets a thief at the queue of the thread `owner`.
-fn link(threads: &mut [KernelThread], robber: usize, owner: usize) -> Result<(), AllocError>
+fn link(threads: &mut [BareThread], robber: usize, owner: usize) -> Result<(), AllocError>
     requires robber { robber < length threads.old }
     requires owner { owner < length threads.old }
     requires few { length threads.old ≤ MOST_THREADS }
@@ -106,7 +106,7 @@ fn place_before(place: usize, distance: usize, count: usize) -> usize
 /// One round in a task: each of its threads gets a thief at the queue of the thread at this
 /// distance, counted on past the last to the first.
 fn link_round(
-    threads: &mut [KernelThread],
+    threads: &mut [BareThread],
     first: usize,
     count: usize,
     distance: usize,
@@ -130,7 +130,7 @@ fn link_round(
 /// Each thread of a task gets a thief at the queue of each other, in the order in which it is to
 /// try.
 pub(crate) fn link_task(
-    threads: &mut [KernelThread],
+    threads: &mut [BareThread],
     first: usize,
     count: usize,
 ) -> Result<(), AllocError>

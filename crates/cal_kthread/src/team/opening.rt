@@ -2,10 +2,11 @@
 ghost use Rattle.std.specs.Prelude.{◌≡◌, [], IfOk};
 ghost use Rattle.cal_kthread.specs.Turn.Thread.{IsFresh};
 
-use crate::kernel_thread::KernelThread;
+use crate::bare_thread::BareThread;
 use crate::queue::OwnQueue;
 use crate::turn::thread::Thread;
 use cal_command::{Sender, open_ring};
+use cal_machine::Past;
 use cal_signal::{Observer, open_watched};
 use std::alloc::{AllocError, Global};
 
@@ -13,7 +14,7 @@ use std::alloc::{AllocError, Global};
 #[derive(Drop)]
 pub(crate) struct Opened {
     /// The thread.
-    pub(crate) thread: KernelThread,
+    pub(crate) thread: BareThread,
     /// The first observer of its page.
     pub(crate) observer: Observer,
     /// The second observer of its page.
@@ -51,9 +52,9 @@ pub(crate) fn open_thread(alloc: Global, number: u8) -> Result<Opened, AllocErro
         misses: 0,
     };
     Ok(Opened {
-        thread: KernelThread {
+        thread: BareThread {
             number,
-            journal: Vec::new(alloc),
+            past: Past::none(),
             thread,
         },
         observer,

@@ -3,7 +3,7 @@ use Rattle.std.proofs.Common.{◌≡◌, zero, suc, List, [], ◌∷◌, ◌++�
 use Rattle.cal_command.specs.Rings.{SenderView}
 use Rattle.cal_signal.specs.Ends.{ObserverView}
 use Rattle.cal_kthread.specs.End.HandingOut.{RunView, run_of}
-use Rattle.cal_kthread.specs.declared.end.kernel_end.KernelEnd.{KernelEnd}
+use Rattle.cal_kthread.specs.End.Rest.{EndView}
 use Rattle.cal_run.specs.Closing.{AreClosed, AreEndsOf, AreOtherEnds, IsClosed, IsEndOf, pages_of_runs, rings_of_runs}
 use Rattle.cal_run.specs.declared.workers.worker.Worker.{Worker}
 
@@ -12,7 +12,7 @@ nothing_left [] none = refl
 nothing_left (x ∷ xs) none = absurd (omega (arith, none))
 
 -- ends of the same runs have the same journals
-pub same_journals : (xs ys : List KernelEnd) → map run_of xs ≡ map run_of ys → map (λ (e : KernelEnd). e.journal) xs ≡ map (λ (e : KernelEnd). e.journal) ys
+pub same_journals : (xs ys : List EndView) → map run_of xs ≡ map run_of ys → map (λ (e : EndView). e.journal) xs ≡ map (λ (e : EndView). e.journal) ys
 same_journals [] [] same = refl
 same_journals [] (y ∷ ys) same = absurd (cc)
 same_journals (x ∷ xs) [] same = absurd (cc)
@@ -24,25 +24,25 @@ same_journals (x ∷ xs) (y ∷ ys) same =
     cc
 
 -- these threads ended so far, and those to come will make the whole
-pub record EndsUpTo (workers rest : List Worker) (ends : List KernelEnd) : Type 0 where
-  pub whole : (others : List KernelEnd) → AreEndsOf rest others → AreEndsOf workers (ends ++ others)
+pub record EndsUpTo (workers rest : List Worker) (ends : List EndView) : Type 0 where
+  pub whole : (others : List EndView) → AreEndsOf rest others → AreEndsOf workers (ends ++ others)
 
 pub none_ended : (workers : List Worker) → EndsUpTo workers workers []
 none_ended workers = record { whole = λ others are. are }
 
-pub one_ended : (workers before rest : List Worker) (ends : List KernelEnd) (worker : Worker) (e : KernelEnd) → EndsUpTo workers before ends → before ≡ worker ∷ rest → IsEndOf worker e →
+pub one_ended : (workers before rest : List Worker) (ends : List EndView) (worker : Worker) (e : EndView) → EndsUpTo workers before ends → before ≡ worker ∷ rest → IsEndOf worker e →
     EndsUpTo workers rest (ends ++ e ∷ [])
 one_ended workers before rest ends worker e so_far next its = record {
   whole = λ others are.
       let P : List Worker → Type 0 = λ l. AreEndsOf l (e ∷ others) in
-      let Q : List KernelEnd → Type 0 = λ l. AreEndsOf workers l in
+      let Q : List EndView → Type 0 = λ l. AreEndsOf workers l in
       subst Q (sym (append_assoc ends (e ∷ []) others)) (so_far.whole (e ∷ others) (subst P (sym next) (its, are)));
 }
 
-pub all_ended : (workers rest : List Worker) (ends : List KernelEnd) → EndsUpTo workers rest ends → length rest ≡ 0 → AreEndsOf workers ends
+pub all_ended : (workers rest : List Worker) (ends : List EndView) → EndsUpTo workers rest ends → length rest ≡ 0 → AreEndsOf workers ends
 all_ended workers rest ends so_far none =
     let P : List Worker → Type 0 = λ l. AreEndsOf l [] in
-    let Q : List KernelEnd → Type 0 = λ l. AreEndsOf workers l in
+    let Q : List EndView → Type 0 = λ l. AreEndsOf workers l in
     subst Q (append-nil ends) (so_far.whole [] (subst P (sym (nothing_left rest none)) tt))
 
 -- the ends of these lists go together one by one, and each four were closed

@@ -11,7 +11,7 @@ ghost use Rattle.cal_run.specs.Workers.{Seat, pages_of_seats, rings_of_seats, se
 use crate::closing::thread_ends::{end_each, settle_and_hand_out};
 use crate::workers::worker::Worker;
 use cal_command::{Sender, close_ring};
-use cal_kthread::{Journal, KernelEnd, RequestList};
+use cal_kthread::{Journal, KernelEnd, RequestList, ThreadEnd};
 use cal_machine::Config;
 use cal_signal::{Observer, close_watched};
 use std::alloc::{AllocError, Global};
@@ -87,7 +87,7 @@ fn close_one(end: KernelEnd, observer: Observer, watcher: Observer, sender: Send
     ensures journal { result ≡ end.journal }
     ensures closed { IsClosed (run_of end) observer watcher sender }
 {
-    let KernelEnd {
+    let ThreadEnd {
         journal,
         publisher,
         taker,

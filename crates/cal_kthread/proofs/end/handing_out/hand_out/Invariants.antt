@@ -4,11 +4,11 @@ use Rattle.cal_kthread.specs.End.Rest.{to_hand_out}
 use Rattle.cal_kthread.proofs.end.handing_out.hand_out.Given as goal
 
 abbrev pub invariant-loop-request : goal.invariant-loop-request
-invariant-loop-request l = record {
+invariant-loop-request g l = record {
   moved : HandsOutSome l.initial.end.rest l.end.rest;
   same : run_of l.end ≡ run_of l.initial.end;
   list : l.requests.items ≡ left_of l.end;
 }
 
 abbrev pub decreases-loop-request : goal.decreases-loop-request
-decreases-loop-request l = to_hand_out l.end.rest
+decreases-loop-request g l = to_hand_out l.end.rest

@@ -4,7 +4,7 @@ use Rattle.cal_sched.proofs.Lists.{written_whole}
 use Rattle.cal_kthread.specs.End.Account.{KeepsItsWork}
 use Rattle.cal_kthread.specs.End.HandingOut.{HandedOutNothing, run_of}
 use Rattle.cal_kthread.specs.Team.{IsTeam}
-use Rattle.cal_kthread.specs.declared.end.kernel_end.KernelEnd.{KernelEnd}
+use Rattle.cal_kthread.specs.End.Rest.{EndView}
 use Rattle.cal_kthread.specs.End.Account.{IsAccounted}
 use Rattle.cal_run.specs.Closing.{AreClosed, IsEndOf}
 use Rattle.cal_run.proofs.ClosingLemmas.Closed.{each_end, have_closed, length_alike, others_at_ends, places_at_ends}
@@ -39,7 +39,7 @@ returns c =
     let same : map run_of new ≡ map run_of old.items = rw (← c.as_mut_slice.ensures.value) c.in_ok-left.ensures.same in
     let whole : take old.len (new ++ drop (length new) old.items) ≡ new = written_whole old.len new old.items old.ok.0 (length_alike run_of new old.items same) in
     let closed : AreClosed (map run_of new) c.args.observers.items c.args.watchers.items c.args.senders.items = rw (← whole) c.in_ok-journals.ensures.closed in
-    let journals : c.in_ok-journals.journals.items ≡ map (λ (e : KernelEnd). e.journal) new = rw (← whole) c.in_ok-journals.ensures.journals in
+    let journals : c.in_ok-journals.journals.items ≡ map (λ (e : EndView). e.journal) new = rw (← whole) c.in_ok-journals.ensures.journals in
     let count : length c.in_ok-left.left.items ≡ length old.items = rw (← c.as_mut_slice.ensures.value) c.in_ok-left.ensures.count in
-    let account : IsAccounted (map (λ (e : KernelEnd). e.journal) old.items) c.in_ok-left.left.items = rw (← c.as_mut_slice.ensures.value) c.in_ok-left.ensures.account in
+    let account : IsAccounted (map (λ (e : EndView). e.journal) old.items) c.in_ok-left.left.items = rw (← c.as_mut_slice.ensures.value) c.in_ok-left.ensures.account in
     have_closed c.args.workers.items old.items new _ _ _ c.in_ok-ends.ensures same c.requires.others closed _ _ journals count account

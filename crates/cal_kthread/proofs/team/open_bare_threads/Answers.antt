@@ -3,7 +3,7 @@ use Rattle.cal_kthread.specs.Team.Linking.{unlinked}
 use Rattle.cal_kthread.specs.Team.Opening.{AreOpened}
 use Rattle.cal_kthread.specs.Turn.Thread.{KernelView}
 use Rattle.cal_kthread.proofs.TeamLemmas.Opened.{opened-linked, written-back}
-use Rattle.cal_kthread.proofs.team.open_threads.Goals as goal
+use Rattle.cal_kthread.proofs.team.open_bare_threads.Goals as goal
 
 pub returns-clause-opened : goal.returns-clause-opened
 returns-clause-opened c = subst (λ threads. AreOpened threads c.in_ok-threads.field-0.observers.items c.in_ok-threads.field-0.senders.items c.in_ok-threads.field-0.watchers.items)

@@ -1,0 +1,113 @@
+use Rattle.std.proofs.Common.{◌≡◌, ◌<◌, ◌∙◌, ◌++◌, subst, sym, ap, length, IfSome, Some, arith}
+use Rattle.cal_signal.specs.declared.record.Record.{Record}
+use Rattle.cal_signal.specs.Ends.{PublisherView}
+use Rattle.cal_signal.specs.Pages.{last_published}
+use Rattle.cal_signal.specs.Records.{zero_record}
+use Rattle.cal_kthread.specs.contracts.bare_thread.BareThread.{the_view}
+use Rattle.cal_kthread.specs.Turn.Agreement.{Agrees}
+use Rattle.cal_kthread.specs.declared.journal.entry.Entry.{Entry}
+use Rattle.cal_kthread.specs.Journal.{records_of}
+use Rattle.cal_kthread.specs.Team.{place_of}
+use Rattle.cal_kthread.specs.Turn.Thread.{ThreadView, KernelView}
+use Rattle.cal_kthread.specs.Turn.{Answers, AreAnswers, noted, shown, turned}
+use Rattle.cal_kthread.proofs.TurnLemmas.Publishing.{last_snoc}
+use Rattle.cal_kthread.proofs.TeamLemmas.Turns.{keeps-page, keeps-place, keeps-ring}
+use Rattle.cal_kthread.proofs.TurnLemmas.Steps.{turns, agrees}
+use Rattle.cal_kthread.proofs.TurnLemmas.Turns.{noted-all, one-turn}
+use Rattle.cal_kthread.specs.Turn.Entries.{entries_of}
+use Rattle.cal_kthread.specs.Turn.Turns.{IsOneTurn}
+use Rattle.cal_kthread.specs.declared.turn.entries.TurnEntries.{TurnEntries}
+use Rattle.cal_kthread.proofs.bare_thread.BareThread.turn.Goals as goal
+
+pub publish-published-requires-clause-room : goal.publish-published-requires-clause-room
+publish-published-requires-clause-room c =
+    let before = c.self.inside.thread in
+    let same : c.fill_front.new.self.publisher ≡ before.publisher =
+    c.fill_front.ensures.apart ∙ (c.work-worked.ensures.apart ∙ (c.provide-stole.ensures.apart ∙ (c.take-took.ensures.apart.0 ∙ c.in_ok-arrived.ensures.apart.0))) in
+    let long : length c.fill_front.new.self.publisher.published ≡ length before.publisher.published = ap (λ (p : PublisherView). length p.published) same in
+    let told : length (records_of c.self.inside.past) ≡ length before.publisher.published = ap length c.self.invariant.records in
+    let was : length (records_of c.self.inside.past) ≡ length (records_of c.args.self.now.journal) = ap (λ (k : KernelView). length (records_of k.journal)) c.self.view_is in
+    let room = c.requires.room in omega arith
+
+-- what the calls of the turn answered
+abbrev answers_of : goal.After-note_turn → Answers
+answers_of c = record {
+  command = c.take-took.ensures.taken.0;
+  own = c.provide-stole.ensures.provided.0;
+  theft = c.provide-stole.ensures.provided.1;
+  front = c.fill_front.ensures.fronted.0;
+}
+
+-- what the turn hands out
+abbrev entries : goal.After-note_turn → TurnEntries
+entries c = record {
+  arrived = c.in_ok-arrived.arrived;
+  took = c.take-took.result;
+  stole = c.provide-stole.result;
+  worked = c.work-worked.result;
+  published = c.publish-published.result;
+}
+
+noting : (c : goal.After-note_turn)
+    → c.note_turn.new.past
+    ≡ noted (noted (noted (noted (noted c.self.inside.past c.in_ok-arrived.arrived) c.take-took.result) c.provide-stole.result) c.work-worked.result) (Some c.publish-published.result)
+noting c = c.note_turn.ensures
+
+agreeing : (c : goal.After-note_turn) → Agrees c.note_turn.new.past c.publish-published.new.self
+agreeing c = agrees c.args.now c.args.request (answers_of c) (the_view c.self.inside) (c.arrive.new.self, c.in_ok-arrived.arrived) (c.take-took.new.self, c.take-took.result)
+    (c.provide-stole.new.self, c.provide-stole.result) (c.work-worked.new.self, c.work-worked.result) c.fill_front.new.self (c.publish-published.new.self, c.publish-published.result) c.note_turn.new.past
+    c.in_ok-arrived.ensures.arrived c.take-took.ensures.taken.1 c.provide-stole.ensures.provided.3 c.work-worked.ensures.worked c.fill_front.ensures.fronted.1 c.publish-published.ensures.shown (noting c)
+    c.self.invariant c.provide-stole.ensures.provided.2 c.publish-published.ensures.follows
+
+pub invariant_of-self-2 : goal.invariant_of-self-2
+invariant_of-self-2 = agreeing
+
+pub returns-clause-turned : goal.returns-clause-turned
+returns-clause-turned c =
+    let others : c.arrive.new.self.victims ≡ c.self.inside.thread.victims = c.in_ok-arrived.ensures.apart.1 in
+    let same : c.take-took.new.self.victims ≡ c.self.inside.thread.victims = c.take-took.ensures.apart.1 ∙ others in
+    let are : AreAnswers (answers_of c) (the_view c.self.inside) = subst (λ vs. IfSome (answers_of c).theft (λ theft. theft.0 < length vs)) same c.provide-stole.ensures.provided.2 in (
+      answers_of c,
+      subst (AreAnswers (answers_of c)) c.self.view_is are,
+      turns c.args.now c.args.request (answers_of c) (the_view c.self.inside) (c.arrive.new.self, c.in_ok-arrived.arrived) (c.take-took.new.self, c.take-took.result)
+          (c.provide-stole.new.self, c.provide-stole.result) (c.work-worked.new.self, c.work-worked.result) c.fill_front.new.self (c.publish-published.new.self, c.publish-published.result) c.note_turn.new.past
+          c.in_ok-arrived.ensures.arrived c.take-took.ensures.taken.1 c.provide-stole.ensures.provided.3 c.work-worked.ensures.worked c.fill_front.ensures.fronted.1 c.publish-published.ensures.shown (noting c)
+          ∙ ap (turned c.args.now c.args.request (answers_of c)) c.self.view_is,
+    )
+
+pub returns-clause-place : goal.returns-clause-place
+returns-clause-place c = let t = returns-clause-turned c in ap (λ (k : KernelView). place_of k.thread) t.2 ∙ keeps-place c.args.now c.args.request t.0 c.args.self.now
+
+pub returns-clause-ends : goal.returns-clause-ends
+returns-clause-ends c =
+    let t = returns-clause-turned c in (
+      ap (λ (k : KernelView). k.thread.publisher.page) t.2 ∙ keeps-page c.args.now c.args.request t.0 c.args.self.now,
+      ap (λ (k : KernelView). k.thread.taker.ring) t.2 ∙ keeps-ring c.args.now c.args.request t.0 c.args.self.now,
+    )
+
+pub returns-clause-number : goal.returns-clause-number
+returns-clause-number c = let t = returns-clause-turned c in ap (λ (k : KernelView). k.number) t.2
+
+pub returns-clause-added : goal.returns-clause-added
+returns-clause-added c =
+    let t = returns-clause-turned c in
+    let page = subst (λ (k : KernelView). records_of k.journal ≡ k.thread.publisher.published) c.self.view_is c.self.invariant.records in
+    subst (λ (k : KernelView). IsOneTurn c.args.now c.args.request c.args.self.now.journal k.journal) (sym t.2) (one-turn c.args.now c.args.request t.0 c.args.self.now page)
+
+pub returns-clause-journal : goal.returns-clause-journal
+returns-clause-journal c = (agreeing c).is_journal
+
+pub returns-clause-page : goal.returns-clause-page
+returns-clause-page c = (agreeing c).records
+
+pub returns-clause-ring : goal.returns-clause-ring
+returns-clause-ring c = (agreeing c).commands
+
+pub returns-clause-stamped : goal.returns-clause-stamped
+returns-clause-stamped c = ap (λ (z : ThreadView × Entry). (last_published z.0.publisher.published).stamp) c.publish-published.ensures.shown
+    ∙ ap (λ (r : Record). r.stamp) (last_snoc zero_record c.fill_front.new.self.publisher.published (shown c.args.now c.fill_front.new.self))
+
+pub returns-clause-handed : goal.returns-clause-handed
+returns-clause-handed c =
+    noting c ∙ noted-all c.self.inside.past c.in_ok-arrived.arrived c.take-took.result c.provide-stole.result c.work-worked.result c.publish-published.result
+    ∙ ap (λ (k : KernelView). k.journal ++ entries_of (entries c)) c.self.view_is
