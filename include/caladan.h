@@ -87,7 +87,7 @@ enum {
     CALADAN_WRONG_COUNT = 13, /* not one look for each thread */
     CALADAN_NO_ROOM = 14,     /* too little room for what the call is to write */
     CALADAN_UNFIT = 15,       /* a look does not fit what its thread showed before, or has not the right shape */
-    CALADAN_NO_SUCH = 16,     /* the table has no such core or task */
+    CALADAN_NO_SUCH = 16,     /* the table has no such core, task or thread */
     CALADAN_NO_ACTION = 17,   /* an action that is none: its kind, its cause, or a field that is not 0 */
     CALADAN_NOT_PERMITTED = 18, /* an action is not permitted at its place */
     CALADAN_NO_JUDGEMENT = 19, /* a number that is no judgement of its look */
