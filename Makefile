@@ -4,7 +4,7 @@
 # make files           docs/FILES.md, a list of every file with what it is for
 # make install PREFIX=/usr/local      programs, C library, headers, pkg-config, manual pages and completions
 # make install_library PREFIX=..      the C library, its headers and the files for pkg-config and CMake alone
-# make dist            a release in out/release: Debian packages, a prefix, the sources, and PROOF of what the gate keeps
+# make dist            a release in out/release: packages, a prefix, the sources, and PROOF of what the gate keeps
 # What is proved is kept in crates/*/out, so make goes on where it was ended.
 PREFIX ?= /usr/local
 share = $(PREFIX)/share

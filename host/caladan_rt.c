@@ -206,8 +206,8 @@ void caladan_rt_release(void) { release(self); }
 /* ---- requests ---- */
 
 bool caladan_rt_submit(caladan_rt *rt, unsigned thread, caladan_request request) {
-    kernel_thread *k = &rt->thread[thread], *caller = self;
     if (thread >= rt->threads) return false;
+    kernel_thread *k = &rt->thread[thread], *caller = self;
     hold(caller);
     lock(k);
     bool fits = k->count < QUEUE;

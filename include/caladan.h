@@ -18,10 +18,10 @@
  *    that divides their size. No call comes from a signal handler, nor from the forked child of a
  *    process with threads.
  *
- * Whoever serves processes that he does not trust makes his passes by caladan_pass_each: whatever one
- * of them shows, the others are served. What lies in a process's own memory (its page, its ring) is what
- * that process says, and no more: how many commands were sent, and so how much room a ring has, the host
- * knows himself (caladan_thread).
+ * To serve processes that you do not trust, make passes by caladan_pass_each: whatever one of them shows,
+ * the others are served. What lies in a process's own memory (its page, its ring) is what that process
+ * says, and no more: how many commands were sent, and so how much room a ring has, you know yourself
+ * (caladan_thread).
  *
  * Within a version nothing here changes that a compiled program sees: no call, layout or number. What may
  * change are the words of the texts and how fast a call answers. A higher version may have more calls,
@@ -69,7 +69,7 @@ extern "C" {
 #define CALADAN_MOST_THREADS 128
 #define CALADAN_MOST_ACTIONS 338
 
-/* What a call answers. Up to CALADAN_TOO_MANY_THREADS it is the first fault of a table; 12 is no answer.
+/* What a call answers. Up to CALADAN_TOO_MANY_THREADS it is the first fault of a table; 12 is unused.
  * A pass answers none but those that are named at it [own]. */
 enum {
     CALADAN_DONE = 0,
@@ -87,7 +87,7 @@ enum {
     CALADAN_WRONG_COUNT = 13, /* not one look for each thread */
     CALADAN_NO_ROOM = 14,     /* too little room for what the call is to write */
     CALADAN_UNFIT = 15,       /* a look does not fit what its thread showed before, or has not the right shape */
-    CALADAN_NO_SUCH = 16,     /* the table has no such core or task */
+    CALADAN_NO_SUCH = 16,     /* the table has no such core, task or thread */
     CALADAN_NO_ACTION = 17,   /* an action that is none: its kind, its cause, or a field that is not 0 */
     CALADAN_NOT_PERMITTED = 18, /* an action is not permitted at its place */
     CALADAN_NO_JUDGEMENT = 19, /* a number that is no judgement of its look */
@@ -333,10 +333,11 @@ uint8_t caladan_thread(caladan *handle, size_t thread, caladan_thread_state *sta
  * It fits, it is kept [told; law gone_is_kept], and that pass frees each core that the thread holds or
  * leaves [told; law gone_frees_its_cores]. Give its thread a look without room in each later pass too, until
  * its page has a successor: no pass sends a thread without room anything, so none grants it a core
- * [law commands_go_where_is_room]; with room it may have a core again at once. LOST: no page can show it, because the thread has shown more
- * commands taken than were sent (only caladan_pass lets it), or a number is at its end [lost]. Of a thread
- * of the table DONE or LOST [there], else NO_SUCH [no_thread]; IS_CLOSED [closed]. Unless DONE *look is as
- * before [refused]. Nothing changes [same]; it is good for the next pass only. */
+ * [law commands_go_where_is_room]; with room it may have a core again at once. LOST: no page can show it,
+ * because the thread has shown more commands taken than were sent (only caladan_pass lets it), or a number
+ * is at its end [lost]. Of a thread of the table DONE or LOST [there], else NO_SUCH [no_thread]; IS_CLOSED
+ * [closed]. Unless DONE *look is as before [refused]. Nothing changes [same]; it is good for the next pass
+ * only. */
 uint8_t caladan_gone(caladan *handle, size_t thread, caladan_look *look);
 
 /* A core's number as a byte: one that does not fit is 255, which no table has. The calls below take any number for
@@ -404,9 +405,9 @@ uint8_t caladan_audit_open(const uint8_t *table, size_t length, caladan_audit *a
  * caladan_pass takes and answers them. DONE where it was taken, legal or not [taken]; else IS_CLOSED
  * [closed], WRONG_COUNT (not one judgement for each look) [wrong_count], NO_ACTION [no_action],
  * NO_JUDGEMENT (BUSY is the judgement of a busy look, KEPT, AHEAD or FOREIGN of another) [no_judgement] or
- * NO_MEMORY [answers], and then nothing has changed [refused]. It may be given more or fewer looks than the
- * table has threads: such a pass is taken [answers], and is not legal [legal]. A
- * pass of caladan_pass_each is recorded by the looks that it took (caladan_taken). */
+ * NO_MEMORY [answers], no other number [own], and then nothing has changed [refused]. It may be given more
+ * or fewer looks than the table has threads: such a pass is taken [answers], and is not legal ([legal] of
+ * caladan_audit_verdict). A pass of caladan_pass_each is recorded by the looks that it took (caladan_taken). */
 uint8_t caladan_audit_pass(caladan_audit *audit, uint64_t now, uint64_t bandwidth, const caladan_look *looks, size_t count,
                            const uint8_t *judged, size_t judged_count, const caladan_action *actions, size_t made);
 
@@ -419,15 +420,14 @@ uint8_t caladan_audit_verdict(caladan_audit *audit, uint64_t *pass);
  * [after]. */
 uint8_t caladan_audit_close(caladan_audit *audit);
 
-/* A guard, for who chooses the actions by a policy of his own. It is handed one pass after the other,
+/* A guard, for a policy of your own that chooses the actions. It is handed one pass after the other,
  * with the actions that were chosen, and lets a pass through where each of them is permitted at its
  * place: then every history of passes that went through keeps the laws that docs/PROMISES.md lists
  * under cal_guard, whoever chose. (No core has two threads, no task more cores than its limit, no
  * revocation goes below a guarantee, no banned core is granted or stays held, and more.) A pass without
  * actions is always let through [law doing_nothing_is_permitted], so a policy may always do nothing. A Ban
- * of a core that is held is
- * followed at once by the revocation of that core, and a Cap below what the task holds by those that
- * bring it down to it. */
+ * of a core that is held is followed at once by the revocation of that core, and a Cap below what the task
+ * holds by those that bring it down to it. */
 typedef struct caladan_guard {
     bool open;
     void *at;
@@ -483,8 +483,8 @@ uint8_t caladan_guard_open(const uint8_t *table, size_t length, caladan_guard *g
  * WRONG_COUNT exactly where there is not one look for each thread [wrong_count], else NO_ROOM exactly where
  * there is too little room for judgements [no_room], else UNFIT (as caladan_pass answers it) [unfit],
  * NO_ACTION [no_action], or NO_MEMORY [answers], which is asked for only where more than
- * CALADAN_MOST_ACTIONS actions are handed in [not proved]; of a closed handle IS_CLOSED [closed]. Unless
- * DONE the guard is as before and nothing is judged [unchanged]: the same pass may be handed in again with
+ * CALADAN_MOST_ACTIONS actions are handed in [not proved]; of a closed handle IS_CLOSED [closed]; no other
+ * number [own]. Unless DONE the guard is as before and nothing is judged [unchanged]: the same pass may be handed in again with
  * other actions. */
 uint8_t caladan_guard_pass(caladan_guard *guard, uint64_t now, uint64_t bandwidth, const caladan_look *looks, size_t count,
                            uint8_t *judged, size_t judged_room, const caladan_action *actions, size_t made,
@@ -495,7 +495,7 @@ uint8_t caladan_guard_pass(caladan_guard *guard, uint64_t now, uint64_t bandwidt
  * [through, stopped]. Never UNFIT [answers]. DONE and NOT_PERMITTED both write what was judged of each look
  * [judged], so that whoever chooses again knows which looks count as busy; no other answer writes any
  * [unjudged]. Unless DONE the guard is as before [unchanged]. Other answers are as those of
- * caladan_guard_pass [wrong_count, no_room, no_action, told, closed]. */
+ * caladan_guard_pass [wrong_count, no_room, no_action, told, closed, own]. */
 uint8_t caladan_guard_pass_each(caladan_guard *guard, uint64_t now, uint64_t bandwidth, const caladan_look *looks, size_t count,
                                 uint8_t *judged, size_t judged_room, const caladan_action *actions, size_t made,
                                 caladan_refused *refused);
@@ -515,7 +515,7 @@ uint8_t caladan_guard_thread(caladan_guard *guard, size_t thread, caladan_thread
  * nothing itself: with this look the next pass is permitted that frees one core which the thread holds or
  * leaves (it has at most one [law threads_have_one_core]) and does nothing else
  * [told; law gone_may_be_freed]. While its looks have no room, no action that sends it a command is
- * permitted [stopped; through]. */
+ * permitted ([stopped] and [through] of caladan_guard_pass). */
 uint8_t caladan_guard_gone(caladan_guard *guard, size_t thread, caladan_look *look);
 
 /* Who has a core after the passes that went through, as caladan_holder says it [told, there, no_core,

@@ -6,7 +6,10 @@ their folder, without .git and out/:
 
     find . -type f -printf '%P\\0' | LC_ALL=C sort -z | xargs -0 sha256sum | sha256sum
 
-and with the sums of the programs that it left. `read` refuses a log that did not pass or that is another tree's."""
+and with the sums of the programs that it left. `begin` notes the tree before `rt ci`, and `keep` takes a log only if
+that is the tree still. `read` refuses a log that did not pass, that does not say of each wrong body of the tree that it
+was refused, or that is another tree's. All of that is against mistakes: whoever makes a release could write any text
+instead, and PROOF says how others check it."""
 import collections
 import hashlib
 import json
@@ -15,13 +18,15 @@ import re
 import subprocess
 
 from crates import TOP, below, crates, files_of
+from crates import kit as kit_folder
 
 KEPT = os.environ.get("CALADAN_PROOF", f"{TOP}/out/proof")
+BEGUN = f"{KEPT}/begun.json"
 BUILT = {"caladan_sim": "caladan_sim", "caladan_view": "caladan_view", "caladan_c": "libcaladan_c.a"}
 # Of a crate: how many of its functions were proved (None where `rt ci` took it from an earlier run, and says no
-# number), how many wrong bodies of it were refused, and how many of these only by a limit of the prover, which gave no
-# verdict.
-Proved = collections.namedtuple("Proved", "functions refused limited")
+# number), how many wrong bodies of it were refused, how many of these only by a limit of the prover, which gave no
+# verdict, and how many only because a proof names what the edit took away, so that no contract refused them.
+Proved = collections.namedtuple("Proved", "functions refused limited named")
 
 PROOF = """\
 What was proved of Doranjei {version}
@@ -43,7 +48,8 @@ the sum of the tree is what this prints:
     find . -type f -printf '%P\\0' | LC_ALL=C sort -z | xargs -0 sha256sum | sha256sum
 
 and with that kit `make check` in a checkout of the commit proves everything from nothing; `make dist` then makes such a
-page of what was proved there.
+page of what was proved there, with the sums of what was built there. A release is worth as much as whoever made it: a
+page of your own is the check.
 
 
 Proved, crate by crate
@@ -77,7 +83,8 @@ The proved programs and the C library, as they were built
 {built}
 
 `strip` took names of debugging out of them, and they are the programs and the archive below; libcaladan_c.so is that
-archive and its heap, linked. caladand, libcaladan_rt.a and the clients are C, Python and Rust that is not proved.
+archive and its heap, linked. The heap is the kit's: liblibc_c.a has the sum {heap} there. caladand,
+libcaladan_rt.a and the clients are C, Python and Rust that is not proved.
 
 
 All files of the release but this one, by the folder of the prefix and by package
@@ -102,14 +109,19 @@ def said(*command):
 
 
 def files():
-    """The files of the tree: those of the repository, with those that are new and not ignored."""
-    listed = said("git", "ls-files", "-z", "-co", "--exclude-standard").split("\0")
+    """The files of the tree: those of the repository, with those that are new and not ignored by its .gitignore."""
+    listed = said("git", "ls-files", "-z", "-co", "--exclude-per-directory=.gitignore").split("\0")
     return sorted({it for it in listed if it and os.path.isfile(f"{TOP}/{it}")}, key=str.encode)
 
 
-def tree_sum():
-    lines = "".join(f"{sum_of(f'{TOP}/{it}')}  {it}\n" for it in files())
+def sum_of_files(folder, names):
+    """The sum by which a tree is known, of these files below the folder."""
+    lines = "".join(f"{sum_of(f'{folder}/{it}')}  {it}\n" for it in names)
     return hashlib.sha256(lines.encode()).hexdigest()
+
+
+def tree_sum():
+    return sum_of_files(TOP, files())
 
 
 def file_of(name):
@@ -131,10 +143,12 @@ def write(kept):
 
 
 def verdict(log):
-    """The last line of a log, where everything passed."""
-    last = log.rstrip("\n").rpartition("\n")[2]
+    """The last line of a log, where everything passed; before it `rt ci` says what it did, and nothing else does."""
+    before, last = ["", *log.rstrip("\n").split("\n")][-2:]
     if not re.fullmatch(r"[1-9]\d* passed, 0 failed", last):
         raise Refused(f"`rt ci` did not pass the whole tree: its last line is '{last[:120]}'")
+    if not before.startswith("rt: ok; "):
+        raise Refused("the log is not what `rt ci` prints: its last line but one is no 'rt: ok; ..'")
     return last
 
 
@@ -163,12 +177,34 @@ def numbers(log, kit):
     return found
 
 
+def begin():
+    """Notes the tree and the kit, before `rt ci`."""
+    os.makedirs(KEPT, exist_ok=True)
+    with open(BEGUN, "w", encoding="utf-8") as it:
+        json.dump({"tree": tree_sum(), "kit": said("rt", "version")}, it)
+
+
+def begun():
+    """The tree and the kit that `rt ci` began with, where they are the same now."""
+    try:
+        with open(BEGUN, encoding="utf-8") as it:
+            noted = json.load(it)
+    except FileNotFoundError:
+        raise Refused("nothing says of which tree this log is: tools/keep_proof --begin comes before `rt ci`") from None
+    if noted["tree"] != tree_sum():
+        raise Refused("a file of the tree was changed since `rt ci` began")
+    if noted["kit"] != said("rt", "version"):
+        raise Refused("the kit is another than `rt ci` began with")
+    return noted
+
+
 def keep(log):
     """Keeps what `rt ci` printed, of the tree as it stands, and the sums of the two programs."""
     verdict(log)
-    kit = said("rt", "version")
-    kept = {"tree": tree_sum(), "kit": kit, "functions": numbers(log, kit)}
-    os.makedirs(KEPT, exist_ok=True)
+    proved_crates(log)
+    noted = begun()
+    kept = {**noted, "functions": numbers(log, noted["kit"]), "heap": sum_of(f"{kit_folder()}/c/liblibc_c.a")}
+    os.remove(BEGUN)
     with open(f"{KEPT}/rt-ci.log", "w", encoding="utf-8") as it:
         it.write(log)
     kept["log"] = sum_of(f"{KEPT}/rt-ci.log")
@@ -207,16 +243,28 @@ def numbers_in(log):
     return found
 
 
+def wrong_bodies():
+    """The wrong bodies of the tree, as a log names them."""
+    edits = (re.fullmatch(r"crates/(\w+)/must-fail/(.*\.edit)", it) for it in files())
+    return {f"{it[1]}/{it[2]}" for it in edits if it}
+
+
 def proved_crates(log):
-    """Of each crate what a log says; a log that names a crate neither proved nor kept is refused."""
+    """Of each crate what a log says; a log that names a crate neither proved nor kept is refused, and one whose wrong
+    bodies are others than the tree's, or are not all refused."""
     found = numbers_in(log)
-    refused = collections.Counter(re.findall(r"^(?:rt: )?must-fail (\w+)/[^:]*: refused, as it must be", log, re.M))
-    by_limit = r"^(?:rt: )?must-fail (\w+)/[^:]*: refused, as it must be \(only by a limit"
-    limited = collections.Counter(re.findall(by_limit, log, re.M))
+    tried = re.findall(r"^(?:rt: )?must-fail ((\w+)/[^:]*): refused, as it must be", log, re.M)
+    refused = collections.Counter(crate for _, crate in tried)
+    others = sorted(wrong_bodies() ^ {it for it, _ in tried})
+    only = r"^(?:rt: )?must-fail (\w+)/[^:]*: refused, as it must be \(only "
+    limited = collections.Counter(re.findall(rf"{only}by a limit", log, re.M))
+    named = collections.Counter(re.findall(rf"{only}because a proof", log, re.M))
     lacking = [it for it in crates() if it not in found]
     if lacking:
         raise Refused(f"the log of `rt ci` does not say of {lacking[0]} that it is proved")
-    return {it: Proved(found[it], refused[it], limited[it]) for it in crates()}
+    if others:
+        raise Refused(f"of the wrong body {others[0]} either the log or the tree does not say that it is refused")
+    return {it: Proved(found[it], refused[it], limited[it], named[it]) for it in crates()}
 
 
 def read():
@@ -224,6 +272,8 @@ def read():
     kept = facts()
     if kept["tree"] != tree_sum():
         raise Refused("what `rt ci` printed is of another tree than this: run .ci/run once more")
+    if kept["kit"] != said("rt", "version"):
+        raise Refused("what `rt ci` printed is of another kit than this: run .ci/run once more")
     if sum_of(f"{KEPT}/rt-ci.log") != kept["log"]:
         raise Refused(f"{KEPT}/rt-ci.log is not what `rt ci` printed")
     with open(f"{KEPT}/rt-ci.log", encoding="utf-8") as it:
@@ -266,6 +316,9 @@ def rows_of(proved):
     limited = sum(it.limited for it in proved.values())
     if limited:
         yield f"\n{limited} of the wrong bodies were refused only by a limit of the prover, which gave no verdict."
+    named = sum(it.named for it in proved.values())
+    if named:
+        yield f"\n{named} of the wrong bodies were refused only because a proof names what they lack, by no contract."
     if len(known) < len(proved):
         yield ("\n(kept): `rt ci` took this crate from an earlier run of it on the same machine, which had proved the\n"
                "same files over the same libraries, and printed no number. The sum is of the others.")
@@ -278,4 +331,4 @@ def text(version, commit, kept, said, proved, lines):
     told = {"version": version, "commit": commit, "tree": kept["tree"], "kit": kit, "logic": logic, "said": said}
     promises, trusted = marked("README.md", "proof: promises"), marked("docs/PROMISES.md", "proof: trusted")
     return PROOF.format(**told, rows="\n".join(rows_of(proved)), promises=promises, trusted=trusted, built=built,
-                        files="\n".join(lines))
+                        heap=kept["heap"], files="\n".join(lines))

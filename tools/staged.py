@@ -187,9 +187,18 @@ def host(at, made):
         put(at, share(at, "doc/caladand/examples"), f"{TOP}/{file}")
 
 
+def notices(crate):
+    """What the sources of a crate of the kit say of licences, in the comments at their heads."""
+    for file in sorted(glob.glob(f"{kit()}/rattle/{crate}/src/**/*.rt", recursive=True)):
+        head = re.match(r"(?://.*\n)+", text_of(file))
+        if head and re.search(r"licen[cs]e", head[0], re.I):
+            yield f"{crate}/src/{file.partition('/src/')[2]}", re.sub(r"^// ?", "", head[0], flags=re.M).rstrip("\n")
+
+
 @functools.cache
 def kit_licences(*names):
-    """The licences that the kit gives for those of its crates that are built into these crates."""
+    """The licences that the kit gives for those of its crates that are built into these crates: its files of that name,
+    and what the sources themselves say."""
     uses, at, wanted = crates(), kit(), ["std"]
     for name in names:
         for it in [*below(name, uses, []), name]:
@@ -203,6 +212,11 @@ def kit_licences(*names):
         without += [] if files else [it]
         for file in files:
             texts[text_of(file).rstrip("\n")].append(f"{it}/{os.path.basename(file)}")
+        for name, text in notices(it):
+            texts[text].append(name)
+    if any("Unicode License" in it for it in texts):
+        texts[text_of(f"{at}/rattle/unicode/LICENSE-UNICODE").rstrip("\n")].append("unicode/LICENSE-UNICODE")
     parts = [f"{', '.join(files)}\n\n{text}\n" for text, files in texts.items()]
-    head = f"Licences that the Rattle kit gives for its crates. It gives none of their own for: {', '.join(without)}.\n"
+    head = f"Licences that the Rattle kit gives for its crates. It has no file of a licence for: {', '.join(without)}.\n"
+    head += "Where a source of these names a licence, what it says is below. liblibc_c.a is in none of these crates.\n"
     return "\n----\n\n".join([head, *parts])
