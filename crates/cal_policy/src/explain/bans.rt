@@ -41,7 +41,8 @@ impl Pass<'_> {
     fn no_long_request(&self, core: u8) -> BanReason
         requires at_hand { IsOfTable self.now.config.now self.now.board.now }
         requires core { core < self.now.config.now.cores }
-        ensures reason { (h : Begun) (acts : List Action) → Stands self.now.board.now (setting_in self.now h) acts →
+        ensures reason { (h : Begun) (acts : List Action) →
+            Stands self.now.board.now (setting_in self.now h) acts →
             let s = setting_in self.now h in
             too_long_on s core (holder_of (so_far s acts) core) ≡ None →
             IsBanReason s (so_far s acts) core result }
@@ -64,7 +65,8 @@ impl Pass<'_> {
     fn ban_of_sibling(&self, core: u8, thread: u8) -> BanReason
         requires at_hand { IsOfTable self.now.config.now self.now.board.now }
         requires core { core < self.now.config.now.cores }
-        ensures reason { (h : Begun) (acts : List Action) → Stands self.now.board.now (setting_in self.now h) acts →
+        ensures reason { (h : Begun) (acts : List Action) →
+            Stands self.now.board.now (setting_in self.now h) acts →
             let s = setting_in self.now h in
             too_long_on s core (holder_of (so_far s acts) core) ≡ Some thread →
             IsBanReason s (so_far s acts) core result }
@@ -87,7 +89,8 @@ impl Pass<'_> {
     fn reason_of_ban(&self, core: u8) -> BanReason
         requires at_hand { IsOfTable self.now.config.now self.now.board.now }
         requires core { core < self.now.config.now.cores }
-        ensures reason { (h : Begun) (acts : List Action) → Stands self.now.board.now (setting_in self.now h) acts →
+        ensures reason { (h : Begun) (acts : List Action) →
+            Stands self.now.board.now (setting_in self.now h) acts →
             let s = setting_in self.now h in IsBanReason s (so_far s acts) core result }
         ensures thread { IfSome (due_by result) (λ k.
             k < threads_of_table self.now.config.now) }

@@ -37,7 +37,8 @@ impl Pass<'_> {
     fn core_state(&self, core: u8) -> CoreState
         requires at_hand { IsOfTable self.now.config.now self.now.board.now }
         requires core { core < self.now.config.now.cores }
-        ensures state { (h : Begun) (acts : List Action) → Stands self.now.board.now (setting_in self.now h) acts →
+        ensures state { (h : Begun) (acts : List Action) →
+            Stands self.now.board.now (setting_in self.now h) acts →
             IsCoreState (setting_in self.now h) acts core result }
         ensures thread { IfSome (placement_of result.holder) (λ placement.
             placement.thread < threads_of_table self.now.config.now) }
@@ -57,7 +58,8 @@ impl Pass<'_> {
         requires at_hand { IsOfTable self.now.config.now self.now.board.now }
         requires task { task < length self.now.config.now.tasks }
         requires core { core < self.now.config.now.cores }
-        ensures { (h : Begun) (acts : List Action) → Stands self.now.board.now (setting_in self.now h) acts →
+        ensures { (h : Begun) (acts : List Action) →
+            Stands self.now.board.now (setting_in self.now h) acts →
             result ≡ grants.class_of (setting_in self.now h) acts task core }
     {
         let holder = self.board.holding.holders[core as usize];

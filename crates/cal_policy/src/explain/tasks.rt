@@ -59,7 +59,8 @@ impl Pass<'_> {
     fn awaits(&self, task: usize) -> bool
         requires at_hand { IsOfTable self.now.config.now self.now.board.now }
         requires task { task < length self.now.config.now.tasks }
-        ensures { (h : Begun) (acts : List Action) → Stands self.now.board.now (setting_in self.now h) acts →
+        ensures { (h : Begun) (acts : List Action) →
+            Stands self.now.board.now (setting_in self.now h) acts →
             let s = setting_in self.now h in
             result ≡ not (grants.none_leaves_for s (so_far s acts) task) }
     {
@@ -72,7 +73,8 @@ impl Pass<'_> {
     fn has_core(&self, thread: usize) -> bool
         requires at_hand { IsOfTable self.now.config.now self.now.board.now }
         requires thread { thread < threads_of_table self.now.config.now }
-        ensures { (h : Begun) (acts : List Action) → Stands self.now.board.now (setting_in self.now h) acts →
+        ensures { (h : Begun) (acts : List Action) →
+            Stands self.now.board.now (setting_in self.now h) acts →
             let s = setting_in self.now h in
             result ≡ not (cores_of_thread s.table (so_far s acts) thread == 0) }
     {
@@ -85,7 +87,8 @@ impl Pass<'_> {
     fn task_state(&self, task: usize) -> TaskState
         requires at_hand { IsOfTable self.now.config.now self.now.board.now }
         requires task { task < length self.now.config.now.tasks }
-        ensures { (h : Begun) (acts : List Action) → Stands self.now.board.now (setting_in self.now h) acts →
+        ensures { (h : Begun) (acts : List Action) →
+            Stands self.now.board.now (setting_in self.now h) acts →
             let s = setting_in self.now h in IsTaskState s (so_far s acts) task result }
     {
         self.config.limits();
@@ -104,7 +107,8 @@ impl Pass<'_> {
     fn thread_state(&self, thread: usize) -> ThreadState
         requires at_hand { IsOfTable self.now.config.now self.now.board.now }
         requires thread { thread < threads_of_table self.now.config.now }
-        ensures { (h : Begun) (acts : List Action) → Stands self.now.board.now (setting_in self.now h) acts →
+        ensures { (h : Begun) (acts : List Action) →
+            Stands self.now.board.now (setting_in self.now h) acts →
             let s = setting_in self.now h in IsThreadState s (so_far s acts) thread result }
     {
         self.config.limits();
@@ -121,7 +125,8 @@ impl Pass<'_> {
     fn core_to_lose(&self, task: usize) -> Option<u8>
         requires at_hand { IsOfTable self.now.config.now self.now.board.now }
         requires task { task < length self.now.config.now.tasks }
-        ensures { (h : Begun) (acts : List Action) → Stands self.now.board.now (setting_in self.now h) acts →
+        ensures { (h : Begun) (acts : List Action) →
+            Stands self.now.board.now (setting_in self.now h) acts →
             let s = setting_in self.now h in
             result ≡ bandwidth.core_to_lose s (so_far s acts) task }
     {
@@ -133,7 +138,8 @@ impl Pass<'_> {
     /// The task that a figure above the limit costs a core, and its misses.
     fn victim_choice(&self) -> Option<Candidate<u128>>
         requires at_hand { IsOfTable self.now.config.now self.now.board.now }
-        ensures victim { (h : Begun) (acts : List Action) → Stands self.now.board.now (setting_in self.now h) acts →
+        ensures victim { (h : Begun) (acts : List Action) →
+            Stands self.now.board.now (setting_in self.now h) acts →
             let s = setting_in self.now h in result ≡ bandwidth.victim_of s (so_far s acts) }
         ensures task { IfSome result (λ best. best.number < length self.now.config.now.tasks) }
     {

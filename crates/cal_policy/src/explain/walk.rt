@@ -97,7 +97,8 @@ impl Pass<'_> {
     fn critical_due(&self, task: usize) -> Option<Action>
         requires at_hand { IsOfTable self.now.config.now self.now.board.now }
         requires task { task < length self.now.config.now.tasks }
-        ensures due { (h : Begun) (acts : List Action) → Stands self.now.board.now (setting_in self.now h) acts →
+        ensures due { (h : Begun) (acts : List Action) →
+            Stands self.now.board.now (setting_in self.now h) acts →
             option_to_list result
             ≡ grant_of_kind_at kinds.LatencyCritical (setting_in self.now h) acts task }
         ensures names { IfSome result (NamesTable self.now.config.now) }
@@ -113,7 +114,8 @@ impl Pass<'_> {
     fn best_effort_due(&self, task: usize) -> Option<Action>
         requires at_hand { IsOfTable self.now.config.now self.now.board.now }
         requires task { task < length self.now.config.now.tasks }
-        ensures due { (h : Begun) (acts : List Action) → Stands self.now.board.now (setting_in self.now h) acts →
+        ensures due { (h : Begun) (acts : List Action) →
+            Stands self.now.board.now (setting_in self.now h) acts →
             option_to_list result
             ≡ grant_of_kind_at kinds.BestEffort (setting_in self.now h) acts task }
         ensures names { IfSome result (NamesTable self.now.config.now) }
@@ -129,7 +131,8 @@ impl Pass<'_> {
     fn due_in(&self, turn: Turn) -> Coupled
         requires at_hand { IsOfTable self.now.config.now self.now.board.now }
         requires turn { IsTurn self.now.config.now turn }
-        ensures due { (h : Begun) (acts : List Action) → Stands self.now.board.now (setting_in self.now h) acts →
+        ensures due { (h : Begun) (acts : List Action) →
+            Stands self.now.board.now (setting_in self.now h) acts →
             both_of result ≡ made_in (setting_in self.now h) acts turn }
         ensures names { BothName self.now.config.now result }
     {
@@ -215,7 +218,8 @@ impl<'a> PassWalk<'a> {
         requires walk { IsWalk self.now }
         ensures at_hand { IsOfTable result.config.now result.board.now }
         ensures config { result.config.now ≡ self.now.config.now }
-        ensures stands { (h : Begun) → Walks self.now h → Stands result.board.now (setting_in result h) self.now.made.items }
+        ensures stands { (h : Begun) → Walks self.now h →
+            Stands result.board.now (setting_in result h) self.now.made.items }
         ensures setting { (h : Begun) → setting_in result h ≡ setting_of self.now h }
     {
         Pass {
