@@ -9,6 +9,7 @@ ghost use Rattle.cal_policy.specs.declared.history.action.Action.{Action};
 ghost use Rattle.cal_policy.specs.Board.Counts as counts;
 ghost use Rattle.cal_policy.specs.Board.Counts.{is_held_for};
 ghost use Rattle.cal_policy.specs.Board.Losing.{secure_of};
+ghost use Rattle.cal_policy.specs.Pass.ToBan.{NoneOver};
 ghost use Rattle.cal_policy.specs.Board.{Agrees, IsReady, holder_in, placement_of};
 
 use crate::board::Board;
@@ -60,29 +61,17 @@ pub fn is_over(config: &Config, board: &Board, task: usize) -> bool
     config.task(task).guaranteed < held_by(config, board, task)
 }
 
-/// How many of its cores a task cannot lose to another: a latency-critical one as many as it is
-/// guaranteed, a best-effort one none.
-fn secure(config: &Config, task: usize) -> u8
-    requires task { task < length config.now.tasks }
-    ensures { result ≡ secure_of config.now task }
-{
-    if config.is_latency_critical(task) {
-        config.task(task).guaranteed
-    } else {
-        0
-    }
-}
-
-/// Whether some task holds a core that it may lose to another.
-pub fn some_may_lose(config: &Config, board: &Board) -> bool
+/// Whether some task holds more cores than it is guaranteed. Only such a one may lose a core to
+/// another: a best-effort task is guaranteed none.
+pub fn some_is_over(config: &Config, board: &Board) -> bool
     requires table { IsTable config.now }
     requires ready { IsReady config.now board.now }
-    ensures { result ≡ false → (x : List Action) → Agrees board.now x → (t : ℕ) →
-        t < length config.now.tasks →
-        counts.held_by config.now x t ≤ secure_of config.now t }
+    ensures none { result ≡ false → NoneOver config.now board.now }
+    ensures secure { result ≡ false → (x : List Action) → Agrees board.now x → (t : ℕ) →
+        t < length config.now.tasks → counts.held_by config.now x t ≤ secure_of config.now t }
 {
     for task in 0..config.tasks() {
-        if secure(config, task) < held_by(config, board, task) {
+        if config.task(task).guaranteed < held_by(config, board, task) {
             return true;
         }
     }

@@ -23,7 +23,7 @@ ghost use Rattle.cal_policy.specs.Pass.ToBan.{NoneOver, cores_to_ban};
 
 use crate::board::Board;
 use crate::board::core_sets::next_core;
-use crate::board::counts::is_over;
+use crate::board::counts::{is_over, some_is_over};
 use crate::board::holders::Holder;
 use crate::history::action::{Action, Cause};
 use crate::history::action_list::Actions;
@@ -184,20 +184,6 @@ impl Pass<'_> {
             None => self.ban_beside(2 * pair + 1),
         }
     }
-}
-
-/// Whether some task holds more cores than it is guaranteed.
-fn some_is_over(config: &Config, board: &Board) -> bool
-    requires table { IsTable config.now }
-    requires ready { IsReady config.now board.now }
-    ensures { result ≡ false → NoneOver config.now board.now }
-{
-    for task in 0..config.tasks() {
-        if is_over(config, board, task) {
-            return true;
-        }
-    }
-    false
 }
 
 /// Whether some task may be over after what a pair gave: one may have been before, or one is. Where

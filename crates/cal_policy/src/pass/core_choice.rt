@@ -19,7 +19,7 @@ ghost use Rattle.cal_policy.specs.Pass.Among.{class_among};
 ghost use Rattle.cal_policy.specs.Pass.AtHand.{setting_in};
 
 use crate::board::core_sets::next_core;
-use crate::board::counts::{holds_for, some_may_lose};
+use crate::board::counts::{holds_for, some_is_over};
 use crate::board::holders::{Holder, Placement};
 use crate::board::survey::survey_of;
 use crate::history::core_class::CoreClass;
@@ -247,7 +247,7 @@ impl Pass<'_> {
     {
         match next_core(self.config, &self.board.open_cores.idle, 0) {
             Some(_) => true,
-            None => some_may_lose(self.config, self.board),
+            None => some_is_over(self.config, self.board),
         }
     }
 

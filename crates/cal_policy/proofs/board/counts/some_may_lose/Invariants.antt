@@ -1,9 +1,0 @@
-use Rattle.std.proofs.Common.{◌<◌, ◌≤◌, ℕ, List}
-use Rattle.cal_policy.specs.declared.history.action.Action.{Action}
-use Rattle.cal_policy.specs.Board.Counts.{held_by}
-use Rattle.cal_policy.specs.Board.{Agrees}
-use Rattle.cal_policy.specs.Board.Losing.{secure_of}
-use Rattle.cal_policy.proofs.board.counts.some_may_lose.Given as goal
-
-abbrev pub invariant-loop-task : goal.invariant-loop-task
-invariant-loop-task l = (x : List Action) → Agrees l.board x → (t : ℕ) → t < l.task → held_by l.config x t ≤ secure_of l.config t

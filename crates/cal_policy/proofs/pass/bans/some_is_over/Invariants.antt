@@ -1,8 +1,0 @@
-use Rattle.std.proofs.Common.{◌≡◌, ◌<◌, ℕ, List, false}
-use Rattle.cal_policy.specs.declared.history.action.Action.{Action}
-use Rattle.cal_policy.specs.Board.Counts.{is_over}
-use Rattle.cal_policy.specs.Board.{Agrees}
-use Rattle.cal_policy.proofs.pass.bans.some_is_over.Given as goal
-
-abbrev pub invariant-loop-task : goal.invariant-loop-task
-invariant-loop-task l = (x : List Action) → Agrees l.board x → (t : ℕ) → t < l.task → is_over l.config x t ≡ false
