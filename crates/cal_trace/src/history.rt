@@ -3,4 +3,5 @@
 pub mod action_rows;
 pub mod file;
 pub mod reading;
+pub mod row_text;
 pub mod text;

@@ -1,13 +1,12 @@
 -- The lines of a history, as they are written one after another.
-use Rattle.std.proofs.Common.{◌≡◌, ◌<◌, ◌≤◌, ◌+◌, ◌∙◌, ℕ, List, [], ◌∷◌, ◌++◌, Option, Bool, false, length, map, take, get_or, codes, decimal, slice_index_or, refl, sym, ap, subst, append_assoc, zero-add}
-use Rattle.std.proofs.lemmas.List.{take_all}
+use Rattle.std.proofs.Common.{◌≡◌, ◌<◌, ◌+◌, ◌∙◌, ℕ, List, ◌++◌, Option, Bool, false, length, take, get_or, codes, slice_index_or, sym, ap, subst, zero-add}
 use Rattle.std.specs.Io.KnownBytes.{Appends}
 use Rattle.std.specs.List.{flat_map}
 use Rattle.std.proofs.KnownBytes.{Appends-trans}
 use Rattle.cal_policy.specs.declared.history.look.Seen.{Seen}
 use Rattle.cal_policy.specs.declared.history.entry.PassEntry.{PassEntry}
 use Rattle.cal_trace.specs.History.Text.{look_fields, look_rows, entry_rows, header_row, end_fields, lines_of, history_text}
-use Rattle.cal_trace.specs.Rows.Text.{after_first, line_of}
+use Rattle.cal_trace.specs.Rows.Text.{line_of}
 use Rattle.cal_trace.specs.Rows.Version.{version_word}
 use Rattle.cal_trace.specs.declared.rows.version.TheConstants.Version.{WRITTEN}
 use Rattle.cal_trace.proofs.ListLemmas.Numbered.{numbered-more, flat_map-one}
@@ -32,13 +31,3 @@ whole_history a b c d history word is p q r =
     let header = along a b _ _ (ap (λ w. codes "caladan-history," ++ (w ++ codes "\n")) is) p in
     let e = flat_map-one line_of (flat_map entry_rows history) (end_fields (length history)) in
     along a d _ _ (ap (λ t. line_of header_row ++ t) (sym e)) (Appends-trans a b d _ _ header (Appends-trans b c d _ _ q r))
-
--- words, and the end of their line
-after_words : (words : List ℕ) → flat_map (λ w. 44 ∷ decimal w) words ++ codes "\n" ≡ after_first (map decimal words)
-after_words [] = refl
-after_words (word ∷ words) = ap (λ t. 44 ∷ t) (append_assoc (decimal word) (flat_map (λ w. 44 ∷ decimal w) words) (codes "\n") ∙ ap (λ t. decimal word ++ t) (after_words words))
-
-pub words_written : (a b c : Option (List ℕ)) (words : List ℕ) (i : ℕ) → length words ≤ i → Appends a b (flat_map (λ w. 44 ∷ decimal w) (take i words)) → Appends b c (codes "\n")
-    → Appends a c (after_first (map decimal words))
-words_written a b c words i whole p q =
-    along a c _ _ (ap (λ ws. flat_map (λ w. 44 ∷ decimal w) ws ++ codes "\n") (take_all i words whole) ∙ after_words words) (Appends-trans a b c _ _ p q)

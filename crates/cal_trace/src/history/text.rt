@@ -1,6 +1,8 @@
 //! The text of a history.
 
-ghost use Rattle.std.specs.Prelude.{◌≡◌, OnOk, decimal, false, map, slice_index_or};
+ghost use Rattle.std.specs.Prelude.{◌≡◌, ◌≤◌, OnOk, decimal, false, length, map};
+ghost use Rattle.std.specs.Prelude.{slice_index_or};
+ghost use Rattle.cal_signal.specs.Records.{words_of};
 ghost use Rattle.std.specs.List.{flat_map};
 ghost use Rattle.std.specs.Io.KnownBytes.{Appends};
 ghost use Rattle.cal_trace.specs.History.Text.{record_fields, look_fields, revocation_fields};
@@ -8,6 +10,7 @@ ghost use Rattle.cal_trace.specs.History.Text.{action_fields, look_rows, entry_r
 ghost use Rattle.cal_trace.specs.History.Text.{history_text};
 ghost use Rattle.cal_trace.specs.Rows.Text.{after_first, line_of};
 
+use crate::history::row_text::RowText;
 use crate::rows::version::Version;
 use crate::write_fault::WriteFault;
 use cal_policy::{Action, Cause, PassEntry, Record, Seen};
@@ -93,6 +96,8 @@ fn write_look<W: Write>(thread: usize, room: bool, look: Seen, writer: &mut W) -
     }
 }
 
+/// Writes the row of a look that found a record: its first field, and by one call the numbers after
+/// it.
 fn write_record<W: Write>(
     word: &str,
     thread: usize,
@@ -104,20 +109,30 @@ fn write_record<W: Write>(
     ensures { OnOk result (Appends (W.contents writer.old) (W.contents writer.new)
         (line_of (record_fields word.now thread room number rec))) }
 {
-    let room = u8::from(room);
-    write!(writer, "{word},{thread},{room},{number}")?;
-    write_words(&rec.words(), writer)
+    let mut row = record_text(rec);
+    row.put(number);
+    row.put(u64::from(room));
+    row.put(thread as u64);
+    writer.write_all(word.as_bytes())?;
+    writer.write_all(row.text())
 }
 
-/// Writes words with a comma before each, and the end of their line.
-fn write_words<W: Write>(words: &[u64], writer: &mut W) -> io::Result<()>
-    ensures { OnOk result (Appends (W.contents writer.old) (W.contents writer.new)
-        (after_first (map decimal words.now))) }
+/// The words of a record, with a comma before each, and the end of their line.
+fn record_text(rec: Record) -> RowText
+    ensures text { result ≡ after_first (map decimal (words_of rec)) }
+    ensures short { length result ≤ 190 }
 {
-    for word in words {
-        write!(writer, ",{word}")?;
-    }
-    writeln!(writer)
+    let mut row = RowText::new();
+    row.put(rec.since);
+    row.put(rec.paused);
+    row.put(rec.stamp);
+    row.put(rec.misses);
+    row.put(rec.started);
+    row.put(rec.oldest);
+    row.put(rec.queued);
+    row.put(rec.running);
+    row.put(rec.taken);
+    row
 }
 
 fn write_actions<W: Write>(actions: &[Action], writer: &mut W) -> io::Result<()>
