@@ -83,8 +83,8 @@ The proved programs and the C library, as they were built
 {built}
 
 `strip` took names of debugging out of them, and they are the programs and the archive below; libcaladan_c.so is that
-archive and its heap, linked. The heap is the kit's: liblibc_c.a has the sum {heap} there. caladand,
-libcaladan_rt.a and the clients are C, Python and Rust that is not proved.
+archive and its heap, linked. The heap, liblibc_c.a, is the kit's. caladand, libcaladan_rt.a and the clients are C,
+Python and Rust that is not proved.
 
 
 All files of the release but this one, by the folder of the prefix and by package
@@ -328,7 +328,8 @@ def text(version, commit, kept, said, proved, lines):
     """PROOF: what was proved of a release, and the sums by which its files are known."""
     kit, _, logic = kept["kit"].partition(" logic ")
     built = "\n".join(f"{kept['sums'][name]}  {file}" for name, file in BUILT.items())
+    built += f"\n{kept['heap']}  liblibc_c.a"
     told = {"version": version, "commit": commit, "tree": kept["tree"], "kit": kit, "logic": logic, "said": said}
     promises, trusted = marked("README.md", "proof: promises"), marked("docs/PROMISES.md", "proof: trusted")
     return PROOF.format(**told, rows="\n".join(rows_of(proved)), promises=promises, trusted=trusted, built=built,
-                        heap=kept["heap"], files="\n".join(lines))
+                        files="\n".join(lines))
