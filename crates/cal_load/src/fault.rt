@@ -1,0 +1,117 @@
+//! Why no arrivals were made.
+
+use std::alloc::{AllocError, AllocFailed};
+use std::fmt;
+
+/// What is wrong with a word.
+#[derive(Clone, Copy, Debug, PartialEq, Eq)]
+pub enum Why {
+    /// It is no load: a number above 0 and at most 10, with up to three digits after the point.
+    NotALoad,
+    /// Several loads do not rise, or `..` does not stand between two loads and a last one.
+    NotRising,
+    /// It is no list of turns with their shares.
+    NotAService,
+    /// The shares make another sum than 100%: so many thousandths of a percent.
+    NotAHundred(u64),
+    /// It is no way in which requests come.
+    NotAPattern,
+    /// It is no task of the table, which has so many.
+    NotATask(u64),
+    /// The task was named before.
+    Twice,
+    /// It is given so often, and there are so many tasks.
+    NotOneEach(u64, u64),
+    /// There is no task for it.
+    NoTask,
+    /// Several loads, of another task than the first.
+    OfFirstTask,
+    /// More requests would come than arrivals are made of.
+    TooMany(u64),
+    /// It is no objective of the form `task.0.p99=65`.
+    NotAnObjective,
+}
+
+/// The reason in words.
+impl fmt::Display for Why {
+    fn fmt<W: fmt::Write>(&self, f: &mut fmt::Formatter<W>) -> fmt::Result {
+        match self {
+            Why::NotALoad => f.write_str(
+                "a load is a number above 0 and at most 10, with up to three digits after the point",
+            ),
+            Why::NotRising => f.write_str(
+                "several loads rise, and .. stands between two and the last",
+            ),
+            Why::NotAService => f.write_str(
+                "what a request takes is a number of turns, 1 to 1000000, or several with their \
+shares, as 90%:1,10%:20",
+            ),
+            Why::NotAHundred(sum) => {
+                let (ones, rest) = (sum / 1000, sum % 1000);
+                write!(f, "the shares make {ones}.{rest:03}%, not 100%")
+            }
+            Why::NotAPattern => f.write_str(
+                "requests come poisson, even or in bursts:N, N from 2 to 10000",
+            ),
+            Why::NotATask(tasks) => write!(f, "the table has {tasks} tasks, numbered from 0"),
+            Why::Twice => f.write_str("this task has a load already"),
+            Why::NotOneEach(times, tasks) => {
+                write!(
+                    f,
+                    "given {times} times for {tasks} tasks: once, or once for each --task"
+                )
+            }
+            Why::NoTask => f.write_str("a load needs its --task"),
+            Why::OfFirstTask => f.write_str("only the first task has several loads"),
+            Why::TooMany(most) => write!(f, "more than {most} requests would come"),
+            Why::NotAnObjective => f.write_str(
+                "an objective is as task.0.p99=65: a task, p50, p90, p99, p99.9 or max, and ticks",
+            ),
+        }
+    }
+}
+
+/// A word of a command line, the flag before it, and what is wrong with it.
+#[derive(Clone, Copy, Debug, PartialEq, Eq)]
+pub struct WordFault<'a> {
+    /// The flag, as `--load`.
+    pub flag: &'a str,
+    /// The word as it was given.
+    pub word: &'a str,
+    /// What is wrong.
+    pub why: Why,
+}
+
+/// The word with its flag, and the reason.
+impl<'a> fmt::Display for WordFault<'a> {
+    fn fmt<W: fmt::Write>(&self, f: &mut fmt::Formatter<W>) -> fmt::Result {
+        let WordFault { flag, word, why } = *self;
+        write!(f, "{flag} {word}: {why}")
+    }
+}
+
+/// Why no arrivals were made: a word's fault, or memory was refused.
+#[derive(Clone, Copy, Debug, PartialEq, Eq)]
+pub enum LoadFault<'a> {
+    /// A word is refused.
+    Word(WordFault<'a>),
+    /// Memory was refused.
+    Memory,
+}
+
+impl<'a> From<AllocError> for LoadFault<'a> {
+    fn from(_e: AllocError) -> LoadFault<'a> {
+        LoadFault::Memory
+    }
+}
+
+impl<'a, T: Drop> From<AllocFailed<T>> for LoadFault<'a> {
+    fn from(_e: AllocFailed<T>) -> LoadFault<'a> {
+        LoadFault::Memory
+    }
+}
+
+/// The fault of a word.
+pub(crate) fn refused<'a>(flag: &'a str, word: &'a str, why: Why) -> LoadFault<'a> {
+    LoadFault::Word(WordFault { flag, word, why })
+}

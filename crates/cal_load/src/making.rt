@@ -1,0 +1,230 @@
+//! The requests that come to the threads of a task.
+
+use crate::decimal::number_of;
+use crate::fault::{LoadFault, Why, refused};
+use crate::service::{ServicePart, next_turns, turns_by_share};
+use crate::variate::{ONE, exponential};
+use crate::writing::MOST_REQUESTS;
+use rand::RngExt;
+use rand_core::Rng;
+use std::alloc::{AllocError, Global};
+
+/// How requests come.
+#[derive(Clone, Copy, Debug, PartialEq, Eq)]
+pub enum Pattern {
+    /// By chance, each as likely at any time as at any other.
+    Poisson,
+    /// As far apart as can be.
+    Even,
+    /// By chance, so many at once.
+    Bursts(u64),
+}
+
+/// The way that a word names: `poisson`, `even` or `bursts:N`.
+pub fn pattern_of<'a>(word: &'a str) -> Result<Pattern, LoadFault<'a>> {
+    let pattern = match word.split_once(':') {
+        None => match word {
+            "poisson" => Some(Pattern::Poisson),
+            "even" => Some(Pattern::Even),
+            _ => None,
+        },
+        Some((name, number)) => match number_of(number) {
+            Some(number) if name == "bursts" && number >= 2 && number <= 10_000 => {
+                Some(Pattern::Bursts(number))
+            }
+            _ => None,
+        },
+    };
+    match pattern {
+        Some(pattern) => Ok(pattern),
+        None => Err(refused("--pattern", word, Why::NotAPattern)),
+    }
+}
+
+/// What comes to a task.
+#[derive(Drop)]
+pub struct TaskLoad {
+    /// The number of the task.
+    pub task: usize,
+    /// The work that is asked for, in thousandths of what the task's threads can do: of the turns
+    /// times the task's limit.
+    pub load: u64,
+    /// What requests take.
+    pub service: Vec<ServicePart>,
+    /// How they come.
+    pub pattern: Pattern,
+}
+
+/// How long a run is.
+#[derive(Clone, Copy, Debug, PartialEq, Eq)]
+pub struct Timing {
+    /// How many turns each thread makes, and as many passes.
+    pub turns: u64,
+    /// How many ticks a turn takes.
+    pub ticks: u64,
+}
+
+/// A request that comes to a thread.
+#[derive(Clone, Copy, Debug, PartialEq, Eq)]
+pub struct Slot {
+    /// The turn before which it comes.
+    pub turn: u64,
+    /// How many turns it takes.
+    pub work: u64,
+}
+
+/// What comes to a thread, turn by turn.
+#[derive(Drop)]
+pub struct Queue {
+    /// The requests, by their turns.
+    pub slots: Vec<Slot>,
+    /// The first turn after all of them.
+    free: u64,
+}
+
+/// What comes to the threads of a task, and how it came.
+#[derive(Drop)]
+pub struct Coming {
+    /// What comes to each thread, in their order.
+    pub queues: Vec<Queue>,
+    /// How many requests came in all.
+    pub came: u64,
+    /// How many come before a later turn than they came to, which was taken.
+    pub later: u64,
+    /// How many found no turn any more, and are left out.
+    pub left_out: u64,
+    /// The turns that all that come take.
+    pub work: u64,
+}
+
+impl Coming {
+    /// Nothing, for so many threads.
+    fn new(alloc: Global, threads: usize) -> Result<Coming, AllocError> {
+        let mut queues = Vec::new(alloc);
+        for _ in 0..threads {
+            queues.push(Queue {
+                slots: Vec::new(alloc),
+                free: 0,
+            })?;
+        }
+        Ok(Coming {
+            queues,
+            came: 0,
+            later: 0,
+            left_out: 0,
+            work: 0,
+        })
+    }
+
+    /// Gives a request that came to a turn to a thread: before that turn or the first after it that
+    /// is free.
+    fn give(&mut self, thread: usize, slot: Slot, turns: u64) -> Result<(), AllocError> {
+        self.came = self.came.saturating_add(1);
+        let Some(queue) = self.queues.as_mut_slice().get_mut(thread) else {
+            return Ok(());
+        };
+        let turn = slot.turn.max(queue.free);
+        if turn >= turns {
+            self.left_out = self.left_out.saturating_add(1);
+            return Ok(());
+        }
+        queue.slots.push(Slot {
+            turn,
+            work: slot.work,
+        })?;
+        queue.free = turn.saturating_add(1);
+        if turn > slot.turn {
+            self.later = self.later.saturating_add(1);
+        }
+        self.work = self.work.saturating_add(slot.work);
+        Ok(())
+    }
+}
+
+/// The time between two arrivals of a task.
+#[derive(Clone, Copy)]
+struct Gap {
+    /// The mean is this part of a turn: so much of so much.
+    part: u64,
+    whole: u64,
+    pattern: Pattern,
+}
+
+impl Gap {
+    /// That of a load on so many threads.
+    fn of(load: &TaskLoad, threads: usize) -> Gap {
+        let part = turns_by_share(load.service.as_slice());
+        let whole = load.load.saturating_mul(threads as u64).saturating_mul(100);
+        Gap {
+            part: part.saturating_mul(load.at_once()),
+            whole,
+            pattern: load.pattern,
+        }
+    }
+
+    /// The next one, in 2^-32 of a turn.
+    fn next<R: Rng>(&self, rng: &mut R) -> u128 {
+        let time = match self.pattern {
+            Pattern::Even => ONE,
+            Pattern::Poisson | Pattern::Bursts(_) => exponential(rng),
+        };
+        let far = u128::from(time).saturating_mul(u128::from(self.part));
+        far.checked_div(u128::from(self.whole)).unwrap_or(0)
+    }
+}
+
+impl TaskLoad {
+    /// How many requests come at once.
+    fn at_once(&self) -> u64 {
+        match self.pattern {
+            Pattern::Poisson | Pattern::Even => 1,
+            Pattern::Bursts(number) => number,
+        }
+    }
+}
+
+/// Gives the requests that come at once to a turn, each to a thread by chance.
+fn give_all<R: Rng>(
+    rng: &mut R,
+    load: &TaskLoad,
+    turn: u64,
+    turns: u64,
+    coming: &mut Coming,
+) -> Result<(), AllocError> {
+    let threads = coming.queues.len();
+    if threads == 0 {
+        return Ok(());
+    }
+    for _ in 0..load.at_once() {
+        let work = next_turns(rng, load.service.as_slice());
+        let thread = rng.random_range(0..threads as u64) as usize;
+        coming.give(thread, Slot { turn, work }, turns)?;
+    }
+    Ok(())
+}
+
+/// What comes to so many threads of a task in so many turns; nothing where it is more than
+/// `MOST_REQUESTS`. The same generator gives the same. Fails only when out of memory.
+pub fn come<R: Rng>(
+    alloc: Global,
+    rng: &mut R,
+    load: &TaskLoad,
+    threads: usize,
+    turns: u64,
+) -> Result<Option<Coming>, AllocError> {
+    let mut coming = Coming::new(alloc, threads)?;
+    let gap = Gap::of(load, threads);
+    let mut time = 0u128;
+    for _ in 0..MOST_REQUESTS {
+        time = time.saturating_add(gap.next(rng));
+        let turn = (time >> 32).min(u128::from(turns)) as u64;
+        if turn >= turns {
+            return Ok(Some(coming));
+        }
+        if coming.came >= MOST_REQUESTS {
+            return Ok(None);
+        }
+        give_all(rng, load, turn, turns, &mut coming)?;
+    }
+    Ok(None)
+}

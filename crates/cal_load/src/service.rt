@@ -1,0 +1,93 @@
+//! How many turns requests take, as words say it.
+
+use crate::decimal::{number_of, thousandths_of};
+use crate::fault::{LoadFault, Why, refused};
+use rand::RngExt;
+use rand_core::Rng;
+use std::alloc::Global;
+
+/// The most turns that a request takes, which is the format's.
+const MOST_WORK: u64 = 1_000_000;
+
+/// All requests, in thousandths of a percent.
+pub const WHOLE: u64 = 100_000;
+
+const FLAG: &str = "--service";
+
+/// The share of requests that take so many turns.
+#[derive(Clone, Copy, Debug, PartialEq, Eq)]
+pub struct ServicePart {
+    /// The share, in thousandths of a percent.
+    pub share: u64,
+    /// How many turns each takes, 1 to 1,000,000.
+    pub turns: u64,
+}
+
+/// The turns that some requests take, where it is such a number.
+fn turns_of(word: &str) -> Option<u64> {
+    let turns = number_of(word)?;
+    if turns >= 1 && turns <= MOST_WORK {
+        Some(turns)
+    } else {
+        None
+    }
+}
+
+/// A part, as `90%:1`; without a share all requests.
+fn part_of(piece: &str) -> Option<ServicePart> {
+    let Some((share, turns)) = piece.split_once(':') else {
+        let turns = turns_of(piece)?;
+        return Some(ServicePart {
+            share: WHOLE,
+            turns,
+        });
+    };
+    let share = thousandths_of(share.strip_suffix('%')?)?;
+    let turns = turns_of(turns)?;
+    Some(ServicePart { share, turns })
+}
+
+/// The parts of a word, by commas, as in `90%:1,10%:20`, or one number of turns. The shares make
+/// 100%.
+pub fn service_of<'a>(alloc: Global, word: &'a str) -> Result<Vec<ServicePart>, LoadFault<'a>> {
+    let mut parts = Vec::new(alloc);
+    let mut sum = 0u64;
+    for piece in word.split(',') {
+        let Some(part) = part_of(piece) else {
+            return Err(refused(FLAG, word, Why::NotAService));
+        };
+        sum = sum.saturating_add(part.share);
+        parts.push(part)?;
+    }
+    if sum != WHOLE {
+        return Err(refused(FLAG, word, Why::NotAHundred(sum)));
+    }
+    Ok(parts)
+}
+
+/// The turns that all parts take together, each by its share: 100,000 times the mean.
+pub(crate) fn turns_by_share(service: &[ServicePart]) -> u64 {
+    let mut sum = 0u64;
+    for part in service {
+        sum = sum.saturating_add(part.share.saturating_mul(part.turns));
+    }
+    sum
+}
+
+/// The turns of the part in which a place among all requests falls.
+fn turns_at(service: &[ServicePart], place: u64) -> u64 {
+    let mut end = 0u64;
+    let mut turns = 1u64;
+    for part in service {
+        if place >= end {
+            turns = part.turns;
+        }
+        end = end.saturating_add(part.share);
+    }
+    turns
+}
+
+/// The turns that the next request takes.
+pub(crate) fn next_turns<R: Rng>(rng: &mut R, service: &[ServicePart]) -> u64 {
+    turns_at(service, rng.random_range(0..WHOLE))
+}
