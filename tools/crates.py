@@ -1,6 +1,7 @@
 """The crates of the repository, as crates.txt lists them, for the scripts that build them."""
 import hashlib
 import os
+import shutil
 import subprocess
 
 TOP = os.path.dirname(os.path.dirname(os.path.abspath(__file__)))
@@ -52,3 +53,31 @@ def kit():
     """The folder of the kit."""
     said = subprocess.run(["rt", "doc"], capture_output=True, text=True, check=True).stdout.strip()
     return os.path.dirname(os.path.realpath(said))
+
+
+class Look:
+    """A look at what a program is made from, which tools/run_program need not make again until one of these files
+    changes. It is begun before the files are read, and what came of it is written beside the program, in
+    PROGRAM.seen: `same` or `other`, where `rt` is, and what was read. That file is older than each change that the
+    look may have missed; a hundredth of a second is more than the system's clock of files goes in one step."""
+
+    def __init__(self, program):
+        self.seen = f"{program}.seen"
+        self.program = program
+        try:
+            with open(f"{self.seen}.new", "w", encoding="utf-8"):
+                self.begun = os.stat(f"{self.seen}.new").st_mtime_ns - 10_000_000
+        except OSError:
+            self.begun = None
+
+    def end(self, is_same, at, names):
+        """Notes what came of it."""
+        if self.begun is None:
+            return
+        made = [self.program, f"{self.program}.sum"]
+        files = [it for it in made if os.path.isfile(it)] + [f"{TOP}/crates.txt"]
+        files = [os.path.relpath(it, TOP) for it in files] + [f"crates/{it}" for it in names]
+        with open(f"{self.seen}.new", "w", encoding="utf-8") as it:
+            it.write("\n".join(["same" if is_same else "other", shutil.which("rt"), f"{at}/KIT-ID", *files]) + "\n")
+        os.utime(f"{self.seen}.new", ns=(self.begun, self.begun))
+        os.replace(f"{self.seen}.new", self.seen)
