@@ -192,7 +192,8 @@ def notices(crate):
     for file in sorted(glob.glob(f"{kit()}/rattle/{crate}/src/**/*.rt", recursive=True)):
         head = re.match(r"(?://.*\n)+", text_of(file))
         if head and re.search(r"licen[cs]e", head[0], re.I):
-            yield f"{crate}/src/{file.partition('/src/')[2]}", re.sub(r"^// ?", "", head[0], flags=re.M).rstrip("\n")
+            said = re.sub(r"^// ?", "", head[0], flags=re.M).rstrip("\n")
+            yield f"{crate}/src/{file.partition('/src/')[2]}", said
 
 
 @functools.cache
