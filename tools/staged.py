@@ -218,6 +218,6 @@ def kit_licences(*names):
     if any("Unicode License" in it for it in texts):
         texts[text_of(f"{at}/rattle/unicode/LICENSE-UNICODE").rstrip("\n")].append("unicode/LICENSE-UNICODE")
     parts = [f"{', '.join(files)}\n\n{text}\n" for text, files in texts.items()]
-    head = f"Licences that the Rattle kit gives for its crates. It has no file of a licence for: {', '.join(without)}.\n"
+    head = f"Licences that the Rattle kit gives for its crates. It has no licence file for: {', '.join(without)}.\n"
     head += "Where a source of these names a licence, what it says is below. liblibc_c.a is in none of these crates.\n"
     return "\n----\n\n".join([head, *parts])
