@@ -192,7 +192,8 @@ def notices(crate):
     for file in sorted(glob.glob(f"{kit()}/rattle/{crate}/src/**/*.rt", recursive=True)):
         head = re.match(r"(?://.*\n)+", text_of(file))
         if head and re.search(r"licen[cs]e", head[0], re.I):
-            yield f"{crate}/src/{file.partition('/src/')[2]}", re.sub(r"^// ?", "", head[0], flags=re.M).rstrip("\n")
+            said = re.sub(r"^// ?", "", head[0], flags=re.M).rstrip("\n")
+            yield f"{crate}/src/{file.partition('/src/')[2]}", said
 
 
 @functools.cache
@@ -217,6 +218,6 @@ def kit_licences(*names):
     if any("Unicode License" in it for it in texts):
         texts[text_of(f"{at}/rattle/unicode/LICENSE-UNICODE").rstrip("\n")].append("unicode/LICENSE-UNICODE")
     parts = [f"{', '.join(files)}\n\n{text}\n" for text, files in texts.items()]
-    head = f"Licences that the Rattle kit gives for its crates. It has no file of a licence for: {', '.join(without)}.\n"
+    head = f"Licences that the Rattle kit gives for its crates. It has no licence file for: {', '.join(without)}.\n"
     head += "Where a source of these names a licence, what it says is below. liblibc_c.a is in none of these crates.\n"
     return "\n----\n\n".join([head, *parts])
