@@ -1,5 +1,5 @@
 -- Banned cores, and what each ban stands for. (After Caladan's controller of hyperthread siblings;
--- the exact rule is own.)
+-- the exact rule is Doranjei's own.)
 use Rattle.std.specs.Prelude.{◌≡◌, ◌≢◌, ℕ, ◌+◌, ◌-◌, ◌<◌, true, false}
 use Rattle.std.specs.Prelude.{List, [], ◌∷◌, ◌++◌, Option, Some, None}
 use Rattle.cal_machine.specs.Machine.{sibling_of}

@@ -1,5 +1,5 @@
 -- Why each cap of a best-effort task is set. (After Caladan's bandwidth controller; the exact rule
--- is own.)
+-- is Doranjei's own.)
 use Rattle.std.specs.Prelude.{◌≡◌, ℕ, ◌+◌, ◌<◌, ◌≤◌, ◌⊎◌, false, List, length, Some}
 use Rattle.cal_machine.specs.TableTasks.{limit_of, is_latency_critical}
 use Rattle.cal_policy.specs.declared.history.action.Action.{Action}

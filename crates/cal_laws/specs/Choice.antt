@@ -1,5 +1,5 @@
 -- Which core and which thread a task gets. (After Caladan's core allocator; the classes and the
--- order of choice are own.)
+-- order of choice are Doranjei's own.)
 use Rattle.std.specs.Prelude.{◌≡◌, ◌≢◌, ◌↔◌, ℕ, ◌<◌, ◌≤◌, true, false, List, length, Some, ◌⊎◌}
 use Rattle.cal_machine.specs.Machine.{sibling_of}
 use Rattle.cal_machine.specs.Table.{Table}
@@ -25,8 +25,8 @@ pub record IsFreeWithRoom (s : Setting) (x : List Action) (k : ℕ) : Type 0 whe
   pub free : cores_of_thread s.table x k ≡ 0
   pub room : has_room s k ≡ true
 
--- of the threads of task t that are free with room no other has a greater delay, and of those with
--- as great a one none a lesser number
+-- of the threads of task t that are free with room no other has a greater delay, and none on a
+-- tie has a lesser number
 pub record HasGreatestDelay (s : Setting) (x : List Action) (t thread : ℕ) : Type 0 where
   pub number : ℕ
   pub own : number < limit_of s.table t

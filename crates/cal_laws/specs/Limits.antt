@@ -1,4 +1,4 @@
--- No task has more than it may, and none is pressed below its guarantee.
+-- No task has more than it may, and none is preempted below its guarantee.
 use Rattle.std.specs.Prelude.{◌≡◌, ℕ, ◌+◌, ◌<◌, ◌≤◌, ◌⊎◌, true, false}
 use Rattle.std.specs.Prelude.{List, [], ◌∷◌, ◌++◌, length, Some}
 use Rattle.cal_machine.specs.Table.{Table}

@@ -1,4 +1,4 @@
-//! No task has more than it may, and none is pressed below its guarantee.
+//! No task has more than it may, and none is preempted below its guarantee.
 //!
 //! At every point of a legal history. What cal_guard has by the same name is of permitted ones.
 

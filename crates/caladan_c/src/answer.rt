@@ -1,4 +1,4 @@
-//! What a call answers: 0, a fault of the table (1 to 9), a refusal or a finding. 12 is no answer.
+//! What a call answers: 0, a fault of the table (1 to 9), a refusal or a finding. 12 is unused.
 
 ghost use Rattle.std.specs.Prelude.{◌≡◌, ◌≢◌};
 ghost use Rattle.caladan_c.specs.declared.answer.Refusal.TheVariants.{Memory, NoAction};

@@ -1,5 +1,6 @@
 -- The fourth part of a pass: over the bandwidth limit one best-effort task loses a core, else one
--- gets back a step of its cap. (After Caladan's bandwidth controller; the exact rule is own.)
+-- gets back a step of its cap. (After Caladan's bandwidth controller; the exact rule is
+-- Doranjei's own.)
 use Rattle.std.specs.Prelude.{ℕ, ◌+◌, ◌-◌, ◌==◌, ◌&&◌, Bool, false, not, nat_lt, List}
 use Rattle.std.specs.Prelude.{[], ◌∷◌, length, Option, Some, None, if◌then◌else◌}
 use Rattle.std.specs.Option.{is_some}

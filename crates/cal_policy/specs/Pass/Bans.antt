@@ -1,5 +1,5 @@
 -- The second and third part of a pass: a core stays empty while a request on its sibling runs too
--- long. (After Caladan's controller of hyperthread siblings; the exact rule is own.)
+-- long. (After Caladan's controller of hyperthread siblings; the exact rule is Doranjei's own.)
 use Rattle.std.specs.Prelude.{◌≡◌, ℕ, ◌-◌, ◌==◌, ◌&&◌, Bool, true, false, not}
 use Rattle.std.specs.Prelude.{nat_lt, List, [], ◌∷◌, Option, Some, None, if◌then◌else◌}
 use Rattle.cal_signal.specs.declared.record.Record.{Record}

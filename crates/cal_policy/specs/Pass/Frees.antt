@@ -1,5 +1,5 @@
 -- The first part of a pass: cores whose thread has acknowledged its Run and left are free. (After
--- Caladan's yields; the test is own.)
+-- Caladan's yields; the test is Doranjei's own.)
 use Rattle.std.specs.Prelude.{ℕ, ◌==◌, ◌&&◌, Bool, false, nat_le, List, [], ◌∷◌, if◌then◌else◌}
 use Rattle.cal_signal.specs.declared.record.Record.{Record}
 use Rattle.cal_policy.specs.declared.history.action.Action.{Action}

@@ -1,6 +1,6 @@
 -- The last part of a pass: each congested task gets a core, or has one revoked for it. (After
 -- Caladan's core allocator, driven by queueing delay; the formula of the delay, the classes and the
--- order of choice are own.)
+-- order of choice are Doranjei's own.)
 use Rattle.std.specs.Prelude.{ℕ, ◌-◌, ◌==◌, ◌&&◌, ◌||◌, Bool, false, not, nat_lt, max}
 use Rattle.std.specs.Prelude.{List, [], ◌∷◌, length, Option, Some, None, if◌then◌else◌}
 use Rattle.std.specs.Option.{is_some}
@@ -61,8 +61,7 @@ abbrev pub thread_rank : Setting → List Action → ℕ → Option ℕ
 thread_rank s x k = if (cores_of_thread s.table x k == 0) && has_room s k
     then Some (thread_delay s k) else None
 
--- the thread of task t with the greatest delay, of those with as great a one the first; counted
--- from the task's first
+-- the thread of task t with the greatest delay, the first on a tie; counted from the task's first
 abbrev pub thread_choice : Setting → List Action → ℕ → Option (Candidate ℕ)
 thread_choice s x t = best_below (λ rank best. nat_lt best rank)
     (λ j. thread_rank s x (thread_of s.table t j)) (limit_of s.table t)

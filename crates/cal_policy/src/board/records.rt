@@ -107,7 +107,7 @@ impl Keeping {
         self.moved = ThreadSet::empty();
     }
 
-    /// The same, where only the threads that moved are gone over.
+    /// The same, where only the threads that moved are visited.
     fn settle(&mut self)
         requires sets { KeepsSets self.old }
         ensures kept { self.new.kept ≡ self.old.kept }

@@ -217,7 +217,7 @@ fn next_to_ban(config: &Config, board: &Board, over: bool, first: u8) -> Option<
 }
 
 /// Bans the sibling of each core on which a request runs too long, and revokes it where it is held.
-/// The cores that may give rise to a ban are gone over upwards, pair by pair, and a pair gives at
+/// The cores that may give rise to a ban are visited upwards, pair by pair, and a pair gives at
 /// most one ban: those that are taken, but while no task is over only those that are held beside
 /// one that is not, since a core that a thread holds is emptied only where its task is over.
 pub fn ban_siblings(config: &Config, terms: &Terms, board: &mut Board, out: &mut Actions)

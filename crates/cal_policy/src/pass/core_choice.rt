@@ -253,7 +253,7 @@ impl Pass<'_> {
 
     /// The core of the least class for the task, of those with that class the lowest. A free core
     /// that is not banned is of a lesser class than any that is held, so those that are taken are
-    /// gone over only where there is none, and some task may be preempted.
+    /// visited only where there is none, and some task may be preempted.
     pub fn choose_core(&self, task: usize) -> Option<Candidate<CoreClass>>
         requires at_hand { IsOfTable self.now.config.now self.now.board.now }
         requires task { task < length self.now.config.now.tasks }

@@ -45,7 +45,7 @@ impl Pass<'_> {
         record_delay(self.terms.now, &self.board.keeping.kept[thread])
     }
 
-    /// The delay of a task: the greatest of its threads'. Only those that wait are gone over.
+    /// The delay of a task: the greatest of its threads'. Only those that wait are visited.
     pub fn task_delay(&self, task: usize) -> u64
         requires at_hand { IsOfTable self.now.config.now self.now.board.now }
         requires task { task < length self.now.config.now.tasks }

@@ -140,7 +140,7 @@ fn grant_of_kind(
 }
 
 /// Gives each task of this kind, by number, what it gets. Only those with a thread that waits are
-/// gone over, and only while some core is open to one.
+/// visited, and only while some core is open to one.
 pub fn grants_of_kind(
     config: &Config,
     terms: &Terms,

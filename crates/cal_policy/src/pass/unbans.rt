@@ -66,7 +66,7 @@ impl Pass<'_> {
 }
 
 /// Ends each ban whose thread no longer shows the core beside and the request that it was for. The
-/// banned cores are gone over upwards, pair by pair, and a pair gives at most one action.
+/// banned cores are visited upwards, pair by pair, and a pair gives at most one action.
 pub fn end_bans(config: &Config, terms: &Terms, board: &mut Board, out: &mut Actions)
     requires of_table { IsOfTable config.now board.old }
     requires room { length out.old + MOST_PAIRS ≤ MOST_ACTIONS }
