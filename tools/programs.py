@@ -16,9 +16,9 @@ SECONDS = 120
 # Its exit status, what it wrote on both outputs, seconds of processor and by the clock, and bytes of memory at its
 # peak.
 Measured = collections.namedtuple("Measured", "status wrote said processor clock peak")
-# The run to copy that a word's help shows: its input, whether what it writes varies, and what it writes (None: that
-# is not shown).
-Shown = collections.namedtuple("Shown", "given varies wrote")
+# The run to copy that a word's help shows: its input, whether what it writes varies, what it writes (None: that is not
+# shown), and the words after the word.
+Shown = collections.namedtuple("Shown", "given varies wrote flags")
 
 
 def named(*names):
@@ -79,9 +79,9 @@ def words_of(program):
 
 def shown_run(text, name, word):
     """The run to copy that the help of a program's word shows; None where it shows none."""
-    shown = rf"^{name} {word}(?: > \S+)? <<'END'\n(.*?\n)END\n(?:\nIt (may write|writes):\n\n(.*))?"
+    shown = rf"^{name} {word}((?: [-\w]+)*)(?: > \S+)? <<'END'\n(.*?\n)END\n(?:\nIt (may write|writes):\n\n(.*))?"
     found = re.search(shown, text, re.S | re.M)
-    return found and Shown(found[1].encode(), found[2] == "may write", found[3] and found[3].encode())
+    return found and Shown(found[2].encode(), found[3] == "may write", found[4] and found[4].encode(), found[1].split())
 
 
 def table_of(given):

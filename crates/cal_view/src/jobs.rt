@@ -3,4 +3,5 @@
 pub mod comparing;
 pub mod counting;
 pub mod drawing;
+pub mod explaining;
 pub mod recording;

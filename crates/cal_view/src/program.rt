@@ -6,6 +6,7 @@ ghost use Rattle.std.specs.Prelude.{◌≡◌, ◌≢◌, IfErr};
 use crate::command_words::command_line::{Job, help, words};
 use crate::jobs::comparing::answer_compare;
 use crate::jobs::drawing::{draw_read, write_read_timeline};
+use crate::jobs::explaining::answer_explain;
 use crate::jobs::recording::record;
 use cal_engine::{RunFault, end_with, refuse_words, words_after_first};
 use cal_tables::measure;
@@ -43,6 +44,7 @@ fn answer_words<R: Read + Drop, W: Write, E: Write>(
     let given = words_after_first(alloc, named)?;
     match words(alloc, given.as_slice()) {
         Ok(Job::Help) => say_help(alloc, errors),
+        Ok(Job::Explain { asked }) => answer_explain(alloc, reader, asked, output, errors),
         Ok(Job::Compare { vary, form }) => {
             answer_compare(alloc, reader, vary, form, output, errors)
         }
@@ -81,7 +83,7 @@ fn do_job<R: Read + Drop, W: Write>(
         Job::Picture { from, passes } => draw_read(alloc, reader, from, passes, &mut buffer)?,
         Job::Timeline => write_read_timeline(alloc, reader, &mut buffer)?,
         Job::Measure { form } => measure(alloc, reader, form, &mut buffer)?,
-        Job::Compare { .. } | Job::Help => {}
+        Job::Compare { .. } | Job::Explain { .. } | Job::Help => {}
     }
     match buffer.flush() {
         Ok(()) => Ok(()),

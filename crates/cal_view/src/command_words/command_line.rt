@@ -1,6 +1,7 @@
 //! What the words of a command line ask for.
 
 use crate::command_words::help_texts;
+use crate::jobs::explaining::Asked;
 use crate::jobs::recording::Front;
 use cal_engine::VERSION;
 use cal_tables::NumberForm;
@@ -36,6 +37,11 @@ pub enum Job<'a> {
         vary: Option<&'a str>,
         /// As what they are shown.
         form: Form,
+    },
+    /// Explain a pass of a history or of signals, or the first illegal one.
+    Explain {
+        /// Which pass, and what of it.
+        asked: Asked,
     },
     /// Say how the program is used.
     Help,
@@ -102,7 +108,39 @@ fn program<'a>(alloc: Global) -> Result<Command<'a>, AllocError> {
         .subcommand(picture)?
         .subcommand(timeline)?
         .subcommand(measure)?
-        .subcommand(compare_word(alloc)?)
+        .subcommand(compare_word(alloc)?)?
+        .subcommand(explain_word(alloc)?)
+}
+
+fn explain_word<'a>(alloc: Global) -> Result<Command<'a>, AllocError> {
+    Command::new(alloc, "explain")
+        .about("Say why a pass does what it does")
+        .after_help(help_texts::EXPLAIN)
+        .arg(pass_word(alloc))?
+        .arg(task_word(alloc)?)?
+        .arg(number_word(alloc, "core", "CORE", "Tell of this core alone"))
+}
+
+fn pass_word<'a>(alloc: Global) -> Arg<'a> {
+    number_word(
+        alloc,
+        "pass",
+        "PASS",
+        "The pass, from 0 [default: the first illegal one]",
+    )
+}
+
+fn task_word<'a>(alloc: Global) -> Result<Arg<'a>, AllocError> {
+    number_word(alloc, "task", "TASK", "Tell of this task alone").conflicts_with("core")
+}
+
+fn number_word<'a>(alloc: Global, name: &'a str, value: &'a str, help: &'a str) -> Arg<'a> {
+    Arg::new(alloc, name)
+        .long(name)
+        .action(ArgAction::Set)
+        .value_name(value)
+        .value_parser(clap::value_parser!(u64))
+        .help(help)
 }
 
 fn compare_word<'a>(alloc: Global) -> Result<Command<'a>, AllocError> {
@@ -179,9 +217,21 @@ fn job_of<'a>(matches: &ArgMatches<'a>) -> Option<Job<'a>> {
             vary: own.get_str("vary"),
             form: form_of(own.get_flag("csv"), own.get_flag("picture"))?,
         },
+        Some((name, own)) if name == "explain" => Job::Explain {
+            asked: asked_of(own),
+        },
         _ => Job::Help,
     };
     Some(job)
+}
+
+/// What the options of `explain` ask for.
+fn asked_of(matches: &ArgMatches<'_>) -> Asked {
+    Asked {
+        pass: number(matches, "pass"),
+        task: number(matches, "task"),
+        core: number(matches, "core"),
+    }
 }
 
 /// What the flag `--table` asks for.

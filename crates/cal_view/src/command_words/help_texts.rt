@@ -218,3 +218,44 @@ machine leaving                0.000    0.000               0
 machine banned                 0.000    0.000               0
 machine free                   0.750    1.000          +0.250"
 );
+
+/// Of the subcommand `explain`.
+pub const EXPLAIN: &str = help_with_a_run!(
+    "\
+Standard input: a task table (TOML), the line ---, and a history or signals (CSV).
+Standard output: with --pass the turns of the pass in their order, how things stand at each, and
+below it, after an arrow, what the policy does there. The parts are those of docs/POLICY.md, \"A
+pass\". Of a history that is not legal it is what the policy does on the pass's looks after the
+passes before it. With --task it is of the cores that the task holds or leaves, and of this task;
+with --core of this core, and of each task's claim to it.
+Without --pass `legal`; or `illegal pass P`, what the policy does in that pass, what the file has,
+the first action that differs, and how things stand at its turn.
+Exit status: 0 done, 1 the history is not legal, 2 rejected input or no such pass, task or core,
+3 memory or output was refused.",
+    "caladan_view explain --pass 0",
+    "\
+caladan-signals,2
+pass,111,0
+whole,0,1,1,0,0,1,100,0,0,105,0,0
+end,1
+END
+
+It writes:
+
+pass 0 now 111 bandwidth 0
+1 Frees
+  core 0: free
+  core 1: free
+2 Unbans
+3 Bans
+  core 1: no ban for core 0, which nobody holds
+  core 0: no ban for core 1, which nobody holds
+4 Bandwidth
+  figure 0, not above the limit 1000
+5 Grants
+  task 0 lc: delay 11, above 10; holds 0, books 0, limit 1, guarantee 1: may book one more
+    thread 0: delay 11; may be granted a core, and waits longest
+    core 0: class 3 other idle, chosen
+    core 1: class 3 other idle
+    -> grant core 0 to thread 0 class 3"
+);

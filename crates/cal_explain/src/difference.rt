@@ -1,0 +1,159 @@
+//! Why a pass of a history is none of the policy's.
+
+ghost use Rattle.std.specs.Prelude.{◌≡◌, ◌<◌};
+ghost use Rattle.cal_machine.specs.TableTasks.{threads_of_table};
+ghost use Rattle.cal_policy.specs.Explain.Walks.{IsWalk};
+ghost use Rattle.cal_policy.specs.Judgement.Judging.{IsInput};
+ghost use Rattle.cal_policy.specs.Judgement.Orderly.{IsOrderly};
+
+use crate::explaining::{MOST_TURNS, name_of, tell_turn};
+use crate::fault::ExplainFault;
+use crate::scope::Scope;
+use crate::telling::{tell_made, write_action};
+use cal_machine::Config;
+use cal_policy::explain::{PassWalk, Turn, part_of};
+use cal_policy::{Action, Cause, PassEntry, is_input, orderly};
+use std::alloc::Global;
+use std::io;
+use std::io::Write;
+
+/// Writes why a pass of a history is none of the policy's.
+pub fn tell_illegal<W: Write>(
+    alloc: Global,
+    config: &Config,
+    history: &[PassEntry],
+    pass: usize,
+    scope: Scope,
+    writer: &mut W,
+) -> Result<(), ExplainFault> {
+    if pass >= history.len() {
+        return Ok(());
+    }
+    let entry = &history[pass];
+    let before = &history[..pass];
+    if !orderly(config, before) {
+        return Ok(());
+    }
+    if !is_input(config, before, &entry.input) {
+        writeln!(writer, "the pass may not be given its looks")?;
+        return Ok(());
+    }
+    tell_difference(alloc, config, before, entry, scope, writer)
+}
+
+/// Writes what the policy does in a pass, what the file has, and the first action that differs.
+fn tell_difference<W: Write>(
+    alloc: Global,
+    config: &Config,
+    before: &[PassEntry],
+    entry: &PassEntry,
+    scope: Scope,
+    writer: &mut W,
+) -> Result<(), ExplainFault>
+    requires orderly { IsOrderly config.now before.now }
+    requires input { IsInput config.now before.now entry.now.input }
+{
+    let mut walk = PassWalk::begin(alloc, config, before, &entry.input)?;
+    walk_to(&mut walk, Turn::End)?;
+    let recorded = entry.actions.as_slice();
+    let at = first_difference(walk.made(), recorded);
+    tell_both(walk.made(), recorded, at, writer)?;
+    let deciding = match walk.made().get(at) {
+        Some(action) => turn_of(config, *action),
+        None => match recorded.get(at) {
+            Some(action) => turn_of(config, *action),
+            None => Turn::End,
+        },
+    };
+    let mut again = PassWalk::begin(alloc, config, before, &entry.input)?;
+    walk_to(&mut again, deciding)?;
+    tell_turn(&again, scope, writer)?;
+    Ok(())
+}
+
+/// Makes the turns before this one.
+fn walk_to(walk: &mut PassWalk<'_>, turn: Turn) -> Result<(), ExplainFault>
+    requires { IsWalk walk.old }
+    ensures { IsWalk walk.new }
+{
+    for n in 0..MOST_TURNS {
+        let _ = n;
+        if walk.turn() == turn || walk.turn() == Turn::End {
+            break;
+        }
+        walk.take()?;
+    }
+    Ok(())
+}
+
+/// The turn that would make such an action.
+fn turn_of(config: &Config, action: Action) -> Turn {
+    match action {
+        Action::Free { core } => Turn::Free { core },
+        Action::Unban { core } => Turn::Unban { core },
+        Action::Ban { core, .. } => Turn::Ban {
+            core: config.machine().sibling(core),
+        },
+        Action::Cap { .. } => Turn::Bandwidth,
+        Action::Grant { thread, .. } => turn_of_thread(config, thread as usize),
+        Action::Revoke { cause, .. } => match cause {
+            Cause::Ban { by } => Turn::Ban { core: by },
+            Cause::Bandwidth => Turn::Bandwidth,
+            Cause::Preempt { task } => Turn::LatencyCritical { task },
+        },
+    }
+}
+
+/// The turn of the task of a thread; of no thread of the table the end.
+fn turn_of_thread(config: &Config, thread: usize) -> Turn {
+    if thread >= config.threads() {
+        return Turn::End;
+    }
+    let task = config.task_of(thread);
+    if config.is_latency_critical(task) {
+        Turn::LatencyCritical { task: task as u8 }
+    } else {
+        Turn::BestEffort { task: task as u8 }
+    }
+}
+
+/// The number of the first action in which two lists differ.
+fn first_difference(made: &[Action], recorded: &[Action]) -> usize {
+    let mut at = 0;
+    for i in 0..made.len().min(recorded.len()) {
+        if made[i] != recorded[i] {
+            break;
+        }
+        at = i + 1;
+    }
+    at
+}
+
+/// Writes what the policy does and what the file has, and where they differ first.
+fn tell_both<W: Write>(
+    made: &[Action],
+    recorded: &[Action],
+    at: usize,
+    writer: &mut W,
+) -> io::Result<()> {
+    writeln!(writer, "the policy does")?;
+    tell_made(made, writer)?;
+    writeln!(writer, "the file has")?;
+    tell_made(recorded, writer)?;
+    write!(writer, "action {at} differs: the policy does ")?;
+    tell_one(made.get(at), writer)?;
+    write!(writer, "; the file has ")?;
+    tell_one(recorded.get(at), writer)?;
+    writeln!(writer)
+}
+
+/// Writes an action and its part, or that there is none.
+fn tell_one<W: Write>(action: Option<&Action>, writer: &mut W) -> io::Result<()> {
+    match action {
+        None => write!(writer, "nothing more"),
+        Some(action) => {
+            write_action(*action, writer)?;
+            write!(writer, " ({})", name_of(part_of(*action)))
+        }
+    }
+}

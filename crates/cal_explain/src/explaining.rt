@@ -1,0 +1,171 @@
+//! The turns of a pass in their order, how things stand at each, and what it makes.
+
+ghost use Rattle.cal_policy.specs.Judgement.Judging.{IsInput};
+ghost use Rattle.cal_policy.specs.Judgement.Orderly.{IsOrderly};
+ghost use Rattle.cal_policy.specs.Explain.Walks.{IsWalk};
+
+use crate::bandwidth::tell_bandwidth;
+use crate::bans::tell_ban;
+use crate::cores::{tell_free, tell_unban};
+use crate::fault::ExplainFault;
+use crate::grants::tell_grant;
+use crate::scope::Scope;
+use crate::telling::tell_action;
+use cal_machine::Config;
+use cal_policy::explain::{Part, PassWalk, Turn};
+use cal_policy::{Action, Input, PassEntry};
+use std::alloc::Global;
+use std::io;
+use std::io::Write;
+
+/// More turns than a pass has: three of each core, one for the bandwidth, two of each task, and the
+/// end.
+pub const MOST_TURNS: usize = 512;
+
+/// Writes the explanation of the pass on this input after these passes.
+pub fn tell_pass<W: Write>(
+    alloc: Global,
+    config: &Config,
+    before: &[PassEntry],
+    input: &Input,
+    scope: Scope,
+    writer: &mut W,
+) -> Result<(), ExplainFault>
+    requires orderly { IsOrderly config.now before.now }
+    requires input { IsInput config.now before.now input.now }
+{
+    let mut walk = PassWalk::begin(alloc, config, before, input)?;
+    let mut part = None;
+    for n in 0..MOST_TURNS {
+        let _ = n;
+        if walk.turn() == Turn::End {
+            break;
+        }
+        part = tell_heading(part, walk.turn(), writer)?;
+        let is_told = has_turn(&walk, scope);
+        if is_told {
+            tell_turn(&walk, scope, writer)?;
+        }
+        let before = walk.made().len();
+        walk.take()?;
+        tell_made_since(&walk, before, is_told, scope, writer)?;
+    }
+    Ok(())
+}
+
+/// The part of a pass that a turn is in.
+fn part_of(turn: Turn) -> Option<Part> {
+    match turn {
+        Turn::Free { .. } => Some(Part::Frees),
+        Turn::Unban { .. } => Some(Part::Unbans),
+        Turn::Ban { .. } => Some(Part::Bans),
+        Turn::Bandwidth => Some(Part::Bandwidth),
+        Turn::LatencyCritical { .. } | Turn::BestEffort { .. } => Some(Part::Grants),
+        Turn::End => None,
+    }
+}
+
+/// The number and the name of a part in docs/POLICY.md.
+pub fn name_of(part: Part) -> &'static str {
+    match part {
+        Part::Frees => "1 Frees",
+        Part::Unbans => "2 Unbans",
+        Part::Bans => "3 Bans",
+        Part::Bandwidth => "4 Bandwidth",
+        Part::Grants => "5 Grants",
+    }
+}
+
+/// Writes the name of a turn's part where the turn before was of another, and answers the part.
+fn tell_heading<W: Write>(
+    before: Option<Part>,
+    turn: Turn,
+    writer: &mut W,
+) -> io::Result<Option<Part>> {
+    let part = part_of(turn);
+    if let Some(part) = part {
+        if before != Some(part) {
+            writeln!(writer, "{}", name_of(part))?;
+        }
+    }
+    Ok(part)
+}
+
+/// Whether the walk's turn is told of. A task's turn for the other kind makes nothing.
+fn has_turn(walk: &PassWalk<'_>, scope: Scope) -> bool
+    requires { IsWalk walk.now }
+{
+    let config = walk.config();
+    match walk.turn() {
+        Turn::Free { core } | Turn::Unban { core } => {
+            scope.has_core(config, core, walk.core(core).holder)
+        }
+        Turn::Ban { core } => {
+            let sibling = config.machine().sibling(core);
+            scope.has_core(config, core, walk.core(core).holder)
+                || scope.has_core(config, sibling, walk.core(sibling).holder)
+        }
+        Turn::Bandwidth => true,
+        Turn::LatencyCritical { task } => {
+            config.is_latency_critical(task as usize) && scope.has_task(task as usize)
+        }
+        Turn::BestEffort { task } => {
+            !config.is_latency_critical(task as usize) && scope.has_task(task as usize)
+        }
+        Turn::End => false,
+    }
+}
+
+/// Writes how things stand at the walk's turn.
+pub fn tell_turn<W: Write>(walk: &PassWalk<'_>, scope: Scope, writer: &mut W) -> io::Result<()>
+    requires { IsWalk walk.now }
+{
+    match walk.turn() {
+        Turn::Free { core } => tell_free(walk, core, writer),
+        Turn::Unban { core } => tell_unban(walk, core, writer),
+        Turn::Ban { core } => tell_ban(walk, core, writer),
+        Turn::Bandwidth => tell_bandwidth(walk, scope, writer),
+        Turn::LatencyCritical { task } | Turn::BestEffort { task } => {
+            tell_grant(walk, task as usize, scope, writer)
+        }
+        Turn::End => Ok(()),
+    }
+}
+
+/// Writes the actions that the walk has made after the first of so many: all of a turn that is told
+/// of, and of another those of a core that is.
+fn tell_made_since<W: Write>(
+    walk: &PassWalk<'_>,
+    before: usize,
+    is_told: bool,
+    scope: Scope,
+    writer: &mut W,
+) -> io::Result<()>
+    requires { IsWalk walk.now }
+{
+    let Some(made) = walk.made().get(before..) else {
+        return Ok(())
+    };
+    for action in made {
+        if is_told || has_core_of(walk, *action, scope) {
+            tell_action(*action, writer)?;
+        }
+    }
+    Ok(())
+}
+
+/// Whether the core that an action names is told of.
+fn has_core_of(walk: &PassWalk<'_>, action: Action, scope: Scope) -> bool
+    requires { IsWalk walk.now }
+{
+    let core = match action {
+        Action::Cap { .. } => return false,
+        Action::Free { core }
+        | Action::Unban { core }
+        | Action::Ban { core, .. }
+        | Action::Revoke { core, .. }
+        | Action::Grant { core, .. } => core,
+    };
+    core < walk.config().machine().cores()
+        && scope.has_core(walk.config(), core, walk.core(core).holder)
+}

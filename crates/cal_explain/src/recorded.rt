@@ -1,0 +1,76 @@
+//! A pass of a history explained, or the first that is not the policy's.
+
+use crate::difference::tell_illegal;
+use crate::explaining::tell_pass;
+use crate::fault::ExplainFault;
+use crate::scope::Scope;
+use crate::telling::tell_looks;
+use cal_machine::Config;
+use cal_policy::{Auditor, PassEntry, Verdict, is_input, orderly};
+use std::alloc::{AllocError, Global};
+use std::io::Write;
+
+/// What came of a pass that was to be explained.
+#[derive(Clone, Copy, Debug, PartialEq, Eq)]
+pub enum Explained {
+    /// It was explained.
+    Done,
+    /// The history has no such pass.
+    NoPass,
+    /// It may not be given its looks, or the passes before it are not orderly: nothing was written.
+    NoInput,
+}
+
+/// Writes the explanation of a pass of a history, from 0: what the policy does on its looks after
+/// the passes before it, whatever the history says that the pass did.
+pub fn explain_pass<W: Write>(
+    alloc: Global,
+    config: &Config,
+    history: &[PassEntry],
+    pass: usize,
+    scope: Scope,
+    writer: &mut W,
+) -> Result<Explained, ExplainFault> {
+    if pass >= history.len() {
+        return Ok(Explained::NoPass);
+    }
+    let entry = &history[pass];
+    let before = &history[..pass];
+    if !orderly(config, before) || !is_input(config, before, &entry.input) {
+        return Ok(Explained::NoInput);
+    }
+    let (now, bandwidth) = (entry.input.now, entry.input.bandwidth);
+    writeln!(writer, "pass {pass} now {now} bandwidth {bandwidth}")?;
+    tell_looks(entry.input.seen.as_slice(), writer)?;
+    tell_pass(alloc, config, before, &entry.input, scope, writer)?;
+    Ok(Explained::Done)
+}
+
+/// Writes whether a history is legal, and of one that is not why its first illegal pass is none of
+/// the policy's; answers the verdict.
+pub fn explain_verdict<W: Write>(
+    alloc: Global,
+    config: &Config,
+    history: &[PassEntry],
+    scope: Scope,
+    writer: &mut W,
+) -> Result<Verdict, ExplainFault> {
+    let verdict = audited(alloc, config, history)?;
+    match verdict {
+        Verdict::Legal => writeln!(writer, "legal")?,
+        Verdict::Illegal { pass } => {
+            writeln!(writer, "illegal pass {pass}")?;
+            tell_illegal(alloc, config, history, pass as usize, scope, writer)?;
+        }
+    }
+    Ok(verdict)
+}
+
+/// The verdict on a history.
+fn audited(alloc: Global, config: &Config, history: &[PassEntry]) -> Result<Verdict, AllocError> {
+    let mut auditor = Auditor::open(alloc, config)?;
+    for entry in history {
+        auditor.next(config, entry);
+    }
+    Ok(auditor.verdict())
+}

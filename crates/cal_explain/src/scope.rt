@@ -1,0 +1,55 @@
+//! Of which task or core a pass is explained.
+
+ghost use Rattle.std.specs.Prelude.{◌<◌};
+ghost use Rattle.std.specs.Option.{IfSome};
+ghost use Rattle.cal_machine.specs.TableTasks.{threads_of_table};
+ghost use Rattle.cal_policy.specs.Board.{placement_of};
+
+use cal_machine::Config;
+use cal_policy::Holder;
+
+/// What of a pass is told: all, or what bears on one task or one core.
+#[derive(Clone, Copy, Debug, PartialEq, Eq)]
+pub enum Scope {
+    /// Every turn.
+    All,
+    /// Of cores those that the task holds or leaves, and of tasks this one.
+    Task { task: usize },
+    /// Of cores this one, and every task's claim to it.
+    Core { core: u8 },
+}
+
+impl Scope {
+    /// Whether the task is told of.
+    pub fn has_task(self, task: usize) -> bool {
+        match self {
+            Scope::All | Scope::Core { .. } => true,
+            Scope::Task { task: asked } => asked == task,
+        }
+    }
+
+    /// Whether the core, which the holder has, is told of.
+    pub fn has_core(self, config: &Config, core: u8, holder: Holder) -> bool
+        requires { IfSome (placement_of holder)
+            (λ placement. placement.thread < threads_of_table config.now) }
+    {
+        match self {
+            Scope::All => true,
+            Scope::Core { core: asked } => asked == core,
+            Scope::Task { task } => match holder {
+                Holder::Free => false,
+                Holder::Held(placement) | Holder::Leaving(placement, _) => {
+                    config.task_of(placement.thread as usize) == task
+                }
+            },
+        }
+    }
+
+    /// Whether the core is told of as a candidate.
+    pub fn has_candidate(self, core: u8) -> bool {
+        match self {
+            Scope::All | Scope::Task { .. } => true,
+            Scope::Core { core: asked } => asked == core,
+        }
+    }
+}

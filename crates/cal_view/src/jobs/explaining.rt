@@ -1,0 +1,186 @@
+//! A pass of an input explained.
+
+use cal_engine::{RunFault, decided_run, read_input, read_parts};
+use cal_explain::{ExplainFault, Explained, Scope, explain_pass, explain_verdict};
+use cal_machine::Config;
+use cal_policy::{PassEntry, Verdict};
+use cal_trace::read_history;
+use std::alloc::Global;
+use std::io::{BufWriter, Read, Write};
+
+/// Which pass is explained, and what of it.
+#[derive(Clone, Copy, Debug, PartialEq, Eq)]
+pub struct Asked {
+    /// The pass, from 0; without it the first that is not the policy's.
+    pub pass: Option<usize>,
+    /// The task alone.
+    pub task: Option<usize>,
+    /// The core alone.
+    pub core: Option<usize>,
+}
+
+/// What came of an input that was accepted.
+#[derive(Clone, Copy, Debug, PartialEq, Eq)]
+enum Answer {
+    /// The pass was explained, or there is none that is illegal.
+    Done,
+    /// The first illegal pass was explained.
+    Illegal,
+    /// It cannot be explained.
+    Refused(Unexplained),
+}
+
+/// Why a pass of an input that was accepted cannot be explained.
+#[derive(Clone, Copy, Debug, PartialEq, Eq)]
+enum Unexplained {
+    /// The input has so many passes, and not this one.
+    NoPass { pass: usize, passes: usize },
+    /// The table has so many tasks.
+    NoTask { tasks: usize },
+    /// The machine has so many cores.
+    NoCore { cores: u8 },
+    /// The pass may not be given its looks, or one before it does what may not be done.
+    NoInput { pass: usize },
+}
+
+/// Reads an input of a task table and a history, or signals, which are decided first, and explains
+/// a pass of it; without one, it writes whether the history is legal, and explains its first
+/// illegal pass. Answers the exit status: 0, 1 where the history is illegal, 2 where there is no
+/// such pass, task or core. Nothing is written before the whole input was read and accepted.
+pub fn answer_explain<R: Read + Drop, W: Write, E: Write>(
+    alloc: Global,
+    reader: R,
+    asked: Asked,
+    output: &mut W,
+    errors: &mut E,
+) -> Result<u8, RunFault> {
+    let mut buffer = match BufWriter::new(alloc, output) {
+        Ok(buffer) => buffer,
+        Err(_) => return Err(RunFault::Memory),
+    };
+    let status = match explain_read(alloc, reader, asked, &mut buffer)? {
+        Answer::Done => 0,
+        Answer::Illegal => 1,
+        Answer::Refused(reason) => return Ok(refuse(reason, errors)),
+    };
+    match buffer.flush() {
+        Ok(()) => Ok(status),
+        Err(_) => Err(RunFault::Write),
+    }
+}
+
+/// Says why a pass cannot be explained, and answers the exit status.
+fn refuse<E: Write>(reason: Unexplained, errors: &mut E) -> u8 {
+    let _ = match reason {
+        Unexplained::NoPass { pass, passes } => {
+            writeln!(
+                errors,
+                "caladan_view: no pass {pass}: there are {passes}, from 0"
+            )
+        }
+        Unexplained::NoTask { tasks } => {
+            writeln!(
+                errors,
+                "caladan_view: no such task: there are {tasks}, from 0"
+            )
+        }
+        Unexplained::NoCore { cores } => {
+            writeln!(
+                errors,
+                "caladan_view: no such core: there are {cores}, from 0"
+            )
+        }
+        Unexplained::NoInput { pass } => {
+            writeln!(
+                errors,
+                "caladan_view: pass {pass} may not be given its looks"
+            )
+        }
+    };
+    2
+}
+
+/// Reads an input, and explains a pass of it, or says why it cannot.
+fn explain_read<R: Read + Drop, W: Write>(
+    alloc: Global,
+    mut reader: R,
+    asked: Asked,
+    writer: &mut W,
+) -> Result<Answer, RunFault> {
+    let input = read_input(alloc, &mut reader)?;
+    let (config, history) = passes_of(alloc, input.as_slice())?;
+    let scope = match scope_of(&config, asked) {
+        Ok(scope) => scope,
+        Err(reason) => return Ok(Answer::Refused(reason)),
+    };
+    match asked.pass {
+        Some(pass) => explain_one(alloc, &config, history.as_slice(), pass, scope, writer),
+        None => explain_all(alloc, &config, history.as_slice(), scope, writer),
+    }
+}
+
+/// The task table of an input and its passes: those of a history, or those that signals lead to.
+fn passes_of(alloc: Global, input: &[u8]) -> Result<(Config, Vec<PassEntry>), RunFault> {
+    let (config, trace) = read_parts(alloc, input)?;
+    if trace.starts_with(b"caladan-signals") {
+        return decided_run(alloc, input);
+    }
+    let history = read_history(alloc, &config, trace)?;
+    Ok((config, history))
+}
+
+/// What of the pass is asked for.
+fn scope_of(config: &Config, asked: Asked) -> Result<Scope, Unexplained> {
+    let cores = config.machine().cores();
+    match (asked.task, asked.core) {
+        (Some(task), _) if task < config.tasks() => Ok(Scope::Task { task }),
+        (Some(_), _) => Err(Unexplained::NoTask {
+            tasks: config.tasks(),
+        }),
+        (None, Some(core)) if core < cores as usize => Ok(Scope::Core { core: core as u8 }),
+        (None, Some(_)) => Err(Unexplained::NoCore { cores }),
+        (None, None) => Ok(Scope::All),
+    }
+}
+
+/// Explains this pass of a history, or says why it cannot.
+fn explain_one<W: Write>(
+    alloc: Global,
+    config: &Config,
+    history: &[PassEntry],
+    pass: usize,
+    scope: Scope,
+    writer: &mut W,
+) -> Result<Answer, RunFault> {
+    let passes = history.len();
+    match explain_pass(alloc, config, history, pass, scope, writer) {
+        Ok(Explained::Done) => Ok(Answer::Done),
+        Ok(Explained::NoPass) => Ok(Answer::Refused(Unexplained::NoPass { pass, passes })),
+        Ok(Explained::NoInput) => Ok(Answer::Refused(Unexplained::NoInput { pass })),
+        Err(fault) => Err(run_fault(fault)),
+    }
+}
+
+/// Writes whether a history is legal, and of one that is not why its first illegal pass is none of
+/// the policy's.
+fn explain_all<W: Write>(
+    alloc: Global,
+    config: &Config,
+    history: &[PassEntry],
+    scope: Scope,
+    writer: &mut W,
+) -> Result<Answer, RunFault> {
+    match explain_verdict(alloc, config, history, scope, writer) {
+        Ok(Verdict::Legal) => Ok(Answer::Done),
+        Ok(Verdict::Illegal { .. }) => Ok(Answer::Illegal),
+        Err(fault) => Err(run_fault(fault)),
+    }
+}
+
+/// What the fault of an explanation is to a run.
+fn run_fault(fault: ExplainFault) -> RunFault {
+    match fault {
+        ExplainFault::Memory => RunFault::Memory,
+        ExplainFault::Write => RunFault::Write,
+    }
+}
