@@ -91,9 +91,7 @@ fn turn_of(config: &Config, action: Action) -> Turn {
     match action {
         Action::Free { core } => Turn::Free { core },
         Action::Unban { core } => Turn::Unban { core },
-        Action::Ban { core, .. } => Turn::Ban {
-            core: config.machine().sibling(core),
-        },
+        Action::Ban { core, .. } => turn_beside(config, core),
         Action::Cap { .. } => Turn::Bandwidth,
         Action::Grant { thread, .. } => turn_of_thread(config, thread as usize),
         Action::Revoke { cause, .. } => match cause {
@@ -104,8 +102,20 @@ fn turn_of(config: &Config, action: Action) -> Turn {
     }
 }
 
+/// The turn that bans a core; of no core of the machine the end.
+fn turn_beside(config: &Config, core: u8) -> Turn {
+    if core < config.machine().cores() {
+        Turn::Ban {
+            core: config.machine().sibling(core),
+        }
+    } else {
+        Turn::End
+    }
+}
+
 /// The turn of the task of a thread; of no thread of the table the end.
 fn turn_of_thread(config: &Config, thread: usize) -> Turn {
+    config.limits();
     if thread >= config.threads() {
         return Turn::End;
     }
