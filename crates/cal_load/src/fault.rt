@@ -22,10 +22,8 @@ pub enum Why {
     Twice,
     /// It is given so often, and there are so many tasks.
     NotOneEach(u64, u64),
-    /// There is no task for it.
-    NoTask,
-    /// Several loads, of another task than the first.
-    OfFirstTask,
+    /// Several loads, where one is asked for.
+    Several,
     /// More requests would come than arrivals are made of.
     TooMany(u64),
     /// It is no objective of the form `task.0.p99=65`.
@@ -37,7 +35,8 @@ impl fmt::Display for Why {
     fn fmt<W: fmt::Write>(&self, f: &mut fmt::Formatter<W>) -> fmt::Result {
         match self {
             Why::NotALoad => f.write_str(
-                "a load is a number above 0 and at most 10, with up to three digits after the point",
+                "a load is a number above 0 and at most 10, with up to three digits after the \
+point",
             ),
             Why::NotRising => f.write_str(
                 "several loads rise, and .. stands between two and the last",
@@ -61,8 +60,7 @@ shares, as 90%:1,10%:20",
                     "given {times} times for {tasks} tasks: once, or once for each --task"
                 )
             }
-            Why::NoTask => f.write_str("a load needs its --task"),
-            Why::OfFirstTask => f.write_str("only the first task has several loads"),
+            Why::Several => f.write_str("one load; only the first task of a sweep has several"),
             Why::TooMany(most) => write!(f, "more than {most} requests would come"),
             Why::NotAnObjective => f.write_str(
                 "an objective is as task.0.p99=65: a task, p50, p90, p99, p99.9 or max, and ticks",

@@ -41,8 +41,8 @@ struct OfTask {
     coming: Coming,
 }
 
-/// The generator of a task: one that is by 2^128 numbers further for each task more, so that no task
-/// changes what comes to another.
+/// The generator of a task: one that is by 2^128 numbers further for each task more, so that no
+/// task changes what comes to another.
 fn generator(seed: u64, task: usize) -> Xoshiro256PlusPlus {
     let mut rng = Xoshiro256PlusPlus::seed_from_u64(seed);
     for _ in 0..task {
