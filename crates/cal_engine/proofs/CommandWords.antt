@@ -30,13 +30,13 @@ said None = Some false
 said (Some text) = cond (bytes_eq text (codes "true")) (Some true) (cond (bytes_eq text (codes "false")) (Some false) None)
 
 -- what a subcommand of this name asks for, where this is said of its flags
-abbrev named_with : Text → Option Bool → Option Bool → Option (Option Job)
-named_with name summary report = option_and_then (λ s. option_map (λ r. job_of name (answer_of s r)) report) summary
+abbrev named_with : Text → Option Bool → Option Bool → Option Bool → Option (Option Job)
+named_with name summary report table = option_and_then (λ s. option_and_then (λ r. option_map (λ t. job_of name (answer_of s r t)) table) report) summary
 
 -- the job that a subcommand names, or none; nothing where its flags have other values
 abbrev named_by : Option (Text × List Row) → Option (Option Job)
 named_by None = Some (Some job.Decide)
-named_by (Some p) = named_with p.0 (said (one_of (codes "summary") p.1)) (said (one_of (codes "report") p.1))
+named_by (Some p) = named_with p.0 (said (one_of (codes "summary") p.1)) (said (one_of (codes "report") p.1)) (said (one_of (codes "table") p.1))
 
 -- the program takes each way to ask
 each_is_taken : map (λ (way : Way). takes program way.0) asking ≡ map (λ (way : Way). true) asking
@@ -69,20 +69,29 @@ said_is None true e = absurd (cc)
 said_is None false e = inl refl
 said_is (Some text) b e = said_text text b _ _ (bytes_eq-Decides text (codes "true")) (bytes_eq-Decides text (codes "false")) e
 
-named_with_names : (p : Text × List Row) (named : Option Job) (summary report : Option Bool) →
-    said (one_of (codes "summary") p.1) ≡ summary → said (one_of (codes "report") p.1) ≡ report →
-    named_with p.0 summary report ≡ Some named → Names (Some p) named
-named_with_names p named None report s r e = absurd (cc)
-named_with_names p named (Some summary) None s r e = absurd (cc)
-named_with_names p named (Some summary) (Some report) s r e = (
-  answer_of summary report,
-  record { summary = summary; report = report; says_summary = said_is _ summary s; says_report = said_is _ report r; ask = refl },
+named_with_names : (p : Text × List Row) (named : Option Job) (summary report table : Option Bool) →
+    said (one_of (codes "summary") p.1) ≡ summary → said (one_of (codes "report") p.1) ≡ report → said (one_of (codes "table") p.1) ≡ table →
+    named_with p.0 summary report table ≡ Some named → Names (Some p) named
+named_with_names p named None report table s r t e = absurd (cc)
+named_with_names p named (Some summary) None table s r t e = absurd (cc)
+named_with_names p named (Some summary) (Some report) None s r t e = absurd (cc)
+named_with_names p named (Some summary) (Some report) (Some table) s r t e = (
+  answer_of summary report table,
+  record {
+    summary = summary;
+    report = report;
+    table = table;
+    says_summary = said_is _ summary s;
+    says_report = said_is _ report r;
+    says_table = said_is _ table t;
+    ask = refl;
+  },
   cc,
 )
 
 named_by_names : (found : Option (Text × List Row)) (named : Option Job) → named_by found ≡ Some named → Names found named
 named_by_names None named e = cc
-named_by_names (Some p) named e = named_with_names p named _ _ refl refl e
+named_by_names (Some p) named e = named_with_names p named _ _ _ refl refl refl e
 
 pub asked_is_named : (words : List Text) (named : Option Job) → AsksFor words named → Names (subcommand_of program words) named
 unfolding AsksFor

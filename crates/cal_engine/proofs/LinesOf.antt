@@ -24,13 +24,13 @@ concat-one_more true b lines = refl
 concat-one_more false b lines = concat-before_line b lines
 
 -- the lines end to end are the text
-concat-lines_of : (text : List ℕ) → concat (lines_of text) ≡ text
+pub concat-lines_of : (text : List ℕ) → concat (lines_of text) ≡ text
 unfolding lines_of
 concat-lines_of [] = refl
 concat-lines_of (b ∷ text) = concat-one_more (b == 10) b (lines_of text) ∙ ap (λ t. b ∷ t) (concat-lines_of text)
 
 -- the first line feed ends the first line
-lines_of-first : (line text : List ℕ) → IsPlain line → lines_of (line ++ 10 ∷ text) ≡ (line ++ 10 ∷ []) ∷ lines_of text
+pub lines_of-first : (line text : List ℕ) → IsPlain line → lines_of (line ++ 10 ∷ text) ≡ (line ++ 10 ∷ []) ∷ lines_of text
 unfolding lines_of
 lines_of-first [] text h = refl
 lines_of-first (b ∷ line) text h = rw (h.0, lines_of-first line text h.1) refl

@@ -32,11 +32,11 @@ refused (Some input) (Some rest) text outcome f took ends le h =
     let same : text ≡ input = sym (took ∙ ap (λ l. text ++ l) ends ∙ append-nil text) in
     subst (λ (bytes : List ℕ). Failed f (within_limit bytes (outcome bytes))) same (rw (within text (outcome text) le) (failed f (outcome text) h))
 
--- and what holds of the outcome of the text holds of the input's
-pub answered : {X : Type 0} (P : Result X RunFault → Type 0) (old new : Option (List ℕ)) (text : List ℕ) (outcome : List ℕ → Result X RunFault) → Consumes old new text → IsAtEnd new
-    → length text ≤ INPUT_LIMIT → P (outcome text) → IfSome old (λ input. P (within_limit input (outcome input)))
+-- and what holds of the text and its outcome holds of the input and its own
+pub answered : {X : Type 0} (P : List ℕ → Result X RunFault → Type 0) (old new : Option (List ℕ)) (text : List ℕ) (outcome : List ℕ → Result X RunFault) → Consumes old new text → IsAtEnd new
+    → length text ≤ INPUT_LIMIT → P text (outcome text) → IfSome old (λ input. P input (within_limit input (outcome input)))
 answered P None new text outcome took ends le h = tt
 answered P (Some input) None text outcome took ends le h = absurd took
 answered P (Some input) (Some rest) text outcome took ends le h =
     let same : text ≡ input = sym (took ∙ ap (λ l. text ++ l) ends ∙ append-nil text) in
-    subst (λ (bytes : List ℕ). P (within_limit bytes (outcome bytes))) same (rw (within text (outcome text) le) h)
+    subst (λ (bytes : List ℕ). P bytes (within_limit bytes (outcome bytes))) same (subst (λ o. P text o) (sym (within text (outcome text) le)) h)

@@ -1,6 +1,6 @@
 -- What the words of a command line ask for.
-use Rattle.std.specs.Prelude.{◌≡◌, ◌⊎◌, ℕ, Bool, true, false, List, [], ◌∷◌, codes, map, fold, find}
-use Rattle.std.specs.Prelude.{Contains, flat_map, bytes_eq, Option, Some, None, option_map}
+use Rattle.std.specs.Prelude.{◌≡◌, ◌⊎◌, ℕ, Bool, true, false, List, [], ◌∷◌, ◌++◌, codes, map, fold}
+use Rattle.std.specs.Prelude.{find, Contains, flat_map, bytes_eq, Option, Some, None, option_map}
 use Rattle.std.specs.Prelude.{option_and_then, Result, Ok, Err, IsErrAnd}
 use Rattle.clap.specs.Simple.{App, new_app, new_rule, on_top, with_rule, with_subcommand}
 use Rattle.clap.specs.Values.{bool_text, kind_of}
@@ -12,6 +12,7 @@ use Rattle.cal_engine.specs.declared.command_words.command_line.Job.{Job}
 use Rattle.cal_engine.specs.declared.command_words.command_line.Job.TheVariants as job
 use Rattle.cal_engine.specs.declared.jobs.running.RunAnswer.{RunAnswer}
 use Rattle.cal_engine.specs.declared.jobs.running.RunAnswer.TheVariants.{History, Summary, Report}
+use Rattle.cal_engine.specs.declared.jobs.running.RunAnswer.TheVariants.{WithTable}
 
 -- a word of the program: one that asks for its job alone, or one for a run, whose job has the
 -- answer that the flags after it ask for
@@ -32,17 +33,34 @@ abbrev pub name_of : Word → Text
 name_of (alone name asked) = name
 name_of (for_run name asked) = name
 
--- the flags after a word for a run, and the answer that they ask for; nothing where they are two
+-- the flags of a run, and the answer that each asks for
+abbrev pub run_flags : List (Text × RunAnswer)
+run_flags =
+    (codes "--summary", Summary) ∷ (codes "--report", Report) ∷ (codes "--table", WithTable) ∷ []
+
+-- two words in either order
+abbrev pub both : Text → Text → List (List Text)
+both a b = (a ∷ b ∷ []) ∷ (b ∷ a ∷ []) ∷ []
+
+-- two flags of a run, or all three, in each order
+abbrev pub flags_of_more : List (List Text)
+flags_of_more =
+    both (codes "--summary") (codes "--report")
+    ++ both (codes "--summary") (codes "--table")
+    ++ both (codes "--report") (codes "--table")
+    ++ map (λ two. codes "--summary" ∷ two) (both (codes "--report") (codes "--table"))
+    ++ map (λ two. codes "--report" ∷ two) (both (codes "--summary") (codes "--table"))
+    ++ map (λ two. codes "--table" ∷ two) (both (codes "--summary") (codes "--report"))
+
+-- the flags after a word for a run, and the answer that they ask for; nothing where they are more
+-- than one
 abbrev pub flag_ways : List (List Text × Option RunAnswer)
 flag_ways =
     ([], Some History)
-    ∷ (codes "--summary" ∷ [], Some Summary)
-    ∷ (codes "--report" ∷ [], Some Report)
-    ∷ (codes "--summary" ∷ codes "--report" ∷ [], None)
-    ∷ (codes "--report" ∷ codes "--summary" ∷ [], None)
-    ∷ []
+    ∷ map (λ flag. (flag.0 ∷ [], Some flag.1)) run_flags
+    ++ map (λ flags. (flags, None)) flags_of_more
 
--- each way to ask by a word, and the job; nothing where two answers are asked for at once
+-- each way to ask by a word, and the job; nothing where more than one answer is asked for
 abbrev pub ways : Word → List (List Text × Option Job)
 ways (alone name asked) = (name ∷ [], Some asked) ∷ []
 ways (for_run name asked) = map (λ way. (name ∷ way.0, option_map asked way.1)) flag_ways
@@ -59,7 +77,7 @@ AsksFor words named = Contains asking (words, named)
 abbrev pub Asks : List (List ℕ) → Job → Type 0
 Asks words asked = AsksFor words (Some asked)
 
--- the words ask for the summary of a run and for its report at once
+-- the words ask for more than one of a run's summary, its report, and its history with its table
 abbrev pub AsksTwo : List (List ℕ) → Type 0
 AsksTwo words = AsksFor words None
 
@@ -89,9 +107,13 @@ abbrev pub report_flag : Rule
 report_flag =
     record (new_rule (codes "report")) { long = Some (codes "report"); action = Some SetTrue }
 
+-- the flag that asks for the history of a run with its table
+abbrev pub table_flag : Rule
+table_flag = record (new_rule (codes "table")) { long = Some (codes "table"); action = Some SetTrue }
+
 -- the subcommand for a run, after which one of the flags may stand
 abbrev pub run_word : Text → App
-run_word name = with_rule (with_rule (new_app name) summary_flag) report_flag
+run_word name = with_rule (with_rule (with_rule (new_app name) summary_flag) report_flag) table_flag
 
 -- the subcommand of a word
 abbrev pub app_for : Word → App
@@ -102,12 +124,14 @@ app_for (for_run name asked) = run_word name
 abbrev pub program : App
 program = fold (λ made word. with_subcommand made (app_for word).top) bare_program all_words
 
--- what the flags of a run ask for; nothing where both are there
-abbrev pub answer_of : Bool → Bool → Option RunAnswer
-answer_of false false = Some History
-answer_of true false = Some Summary
-answer_of false true = Some Report
-answer_of true true = None
+-- what the flags of a run ask for, those for its summary, its report and its table; nothing where
+-- more than one is there
+abbrev pub answer_of : Bool → Bool → Bool → Option RunAnswer
+answer_of false false false = Some History
+answer_of true false false = Some Summary
+answer_of false true false = Some Report
+answer_of false false true = Some WithTable
+answer_of _ _ _ = None
 
 -- what the value of a flag says: that the flag is there, or that it is not
 abbrev pub FlagSays : Option Text → Bool → Type 0
@@ -118,9 +142,11 @@ FlagSays value false = (value ≡ None) ⊎ (value ≡ Some (bool_text false))
 pub record FlagsAsk (rows : List Row) (asked : Option RunAnswer) : Type 0 where
   pub summary : Bool
   pub report : Bool
+  pub table : Bool
   pub says_summary : FlagSays (one_of (codes "summary") rows) summary
   pub says_report : FlagSays (one_of (codes "report") rows) report
-  pub ask : answer_of summary report ≡ asked
+  pub says_table : FlagSays (one_of (codes "table") rows) table
+  pub ask : answer_of summary report table ≡ asked
 
 -- the job of a word with this answer; nothing where a run has none
 abbrev pub job_with : Option RunAnswer → Word → Option Job
@@ -133,7 +159,7 @@ job_of name answer =
     option_and_then (job_with answer) (find (λ word. bytes_eq name (name_of word)) all_words)
 
 -- a subcommand with these arguments, or none at all, names this job; or none, where its flags ask
--- for two answers
+-- for more than one answer
 abbrev pub Names : Option (Text × List Row) → Option Job → Type 0
 Names None named = named ≡ Some job.Decide
 Names (Some p) named =

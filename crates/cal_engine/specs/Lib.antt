@@ -1,6 +1,7 @@
 pub mod Limits
 pub mod Input
 pub mod Faults
+pub mod Front
 pub mod Deciding
 pub mod Runs
 pub mod Outcome
@@ -8,3 +9,4 @@ pub mod Recorded
 pub mod Running
 pub mod CommandWords
 pub mod Program
+pub mod Laws

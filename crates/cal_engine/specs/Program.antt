@@ -33,10 +33,10 @@ abbrev pub DoesJob : Job → Result ℕ RunFault → List ℕ → Option (List �
 DoesJob job.Decide answer input old new = Reports answer (within_limit input (decided_run_of input))
     old new × IfOk answer (λ status. status ≡ 0)
 DoesJob (job.Lockstep asked) answer input old new =
-    Runs asked answer (within_limit input (run_input_of input)) old new ×
+    Runs asked answer input (within_limit input (run_input_of input)) old new ×
     IfOk answer (λ status. status ≡ 0)
 DoesJob (job.Sim asked) answer input old new =
-    RunsInThreads asked answer (within_limit input (run_input_of input)) old new ×
+    RunsInThreads asked answer input (within_limit input (run_input_of input)) old new ×
     IfOk answer (λ status. status ≡ 0)
 DoesJob job.Audit answer input old new =
     AuditsBy answer (within_limit input (recorded_run_of input)) old new

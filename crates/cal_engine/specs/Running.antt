@@ -1,5 +1,5 @@
 -- Whole runs: what an input gives to one, and what is written of what it came to.
-use Rattle.std.specs.Prelude.{◌≡◌, ℕ, List, length, Option, Result, Ok, Err, IsOk}
+use Rattle.std.specs.Prelude.{◌≡◌, ◌++◌, ℕ, List, length, Option, Result, Ok, Err, IsOk}
 use Rattle.std.specs.Io.KnownBytes.{Appends}
 use Rattle.cal_machine.specs.Table.{Table}
 use Rattle.cal_machine.specs.Tasks.{threads_in}
@@ -11,12 +11,16 @@ use Rattle.cal_trace.specs.Rows.{rows_of}
 use Rattle.cal_trace.specs.Report.Summary.{summary_text}
 use Rattle.cal_trace.specs.declared.arrivals.Arrivals.{Arrivals}
 use Rattle.cal_trace.specs.declared.fault.TraceFault.{TraceFault}
+use Rattle.cal_engine.specs.Front.{front_of}
 use Rattle.cal_engine.specs.Outcome.{Failed, run_report}
 use Rattle.cal_engine.specs.Runs.{Parts, Run, parts_of}
 use Rattle.cal_engine.specs.declared.fault.RunFault.{RunFault}
 use Rattle.cal_engine.specs.declared.fault.RunFault.TheVariants as fault
+use Rattle.cal_engine.specs.declared.jobs.front.Front.{Front}
+use Rattle.cal_engine.specs.declared.jobs.front.Front.TheVariants as fronts
 use Rattle.cal_engine.specs.declared.jobs.running.RunAnswer.{RunAnswer}
-use Rattle.cal_engine.specs.declared.jobs.running.RunAnswer.TheVariants.{History, Summary, Report}
+use Rattle.cal_engine.specs.declared.jobs.running.RunAnswer.TheVariants.{History, WithTable}
+use Rattle.cal_engine.specs.declared.jobs.running.RunAnswer.TheVariants.{Summary, Report}
 
 -- what a run is given: a table, and arrivals for its threads
 pub record RunInput : Type 0 where
@@ -44,10 +48,21 @@ run_made input outcome = record { table = input.table; history = outcome.history
 -- audit of its history has
 abbrev pub run_text : RunAnswer → RunInput → Outcome → List ℕ
 run_text History input outcome = history_text outcome.history
+run_text WithTable input outcome = history_text outcome.history
 run_text Summary input outcome =
     summary_text (length input.arrivals.passes) (length input.arrivals.turns) outcome.journals
     outcome.left
 run_text Report input outcome = run_report (run_made input outcome)
+
+-- what stands before the text of a run: of a history, the table where that is asked for
+abbrev pub run_front : RunAnswer → Front
+run_front WithTable = fronts.Table
+run_front _ = fronts.Nothing
+
+-- all that is written of what a run on this input came to: what stands before its text, and that
+abbrev pub written_text : RunAnswer → List ℕ → RunInput → Outcome → List ℕ
+written_text answer given input outcome =
+    front_of (run_front answer) given ++ run_text answer input outcome
 
 -- a run on this came to some outcome, and this is the text of that
 pub record IsTextOfRun (answer : RunAnswer) (input : RunInput) (text : List ℕ) : Type 0 where
@@ -60,24 +75,25 @@ abbrev pub TellsRun : RunAnswer → Result RunInput RunFault → List ℕ → Ty
 TellsRun answer (Err f) text = ⊥
 TellsRun answer (Ok input) text = IsTextOfRun answer input text
 
--- a run on this came to some outcome, and the text of that was written
-pub record IsWrittenRun (answer : RunAnswer) (input : RunInput)
+-- a run on what this text gives came to some outcome, and all that is to be written of that was
+-- written
+pub record IsWrittenRun (answer : RunAnswer) (given : List ℕ) (input : RunInput)
     (old new : Option (List ℕ)) : Type 0 where
   pub outcome : Outcome
   pub run : IsRun input.table input.arrivals outcome
-  pub written : Appends old new (run_text answer input outcome)
+  pub written : Appends old new (written_text answer given input outcome)
 
 -- the input gives a run, and it was made and written
-abbrev pub WritesRun : RunAnswer → Result RunInput RunFault → Option (List ℕ) → Option (List ℕ) →
-    Type 0
-WritesRun answer (Err f) old new = ⊥
-WritesRun answer (Ok input) old new = IsWrittenRun answer input old new
+abbrev pub WritesRun : RunAnswer → List ℕ → Result RunInput RunFault → Option (List ℕ) →
+    Option (List ℕ) → Type 0
+WritesRun answer given (Err f) old new = ⊥
+WritesRun answer given (Ok input) old new = IsWrittenRun answer given input old new
 
 -- a run was made and written and nothing else, or the fault says what it must of the input
-abbrev pub Runs : {T : Type 0} → RunAnswer → Result T RunFault → Result RunInput RunFault
+abbrev pub Runs : {T : Type 0} → RunAnswer → Result T RunFault → List ℕ → Result RunInput RunFault
     → Option (List ℕ) → Option (List ℕ) → Type 0
-Runs answer (Ok _) input old new = WritesRun answer input old new
-Runs answer (Err f) input old new = Failed f input
+Runs answer (Ok _) given input old new = WritesRun answer given input old new
+Runs answer (Err f) given input old new = Failed f input
 
 -- What a fault of a run in threads says of the input: that there is one for a run where a thread
 -- could not be started, since threads start after reading; any other says what it must.
@@ -87,7 +103,7 @@ FailedInThreads f input = Failed f input
 
 -- a run was made in threads and written and nothing else, or the fault says what it must of the
 -- input
-abbrev pub RunsInThreads : {T : Type 0} → RunAnswer → Result T RunFault → Result RunInput RunFault
-    → Option (List ℕ) → Option (List ℕ) → Type 0
-RunsInThreads answer (Ok _) input old new = WritesRun answer input old new
-RunsInThreads answer (Err f) input old new = FailedInThreads f input
+abbrev pub RunsInThreads : {T : Type 0} → RunAnswer → Result T RunFault → List ℕ →
+    Result RunInput RunFault → Option (List ℕ) → Option (List ℕ) → Type 0
+RunsInThreads answer (Ok _) given input old new = WritesRun answer given input old new
+RunsInThreads answer (Err f) given input old new = FailedInThreads f input

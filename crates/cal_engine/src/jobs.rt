@@ -3,6 +3,7 @@
 pub mod answer;
 pub mod auditing;
 pub mod deciding;
+pub mod front;
 pub mod run_text;
 pub mod running;
 pub mod simulating;

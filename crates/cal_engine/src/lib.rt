@@ -11,6 +11,7 @@ mod command_words;
 mod fault;
 mod input;
 mod jobs;
+mod laws;
 mod program;
 mod shell;
 
@@ -23,7 +24,9 @@ pub use input::separator::split_input;
 pub use input::{INPUT_LIMIT, read_input};
 pub use jobs::auditing::{recorded_passes, run_audit};
 pub use jobs::deciding::{decide, decided_run};
+pub use jobs::front::{Front, write_front};
 pub use jobs::running::{RunAnswer, run_lockstep};
 pub use jobs::simulating::run_sim;
+pub use laws::with_table_is_read_back;
 pub use program::run_program;
 pub use shell::{end_with, refuse_words, words_after_first};

@@ -10,7 +10,7 @@ ghost use Rattle.clap.specs.Walk.{rows_of, rule_of};
 ghost use Rattle.clap.specs.declared.error.kind.ErrorKind.TheVariants as kind;
 ghost use Rattle.cal_engine.specs.CommandWords.{Asks, AsksTwo, FlagsAsk, IsConflict, IsJob, Names};
 ghost use Rattle.cal_engine.specs.CommandWords.{answer_of, bare_program, job_of, program};
-ghost use Rattle.cal_engine.specs.CommandWords.{report_flag, run_word, summary_flag};
+ghost use Rattle.cal_engine.specs.CommandWords.{report_flag, run_word, summary_flag, table_flag};
 ghost use Rattle.cal_engine.specs.declared.command_words.command_line.Job.{Job as JobOf};
 ghost use Rattle.cal_engine.specs.declared.jobs.running.RunAnswer.{RunAnswer as RunAnswerOf};
 
@@ -29,11 +29,12 @@ pub const VERSION: &str = "2 (writes history 2; reads signals and history 1 and 
 pub enum Job {
     /// Decide the passes of a signal trace, and write the report. No words, or `decide`.
     Decide,
-    /// Make a whole run on one thread, and write its history, or its summary or its report where
-    /// that is asked for. The word `lockstep`, and `--summary` or `--report` after it.
+    /// Make a whole run on one thread, and write its history, or its summary, its report or its
+    /// history with its table where that is asked for. The word `lockstep`, and `--summary`,
+    /// `--report` or `--table` after it.
     Lockstep(RunAnswer),
-    /// Make a whole run in threads, and write its history, or its summary or its report where that
-    /// is asked for. The word `sim`, and `--summary` or `--report` after it.
+    /// Make a whole run in threads, and write of it what `Lockstep` writes. The word `sim`, and
+    /// `--summary`, `--report` or `--table` after it.
     Sim(RunAnswer),
     /// Audit a history, and write what the audit says. The word `audit`.
     Audit,
@@ -41,10 +42,10 @@ pub enum Job {
 
 /// What the words after the program's name ask for; no words are `Job::Decide`.
 ///
-/// The error is clap's own. A word that is not in the table is refused; the summary and the report
-/// of a run at once are an error of the kind `ArgumentConflict`; a request for help is an error of
-/// the kind `DisplayHelp`, one for the version of the kind `DisplayVersion`, whose texts go to the
-/// standard output; out of memory has the kind `OutOfMemory`.
+/// The error is clap's own. A word that is not in the table is refused; more than one of
+/// `--summary`, `--report` and `--table` is an error of the kind `ArgumentConflict`; a request for
+/// help is an error of the kind `DisplayHelp`, one for the version of the kind `DisplayVersion`,
+/// whose texts go to the standard output; out of memory has the kind `OutOfMemory`.
 pub fn words<'a>(alloc: Global, words: &'a [&'a str]) -> Result<Job, Error>
     ensures job { (job : Job) → Asks (map (λ word. word.now) words.now) job → IsJob job result }
     ensures two { AsksTwo (map (λ word. word.now) words.now) → IsConflict result }
@@ -56,15 +57,27 @@ pub fn words<'a>(alloc: Global, words: &'a [&'a str]) -> Result<Job, Error>
     }
 }
 
-/// That the summary of a run and its report are asked for at once, after the word for the run.
-/// Fails only when out of memory.
+/// That more than one answer is asked for at once, after the word for a run. Fails only when out of
+/// memory.
 fn conflict(alloc: Global, matches: &ArgMatches) -> Result<Error, AllocError>
     ensures { IfOk result (λ error. kind_of error ≡ kind.ArgumentConflict) }
 {
-    let word = matches.subcommand_name().unwrap_or("caladan_sim");
-    let mut command = run_word(alloc, word, help_texts::NOTHING)?;
-    let said = "the argument '--summary' cannot be used with '--report'";
+    let (word, said) = match matches.subcommand() {
+        Some((word, flags)) => (word, conflict_of(flags)),
+        None => ("", conflict_of(matches)),
+    };
+    let called = format!(in alloc; "caladan_sim {word}")?;
+    let mut command = run_word(alloc, word, help_texts::NOTHING)?.bin_name(called.as_str())?;
     command.error(ErrorKind::ArgumentConflict, said)
+}
+
+/// Which flags ask for two answers.
+fn conflict_of(flags: &ArgMatches) -> &'static str {
+    match (flags.get_flag("summary"), flags.get_flag("report")) {
+        (true, true) => "the argument '--summary' cannot be used with '--report'",
+        (true, false) => "the argument '--summary' cannot be used with '--table'",
+        _ => "the argument '--report' cannot be used with '--table'",
+    }
 }
 
 /// The program, with a subcommand for each word. A word is added as its turn comes, so that little
@@ -72,7 +85,7 @@ fn conflict(alloc: Global, matches: &ArgMatches) -> Result<Error, AllocError>
 fn program<'a>(alloc: Global) -> Result<Command<'a>, AllocError>
     ensures { IfOk result (λ command. app_of command ≡ program) }
 {
-    let program = bare_program(alloc);
+    let program = bare_program(alloc)?;
     let program = with_word(alloc, program, "decide", help_texts::DECIDE)?;
     let program = with_run(alloc, program, "lockstep", help_texts::LOCKSTEP)?;
     let program = with_run(alloc, program, "sim", help_texts::SIM)?;
@@ -81,12 +94,13 @@ fn program<'a>(alloc: Global) -> Result<Command<'a>, AllocError>
 }
 
 /// The program before it has its words.
-fn bare_program<'a>(alloc: Global) -> Command<'a>
-    ensures { app_of result ≡ bare_program }
+fn bare_program<'a>(alloc: Global) -> Result<Command<'a>, AllocError>
+    ensures { IfOk result (λ command. app_of command ≡ bare_program) }
 {
     plain_word(alloc, "caladan_sim", help_texts::PROGRAM)
         .version(VERSION)
         .no_binary_name(true)
+        .bin_name("caladan_sim")
 }
 
 /// The program with one word more, which takes nothing after it.
@@ -122,17 +136,18 @@ fn plain_word<'a>(alloc: Global, word: &'a str, help: Help) -> Command<'a>
 {
     Command::new(alloc, word)
         .about(help.about)
-        .after_help(help.after)
+        .after_long_help(help.after)
 }
 
-/// A word for a run, after which the flag for its summary or for its report may stand.
+/// A word for a run, after which the flag for its summary, its report or its table may stand.
 fn run_word<'a>(alloc: Global, word: &'a str, help: Help) -> Result<Command<'a>, AllocError>
     ensures shape { IfOk result (λ command. app_of command ≡ run_word word.entry.now) }
     ensures local { IfOk result (λ command. (out-Command command).has_globals ≡ false) }
 {
     plain_word(alloc, word, help)
         .arg(summary_flag(alloc))?
-        .arg(report_flag(alloc))
+        .arg(report_flag(alloc))?
+        .arg(table_flag(alloc))
 }
 
 /// The flag that asks for the summary of a run.
@@ -155,6 +170,17 @@ fn report_flag<'a>(alloc: Global) -> Arg<'a>
         .long("report")
         .action(ArgAction::SetTrue)
         .help("Write the report in place of the history")
+}
+
+/// The flag that asks for the history of a run with its table.
+fn table_flag<'a>(alloc: Global) -> Arg<'a>
+    ensures shape { rule_of result ≡ table_flag }
+    ensures local { result.global ≡ false }
+{
+    Arg::new(alloc, "table")
+        .long("table")
+        .action(ArgAction::SetTrue)
+        .help("Put the task table and the line --- in front")
 }
 
 /// The job that the subcommand names; none where it is a run of which two answers are asked for.
@@ -186,21 +212,26 @@ fn job_of(word: &str, answer: Option<RunAnswer>) -> Option<Job>
     }
 }
 
-/// What the flags after the word for a run ask for; nothing where both are there.
+/// What the flags after the word for a run ask for; nothing where more than one is there.
 fn flags_ask(flags: &ArgMatches) -> Option<RunAnswer>
     ensures { (asked : Option RunAnswerOf) → FlagsAsk (rows_of (found_of flags.now)) asked →
         result ≡ asked }
 {
-    answer_of(flags.get_flag("summary"), flags.get_flag("report"))
+    answer_of(
+        flags.get_flag("summary"),
+        flags.get_flag("report"),
+        flags.get_flag("table"),
+    )
 }
 
-fn answer_of(summary: bool, report: bool) -> Option<RunAnswer>
-    ensures { result ≡ answer_of summary report }
+fn answer_of(summary: bool, report: bool, table: bool) -> Option<RunAnswer>
+    ensures { result ≡ answer_of summary report table }
 {
-    match (summary, report) {
-        (false, false) => Some(RunAnswer::History),
-        (true, false) => Some(RunAnswer::Summary),
-        (false, true) => Some(RunAnswer::Report),
-        (true, true) => None,
+    match (summary, report, table) {
+        (false, false, false) => Some(RunAnswer::History),
+        (true, false, false) => Some(RunAnswer::Summary),
+        (false, true, false) => Some(RunAnswer::Report),
+        (false, false, true) => Some(RunAnswer::WithTable),
+        _ => None,
     }
 }

@@ -36,12 +36,14 @@ pub const NOTHING: Help = Help {
 pub const PROGRAM: Help = Help {
     about: "The core scheduler of Caladan over a task table and a trace on standard input",
     after: "\
-Without a subcommand it runs `decide`. Each subcommand reads one input from the standard input: a
-task table (TOML), the line ---, and a trace (CSV). `caladan_sim SUBCOMMAND --help` describes the
-trace and the output, with a whole input to copy; `man caladan-formats` describes everything.
+Without a subcommand it runs `decide`. Each subcommand reads one input from the
+standard input: a task table (TOML), the line ---, and a trace (CSV).
+`caladan_sim SUBCOMMAND --help` describes the trace and the output, with a
+whole input to copy; `man caladan-formats` describes everything.
 
-Exit status: 0 done, 1 an illegal history, 2 bad arguments or rejected input, 3 memory, output or a
-thread was refused. A fault is one line on the standard error.",
+Exit status: 0 done, 1 an illegal history, 2 bad arguments or rejected input, 3
+memory, output or a thread was refused. A fault is one line on the standard
+error.",
 };
 
 /// Of the subcommand `decide`.
@@ -49,9 +51,11 @@ pub const DECIDE: Help = Help {
     about: "Decide the passes of a signal trace",
     after: help_with_a_run!(
         "\
-Standard input: a task table (TOML), the line ---, and signals (CSV): for each pass a row with its
-clock and bandwidth figure, and what was found on the page of each kernel thread.
-Standard output: the report: what each pass did, and what each task has at the end.
+Standard input: a task table (TOML), the line ---, and signals (CSV): for each
+pass a row with its clock and bandwidth figure, and what was found on the page
+of each kernel thread.
+Standard output: the report: what each pass did, and what each task has at the
+end.
 Exit status: 0 done, 2 rejected input, 3 memory or output was refused.",
         "caladan_sim decide",
         "\
@@ -75,10 +79,12 @@ pub const LOCKSTEP: Help = Help {
     about: "Make a whole run of arrivals on one thread",
     after: help_with_a_run!(
         "\
-Standard input: a task table (TOML), the line ---, and arrivals (CSV): the clocks of the passes and
-of the kernel threads' turns, and the requests that come to the threads.
-Standard output: the history of the run, which `audit` reads after the table; with --summary, what
-each kernel thread did; with --report, what `audit` writes of that history above its last line.
+Standard input: a task table (TOML), the line ---, and arrivals (CSV): the
+clocks of the passes and of the kernel threads' turns, and the requests that
+come to the threads.
+Standard output: the history of the run; with --table the table and the line
+--- before it, as `audit` reads them; with --summary, what each kernel thread
+did; with --report, what `audit` writes of that history above its last line.
 Exit status: 0 done, 2 rejected input, 3 memory or output was refused.",
         "caladan_sim lockstep",
         "\
@@ -108,12 +114,15 @@ pub const SIM: Help = Help {
     about: "Make a whole run of arrivals in threads",
     after: help_with_a_run!(
         "\
-Standard input: a task table (TOML), the line ---, and arrivals (CSV): the clocks of the passes and
-of the kernel threads' turns, and the requests that come to the threads.
-Standard output: the history of the run, which `audit` reads after the table; with --summary, what
-each kernel thread did; with --report, what `audit` writes of that history above its last line.
+Standard input: a task table (TOML), the line ---, and arrivals (CSV): the
+clocks of the passes and of the kernel threads' turns, and the requests that
+come to the threads.
+Standard output: the history of the run; with --table the table and the line
+--- before it, as `audit` reads them; with --summary, what each kernel thread
+did; with --report, what `audit` writes of that history above its last line.
 Threads interleave differently on every run, so the output varies.
-Exit status: 0 done, 2 rejected input, 3 memory, output or a thread was refused.",
+Exit status: 0 done, 2 rejected input, 3 memory, output or a thread was
+refused.",
         "caladan_sim sim",
         "\
 caladan-arrivals,1
@@ -142,11 +151,14 @@ pub const AUDIT: Help = Help {
     about: "Audit a history against the policy",
     after: help_with_a_run!(
         "\
-Standard input: a task table (TOML), the line ---, and a history (CSV), as `lockstep`, `sim` and
-`caladan_view history` write it.
-Standard output: if every pass is the policy's, the report and the line `legal`; else the one line
-`illegal pass P`, where P is the first pass, from 0, that is not.
-Exit status: 0 legal, 1 illegal, 2 rejected input, 3 memory or output was refused.",
+Standard input: a task table (TOML), the line ---, and a history (CSV), as
+`lockstep`, `sim` and `caladan_view history` write it; with --table they write
+all three.
+Standard output: if every pass is the policy's, the report and the line
+`legal`; else the one line `illegal pass P`, where P is the first pass, from 0,
+that is not.
+Exit status: 0 legal, 1 illegal, 2 rejected input, 3 memory or output was
+refused.",
         "caladan_sim audit",
         "\
 caladan-history,2

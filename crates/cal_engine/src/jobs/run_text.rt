@@ -15,7 +15,7 @@ use cal_run::{RunEnd, ThreadsEnd};
 use cal_trace::{Arrivals, write_history, write_report, write_summary};
 use std::alloc::Global;
 
-/// What is written of what a run ends with, in memory. Its fault is `Memory`.
+/// What is written of what a run ends with, in memory, without the table. Its fault is `Memory`.
 pub(crate) fn run_text(
     alloc: Global,
     answer: RunAnswer,
@@ -32,7 +32,9 @@ pub(crate) fn run_text(
     legal_is_orderly();
     let mut text = Vec::new(alloc);
     let written = match answer {
-        RunAnswer::History => write_history(end.history.as_slice(), &mut text),
+        RunAnswer::History | RunAnswer::WithTable => {
+            write_history(end.history.as_slice(), &mut text)
+        }
         RunAnswer::Summary => {
             return summary_of(
                 alloc,

@@ -4,12 +4,13 @@ ghost use Rattle.std.specs.Prelude.{◌≡◌, ◌≢◌, Err, IfOk, IfErr, IfSo
 ghost use Rattle.cal_trace.specs.Arrivals.FitsTable.{FitsTable};
 ghost use Rattle.cal_engine.specs.Outcome.{Decided};
 ghost use Rattle.cal_engine.specs.Runs.{within_limit};
-ghost use Rattle.cal_engine.specs.Running.{run_input_of, IsTextOfRun, Runs, TellsRun};
+ghost use Rattle.cal_engine.specs.Running.{run_front, run_input_of, IsTextOfRun, Runs, TellsRun};
 
 use crate::fault::RunFault;
 use crate::input::parts::run_input;
 use crate::input::read_input;
-use crate::jobs::answer::write_answer;
+use crate::jobs::answer::write_after_front;
+use crate::jobs::front::Front;
 use crate::jobs::run_text::{run_text, threads_summary};
 use cal_machine::Config;
 use cal_run::{lockstep_end, lockstep_threads};
@@ -22,6 +23,8 @@ use std::io::{Read, Write};
 pub enum RunAnswer {
     /// Its history, as a file.
     History,
+    /// The same after the task table of the input and the line `---`, so that it is an input.
+    WithTable,
     /// What each kernel thread did.
     Summary,
     /// What the audit of its history writes above the last line.
@@ -43,8 +46,8 @@ pub fn run_lockstep<R: Read + Drop, W: Write>(
     // The text of a run on the input was written and nothing else, or the fault is the input's
     // first.
     ensures exact { IfSome (R.remaining reader) (λ input.
-        Runs answer result (within_limit input (run_input_of input)) (W.contents writer.old)
-        (W.contents writer.new)) }
+        Runs answer result input (within_limit input (run_input_of input))
+        (W.contents writer.old) (W.contents writer.new)) }
     // Nothing is written before the run was made.
     ensures untouched { IfErr result (λ fault. fault ≢ RunFault.Write → writer.new ≡ writer.old) }
     // No thread is started, and no gate asked.
@@ -52,7 +55,17 @@ pub fn run_lockstep<R: Read + Drop, W: Write>(
 {
     let input = read_input(alloc, &mut reader)?;
     let text = lockstep_text(alloc, answer, input.as_slice())?;
-    write_answer(text.as_slice(), writer)
+    write_after_front(run_front(answer), input.as_slice(), text.as_slice(), writer)
+}
+
+/// What stands before the text of a run.
+pub(crate) fn run_front(answer: RunAnswer) -> Front
+    ensures { result ≡ run_front answer }
+{
+    match answer {
+        RunAnswer::WithTable => Front::Table,
+        _ => Front::Nothing,
+    }
 }
 
 /// What is written of a run on one thread on the arrivals of an input, in memory.

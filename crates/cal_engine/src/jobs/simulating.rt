@@ -12,9 +12,9 @@ ghost use Rattle.cal_engine.specs.Running.{RunsInThreads, TellsRun};
 use crate::fault::RunFault;
 use crate::input::parts::run_input;
 use crate::input::read_input;
-use crate::jobs::answer::write_answer;
+use crate::jobs::answer::write_after_front;
 use crate::jobs::run_text::run_text;
-use crate::jobs::running::RunAnswer;
+use crate::jobs::running::{RunAnswer, run_front};
 use cal_machine::Config;
 use cal_run::{RunEnd, SimFault};
 use cal_threads::{FreeGate, simulation_end};
@@ -42,7 +42,7 @@ pub fn run_sim<H: Threads + Wait + Sync, R: Read + Drop, W: Write>(
     // The text of a run on the input was written and nothing else, or the fault is the input's
     // first.
     ensures exact { IfSome (R.remaining reader) (λ input.
-        RunsInThreads answer result (within_limit input (run_input_of input))
+        RunsInThreads answer result input (within_limit input (run_input_of input))
         (W.contents writer.old) (W.contents writer.new)) }
     // Nothing is written before the run was made.
     ensures untouched { IfErr result (λ fault. fault ≢ RunFault.Write → writer.new ≡ writer.old) }
@@ -51,7 +51,7 @@ pub fn run_sim<H: Threads + Wait + Sync, R: Read + Drop, W: Write>(
 {
     let input = read_input(alloc, &mut reader)?;
     let text = simulation_text(rt, alloc, answer, input.as_slice())?;
-    write_answer(text.as_slice(), writer)
+    write_after_front(run_front(answer), input.as_slice(), text.as_slice(), writer)
 }
 
 /// What is written of a run in threads on the arrivals of an input, in memory.

@@ -1,4 +1,4 @@
-use Rattle.std.proofs.Common.{◌≡◌, Err, Result, rules}
+use Rattle.std.proofs.Common.{◌≡◌, ℕ, List, Err, Result, rules}
 use Rattle.cal_engine.specs.Outcome.{Reports}
 use Rattle.cal_engine.specs.Runs.{Run, decided_run_of}
 use Rattle.cal_engine.specs.declared.fault.RunFault.{RunFault}
@@ -17,7 +17,7 @@ returns-in_err-report-clause-exact g c =
 pub returns-clause-exact : goal.returns-clause-exact
 returns-clause-exact g c =
     let text = c.in_ok-input.input.items in
-    answered (λ (outcome : Result Run RunFault). Reports c.write_answer.result outcome (g.W.Write.contents c.args.writer.now) (g.W.Write.contents c.write_answer.new.writer))
+    answered (λ (given : List ℕ) (outcome : Result Run RunFault). Reports c.write_answer.result outcome (g.W.Write.contents c.args.writer.now) (g.W.Write.contents c.write_answer.new.writer))
     (g.R.Read.remaining c.args.reader) (g.R.Read.remaining c.read_input.new.reader) text decided_run_of
     c.in_ok-input.ensures.all c.in_ok-input.ensures.end c.in_ok-input.ensures.short
     (reports c.write_answer.result (decided_run_of text) _ _ c.in_ok-report.report.items (rw c.as_slice.ensures.value at c.in_ok-report.ensures)
