@@ -60,7 +60,7 @@ shares, as 90%:1,10%:20",
                     "given {times} times for {tasks} tasks: once, or once for each --task"
                 )
             }
-            Why::Several => f.write_str("one load; only the first task of a sweep has several"),
+            Why::Several => f.write_str("one load is asked for, and not several"),
             Why::TooMany(most) => write!(f, "more than {most} requests would come"),
             Why::NotAnObjective => f.write_str(
                 "an objective is as task.0.p99=65: a task, p50, p90, p99, p99.9 or max, and ticks",

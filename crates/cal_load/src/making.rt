@@ -93,7 +93,7 @@ pub struct Coming {
     pub later: u64,
     /// How many found no turn any more, and are left out.
     pub left_out: u64,
-    /// The turns that all that come take.
+    /// The turns that all others take.
     pub work: u64,
 }
 

@@ -22,6 +22,8 @@ pub struct Count {
     pub later: u64,
     /// How many found no turn any more, and are left out.
     pub left_out: u64,
+    /// The turns that all others take.
+    pub work: u64,
 }
 
 /// Arrivals that were made.
@@ -173,6 +175,7 @@ fn count_of(of_task: &OfTask) -> Count {
         came: of_task.coming.came,
         later: of_task.coming.later,
         left_out: of_task.coming.left_out,
+        work: of_task.coming.work,
     }
 }
 

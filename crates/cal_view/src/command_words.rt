@@ -1,5 +1,6 @@
 //! The words of the program.
 
+pub mod arrival_words;
 pub mod command_line;
 pub mod help_texts;
 pub mod variation;

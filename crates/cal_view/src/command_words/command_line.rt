@@ -1,5 +1,6 @@
 //! What the words of a command line ask for.
 
+use crate::command_words::arrival_words::{ArrivalWords, arrival_word, arrival_words};
 use crate::command_words::help_texts;
 use crate::jobs::explaining::Asked;
 use crate::jobs::recording::Front;
@@ -10,7 +11,7 @@ use clap::{Arg, ArgAction, ArgMatches, Command, Error};
 use std::alloc::{AllocError, Global};
 
 /// What the program is to do with its input.
-#[derive(Clone, Copy, Debug, PartialEq, Eq)]
+#[derive(Debug, Drop)]
 pub enum Job<'a> {
     /// Write the history that signals lead to, with the task table in front or without it.
     History {
@@ -43,6 +44,11 @@ pub enum Job<'a> {
         /// Which pass, and what of it.
         asked: Asked,
     },
+    /// Make arrivals for a task table.
+    Arrivals {
+        /// Which arrivals.
+        asked: ArrivalWords<'a>,
+    },
     /// Say how the program is used.
     Help,
 }
@@ -64,6 +70,10 @@ pub enum Form {
 /// output; out of memory has the kind `OutOfMemory`.
 pub fn words<'a>(alloc: Global, words: &'a [&'a str]) -> Result<Job<'a>, Error> {
     let matches = program(alloc)?.try_get_matches_from(words)?;
+    if let Some(("arrivals", own)) = matches.subcommand() {
+        let asked = arrival_words(alloc, own)?;
+        return Ok(Job::Arrivals { asked });
+    }
     match job_of(&matches) {
         Some(job) => Ok(job),
         None => Err(conflict(alloc)?),
@@ -109,7 +119,8 @@ fn program<'a>(alloc: Global) -> Result<Command<'a>, AllocError> {
         .subcommand(timeline)?
         .subcommand(measure)?
         .subcommand(compare_word(alloc)?)?
-        .subcommand(explain_word(alloc)?)
+        .subcommand(explain_word(alloc)?)?
+        .subcommand(arrival_word(alloc)?)
 }
 
 fn explain_word<'a>(alloc: Global) -> Result<Command<'a>, AllocError> {

@@ -259,3 +259,38 @@ pass 0 now 111 bandwidth 0
     core 1: class 3 other idle
     -> grant core 0 to thread 0 class 3"
 );
+
+/// Of the subcommand `arrivals`.
+pub const ARRIVALS: &str = help_with_a_run!(
+    "\
+Standard input: a task table (TOML); what follows a line --- is not read.
+Standard output: arrivals (CSV), which `measure`, `compare` and `caladan_sim lockstep` read after the
+table; with --table an input of these. Pass p has the clock p times the ticks, from p = 1, with a
+bandwidth figure of 0, and turn p comes half a turn later.
+A task's load is the work asked for, over the turns times its limit. Requests come by chance each for
+itself (poisson), as far apart as can be (even), or so many at once (bursts:N), each to one of the
+task's threads by chance. One that comes to a turn that is taken comes in the thread's next. With
+several tasks --load, --service and --pattern are given once, or once for each --task, in the same
+order. What comes to a task depends on its number, its limit, its own words, the turns and the seed.
+With --summary, of each task: how many requests came, how many of these stand before a later turn
+than they came to, how many found no turn and are left out, and the load of all others.
+Exit status: 0 done, 2 rejected input or a word that it refuses, which is named, 3 memory or output
+was refused.",
+    "caladan_view arrivals --task 0 --load 0.5 --pattern even --turns 4",
+    "\
+END
+
+It writes:
+
+caladan-arrivals,1
+pass,10,0
+pass,20,0
+pass,30,0
+pass,40,0
+turn,15
+turn,25
+turn,35
+turn,45
+request,0,2,1,1,0
+end,9"
+);

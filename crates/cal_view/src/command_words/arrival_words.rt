@@ -1,0 +1,176 @@
+//! The words after `arrivals`.
+
+use crate::command_words::help_texts;
+use clap::{Arg, ArgAction, ArgMatches, Command};
+use std::alloc::{AllocError, Global};
+
+/// As what arrivals that were made are written.
+#[derive(Clone, Copy, Debug, PartialEq, Eq)]
+pub enum ArrivalForm {
+    /// As arrivals.
+    Arrivals,
+    /// As arrivals, with the task table and the line `---` in front, so that it is an input.
+    Input,
+    /// As a line for each task that has a load.
+    Summary,
+}
+
+/// What the words ask for, each word of a task as it was given.
+#[derive(Debug, Drop)]
+pub struct ArrivalWords<'a> {
+    /// The tasks to which requests come.
+    pub tasks: Vec<&'a str>,
+    /// One load for all of them, or one for each. The next two are given in the same way.
+    pub loads: Vec<&'a str>,
+    /// The turns that requests take.
+    pub services: Vec<&'a str>,
+    /// How they come.
+    pub patterns: Vec<&'a str>,
+    /// How many passes there are, and as many turns.
+    pub turns: u64,
+    /// How many ticks a turn takes.
+    pub ticks: u64,
+    /// The seed.
+    pub seed: u64,
+    /// As what it is written.
+    pub form: ArrivalForm,
+}
+
+/// The subcommand with its options.
+pub fn arrival_word<'a>(alloc: Global) -> Result<Command<'a>, AllocError> {
+    Command::new(alloc, "arrivals")
+        .about("Make arrivals of a load, at random by a seed")
+        .after_help(help_texts::ARRIVALS)
+        .arg(task_word(alloc))?
+        .arg(load_word(alloc))?
+        .arg(service_word(alloc))?
+        .arg(pattern_word(alloc))?
+        .arg(turns_word(alloc))?
+        .arg(ticks_word(alloc))?
+        .arg(seed_word(alloc))?
+        .arg(table_word(alloc))?
+        .arg(summary_word(alloc)?)
+}
+
+/// What may be given more than once.
+fn some_words<'a>(alloc: Global, name: &'a str, value: &'a str) -> Arg<'a> {
+    Arg::new(alloc, name)
+        .long(name)
+        .action(ArgAction::Append)
+        .value_name(value)
+}
+
+fn task_word<'a>(alloc: Global) -> Arg<'a> {
+    some_words(alloc, "task", "TASK")
+        .required(true)
+        .value_parser(clap::value_parser!(u64))
+        .help("A task that requests come to; what follows is of all such tasks, or given for each")
+}
+
+fn load_word<'a>(alloc: Global) -> Arg<'a> {
+    some_words(alloc, "load", "LOAD").required(true).help(
+        "The work that comes, as a part of all turns of the task's threads, as 0.7",
+    )
+}
+
+fn service_word<'a>(alloc: Global) -> Arg<'a> {
+    some_words(alloc, "service", "TURNS")
+        .default_value("1")
+        .help("The turns that requests take, as 3 or 90%:1,10%:20")
+}
+
+fn pattern_word<'a>(alloc: Global) -> Arg<'a> {
+    some_words(alloc, "pattern", "PATTERN")
+        .default_value("poisson")
+        .help("How they come: poisson, even, or bursts:N of N at once")
+}
+
+fn one_number<'a>(alloc: Global, name: &'a str, value: &'a str) -> Arg<'a> {
+    Arg::new(alloc, name)
+        .long(name)
+        .action(ArgAction::Set)
+        .value_name(value)
+}
+
+fn turns_word<'a>(alloc: Global) -> Arg<'a> {
+    one_number(alloc, "turns", "N")
+        .default_value("1000")
+        .value_parser(clap::value_parser!(u64).range(1..=174_762))
+        .help("How many turns each thread makes, and as many passes, 1 to 174762")
+}
+
+fn ticks_word<'a>(alloc: Global) -> Arg<'a> {
+    one_number(alloc, "ticks", "N")
+        .default_value("10")
+        .value_parser(clap::value_parser!(u64).range(1..=1_000_000_000))
+        .help("How many ticks a turn takes, 1 to 1000000000")
+}
+
+fn seed_word<'a>(alloc: Global) -> Arg<'a> {
+    one_number(alloc, "seed", "SEED")
+        .default_value("1")
+        .value_parser(clap::value_parser!(u64))
+        .help("What chance goes by: the same words make the same arrivals")
+}
+
+fn table_word<'a>(alloc: Global) -> Arg<'a> {
+    Arg::new(alloc, "table")
+        .long("table")
+        .action(ArgAction::SetTrue)
+        .help("Put the task table and the line --- in front")
+}
+
+fn summary_word<'a>(alloc: Global) -> Result<Arg<'a>, AllocError> {
+    Arg::new(alloc, "summary")
+        .long("summary")
+        .action(ArgAction::SetTrue)
+        .help("Write a line for each task, in place of the arrivals")
+        .conflicts_with("table")
+}
+
+/// What the words of a parsed command line ask for. Fails only when out of memory.
+pub fn arrival_words<'a>(
+    alloc: Global,
+    matches: &ArgMatches<'a>,
+) -> Result<ArrivalWords<'a>, AllocError> {
+    Ok(ArrivalWords {
+        tasks: all_of(alloc, matches, "task")?,
+        loads: all_of(alloc, matches, "load")?,
+        services: all_of(alloc, matches, "service")?,
+        patterns: all_of(alloc, matches, "pattern")?,
+        turns: number_of(matches, "turns"),
+        ticks: number_of(matches, "ticks"),
+        seed: number_of(matches, "seed"),
+        form: form_of(matches.get_flag("table"), matches.get_flag("summary")),
+    })
+}
+
+/// All words of an option.
+fn all_of<'a>(
+    alloc: Global,
+    matches: &ArgMatches<'a>,
+    id: &str,
+) -> Result<Vec<&'a str>, AllocError> {
+    let mut words = Vec::new(alloc);
+    let Some(given) = matches.get_strs(id) else {
+        return Ok(words);
+    };
+    for word in given {
+        words.push(*word)?;
+    }
+    Ok(words)
+}
+
+/// The number of an option that has a default.
+fn number_of(matches: &ArgMatches<'_>, id: &str) -> u64 {
+    matches.get_one::<u64>(id).unwrap_or(0)
+}
+
+/// What the flags `--table` and `--summary` ask for, of which one at most is given.
+fn form_of(table: bool, summary: bool) -> ArrivalForm {
+    match (table, summary) {
+        (_, true) => ArrivalForm::Summary,
+        (true, false) => ArrivalForm::Input,
+        (false, false) => ArrivalForm::Arrivals,
+    }
+}

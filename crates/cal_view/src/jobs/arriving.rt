@@ -1,0 +1,160 @@
+//! Arrivals made for a task table.
+
+mod loads;
+mod summary;
+
+ghost use Rattle.std.specs.Prelude.{◌≡◌, ◌≢◌, IfErr, IfOk};
+
+use crate::command_words::arrival_words::{ArrivalForm, ArrivalWords};
+use crate::jobs::arriving::loads::{are_known, asked_loads, word_at};
+use crate::jobs::arriving::summary::summary_of;
+use cal_engine::{INPUT_LIMIT, RunFault, read_input, split_input};
+use cal_load::{LoadFault, Made, Timing, WordFault, made_arrivals};
+use cal_machine::{Config, ConfigFault};
+use std::alloc::{AllocError, Global};
+use std::io::{Read, Write};
+
+/// Why no arrivals were made.
+#[derive(Clone, Copy, Debug, PartialEq, Eq)]
+enum Unmade<'a> {
+    /// A word is refused.
+    Word(WordFault<'a>),
+    /// The input is refused, or memory.
+    Run(RunFault),
+}
+
+impl<'a> From<LoadFault<'a>> for Unmade<'a> {
+    fn from(fault: LoadFault<'a>) -> Unmade<'a> {
+        match fault {
+            LoadFault::Word(fault) => Unmade::Word(fault),
+            LoadFault::Memory => Unmade::Run(RunFault::Memory),
+        }
+    }
+}
+
+impl<'a> From<RunFault> for Unmade<'a> {
+    fn from(fault: RunFault) -> Unmade<'a> {
+        Unmade::Run(fault)
+    }
+}
+
+impl<'a> From<ConfigFault> for Unmade<'a> {
+    fn from(fault: ConfigFault) -> Unmade<'a> {
+        Unmade::Run(RunFault::Config(fault))
+    }
+}
+
+impl<'a> From<AllocError> for Unmade<'a> {
+    fn from(_e: AllocError) -> Unmade<'a> {
+        Unmade::Run(RunFault::Memory)
+    }
+}
+
+/// What is written: what stands in front, and the rest.
+#[derive(Drop)]
+struct Answer {
+    front: Vec<u8>,
+    text: String,
+}
+
+/// Reads a task table, makes the arrivals that the words ask for, writes them, and answers the exit
+/// status: 2 where a word is refused, of which one line then says why. What follows a separator
+/// line in the input is not read.
+///
+/// The faults of words that need no table come first, then those of the input, the table's, and
+/// those of words that it refuses. Nothing is written before all was made.
+pub fn answer_arrivals<R: Read + Drop, W: Write, E: Write>(
+    alloc: Global,
+    reader: R,
+    asked: &ArrivalWords<'_>,
+    output: &mut W,
+    errors: &mut E,
+) -> Result<u8, RunFault>
+    // Nothing is written where anything is refused.
+    ensures refused { IfOk result (λ status. status ≢ 0 → output.new ≡ output.old) }
+    ensures untouched { IfErr result (λ fault. fault ≢ RunFault.Write → output.new ≡ output.old) }
+{
+    match made_answer(alloc, reader, asked) {
+        Ok(answer) => write_answer(&answer, output),
+        Err(Unmade::Run(fault)) => Err(fault),
+        Err(Unmade::Word(fault)) => {
+            let _ = writeln!(errors, "caladan_view: {fault}");
+            Ok(2)
+        }
+    }
+}
+
+/// Writes what was made, and answers the exit status, 0. The fault is `Write`.
+fn write_answer<W: Write>(answer: &Answer, output: &mut W) -> Result<u8, RunFault>
+    ensures done { IfOk result (λ status. status ≡ 0) }
+    ensures kind { IfErr result (λ fault. fault ≡ RunFault.Write) }
+{
+    if output.write_all(answer.front.as_slice()).is_err() {
+        return Err(RunFault::Write);
+    }
+    match output.write_all(answer.text.as_bytes()) {
+        Ok(()) => Ok(0),
+        Err(_) => Err(RunFault::Write),
+    }
+}
+
+/// Reads a task table, and makes what the words ask for.
+fn made_answer<'a, R: Read + Drop>(
+    alloc: Global,
+    mut reader: R,
+    asked: &ArrivalWords<'a>,
+) -> Result<Answer, Unmade<'a>> {
+    let loads = asked_loads(alloc, asked)?;
+    let input = read_input(alloc, &mut reader)?;
+    let table = table_of(input.as_slice());
+    let config = Config::read(alloc, table)?;
+    are_known(&config, loads.as_slice(), asked.tasks.as_slice())?;
+    let timing = Timing {
+        turns: asked.turns,
+        ticks: asked.ticks,
+    };
+    let word = word_at(asked.loads.as_slice(), 0);
+    let made = made_arrivals(alloc, &config, loads.as_slice(), timing, asked.seed, word)?;
+    answer_of(alloc, &config, asked, table, made)
+}
+
+/// The table of an input: what comes before the first separator line, or all.
+fn table_of(input: &[u8]) -> &[u8] {
+    match split_input(input) {
+        Some((table, _)) => table,
+        None => input,
+    }
+}
+
+/// What was made, as it is written.
+fn answer_of<'a>(
+    alloc: Global,
+    config: &Config,
+    asked: &ArrivalWords<'a>,
+    table: &[u8],
+    made: Made,
+) -> Result<Answer, Unmade<'a>> {
+    let mut front = Vec::new(alloc);
+    let text = match asked.form {
+        ArrivalForm::Arrivals => made.text,
+        ArrivalForm::Input => {
+            put_table(table, &mut front)?;
+            made.text
+        }
+        ArrivalForm::Summary => summary_of(alloc, config, made.counts.as_slice(), asked.turns)?,
+    };
+    // An input is read up to this length.
+    if front.len().saturating_add(text.len()) > INPUT_LIMIT {
+        return Err(Unmade::Run(RunFault::Length));
+    }
+    Ok(Answer { front, text })
+}
+
+/// Puts a task table, whose last line is ended where it is not, and the separator line.
+fn put_table(table: &[u8], front: &mut Vec<u8>) -> Result<(), AllocError> {
+    front.extend_from_slice(table)?;
+    if !table.ends_with(b"\n") {
+        front.push(b'\n')?;
+    }
+    front.extend_from_slice(b"---\n")
+}
