@@ -1,4 +1,4 @@
-//! What the program says of the fault of several tables.
+//! What the program says of the fault of several tables, and of a pass that is not there.
 
 use cal_engine::{end_with, status};
 use cal_tables::{ComparisonFault, Variation};
@@ -32,4 +32,14 @@ fn value_of<'a>(variation: Option<Variation<'a>>, table: usize) -> Option<(&'a s
     let variation = variation?;
     let value = variation.values.get(table)?;
     Some((variation.key, *value))
+}
+
+/// Writes the line that the program says where a history has so many passes and not the one that was
+/// asked for, and answers the exit status after it.
+pub fn end_without_pass<W: Write>(pass: usize, passes: usize, errors: &mut W) -> u8 {
+    let _ = writeln!(
+        errors,
+        "caladan_view: no pass {pass}: there are {passes}, from 0"
+    );
+    2
 }

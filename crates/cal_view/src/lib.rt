@@ -14,6 +14,6 @@ mod timeline;
 
 pub use command_words::command_line::{Form, Job, words};
 pub use jobs::recording::{Front, record};
-pub use picture::draw_picture;
+pub use picture::{Drawn, draw_picture};
 pub use program::{run_program, say_help};
 pub use timeline::write_timeline;

@@ -5,7 +5,7 @@ ghost use Rattle.std.specs.Prelude.{◌≡◌, ◌≢◌, IfErr};
 
 use crate::command_words::command_line::{Job, help, words};
 use crate::jobs::comparing::answer_compare;
-use crate::jobs::drawing::{draw_read, write_read_timeline};
+use crate::jobs::drawing::{answer_picture, write_read_timeline};
 use crate::jobs::explaining::answer_explain;
 use crate::jobs::recording::record;
 use cal_engine::{RunFault, end_with, refuse_words, words_after_first};
@@ -44,6 +44,9 @@ fn answer_words<R: Read + Drop, W: Write, E: Write>(
     let given = words_after_first(alloc, named)?;
     match words(alloc, given.as_slice()) {
         Ok(Job::Help) => say_help(alloc, errors),
+        Ok(Job::Picture { from, passes }) => {
+            answer_picture(alloc, reader, from, passes, output, errors)
+        }
         Ok(Job::Explain { asked }) => answer_explain(alloc, reader, asked, output, errors),
         Ok(Job::Compare { vary, form }) => {
             answer_compare(alloc, reader, vary, form, output, errors)
@@ -56,7 +59,7 @@ fn answer_words<R: Read + Drop, W: Write, E: Write>(
     }
 }
 
-/// Says how the program is used, where no word was given. That is no job, so the status is 2.
+/// Says in short how the program is used, where no word was given. That is no job, so the status is 2.
 pub fn say_help<E: Write>(alloc: Global, errors: &mut E) -> Result<u8, RunFault>
     ensures { IfErr result (λ fault. fault ≢ RunFault.Write → errors.new ≡ errors.old) }
 {
@@ -80,10 +83,9 @@ fn do_job<R: Read + Drop, W: Write>(
     };
     match job {
         Job::History { front } => record(alloc, reader, front, &mut buffer)?,
-        Job::Picture { from, passes } => draw_read(alloc, reader, from, passes, &mut buffer)?,
         Job::Timeline => write_read_timeline(alloc, reader, &mut buffer)?,
         Job::Measure { form } => measure(alloc, reader, form, &mut buffer)?,
-        Job::Compare { .. } | Job::Explain { .. } | Job::Help => {}
+        Job::Picture { .. } | Job::Compare { .. } | Job::Explain { .. } | Job::Help => {}
     }
     match buffer.flush() {
         Ok(()) => Ok(()),

@@ -59,24 +59,44 @@ pub enum Form {
 /// What the words after the program's name ask for; no words are `Job::Help`.
 ///
 /// The error is clap's own. A word that is not in the table is refused; CSV and a picture at once
-/// are an error of the kind `ArgumentConflict`; a request for help is an error of the kind
-/// `DisplayHelp`, one for the version of the kind `DisplayVersion`, whose texts go to the standard
-/// output; out of memory has the kind `OutOfMemory`.
+/// are an error of the kind `ArgumentConflict`, a key with no values one of the kind
+/// `ValueValidation`; a request for help is an error of the kind `DisplayHelp`, one for the version
+/// of the kind `DisplayVersion`, whose texts go to the standard output; out of memory has the kind
+/// `OutOfMemory`.
 pub fn words<'a>(alloc: Global, words: &'a [&'a str]) -> Result<Job<'a>, Error> {
     let matches = program(alloc)?.try_get_matches_from(words)?;
     match job_of(&matches) {
-        Some(job) => Ok(job),
-        None => Err(conflict(alloc)?),
+        Ok(job) => Ok(job),
+        Err(mistake) => Err(refused(alloc, mistake)?),
     }
 }
 
-/// That runs are to be shown as CSV and as a picture at once. Fails only when out of memory.
-fn conflict(alloc: Global) -> Result<Error, AllocError> {
-    let said = "the argument '--csv' cannot be used with '--picture'";
-    compare_word(alloc)?.error(ErrorKind::ArgumentConflict, said)
+/// What is wrong with words of `compare` that stand in the table one by one.
+#[derive(Clone, Copy, Debug, PartialEq, Eq)]
+enum Mistake {
+    /// The runs are to be shown as CSV and as a picture at once.
+    TwoForms,
+    /// The key that is varied has no values.
+    NoValues,
 }
 
-/// How the program is used.
+/// The error of a mistake. Fails only when out of memory.
+fn refused(alloc: Global, mistake: Mistake) -> Result<Error, AllocError> {
+    let (kind, said) = match mistake {
+        Mistake::TwoForms => (
+            ErrorKind::ArgumentConflict,
+            "the argument '--csv' cannot be used with '--picture'",
+        ),
+        Mistake::NoValues => (
+            ErrorKind::ValueValidation,
+            "the value of '--vary <KEY=V1,V2,..>' has no '='",
+        ),
+    };
+    let mut command = compare_word(alloc)?.bin_name("caladan_view compare")?;
+    command.error(kind, said)
+}
+
+/// How the program is used, in short.
 pub fn help(alloc: Global) -> Result<String, AllocError> {
     program(alloc)?.render_help()
 }
@@ -85,25 +105,26 @@ pub fn help(alloc: Global) -> Result<String, AllocError> {
 fn program<'a>(alloc: Global) -> Result<Command<'a>, AllocError> {
     let history = Command::new(alloc, "history")
         .about("Decide the passes of a signal trace, and write them as a history")
-        .after_help(help_texts::HISTORY)
+        .after_long_help(help_texts::HISTORY)
         .arg(table_word(alloc))?;
     let picture = Command::new(alloc, "picture")
         .about("Draw a history as one SVG")
-        .after_help(help_texts::PICTURE)
+        .after_long_help(help_texts::PICTURE)
         .arg(from_word(alloc))?
         .arg(passes_word(alloc))?;
     let timeline = Command::new(alloc, "timeline")
         .about("Write a history as trace events, for Perfetto and chrome://tracing")
-        .after_help(help_texts::TIMELINE);
+        .after_long_help(help_texts::TIMELINE);
     let measure = Command::new(alloc, "measure")
         .about("Make a run on arrivals, and write its numbers")
-        .after_help(help_texts::MEASURE)
+        .after_long_help(help_texts::MEASURE)
         .arg(csv_word(alloc))?;
     Command::new(alloc, "caladan_view")
         .version(VERSION)
-        .about("Looks at runs of the core scheduler of Caladan: an input on standard input")
-        .after_help(help_texts::PROGRAM)
+        .about("Looks at runs of the core scheduler of Caladan")
+        .after_long_help(help_texts::PROGRAM)
         .no_binary_name(true)
+        .bin_name("caladan_view")?
         .subcommand(history)?
         .subcommand(picture)?
         .subcommand(timeline)?
@@ -115,7 +136,7 @@ fn program<'a>(alloc: Global) -> Result<Command<'a>, AllocError> {
 fn explain_word<'a>(alloc: Global) -> Result<Command<'a>, AllocError> {
     Command::new(alloc, "explain")
         .about("Say why a pass does what it does")
-        .after_help(help_texts::EXPLAIN)
+        .after_long_help(help_texts::EXPLAIN)
         .arg(pass_word(alloc))?
         .arg(task_word(alloc)?)?
         .arg(number_word(alloc, "core", "CORE", "Tell of this core alone"))
@@ -145,8 +166,8 @@ fn number_word<'a>(alloc: Global, name: &'a str, value: &'a str, help: &'a str) 
 
 fn compare_word<'a>(alloc: Global) -> Result<Command<'a>, AllocError> {
     Command::new(alloc, "compare")
-        .about("Make runs of several tables on the same arrivals, and write their numbers")
-        .after_help(help_texts::COMPARE)
+        .about("Run several tables on the same arrivals, and compare their numbers")
+        .after_long_help(help_texts::COMPARE)
         .arg(vary_word(alloc))?
         .arg(csv_word(alloc))?
         .arg(picture_word(alloc))
@@ -178,7 +199,7 @@ fn vary_word<'a>(alloc: Global) -> Arg<'a> {
         .long("vary")
         .action(ArgAction::Set)
         .value_name("KEY=V1,V2,..")
-        .help("Make the tables from one table, by these values of a key, as task.1.delay")
+        .help("Vary one table by these values at a key")
 }
 
 fn from_word<'a>(alloc: Global) -> Arg<'a> {
@@ -196,11 +217,11 @@ fn passes_word<'a>(alloc: Global) -> Arg<'a> {
         .action(ArgAction::Set)
         .value_name("N")
         .value_parser(clap::value_parser!(u64).range(1..=1000))
-        .help("How many passes are shown, 1 to 1000 [default: those that fit]")
+        .help("How many are shown, 1 to 1000 [default: those that fit]")
 }
 
-/// The job of a parsed command line; nothing where it asks for CSV and for a picture at once.
-fn job_of<'a>(matches: &ArgMatches<'a>) -> Option<Job<'a>> {
+/// The job of a parsed command line, or what is wrong with it.
+fn job_of<'a>(matches: &ArgMatches<'a>) -> Result<Job<'a>, Mistake> {
     let job = match matches.subcommand() {
         Some((name, own)) if name == "history" => Job::History {
             front: front_of(own.get_flag("table")),
@@ -213,16 +234,23 @@ fn job_of<'a>(matches: &ArgMatches<'a>) -> Option<Job<'a>> {
         Some((name, own)) if name == "measure" => Job::Measure {
             form: number_form_of(own.get_flag("csv")),
         },
-        Some((name, own)) if name == "compare" => Job::Compare {
-            vary: own.get_str("vary"),
-            form: form_of(own.get_flag("csv"), own.get_flag("picture"))?,
-        },
+        Some((name, own)) if name == "compare" => comparison_of(own)?,
         Some((name, own)) if name == "explain" => Job::Explain {
             asked: asked_of(own),
         },
         _ => Job::Help,
     };
-    Some(job)
+    Ok(job)
+}
+
+/// What the options of `compare` ask for.
+fn comparison_of<'a>(matches: &ArgMatches<'a>) -> Result<Job<'a>, Mistake> {
+    let vary = matches.get_str("vary");
+    let form = form_of(matches.get_flag("csv"), matches.get_flag("picture"))?;
+    match vary {
+        Some(vary) if !vary.contains('=') => Err(Mistake::NoValues),
+        _ => Ok(Job::Compare { vary, form }),
+    }
 }
 
 /// What the options of `explain` ask for.
@@ -248,12 +276,12 @@ fn number_form_of(csv: bool) -> NumberForm {
     }
 }
 
-/// What the flags `--csv` and `--picture` ask for; nothing where both are given.
-fn form_of(csv: bool, picture: bool) -> Option<Form> {
+/// What the flags `--csv` and `--picture` ask for; not both.
+fn form_of(csv: bool, picture: bool) -> Result<Form, Mistake> {
     match (csv, picture) {
-        (true, true) => None,
-        (false, true) => Some(Form::Picture),
-        (_, false) => Some(Form::Numbers(number_form_of(csv))),
+        (true, true) => Err(Mistake::TwoForms),
+        (false, true) => Ok(Form::Picture),
+        (_, false) => Ok(Form::Numbers(number_form_of(csv))),
     }
 }
 
