@@ -1,30 +1,30 @@
 //! What the program says of the fault of several tables, and of a pass that is not there.
 
-use cal_engine::{end_with, status};
+use cal_engine::{RunFault, status};
 use cal_tables::{ComparisonFault, Variation};
 use std::io::Write;
 
-/// Writes the one line that the program says of a fault of several tables, and answers the exit
-/// status after it. The line is that of `end_with`; of a fault that a table or a value has, which
-/// stands before the reason. It takes no memory.
+/// Writes the one line that the program says of a fault that a table or a value has, which stands
+/// before the reason, and answers the exit status after it. Any other fault is the error. It takes
+/// no memory.
 pub fn end_comparison<W: Write>(
     fault: &ComparisonFault,
     variation: Option<Variation<'_>>,
     errors: &mut W,
-) -> u8 {
+) -> Result<u8, RunFault> {
     let reason = fault.fault;
     let Some(table) = fault.table else {
-        return end_with("caladan_view", &reason, errors);
+        return Err(reason);
     };
     // What memory, the writer or a thread refused is no table's.
     if status(&reason) != 2 {
-        return end_with("caladan_view", &reason, errors);
+        return Err(reason);
     }
     let _ = match value_of(variation, table) {
         Some((key, value)) => writeln!(errors, "caladan_view: {key}={value} {reason}"),
         None => writeln!(errors, "caladan_view: table {table} {reason}"),
     };
-    2
+    Ok(2)
 }
 
 /// The key and the value that make this table, where it is made by one.

@@ -56,6 +56,19 @@ pub enum Form {
     Picture,
 }
 
+/// What the words ask for: a job, what its input is, and where its answer goes.
+#[derive(Drop)]
+pub struct Request<'a> {
+    /// The job.
+    pub job: Job<'a>,
+    /// The files of task tables that stand in front of the input.
+    pub tables: Vec<&'a str>,
+    /// The file of the input, or of what comes after the tables; without it the standard input.
+    pub input: Option<&'a str>,
+    /// The file that the answer goes to; without it the standard output.
+    pub output: Option<&'a str>,
+}
+
 /// What the words after the program's name ask for; no words are `Job::Help`.
 ///
 /// The error is clap's own. A word that is not in the table is refused; CSV and a picture at once
@@ -63,11 +76,21 @@ pub enum Form {
 /// `ValueValidation`; a request for help is an error of the kind `DisplayHelp`, one for the version
 /// of the kind `DisplayVersion`, whose texts go to the standard output; out of memory has the kind
 /// `OutOfMemory`.
-pub fn words<'a>(alloc: Global, words: &'a [&'a str]) -> Result<Job<'a>, Error> {
+pub fn words<'a>(alloc: Global, words: &'a [&'a str]) -> Result<Request<'a>, Error> {
     let matches = program(alloc)?.try_get_matches_from(words)?;
-    match job_of(&matches) {
-        Ok(job) => Ok(job),
-        Err(mistake) => Err(refused(alloc, mistake)?),
+    let places = places_of(&matches);
+    let tables = match places {
+        Ok(places) => listed(alloc, places.tables)?,
+        Err(_) => Vec::new(alloc),
+    };
+    match (job_of(&matches), places) {
+        (Ok(job), Ok(places)) => Ok(Request {
+            job,
+            tables,
+            input: places.input,
+            output: places.output,
+        }),
+        (Err(mistake), _) | (_, Err(mistake)) => Err(refused(alloc, mistake)?),
     }
 }
 
@@ -78,6 +101,12 @@ enum Mistake {
     TwoForms,
     /// The key that is varied has no values.
     NoValues,
+    /// There are several files, and none of arrivals.
+    NoArrivals,
+    /// There is a file of arrivals, and none of a table.
+    NoTable,
+    /// Of several tables one is to be varied.
+    TwoTables,
 }
 
 /// The error of a mistake. Fails only when out of memory.
@@ -90,6 +119,18 @@ fn refused(alloc: Global, mistake: Mistake) -> Result<Error, AllocError> {
         Mistake::NoValues => (
             ErrorKind::ValueValidation,
             "the value of '--vary <KEY=V1,V2,..>' has no '='",
+        ),
+        Mistake::NoArrivals => (
+            ErrorKind::MissingRequiredArgument,
+            "several files are tables, and '--arrivals <FILE>' is not there",
+        ),
+        Mistake::NoTable => (
+            ErrorKind::MissingRequiredArgument,
+            "'--arrivals <FILE>' is there, and no file of a table",
+        ),
+        Mistake::TwoTables => (
+            ErrorKind::ArgumentConflict,
+            "the argument '--vary <KEY=V1,V2,..>' cannot be used with several tables",
         ),
     };
     let mut command = compare_word(alloc)?.bin_name("caladan_view compare")?;
@@ -106,19 +147,27 @@ fn program<'a>(alloc: Global) -> Result<Command<'a>, AllocError> {
     let history = Command::new(alloc, "history")
         .about("Decide the passes of a signal trace, and write them as a history")
         .after_long_help(help_texts::HISTORY)
-        .arg(table_word(alloc))?;
+        .arg(input_word(alloc))?
+        .arg(table_word(alloc))?
+        .arg(output_word(alloc))?;
     let picture = Command::new(alloc, "picture")
         .about("Draw a history as one SVG")
         .after_long_help(help_texts::PICTURE)
+        .arg(input_word(alloc))?
         .arg(from_word(alloc))?
-        .arg(passes_word(alloc))?;
+        .arg(passes_word(alloc))?
+        .arg(output_word(alloc))?;
     let timeline = Command::new(alloc, "timeline")
         .about("Write a history as trace events, for Perfetto and chrome://tracing")
-        .after_long_help(help_texts::TIMELINE);
+        .after_long_help(help_texts::TIMELINE)
+        .arg(input_word(alloc))?
+        .arg(output_word(alloc))?;
     let measure = Command::new(alloc, "measure")
         .about("Make a run on arrivals, and write its numbers")
         .after_long_help(help_texts::MEASURE)
-        .arg(csv_word(alloc))?;
+        .arg(input_word(alloc))?
+        .arg(csv_word(alloc))?
+        .arg(output_word(alloc))?;
     Command::new(alloc, "caladan_view")
         .version(VERSION)
         .about("Looks at runs of the core scheduler of Caladan")
@@ -137,9 +186,11 @@ fn explain_word<'a>(alloc: Global) -> Result<Command<'a>, AllocError> {
     Command::new(alloc, "explain")
         .about("Say why a pass does what it does")
         .after_long_help(help_texts::EXPLAIN)
+        .arg(input_word(alloc))?
         .arg(pass_word(alloc))?
         .arg(task_word(alloc)?)?
-        .arg(number_word(alloc, "core", "CORE", "Tell of this core alone"))
+        .arg(number_word(alloc, "core", "CORE", "Tell of this core alone"))?
+        .arg(output_word(alloc))
 }
 
 fn pass_word<'a>(alloc: Global) -> Arg<'a> {
@@ -168,9 +219,44 @@ fn compare_word<'a>(alloc: Global) -> Result<Command<'a>, AllocError> {
     Command::new(alloc, "compare")
         .about("Run several tables on the same arrivals, and compare their numbers")
         .after_long_help(help_texts::COMPARE)
+        .arg(tables_word(alloc))?
+        .arg(arrivals_word(alloc))?
         .arg(vary_word(alloc))?
         .arg(csv_word(alloc))?
-        .arg(picture_word(alloc))
+        .arg(picture_word(alloc))?
+        .arg(output_word(alloc))
+}
+
+fn input_word<'a>(alloc: Global) -> Arg<'a> {
+    Arg::new(alloc, "input")
+        .action(ArgAction::Set)
+        .value_name("FILE")
+        .help("The input [default: the standard input]")
+}
+
+fn tables_word<'a>(alloc: Global) -> Arg<'a> {
+    Arg::new(alloc, "tables")
+        .action(ArgAction::Append)
+        .num_args(1..)
+        .value_name("FILE")
+        .help("The input; with --arrivals the tables, a file each")
+}
+
+fn arrivals_word<'a>(alloc: Global) -> Arg<'a> {
+    Arg::new(alloc, "arrivals")
+        .long("arrivals")
+        .action(ArgAction::Set)
+        .value_name("FILE")
+        .help("The arrivals of all tables")
+}
+
+fn output_word<'a>(alloc: Global) -> Arg<'a> {
+    Arg::new(alloc, "output")
+        .short('o')
+        .long("output")
+        .action(ArgAction::Set)
+        .value_name("FILE")
+        .help("Where the answer goes [default: standard output]")
 }
 
 fn table_word<'a>(alloc: Global) -> Arg<'a> {
@@ -241,6 +327,73 @@ fn job_of<'a>(matches: &ArgMatches<'a>) -> Result<Job<'a>, Mistake> {
         _ => Job::Help,
     };
     Ok(job)
+}
+
+/// What the words say of files: those of tables, that of the input, that of the answer.
+#[derive(Clone, Copy)]
+struct Places<'m, 'a> {
+    tables: &'m [&'a str],
+    input: Option<&'a str>,
+    output: Option<&'a str>,
+}
+
+/// What a parsed command line says of files, or what is wrong with it.
+fn places_of<'m, 'a>(matches: &'m ArgMatches<'a>) -> Result<Places<'m, 'a>, Mistake> {
+    match matches.subcommand() {
+        Some((name, own)) if name == "compare" => compared_places(own),
+        Some((_, own)) => Ok(Places {
+            tables: &[],
+            input: own.get_str("input"),
+            output: own.get_str("output"),
+        }),
+        None => Ok(Places {
+            tables: &[],
+            input: None,
+            output: None,
+        }),
+    }
+}
+
+/// What the words of `compare` say of files. With arrivals the others are tables; without them there
+/// is one other, which is the input.
+fn compared_places<'m, 'a>(own: &'m ArgMatches<'a>) -> Result<Places<'m, 'a>, Mistake> {
+    let files = own.get_strs("tables").unwrap_or(&[]);
+    let output = own.get_str("output");
+    let Some(arrivals) = own.get_str("arrivals") else {
+        return match files {
+            [] => Ok(Places {
+                tables: &[],
+                input: None,
+                output,
+            }),
+            [input] => Ok(Places {
+                tables: &[],
+                input: Some(*input),
+                output,
+            }),
+            _ => Err(Mistake::NoArrivals),
+        };
+    };
+    if files.is_empty() {
+        return Err(Mistake::NoTable);
+    }
+    if files.len() > 1 && own.get_str("vary").is_some() {
+        return Err(Mistake::TwoTables);
+    }
+    Ok(Places {
+        tables: files,
+        input: Some(arrivals),
+        output,
+    })
+}
+
+/// The same names in a list of their own.
+fn listed<'a>(alloc: Global, names: &[&'a str]) -> Result<Vec<&'a str>, AllocError> {
+    let mut listed = Vec::new(alloc);
+    for name in names {
+        listed.push(*name)?;
+    }
+    Ok(listed)
 }
 
 /// What the options of `compare` ask for.

@@ -5,10 +5,11 @@ use cal_engine::help_with_a_run;
 
 /// Of the program as a whole.
 pub const PROGRAM: &str = "\
-Each subcommand reads one input from the standard input: a task table (TOML),
-the line ---, and signals, a history or arrivals (CSV). `caladan_view SUBCOMMAND
---help` says which and what is written, with a whole input to copy; `man
-caladan-formats` has all of it.
+Each subcommand reads one input, a file or the standard input: a task table
+(TOML), the line ---, and signals, a history or arrivals (CSV). With -o its
+answer goes to a file, which is there only once the answer is whole.
+`caladan_view SUBCOMMAND --help` says what is read and written, with a whole
+input to copy; `man caladan-formats` has all of it.
 
 Exit status: 0 done, 2 bad arguments or rejected input, 3 memory or output was
 refused. A fault is one line on the standard error.";
@@ -16,9 +17,9 @@ refused. A fault is one line on the standard error.";
 /// Of the subcommand `history`.
 pub const HISTORY: &str = help_with_a_run!(
     "\
-Standard input: a task table (TOML), the line ---, and signals (CSV), as
+Input: a task table (TOML), the line ---, and signals (CSV), as
 `caladan_sim decide` reads.
-Standard output: the history that they lead to; with --table an input of
+Output: the history that they lead to; with --table an input of
 `picture`, of `timeline` and of `caladan_sim audit`.
 Exit status: 0 done, 2 rejected input, 3 memory or output was refused.",
     "caladan_view history",
@@ -41,8 +42,8 @@ end,1"
 /// Of the subcommand `picture`.
 pub const PICTURE: &str = help_with_a_run!(
     "\
-Standard input: a task table (TOML), the line ---, and a history (CSV).
-Standard output: one SVG, which any browser opens.
+Input: a task table (TOML), the line ---, and a history (CSV).
+Output: one SVG, which any browser opens.
 Exit status: 0 done, 2 rejected input or no such pass, 3 memory or output was
 refused.",
     "caladan_view picture > picture.svg",
@@ -60,8 +61,8 @@ END"
 /// Of the subcommand `timeline`.
 pub const TIMELINE: &str = help_with_a_run!(
     "\
-Standard input: a task table (TOML), the line ---, and a history (CSV).
-Standard output: trace events (JSON), which https://ui.perfetto.dev and
+Input: a task table (TOML), the line ---, and a history (CSV).
+Output: trace events (JSON), which https://ui.perfetto.dev and
 chrome://tracing open.
 Exit status: 0 done, 2 rejected input, 3 memory or output was refused.",
     "caladan_view timeline > timeline.json",
@@ -79,9 +80,9 @@ END"
 /// Of the subcommand `measure`.
 pub const MEASURE: &str = help_with_a_run!(
     "\
-Standard input: a task table (TOML), the line ---, and arrivals (CSV), as
+Input: a task table (TOML), the line ---, and arrivals (CSV), as
 `caladan_sim lockstep` reads.
-Standard output: the numbers of each task's requests and cores, in the run that
+Output: the numbers of each task's requests and cores, in the run that
 `caladan_sim lockstep` makes, in clock ticks; with --csv as CSV. A request
 arrives at the clock of its turn, is begun at the stamp of the first publication
 with it at work, and answered at the stamp of the publication of the turn that
@@ -152,9 +153,10 @@ machine free              0.750"
 /// Of the subcommand `compare`.
 pub const COMPARE: &str = help_with_a_run!(
     "\
-Standard input: task tables (TOML), each ended by the line ---, and after the
-last of these lines arrivals (CSV).
-Standard output: the numbers that `caladan_view measure` gives of each table's
+Input: task tables (TOML), each ended by the line ---, and after the last of
+these lines arrivals (CSV). With --arrivals each other file is a task table, and
+the named one has the arrivals; no line --- is needed.
+Output: the numbers that `caladan_view measure` gives of each table's
 run on the arrivals, a column for each table; beside each column but the first
 how much it is above or below the first; with --csv as CSV. A missing task, and
 a change that cannot be computed, is shown as a dash. With --picture it is one
@@ -162,11 +164,12 @@ SVG in place of the numbers: for each task the share of its requests answered
 within a time, and the cores that it held, table by table. The run below as a
 picture: `caladan_view compare --picture > runs.svg <<'END'` in place of its
 first line.
-With --vary the input is that of `measure`, with one table, and there is a
-column for each value: the table with that value at the key. Keys are cores,
-bandwidth_limit, and of task 1 task.1.kind, task.1.guaranteed, task.1.limit,
-task.1.delay and task.1.request. A value is written as in a table. To have the
-table as it is among the columns, name its own value, best as the first.
+With --vary the input is that of `measure`, or one table with --arrivals, and
+there is a column for each value: the table with that value at the key. Keys are
+cores, bandwidth_limit, and of task 1 task.1.kind, task.1.guaranteed,
+task.1.limit, task.1.delay and task.1.request. A value is written as in a table.
+To have the table as it is among the columns, name its own value, best as the
+first.
 Exit status: 0 done, 2 rejected input, 3 memory or output was refused. A table
 that is refused, or has too few threads for the arrivals, is named by its
 number, from 0, or by its value.",
@@ -233,9 +236,9 @@ machine free                   0.750    1.000          +0.250"
 /// Of the subcommand `explain`.
 pub const EXPLAIN: &str = help_with_a_run!(
     "\
-Standard input: a task table (TOML), the line ---, and a history or signals
+Input: a task table (TOML), the line ---, and a history or signals
 (CSV).
-Standard output: with --pass the turns of the pass in their order, how things
+Output: with --pass the turns of the pass in their order, how things
 stand at each, and below it, after an arrow, what the policy does there. The
 parts are those of docs/POLICY.md, \"A pass\". Of a history that is not legal it
 is what the policy does on the pass's looks after the passes before it. With
