@@ -73,6 +73,22 @@ fn columns(rows: &[Vec<String>]) -> usize {
     columns
 }
 
+/// Puts a cell as a field of a CSV file: between quotes where it has a quote, a comma or a line end,
+/// with each quote in it twice.
+fn put_field(text: &mut String, cell: &str) -> Result<(), AllocError> {
+    if !cell.contains('"') && !cell.contains(',') && !cell.contains('\n') && !cell.contains('\r') {
+        return text.push_str(cell);
+    }
+    text.push_str("\"")?;
+    for (at, part) in cell.split('"').enumerate() {
+        if at > 0 {
+            text.push_str("\"\"")?;
+        }
+        text.push_str(part)?;
+    }
+    text.push_str("\"")
+}
+
 /// Puts a row as one of a CSV file of so many columns. Where the row has no cell there is nothing
 /// between the commas.
 fn put_csv_row(text: &mut String, columns: usize, row: &[String]) -> Result<(), AllocError> {
@@ -81,7 +97,7 @@ fn put_csv_row(text: &mut String, columns: usize, row: &[String]) -> Result<(), 
             text.push_str(",")?;
         }
         if let Some(cell) = row.get(column) {
-            text.push_str(cell.as_str())?;
+            put_field(text, cell.as_str())?;
         }
     }
     text.push_str("\n")?;

@@ -1,30 +1,30 @@
-//! What the program says of the fault of several tables.
+//! What the program says of the fault of several tables, and of a pass that is not there.
 
-use cal_engine::{end_with, status};
+use cal_engine::{RunFault, status};
 use cal_tables::{ComparisonFault, Variation};
 use std::io::Write;
 
-/// Writes the one line that the program says of a fault of several tables, and answers the exit
-/// status after it. The line is that of `end_with`; of a fault that a table or a value has, which
-/// stands before the reason. It takes no memory.
+/// Writes the one line that the program says of a fault that a table or a value has, which stands
+/// before the reason, and answers the exit status after it. Any other fault is the error. It takes
+/// no memory.
 pub fn end_comparison<W: Write>(
     fault: &ComparisonFault,
     variation: Option<Variation<'_>>,
     errors: &mut W,
-) -> u8 {
+) -> Result<u8, RunFault> {
     let reason = fault.fault;
     let Some(table) = fault.table else {
-        return end_with("caladan_view", &reason, errors);
+        return Err(reason);
     };
     // What memory, the writer or a thread refused is no table's.
     if status(&reason) != 2 {
-        return end_with("caladan_view", &reason, errors);
+        return Err(reason);
     }
     let _ = match value_of(variation, table) {
         Some((key, value)) => writeln!(errors, "caladan_view: {key}={value} {reason}"),
         None => writeln!(errors, "caladan_view: table {table} {reason}"),
     };
-    2
+    Ok(2)
 }
 
 /// The key and the value that make this table, where it is made by one.
@@ -32,4 +32,14 @@ fn value_of<'a>(variation: Option<Variation<'a>>, table: usize) -> Option<(&'a s
     let variation = variation?;
     let value = variation.values.get(table)?;
     Some((variation.key, *value))
+}
+
+/// Writes the line that the program says where a history has so many passes and not the one that was
+/// asked for, and answers the exit status after it.
+pub fn end_without_pass<W: Write>(pass: usize, passes: usize, errors: &mut W) -> u8 {
+    let _ = writeln!(
+        errors,
+        "caladan_view: no pass {pass}: there are {passes}, from 0"
+    );
+    2
 }

@@ -33,9 +33,22 @@ use cal_picture::Page;
 use std::alloc::Global;
 use std::io::Write;
 
+/// What came of a history that was accepted.
+#[derive(Clone, Copy, Debug, PartialEq, Eq)]
+pub enum Drawn {
+    /// It was drawn.
+    Done,
+    /// It has no pass `from`, but so many passes. Nothing was written.
+    NoPass {
+        /// How many passes it has.
+        passes: usize,
+    },
+}
+
 /// Draws the history of an input, from pass `from` on and no more than so many passes, as one SVG
 /// that stands alone. It takes any history; of one that is not orderly it draws what fits and
 /// passes over the rest. It keeps only what shows, and writes nothing of an input that is refused.
+/// Of a history without passes it says that, where `from` is 0.
 ///
 /// The faults come in this order: `Separator`, `Config`, `Trace`, `Write`; `Memory` may come at any
 /// place. What is drawn is only tested; the spans in it are `spans_of`.
@@ -45,8 +58,12 @@ pub fn draw_picture<W: Write>(
     from: Option<usize>,
     passes: Option<usize>,
     writer: &mut W,
-) -> Result<(), RunFault> {
-    let window = Window::new(count_passes(alloc, input)?, from, passes);
+) -> Result<Drawn, RunFault> {
+    let count = count_passes(alloc, input)?;
+    if is_beyond(from, count) {
+        return Ok(Drawn::NoPass { passes: count });
+    }
+    let window = Window::new(count, from, passes);
     let (config, history) = recorded_passes(alloc, input)?;
     let story = Story::of(alloc, &config, history, window)?;
     let columns = Columns::new(alloc, story.shown.as_slice(), window)?;
@@ -63,7 +80,13 @@ pub fn draw_picture<W: Write>(
         draw_part(&sheet, part, &mut page);
         page.send(writer)?;
     }
-    Ok(())
+    Ok(Drawn::Done)
+}
+
+/// Whether a history of so many passes does not have this one.
+fn is_beyond(from: Option<usize>, passes: usize) -> bool {
+    let from = from.unwrap_or(0);
+    from > 0 && from >= passes
 }
 
 /// The parts of a picture, each drawn on a page of its own.

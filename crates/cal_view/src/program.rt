@@ -3,62 +3,98 @@
 
 ghost use Rattle.std.specs.Prelude.{◌≡◌, ◌≢◌, IfErr};
 
-use crate::command_words::command_line::{Job, help, words};
+use crate::command_words::command_line::{Job, Request, help, words};
+use crate::edge::beside::{Beside, open_beside};
+use crate::edge::failure::Failure;
+use crate::edge::noted::Noted;
+use crate::edge::sources::{open_named, read_tables, said_of_reading};
 use crate::jobs::arriving::answer_arrivals;
 use crate::jobs::comparing::answer_compare;
-use crate::jobs::drawing::{draw_read, write_read_timeline};
+use crate::jobs::drawing::{answer_picture, write_read_timeline};
 use crate::jobs::explaining::answer_explain;
 use crate::jobs::recording::record;
-use cal_engine::{RunFault, end_with, refuse_words, words_after_first};
+use cal_engine::{RunFault, refuse_words, words_after_first};
 use cal_tables::measure;
 use std::alloc::Global;
 use std::io::{BufWriter, Read, Write};
+use std::rt::Files;
 
 /// Runs the program on its name and the words after it and on an input, and answers its exit
-/// status: 0 is done (help too), 2 is bad arguments or rejected input, 3 is memory or the writer.
-/// The words are read before the input.
+/// status: 0 is done (help too), 1 is an illegal history explained, 2 is bad arguments or rejected
+/// input, 3 is memory or the writer. The words are read before the input.
 ///
-/// The answer goes to `output`, and help too; what is wrong with the words (`clap`'s text) or the
-/// one line of a fault goes to `errors`.
-pub fn run_program<R: Read + Drop, W: Write, E: Write>(
+/// The input is what the reader gives, or the files that the words name. The answer goes to
+/// `output`, or to a file where the words name one, and help to `output`; what is wrong with the
+/// words (`clap`'s text) or the one line of a fault goes to `errors`. Where whoever reads the answer
+/// has gone there is no line.
+pub fn run_program<H: Files, R: Read + Drop, W: Write, E: Write>(
+    rt: &H,
     alloc: Global,
     named: &[String],
     reader: R,
     output: &mut W,
     errors: &mut E,
 ) -> u8 {
-    match answer_words(alloc, named, reader, output, errors) {
-        Ok(status) => status,
-        Err(fault) => end_with("caladan_view", &fault, errors),
-    }
-}
-
-/// Does what the words after the first one ask for, and answers the exit status where there is no
-/// fault.
-fn answer_words<R: Read + Drop, W: Write, E: Write>(
-    alloc: Global,
-    named: &[String],
-    reader: R,
-    output: &mut W,
-    errors: &mut E,
-) -> Result<u8, RunFault> {
-    let given = words_after_first(alloc, named)?;
+    let given = match words_after_first(alloc, named) {
+        Ok(given) => given,
+        Err(_) => return Failure::from(RunFault::Memory).end(errors),
+    };
+    let mut output = Noted::new(output);
     match words(alloc, given.as_slice()) {
-        Ok(Job::Help) => say_help(alloc, errors),
-        Ok(Job::Arrivals { asked }) => answer_arrivals(alloc, reader, &asked, output, errors),
-        Ok(Job::Explain { asked }) => answer_explain(alloc, reader, asked, output, errors),
-        Ok(Job::Compare { vary, form }) => {
-            answer_compare(alloc, reader, vary, form, output, errors)
+        Ok(request) => end_request(rt, alloc, &request, reader, &mut output, errors),
+        Err(error) => {
+            let answer = refuse_words(&error, &mut output, errors);
+            end_answer(answer, &output, errors)
         }
-        Ok(job) => {
-            do_job(alloc, job, reader, output)?;
-            Ok(0)
-        }
-        Err(error) => refuse_words(&error, output, errors),
     }
 }
 
-/// Says how the program is used, where no word was given. That is no job, so the status is 2.
+/// The exit status after what was written on this writer, and the line of its fault.
+fn end_answer<W: Write, E: Write>(
+    answer: Result<u8, RunFault>,
+    output: &Noted<W>,
+    errors: &mut E,
+) -> u8 {
+    match answer {
+        Ok(status) => status,
+        Err(fault) => Failure {
+            fault,
+            file: None,
+            said: said_of_writing(fault, output),
+        }
+        .end(errors),
+    }
+}
+
+/// What the system said where the fault is that of writing.
+fn said_of_writing<W: Write>(fault: RunFault, output: &Noted<W>) -> Option<std::io::Error> {
+    match fault {
+        RunFault::Write => output.said(),
+        _ => None,
+    }
+}
+
+/// Does what the words ask for, and answers the exit status.
+fn end_request<H: Files, R: Read + Drop, W: Write, E: Write>(
+    rt: &H,
+    alloc: Global,
+    request: &Request<'_>,
+    reader: R,
+    output: &mut Noted<W>,
+    errors: &mut E,
+) -> u8 {
+    if let Job::Help = request.job {
+        let answer = say_help(alloc, errors);
+        return end_answer(answer, output, errors);
+    }
+    match answer_request(rt, alloc, request, reader, output, errors) {
+        Ok(status) => status,
+        Err(failure) => failure.end(errors),
+    }
+}
+
+/// Says in short how the program is used, where no word was given. That is no job, so the status is
+/// 2.
 pub fn say_help<E: Write>(alloc: Global, errors: &mut E) -> Result<u8, RunFault>
     ensures { IfErr result (λ fault. fault ≢ RunFault.Write → errors.new ≡ errors.old) }
 {
@@ -69,10 +105,125 @@ pub fn say_help<E: Write>(alloc: Global, errors: &mut E) -> Result<u8, RunFault>
     }
 }
 
-/// Does a job on an input. What is written goes through a buffer.
+/// Does what the words ask for on the reader or on the files that they name, and answers the exit
+/// status where there is no fault.
+fn answer_request<'a, H: Files, R: Read + Drop, W: Write, E: Write>(
+    rt: &H,
+    alloc: Global,
+    request: &Request<'a>,
+    reader: R,
+    output: &mut Noted<W>,
+    errors: &mut E,
+) -> Result<u8, Failure<'a>> {
+    let tables = read_tables(rt, alloc, request.tables.as_slice())?;
+    let front = tables.as_slice();
+    let Some(name) = request.input else {
+        let mut input = Noted::new(front.chain(reader));
+        return answer_input(rt, alloc, request, &mut input, output, errors);
+    };
+    let mut input = Noted::new(front.chain(open_named(rt, name)?));
+    answer_input(rt, alloc, request, &mut input, output, errors)
+}
+
+/// Does what the words ask for on an input, and answers the exit status where there is no fault.
+fn answer_input<'a, H: Files, R: Read, W: Write, E: Write>(
+    rt: &H,
+    alloc: Global,
+    request: &Request<'a>,
+    input: &mut Noted<R>,
+    output: &mut Noted<W>,
+    errors: &mut E,
+) -> Result<u8, Failure<'a>> {
+    let answer = match request.output {
+        Some(name) => return answer_into(rt, alloc, request, name, input, errors),
+        None => answer_job(alloc, &request.job, &mut *input, output, errors),
+    };
+    match answer {
+        Ok(status) => Ok(status),
+        Err(fault) => Err(failure_of(fault, request, None, input, output)),
+    }
+}
+
+/// Does what the words ask for on an input, and writes the answer to the file of this name. Nothing
+/// is left of it where there is none.
+fn answer_into<'a, H: Files, R: Read, E: Write>(
+    rt: &H,
+    alloc: Global,
+    request: &Request<'a>,
+    name: &'a str,
+    input: &mut Noted<R>,
+    errors: &mut E,
+) -> Result<u8, Failure<'a>> {
+    let file = match open_beside(rt, alloc, name) {
+        Ok(file) => file,
+        Err(said) => return Err(Failure::of_file(RunFault::Write, name, said)),
+    };
+    let mut file = Noted::new(file);
+    match answer_job(alloc, &request.job, &mut *input, &mut file, errors) {
+        Ok(2) => {
+            file.inner().remove(rt);
+            Ok(2)
+        }
+        Ok(status) => match file.inner().keep(rt) {
+            Ok(()) => Ok(status),
+            Err(said) => Err(Failure::of_file(RunFault::Write, name, said)),
+        },
+        Err(fault) => {
+            file.inner().remove(rt);
+            Err(failure_of(fault, request, Some(name), input, &file))
+        }
+    }
+}
+
+/// The failure of a job: what is said of its input or its output is of the file that was named.
+fn failure_of<'a, R: Read, W: Write>(
+    fault: RunFault,
+    request: &Request<'a>,
+    file: Option<&'a str>,
+    input: &Noted<R>,
+    output: &Noted<W>,
+) -> Failure<'a> {
+    match fault {
+        RunFault::Read => Failure {
+            fault,
+            file: request.input,
+            said: said_of_reading(fault, input),
+        },
+        RunFault::Write => Failure {
+            fault,
+            file,
+            said: said_of_writing(fault, output),
+        },
+        fault => Failure::from(fault),
+    }
+}
+
+/// Does a job on an input, and answers the exit status where there is no fault.
+fn answer_job<R: Read + Drop, W: Write, E: Write>(
+    alloc: Global,
+    job: &Job<'_>,
+    reader: R,
+    output: &mut W,
+    errors: &mut E,
+) -> Result<u8, RunFault> {
+    match job {
+        Job::Arrivals { asked } => answer_arrivals(alloc, reader, asked, output, errors),
+        Job::Explain { asked } => answer_explain(alloc, reader, *asked, output, errors),
+        Job::Compare { vary, form } => answer_compare(alloc, reader, *vary, *form, output, errors),
+        Job::Picture { from, passes } => {
+            answer_picture(alloc, reader, *from, *passes, output, errors)
+        }
+        job => {
+            do_job(alloc, job, reader, output)?;
+            Ok(0)
+        }
+    }
+}
+
+/// Does a job that says nothing of an input that it accepts. What is written goes through a buffer.
 fn do_job<R: Read + Drop, W: Write>(
     alloc: Global,
-    job: Job,
+    job: &Job<'_>,
     reader: R,
     output: &mut W,
 ) -> Result<(), RunFault> {
@@ -81,11 +232,10 @@ fn do_job<R: Read + Drop, W: Write>(
         Err(_) => return Err(RunFault::Memory),
     };
     match job {
-        Job::History { front } => record(alloc, reader, front, &mut buffer)?,
-        Job::Picture { from, passes } => draw_read(alloc, reader, from, passes, &mut buffer)?,
+        Job::History { front } => record(alloc, reader, *front, &mut buffer)?,
         Job::Timeline => write_read_timeline(alloc, reader, &mut buffer)?,
-        Job::Measure { form } => measure(alloc, reader, form, &mut buffer)?,
-        Job::Arrivals { .. } | Job::Compare { .. } | Job::Explain { .. } | Job::Help => {}
+        Job::Measure { form } => measure(alloc, reader, *form, &mut buffer)?,
+        Job::Picture { .. } | Job::Compare { .. } | Job::Explain { .. } | Job::Arrivals { .. } | Job::Help => {}
     }
     match buffer.flush() {
         Ok(()) => Ok(()),

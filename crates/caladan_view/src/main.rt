@@ -1,5 +1,5 @@
-//! Looks at runs of the core scheduler of Caladan: words, one input on standard input, the answer
-//! on standard output.
+//! Looks at runs of the core scheduler of Caladan: words, and an input on standard input or in files
+//! by name; the answer on standard output or in a file.
 //!
 //! What it does with them is cal_view's `run_program`, the exit statuses too; here stand only the
 //! ends of the process.
@@ -12,6 +12,7 @@ use std::process::ExitCode;
 fn main(rt: HostRuntime) -> ExitCode {
     let status = match given_words(&rt, "caladan_view") {
         Ok(words) => run_program(
+            &rt,
             rt.alloc(),
             words.as_slice(),
             rt.stdin(),

@@ -18,20 +18,39 @@ use std::process::ExitCode;
 const IS_A_JOB: u8 = 4;
 
 fn main(rt: HostRuntime) -> ExitCode {
-    let answer = match given_words(&rt, "caladan_words") {
-        Ok(named) => answer_words(
+    let status = match given_words(&rt, "caladan_words") {
+        Ok(named) => end_words(
             rt.alloc(),
             named.as_slice(),
             &mut rt.stdout(),
             &mut rt.stderr(),
         ),
-        Err(fault) => Err(fault),
-    };
-    let status = match answer {
-        Ok(status) => status,
-        Err(fault) => end_with("caladan_sim", &fault, &mut rt.stderr()),
+        Err(fault) => end_with("caladan_words", &fault, &mut rt.stderr()),
     };
     ExitCode::from(status)
+}
+
+/// Says what `answer_words` does, or the line of its fault, which names the program that the first
+/// word names.
+fn end_words<W: Write, E: Write>(
+    alloc: Global,
+    named: &[String],
+    output: &mut W,
+    errors: &mut E,
+) -> u8 {
+    match answer_words(alloc, named, output, errors) {
+        Ok(status) => status,
+        Err(fault) => end_with(named_program(named), &fault, errors),
+    }
+}
+
+/// The program that the first word names, or this one.
+fn named_program(named: &[String]) -> &'static str {
+    match named.get(1) {
+        Some(program) if program.as_str() == "caladan_sim" => "caladan_sim",
+        Some(program) if program.as_str() == "caladan_view" => "caladan_view",
+        _ => "caladan_words",
+    }
 }
 
 /// Says what the program that the first word names says of the words after it, and answers its exit

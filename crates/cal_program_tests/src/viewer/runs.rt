@@ -4,6 +4,7 @@ use crate::viewer::given::{DISORDERLY, HISTORY, TABLE};
 use cal_view::run_program;
 use serde_json::Value;
 use std::process::Abort;
+use std::rt::Files;
 use std::test::Fail;
 
 /// What a run wrote on its two outputs, and its exit status.
@@ -15,7 +16,7 @@ struct Ran {
 }
 
 /// The program with these words over this input.
-fn run<R: Abort + AllocGlobal>(rt: &R, words: &[&str], input: &str) -> Result<Ran, Fail> {
+fn run<R: Abort + AllocGlobal + Files>(rt: &R, words: &[&str], input: &str) -> Result<Ran, Fail> {
     let mut named = Vec::new(rt.alloc());
     named.push(String::from_str(rt.alloc(), "caladan_view")?)?;
     for word in words {
@@ -24,6 +25,7 @@ fn run<R: Abort + AllocGlobal>(rt: &R, words: &[&str], input: &str) -> Result<Ra
     let mut output = Vec::new(rt.alloc());
     let mut errors = Vec::new(rt.alloc());
     let status = run_program(
+        rt,
         rt.alloc(),
         named.as_slice(),
         input.as_bytes(),

@@ -1,5 +1,6 @@
 //! The words after `arrivals`.
 
+use crate::command_words::command_line::{input_word, listed, output_word, table_word};
 use crate::command_words::help_texts;
 use clap::{Arg, ArgAction, ArgMatches, Command};
 use std::alloc::{AllocError, Global};
@@ -40,7 +41,8 @@ pub struct ArrivalWords<'a> {
 pub fn arrival_word<'a>(alloc: Global) -> Result<Command<'a>, AllocError> {
     Command::new(alloc, "arrivals")
         .about("Make arrivals of a load, at random by a seed")
-        .after_help(help_texts::ARRIVALS)
+        .after_long_help(help_texts::ARRIVALS)
+        .arg(input_word(alloc))?
         .arg(task_word(alloc))?
         .arg(load_word(alloc))?
         .arg(service_word(alloc))?
@@ -49,7 +51,8 @@ pub fn arrival_word<'a>(alloc: Global) -> Result<Command<'a>, AllocError> {
         .arg(ticks_word(alloc))?
         .arg(seed_word(alloc))?
         .arg(table_word(alloc))?
-        .arg(summary_word(alloc)?)
+        .arg(summary_word(alloc)?)?
+        .arg(output_word(alloc))
 }
 
 /// What may be given more than once.
@@ -113,13 +116,6 @@ fn seed_word<'a>(alloc: Global) -> Arg<'a> {
         .help("What chance goes by: the same words make the same arrivals")
 }
 
-fn table_word<'a>(alloc: Global) -> Arg<'a> {
-    Arg::new(alloc, "table")
-        .long("table")
-        .action(ArgAction::SetTrue)
-        .help("Put the task table and the line --- in front")
-}
-
 fn summary_word<'a>(alloc: Global) -> Result<Arg<'a>, AllocError> {
     Arg::new(alloc, "summary")
         .long("summary")
@@ -151,14 +147,7 @@ fn all_of<'a>(
     matches: &ArgMatches<'a>,
     id: &str,
 ) -> Result<Vec<&'a str>, AllocError> {
-    let mut words = Vec::new(alloc);
-    let Some(given) = matches.get_strs(id) else {
-        return Ok(words);
-    };
-    for word in given {
-        words.push(*word)?;
-    }
-    Ok(words)
+    listed(alloc, matches.get_strs(id).unwrap_or(&[]))
 }
 
 /// The number of an option that has a default.

@@ -62,31 +62,89 @@ pub enum Form {
     Picture,
 }
 
+/// What the words ask for: a job, what its input is, and where its answer goes.
+#[derive(Drop)]
+pub struct Request<'a> {
+    /// The job.
+    pub job: Job<'a>,
+    /// The files of task tables that stand in front of the input.
+    pub tables: Vec<&'a str>,
+    /// The file of the input, or of what comes after the tables; without it the standard input.
+    pub input: Option<&'a str>,
+    /// The file that the answer goes to; without it the standard output.
+    pub output: Option<&'a str>,
+}
+
 /// What the words after the program's name ask for; no words are `Job::Help`.
 ///
 /// The error is clap's own. A word that is not in the table is refused; CSV and a picture at once
-/// are an error of the kind `ArgumentConflict`; a request for help is an error of the kind
-/// `DisplayHelp`, one for the version of the kind `DisplayVersion`, whose texts go to the standard
-/// output; out of memory has the kind `OutOfMemory`.
-pub fn words<'a>(alloc: Global, words: &'a [&'a str]) -> Result<Job<'a>, Error> {
+/// are an error of the kind `ArgumentConflict`, a key with no values one of the kind
+/// `ValueValidation`; a request for help is an error of the kind `DisplayHelp`, one for the version
+/// of the kind `DisplayVersion`, whose texts go to the standard output; out of memory has the kind
+/// `OutOfMemory`.
+pub fn words<'a>(alloc: Global, words: &'a [&'a str]) -> Result<Request<'a>, Error> {
     let matches = program(alloc)?.try_get_matches_from(words)?;
-    if let Some(("arrivals", own)) = matches.subcommand() {
-        let asked = arrival_words(alloc, own)?;
-        return Ok(Job::Arrivals { asked });
-    }
-    match job_of(&matches) {
-        Some(job) => Ok(job),
-        None => Err(conflict(alloc)?),
-    }
+    let job = match asked_job(alloc, &matches)? {
+        Ok(job) => job,
+        Err(mistake) => return Err(refused(alloc, mistake)?),
+    };
+    let places = match places_of(&matches) {
+        Ok(places) => places,
+        Err(mistake) => return Err(refused(alloc, mistake)?),
+    };
+    let tables = listed(alloc, places.tables)?;
+    Ok(Request {
+        job,
+        tables,
+        input: places.input,
+        output: places.output,
+    })
 }
 
-/// That runs are to be shown as CSV and as a picture at once. Fails only when out of memory.
-fn conflict(alloc: Global) -> Result<Error, AllocError> {
-    let said = "the argument '--csv' cannot be used with '--picture'";
-    compare_word(alloc)?.error(ErrorKind::ArgumentConflict, said)
+/// What is wrong with words of `compare` that stand in the table one by one.
+#[derive(Clone, Copy, Debug, PartialEq, Eq)]
+enum Mistake {
+    /// The runs are to be shown as CSV and as a picture at once.
+    TwoForms,
+    /// The key that is varied has no values.
+    NoValues,
+    /// There are several files, and none of arrivals.
+    NoArrivals,
+    /// There is a file of arrivals, and none of a table.
+    NoTable,
+    /// Of several tables one is to be varied.
+    TwoTables,
 }
 
-/// How the program is used.
+/// The error of a mistake. Fails only when out of memory.
+fn refused(alloc: Global, mistake: Mistake) -> Result<Error, AllocError> {
+    let (kind, said) = match mistake {
+        Mistake::TwoForms => (
+            ErrorKind::ArgumentConflict,
+            "the argument '--csv' cannot be used with '--picture'",
+        ),
+        Mistake::NoValues => (
+            ErrorKind::ValueValidation,
+            "the value of '--vary <KEY=V1,V2,..>' has no '='",
+        ),
+        Mistake::NoArrivals => (
+            ErrorKind::MissingRequiredArgument,
+            "several files are tables, and '--arrivals <FILE>' is not there",
+        ),
+        Mistake::NoTable => (
+            ErrorKind::MissingRequiredArgument,
+            "'--arrivals <FILE>' is there, and no file of a table",
+        ),
+        Mistake::TwoTables => (
+            ErrorKind::ArgumentConflict,
+            "the argument '--vary <KEY=V1,V2,..>' cannot be used with several tables",
+        ),
+    };
+    let mut command = compare_word(alloc)?.bin_name("caladan_view compare")?;
+    command.error(kind, said)
+}
+
+/// How the program is used, in short.
 pub fn help(alloc: Global) -> Result<String, AllocError> {
     program(alloc)?.render_help()
 }
@@ -95,25 +153,34 @@ pub fn help(alloc: Global) -> Result<String, AllocError> {
 fn program<'a>(alloc: Global) -> Result<Command<'a>, AllocError> {
     let history = Command::new(alloc, "history")
         .about("Decide the passes of a signal trace, and write them as a history")
-        .after_help(help_texts::HISTORY)
-        .arg(table_word(alloc))?;
+        .after_long_help(help_texts::HISTORY)
+        .arg(input_word(alloc))?
+        .arg(table_word(alloc))?
+        .arg(output_word(alloc))?;
     let picture = Command::new(alloc, "picture")
         .about("Draw a history as one SVG")
-        .after_help(help_texts::PICTURE)
+        .after_long_help(help_texts::PICTURE)
+        .arg(input_word(alloc))?
         .arg(from_word(alloc))?
-        .arg(passes_word(alloc))?;
+        .arg(passes_word(alloc))?
+        .arg(output_word(alloc))?;
     let timeline = Command::new(alloc, "timeline")
         .about("Write a history as trace events, for Perfetto and chrome://tracing")
-        .after_help(help_texts::TIMELINE);
+        .after_long_help(help_texts::TIMELINE)
+        .arg(input_word(alloc))?
+        .arg(output_word(alloc))?;
     let measure = Command::new(alloc, "measure")
         .about("Make a run on arrivals, and write its numbers")
-        .after_help(help_texts::MEASURE)
-        .arg(csv_word(alloc))?;
+        .after_long_help(help_texts::MEASURE)
+        .arg(input_word(alloc))?
+        .arg(csv_word(alloc))?
+        .arg(output_word(alloc))?;
     Command::new(alloc, "caladan_view")
         .version(VERSION)
-        .about("Looks at runs of the core scheduler of Caladan: an input on standard input")
-        .after_help(help_texts::PROGRAM)
+        .about("Looks at runs of the core scheduler of Caladan")
+        .after_long_help(help_texts::PROGRAM)
         .no_binary_name(true)
+        .bin_name("caladan_view")?
         .subcommand(history)?
         .subcommand(picture)?
         .subcommand(timeline)?
@@ -126,10 +193,12 @@ fn program<'a>(alloc: Global) -> Result<Command<'a>, AllocError> {
 fn explain_word<'a>(alloc: Global) -> Result<Command<'a>, AllocError> {
     Command::new(alloc, "explain")
         .about("Say why a pass does what it does")
-        .after_help(help_texts::EXPLAIN)
+        .after_long_help(help_texts::EXPLAIN)
+        .arg(input_word(alloc))?
         .arg(pass_word(alloc))?
         .arg(task_word(alloc)?)?
-        .arg(number_word(alloc, "core", "CORE", "Tell of this core alone"))
+        .arg(number_word(alloc, "core", "CORE", "Tell of this core alone"))?
+        .arg(output_word(alloc))
 }
 
 fn pass_word<'a>(alloc: Global) -> Arg<'a> {
@@ -156,14 +225,52 @@ fn number_word<'a>(alloc: Global, name: &'a str, value: &'a str, help: &'a str) 
 
 fn compare_word<'a>(alloc: Global) -> Result<Command<'a>, AllocError> {
     Command::new(alloc, "compare")
-        .about("Make runs of several tables on the same arrivals, and write their numbers")
-        .after_help(help_texts::COMPARE)
+        .about("Run several tables on the same arrivals, and compare their numbers")
+        .after_long_help(help_texts::COMPARE)
+        .arg(tables_word(alloc))?
+        .arg(arrivals_word(alloc))?
         .arg(vary_word(alloc))?
         .arg(csv_word(alloc))?
-        .arg(picture_word(alloc))
+        .arg(picture_word(alloc))?
+        .arg(output_word(alloc))
 }
 
-fn table_word<'a>(alloc: Global) -> Arg<'a> {
+/// The file of the input.
+pub fn input_word<'a>(alloc: Global) -> Arg<'a> {
+    Arg::new(alloc, "input")
+        .action(ArgAction::Set)
+        .value_name("FILE")
+        .help("The input [default: the standard input]")
+}
+
+fn tables_word<'a>(alloc: Global) -> Arg<'a> {
+    Arg::new(alloc, "tables")
+        .action(ArgAction::Append)
+        .num_args(1..)
+        .value_name("FILE")
+        .help("The input; with --arrivals the tables, a file each")
+}
+
+fn arrivals_word<'a>(alloc: Global) -> Arg<'a> {
+    Arg::new(alloc, "arrivals")
+        .long("arrivals")
+        .action(ArgAction::Set)
+        .value_name("FILE")
+        .help("The arrivals of all tables")
+}
+
+/// The file of the answer.
+pub fn output_word<'a>(alloc: Global) -> Arg<'a> {
+    Arg::new(alloc, "output")
+        .short('o')
+        .long("output")
+        .action(ArgAction::Set)
+        .value_name("FILE")
+        .help("Where the answer goes [default: standard output]")
+}
+
+/// Whether the table goes in front.
+pub fn table_word<'a>(alloc: Global) -> Arg<'a> {
     Arg::new(alloc, "table")
         .long("table")
         .action(ArgAction::SetTrue)
@@ -189,7 +296,7 @@ fn vary_word<'a>(alloc: Global) -> Arg<'a> {
         .long("vary")
         .action(ArgAction::Set)
         .value_name("KEY=V1,V2,..")
-        .help("Make the tables from one table, by these values of a key, as task.1.delay")
+        .help("Vary one table by these values at a key")
 }
 
 fn from_word<'a>(alloc: Global) -> Arg<'a> {
@@ -207,11 +314,25 @@ fn passes_word<'a>(alloc: Global) -> Arg<'a> {
         .action(ArgAction::Set)
         .value_name("N")
         .value_parser(clap::value_parser!(u64).range(1..=1000))
-        .help("How many passes are shown, 1 to 1000 [default: those that fit]")
+        .help("How many are shown, 1 to 1000 [default: those that fit]")
 }
 
-/// The job of a parsed command line; nothing where it asks for CSV and for a picture at once.
-fn job_of<'a>(matches: &ArgMatches<'a>) -> Option<Job<'a>> {
+/// The job of a parsed command line, or what is wrong with it. Fails only when out of memory.
+fn asked_job<'a>(
+    alloc: Global,
+    matches: &ArgMatches<'a>,
+) -> Result<Result<Job<'a>, Mistake>, AllocError> {
+    match matches.subcommand() {
+        Some((name, own)) if name == "arrivals" => {
+            let asked = arrival_words(alloc, own)?;
+            Ok(Ok(Job::Arrivals { asked }))
+        }
+        _ => Ok(job_of(matches)),
+    }
+}
+
+/// The job of a parsed command line where it is made of one-word options, or what is wrong with it.
+fn job_of<'a>(matches: &ArgMatches<'a>) -> Result<Job<'a>, Mistake> {
     let job = match matches.subcommand() {
         Some((name, own)) if name == "history" => Job::History {
             front: front_of(own.get_flag("table")),
@@ -224,16 +345,90 @@ fn job_of<'a>(matches: &ArgMatches<'a>) -> Option<Job<'a>> {
         Some((name, own)) if name == "measure" => Job::Measure {
             form: number_form_of(own.get_flag("csv")),
         },
-        Some((name, own)) if name == "compare" => Job::Compare {
-            vary: own.get_str("vary"),
-            form: form_of(own.get_flag("csv"), own.get_flag("picture"))?,
-        },
+        Some((name, own)) if name == "compare" => comparison_of(own)?,
         Some((name, own)) if name == "explain" => Job::Explain {
             asked: asked_of(own),
         },
         _ => Job::Help,
     };
-    Some(job)
+    Ok(job)
+}
+
+/// What the words say of files: those of tables, that of the input, that of the answer.
+#[derive(Clone, Copy)]
+struct Places<'m, 'a> {
+    tables: &'m [&'a str],
+    input: Option<&'a str>,
+    output: Option<&'a str>,
+}
+
+/// What a parsed command line says of files, or what is wrong with it.
+fn places_of<'m, 'a>(matches: &'m ArgMatches<'a>) -> Result<Places<'m, 'a>, Mistake> {
+    match matches.subcommand() {
+        Some((name, own)) if name == "compare" => compared_places(own),
+        Some((_, own)) => Ok(Places {
+            tables: &[],
+            input: own.get_str("input"),
+            output: own.get_str("output"),
+        }),
+        None => Ok(Places {
+            tables: &[],
+            input: None,
+            output: None,
+        }),
+    }
+}
+
+/// What the words of `compare` say of files. With arrivals the others are tables; without them there
+/// is one other, which is the input.
+fn compared_places<'m, 'a>(own: &'m ArgMatches<'a>) -> Result<Places<'m, 'a>, Mistake> {
+    let files = own.get_strs("tables").unwrap_or(&[]);
+    let output = own.get_str("output");
+    let Some(arrivals) = own.get_str("arrivals") else {
+        return match files {
+            [] => Ok(Places {
+                tables: &[],
+                input: None,
+                output,
+            }),
+            [input] => Ok(Places {
+                tables: &[],
+                input: Some(*input),
+                output,
+            }),
+            _ => Err(Mistake::NoArrivals),
+        };
+    };
+    if files.is_empty() {
+        return Err(Mistake::NoTable);
+    }
+    if files.len() > 1 && own.get_str("vary").is_some() {
+        return Err(Mistake::TwoTables);
+    }
+    Ok(Places {
+        tables: files,
+        input: Some(arrivals),
+        output,
+    })
+}
+
+/// The same words in a list of their own.
+pub fn listed<'a>(alloc: Global, names: &[&'a str]) -> Result<Vec<&'a str>, AllocError> {
+    let mut listed = Vec::new(alloc);
+    for name in names {
+        listed.push(*name)?;
+    }
+    Ok(listed)
+}
+
+/// What the options of `compare` ask for.
+fn comparison_of<'a>(matches: &ArgMatches<'a>) -> Result<Job<'a>, Mistake> {
+    let vary = matches.get_str("vary");
+    let form = form_of(matches.get_flag("csv"), matches.get_flag("picture"))?;
+    match vary {
+        Some(vary) if !vary.contains('=') => Err(Mistake::NoValues),
+        _ => Ok(Job::Compare { vary, form }),
+    }
 }
 
 /// What the options of `explain` ask for.
@@ -259,12 +454,12 @@ fn number_form_of(csv: bool) -> NumberForm {
     }
 }
 
-/// What the flags `--csv` and `--picture` ask for; nothing where both are given.
-fn form_of(csv: bool, picture: bool) -> Option<Form> {
+/// What the flags `--csv` and `--picture` ask for; not both.
+fn form_of(csv: bool, picture: bool) -> Result<Form, Mistake> {
     match (csv, picture) {
-        (true, true) => None,
-        (false, true) => Some(Form::Picture),
-        (_, false) => Some(Form::Numbers(number_form_of(csv))),
+        (true, true) => Err(Mistake::TwoForms),
+        (false, true) => Ok(Form::Picture),
+        (_, false) => Ok(Form::Numbers(number_form_of(csv))),
     }
 }
 

@@ -5,19 +5,22 @@ use cal_engine::help_with_a_run;
 
 /// Of the program as a whole.
 pub const PROGRAM: &str = "\
-Each subcommand reads one input from the standard input: a task table (TOML), the line ---, and
-signals, a history or arrivals (CSV). `caladan_view SUBCOMMAND --help` says which and what is
-written, with a whole input to copy; `man caladan-formats` has all of it.
+Each subcommand reads one input, a file or the standard input: a task table
+(TOML), the line ---, and signals, a history or arrivals (CSV). With -o its
+answer goes to a file, which is there only once the answer is whole.
+`caladan_view SUBCOMMAND --help` says what is read and written, with a whole
+input to copy; `man caladan-formats` has all of it.
 
-Exit status: 0 done, 2 bad arguments or rejected input, 3 memory or output was refused. A fault is
-one line on the standard error.";
+Exit status: 0 done, 2 bad arguments or rejected input, 3 memory or output was
+refused. A fault is one line on the standard error.";
 
 /// Of the subcommand `history`.
 pub const HISTORY: &str = help_with_a_run!(
     "\
-Standard input: a task table (TOML), the line ---, and signals (CSV), as `caladan_sim decide` reads.
-Standard output: the history that they lead to; with --table an input of `picture`, of `timeline`
-and of `caladan_sim audit`.
+Input: a task table (TOML), the line ---, and signals (CSV), as
+`caladan_sim decide` reads.
+Output: the history that they lead to; with --table an input of
+`picture`, of `timeline` and of `caladan_sim audit`.
 Exit status: 0 done, 2 rejected input, 3 memory or output was refused.",
     "caladan_view history",
     "\
@@ -39,9 +42,10 @@ end,1"
 /// Of the subcommand `picture`.
 pub const PICTURE: &str = help_with_a_run!(
     "\
-Standard input: a task table (TOML), the line ---, and a history (CSV).
-Standard output: one SVG, which any browser opens.
-Exit status: 0 done, 2 rejected input, 3 memory or output was refused.",
+Input: a task table (TOML), the line ---, and a history (CSV).
+Output: one SVG, which any browser opens.
+Exit status: 0 done, 2 rejected input or no such pass, 3 memory or output was
+refused.",
     "caladan_view picture > picture.svg",
     "\
 caladan-history,2
@@ -57,8 +61,9 @@ END"
 /// Of the subcommand `timeline`.
 pub const TIMELINE: &str = help_with_a_run!(
     "\
-Standard input: a task table (TOML), the line ---, and a history (CSV).
-Standard output: trace events (JSON), which https://ui.perfetto.dev and chrome://tracing open.
+Input: a task table (TOML), the line ---, and a history (CSV).
+Output: trace events (JSON), which https://ui.perfetto.dev and
+chrome://tracing open.
 Exit status: 0 done, 2 rejected input, 3 memory or output was refused.",
     "caladan_view timeline > timeline.json",
     "\
@@ -75,21 +80,24 @@ END"
 /// Of the subcommand `measure`.
 pub const MEASURE: &str = help_with_a_run!(
     "\
-Standard input: a task table (TOML), the line ---, and arrivals (CSV), as `caladan_sim lockstep`
-reads.
-Standard output: the numbers of each task's requests and cores, in the run that `caladan_sim
-lockstep` makes, in clock ticks; with --csv as CSV. A request arrives at the clock of its turn, is
-begun at the stamp of the first publication with it at work, and answered at the stamp of the
-publication of the turn that served it. `response` is from arrival to answer and `wait` from arrival
-until begun, of those that were served: the least, by nearest rank the median, 90, 99 and 99.9 of
-100, and the greatest. `longest left` is from arrival to the last turn's clock, of those that were
-left. A dash means there was nothing to measure.
-Of cores: the grants to the task's threads by class; the cores that it lost, to bans, to the
-bandwidth limit, to congested tasks; those that others lost for it; how often it was given a cap;
-the bans for its threads; the most cores that it held after a pass, and how many over the run's
-clock; and the part of the run's clock for which it was congested. `machine` is of the machine's
-core time: the parts held, being left, banned and empty, and free to be granted. A state lasts from
-its pass's clock to the next pass's.
+Input: a task table (TOML), the line ---, and arrivals (CSV), as
+`caladan_sim lockstep` reads.
+Output: the numbers of each task's requests and cores, in the run that
+`caladan_sim lockstep` makes, in clock ticks; with --csv as CSV. A request
+arrives at the clock of its turn, is begun at the stamp of the first publication
+with it at work, and answered at the stamp of the publication of the turn that
+served it. `response` is from arrival to answer and `wait` from arrival until
+begun, of those that were served: the least, by nearest rank the median, 90, 99
+and 99.9 of 100, and the greatest. `longest left` is from arrival to the last
+turn's clock, of those that were left. A dash means there was nothing to
+measure.
+Of cores: the grants to the task's threads by class; the cores that it lost, to
+bans, to the bandwidth limit, to congested tasks; those that others lost for it;
+how often it was given a cap; the bans for its threads; the most cores that it
+held after a pass, and how many over the run's clock; and the part of the run's
+clock for which it was congested. `machine` is of the machine's core time: the
+parts held, being left, banned and empty, and free to be granted. A state lasts
+from its pass's clock to the next pass's.
 Exit status: 0 done, 2 rejected input, 3 memory or output was refused.",
     "caladan_view measure",
     "\
@@ -145,20 +153,26 @@ machine free              0.750"
 /// Of the subcommand `compare`.
 pub const COMPARE: &str = help_with_a_run!(
     "\
-Standard input: task tables (TOML), each ended by the line ---, and after the last of these lines
-arrivals (CSV).
-Standard output: the numbers that `caladan_view measure` gives of each table's run on the arrivals,
-a column for each table; beside each column but the first how much it is above or below the first;
-with --csv as CSV. A missing task, and a change that cannot be computed, is shown as a dash. With
---picture it is one SVG in place of the numbers: for each task the share of its requests answered
-within a time, and the cores that it held, table by table. The run below as a picture:
-`caladan_view compare --picture > runs.svg <<'END'` in place of its first line.
-With --vary the input is that of `measure`, with one table, and there is a column for each value:
-the table with that value at the key. Keys are cores, bandwidth_limit, and of task 1 task.1.kind,
-task.1.guaranteed, task.1.limit, task.1.delay and task.1.request. A value is written as in a table.
-To have the table as it is among the columns, name its own value, best as the first.
-Exit status: 0 done, 2 rejected input, 3 memory or output was refused. A table that is refused, or
-has too few threads for the arrivals, is named by its number, from 0, or by its value.",
+Input: task tables (TOML), each ended by the line ---, and after the last of
+these lines arrivals (CSV). With --arrivals each other file is a task table, and
+the named one has the arrivals; no line --- is needed.
+Output: the numbers that `caladan_view measure` gives of each table's
+run on the arrivals, a column for each table; beside each column but the first
+how much it is above or below the first; with --csv as CSV. A missing task, and
+a change that cannot be computed, is shown as a dash. With --picture it is one
+SVG in place of the numbers: for each task the share of its requests answered
+within a time, and the cores that it held, table by table. The run below as a
+picture: `caladan_view compare --picture > runs.svg <<'END'` in place of its
+first line.
+With --vary the input is that of `measure`, or one table with --arrivals, and
+there is a column for each value: the table with that value at the key. Keys are
+cores, bandwidth_limit, and of task 1 task.1.kind, task.1.guaranteed,
+task.1.limit, task.1.delay and task.1.request. A value is written as in a table.
+To have the table as it is among the columns, name its own value, best as the
+first.
+Exit status: 0 done, 2 rejected input, 3 memory or output was refused. A table
+that is refused, or has too few threads for the arrivals, is named by its
+number, from 0, or by its value.",
     "caladan_view compare",
     "\
 cores = 2
@@ -222,16 +236,19 @@ machine free                   0.750    1.000          +0.250"
 /// Of the subcommand `explain`.
 pub const EXPLAIN: &str = help_with_a_run!(
     "\
-Standard input: a task table (TOML), the line ---, and a history or signals (CSV).
-Standard output: with --pass the turns of the pass in their order, how things stand at each, and
-below it, after an arrow, what the policy does there. The parts are those of docs/POLICY.md, \"A
-pass\". Of a history that is not legal it is what the policy does on the pass's looks after the
-passes before it. With --task it is of the cores that the task holds or leaves, and of this task;
-with --core of this core, and of each task's claim to it.
-Without --pass `legal`; or `illegal pass P`, what the policy does in that pass, what the file has,
-the first action that differs, and how things stand at its turn.
-Exit status: 0 done, 1 the history is not legal, 2 rejected input or no such pass, task or core,
-3 memory or output was refused.",
+Input: a task table (TOML), the line ---, and a history or signals
+(CSV).
+Output: with --pass the turns of the pass in their order, how things
+stand at each, and below it, after an arrow, what the policy does there. The
+parts are those of docs/POLICY.md, \"A pass\". Of a history that is not legal it
+is what the policy does on the pass's looks after the passes before it. With
+--task it is of the cores that the task holds or leaves, and of this task; with
+--core of this core, and of each task's claim to it.
+Without --pass `legal`; or `illegal pass P`, what the policy does in that pass,
+what the file has, the first action that differs, and how things stand at its
+turn.
+Exit status: 0 done, 1 the history is not legal, 2 rejected input or no such
+pass, task or core, 3 memory or output was refused.",
     "caladan_view explain --pass 0",
     "\
 caladan-signals,2
@@ -240,7 +257,7 @@ whole,0,1,1,0,0,1,100,0,0,105,0,0
 end,1
 END
 
-It writes:
+It writes, with the line of the task as one:
 
 pass 0 now 111 bandwidth 0
 1 Frees
@@ -253,7 +270,8 @@ pass 0 now 111 bandwidth 0
 4 Bandwidth
   figure 0, not above the limit 1000
 5 Grants
-  task 0 lc: delay 11, above 10; holds 0, books 0, limit 1, guarantee 1: may book one more
+  task 0 lc: delay 11, above 10; holds 0, books 0, limit 1, guarantee 1:
+  may book one more
     thread 0: delay 11; may be granted a core, and waits longest
     core 0: class 3 other idle, chosen
     core 1: class 3 other idle

@@ -20,7 +20,7 @@ pub fn answer_compare<R: Read + Drop, W: Write, E: Write>(
     errors: &mut E,
 ) -> Result<u8, RunFault> {
     let Some(vary) = vary else {
-        return Ok(answer_comparison(alloc, reader, None, form, output, errors));
+        return answer_comparison(alloc, reader, None, form, output, errors);
     };
     let values = values_of(alloc, vary)?;
     let key = key_of(vary);
@@ -28,7 +28,7 @@ pub fn answer_compare<R: Read + Drop, W: Write, E: Write>(
         key,
         values: values.as_slice(),
     };
-    Ok(answer_comparison(alloc, reader, Some(variation), form, output, errors))
+    answer_comparison(alloc, reader, Some(variation), form, output, errors)
 }
 
 /// Compares the runs of an input, and answers the exit status: its faults name the table or the
@@ -40,9 +40,9 @@ fn answer_comparison<R: Read + Drop, W: Write, E: Write>(
     form: Form,
     output: &mut W,
     errors: &mut E,
-) -> u8 {
+) -> Result<u8, RunFault> {
     match write_comparison(alloc, reader, variation, form, output) {
-        Ok(()) => 0,
+        Ok(()) => Ok(0),
         Err(fault) => end_comparison(&fault, variation, errors),
     }
 }

@@ -1,5 +1,6 @@
 //! A pass of an input explained.
 
+use crate::fault::end_without_pass;
 use cal_engine::{RunFault, decided_run, read_input, read_parts};
 use cal_explain::{ExplainFault, Explained, Scope, explain_pass, explain_verdict};
 use cal_machine::Config;
@@ -72,12 +73,7 @@ pub fn answer_explain<R: Read + Drop, W: Write, E: Write>(
 /// Says why a pass cannot be explained, and answers the exit status.
 fn refuse<E: Write>(reason: Unexplained, errors: &mut E) -> u8 {
     let _ = match reason {
-        Unexplained::NoPass { pass, passes } => {
-            writeln!(
-                errors,
-                "caladan_view: no pass {pass}: there are {passes}, from 0"
-            )
-        }
+        Unexplained::NoPass { pass, passes } => return end_without_pass(pass, passes, errors),
         Unexplained::NoTask { tasks } => {
             writeln!(
                 errors,

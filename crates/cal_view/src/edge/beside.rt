@@ -1,0 +1,93 @@
+//! A file that an answer goes to: it is written beside its place, and takes it at the end.
+
+use std::alloc::Global;
+use std::fs::OpenOptions;
+use std::io::{ErrorKind, Write};
+use std::rt::Files;
+use std::{fs, io};
+
+/// How many files beside a place are tried, where others are there.
+const TRIES: usize = 100;
+
+/// A file that is being written.
+#[derive(Drop)]
+pub struct Beside<F> {
+    file: F,
+    /// The name of the file while it is written, and the name that it is to have; nothing where it
+    /// is written in its place, as a device or a pipe is.
+    names: Option<Names>,
+}
+
+#[derive(Drop)]
+struct Names {
+    beside: String,
+    place: String,
+}
+
+/// Opens what is written to this place: a new file beside it, or the place itself where something
+/// is there that is no file. A link is followed to the file that it names.
+pub fn open_beside<H: Files>(rt: &H, alloc: Global, path: &str) -> io::Result<Beside<H::File>> {
+    match fs::metadata(rt, path) {
+        Ok(there) if !there.is_file() => {
+            let file = OpenOptions::new().write(true).open(rt, path)?;
+            Ok(Beside { file, names: None })
+        }
+        Ok(_) => {
+            let place = rt.canonicalize(alloc, path)?;
+            create_beside(rt, alloc, place.as_path().as_str())
+        }
+        Err(_) => create_beside(rt, alloc, path),
+    }
+}
+
+/// Makes a new file beside this place.
+fn create_beside<H: Files>(rt: &H, alloc: Global, place: &str) -> io::Result<Beside<H::File>> {
+    for number in 0..TRIES {
+        let beside = format!(in alloc; "{place}.part{number}")?;
+        match OpenOptions::new()
+            .write(true)
+            .create_new(true)
+            .open(rt, beside.as_str())
+        {
+            Ok(file) => {
+                let place = String::from_str(alloc, place)?;
+                let names = Some(Names { beside, place });
+                return Ok(Beside { file, names });
+            }
+            Err(said) if said.kind() == ErrorKind::AlreadyExists => {}
+            Err(said) => return Err(said),
+        }
+    }
+    Err(io::Error::from(ErrorKind::AlreadyExists))
+}
+
+impl<F> Beside<F> {
+    /// Gives the file its name.
+    pub fn keep<H: Files>(&self, rt: &H) -> io::Result<()> {
+        let Some(names) = &self.names else {
+            return Ok(());
+        };
+        let renamed = fs::rename(rt, names.beside.as_str(), names.place.as_str());
+        if renamed.is_err() {
+            self.remove(rt);
+        }
+        renamed
+    }
+
+    /// Removes what was written, where it has not its name.
+    pub fn remove<H: Files>(&self, rt: &H) {
+        if let Some(names) = &self.names {
+            let _ = fs::remove_file(rt, names.beside.as_str());
+        }
+    }
+}
+
+impl<F: Write> Write for Beside<F> {
+    fn write(&mut self, buf: &[u8]) -> io::Result<usize> {
+        self.file.write(buf)
+    }
+
+    fn flush(&mut self) -> io::Result<()> {
+        self.file.flush()
+    }
+}
