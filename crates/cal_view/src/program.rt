@@ -49,8 +49,9 @@ pub fn run_program<H: Files, R: Read + Drop, W: Write, E: Write>(
     }
 }
 
-/// The exit status after what was written on this writer, and the line of its fault.
-fn end_answer<W: Write, E: Write>(
+/// The exit status after what was written on this writer. Of a fault its line is said, with what the
+/// system said of the writer; where whoever reads the answer has gone there is none.
+pub fn end_answer<W: Write, E: Write>(
     answer: Result<u8, RunFault>,
     output: &Noted<W>,
     errors: &mut E,

@@ -9,6 +9,7 @@
 ghost use Rattle.std.specs.Prelude.{◌≡◌, ◌≢◌, IfErr};
 
 use cal_engine::{RunFault, end_with, given_words, refuse_words, words, words_after_first};
+use cal_view::{Noted, end_answer};
 use std::alloc::Global;
 use std::io::Write;
 use std::process::ExitCode;
@@ -30,7 +31,7 @@ fn main(rt: HostRuntime) -> ExitCode {
     ExitCode::from(status)
 }
 
-/// Says what `answer_words` does, or the line of its fault, which names the program that the first
+/// Says what `answer_words` does, or the line of its fault as the program says it that the first
 /// word names.
 fn end_words<W: Write, E: Write>(
     alloc: Global,
@@ -38,10 +39,16 @@ fn end_words<W: Write, E: Write>(
     output: &mut W,
     errors: &mut E,
 ) -> u8 {
-    match answer_words(alloc, named, output, errors) {
-        Ok(status) => status,
-        Err(fault) => end_with(named_program(named), &fault, errors),
+    let mut output = Noted::new(output);
+    let fault = match answer_words(alloc, named, &mut output, errors) {
+        Ok(status) => return status,
+        Err(fault) => fault,
+    };
+    let program = named_program(named);
+    if program == "caladan_view" {
+        return end_answer(Err(fault), &output, errors);
     }
+    end_with(program, &fault, errors)
 }
 
 /// The program that the first word names, or this one.

@@ -1,7 +1,7 @@
 //! A file that an answer goes to: it is written beside its place, and takes it at the end.
 
 use std::alloc::Global;
-use std::fs::OpenOptions;
+use std::fs::{OpenFile, OpenOptions};
 use std::io::{ErrorKind, Write};
 use std::rt::Files;
 use std::{fs, io};
@@ -25,18 +25,25 @@ struct Names {
 }
 
 /// Opens what is written to this place: a new file beside it, or the place itself where something
-/// is there that is no file. A link is followed to the file that it names.
+/// is there that is no file. A link is followed to the file that it names. A file that is there has
+/// to be one that may be written, and the new one has its permissions.
 pub fn open_beside<H: Files>(rt: &H, alloc: Global, path: &str) -> io::Result<Beside<H::File>> {
-    match fs::metadata(rt, path) {
-        Ok(there) if !there.is_file() => {
-            let file = OpenOptions::new().write(true).open(rt, path)?;
-            Ok(Beside { file, names: None })
+    let there = match fs::metadata(rt, path) {
+        Ok(there) => there,
+        Err(_) => return create_beside(rt, alloc, path),
+    };
+    let file = OpenOptions::new().write(true).open(rt, path)?;
+    if !there.is_file() {
+        return Ok(Beside { file, names: None });
+    }
+    let place = rt.canonicalize(alloc, path)?;
+    let beside = create_beside(rt, alloc, place.as_path().as_str())?;
+    match beside.file.set_permissions(there.permissions()) {
+        Ok(()) => Ok(beside),
+        Err(said) => {
+            beside.remove(rt);
+            Err(said)
         }
-        Ok(_) => {
-            let place = rt.canonicalize(alloc, path)?;
-            create_beside(rt, alloc, place.as_path().as_str())
-        }
-        Err(_) => create_beside(rt, alloc, path),
     }
 }
 
