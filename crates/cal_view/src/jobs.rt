@@ -1,5 +1,6 @@
 //! What the words of the program ask for: a history recorded, drawn or compared.
 
+pub mod checking;
 pub mod comparing;
 pub mod counting;
 pub mod drawing;

@@ -5,6 +5,7 @@
 #![tactic(auto)]
 
 mod command_words;
+mod explained;
 mod fault;
 mod jobs;
 mod picture;

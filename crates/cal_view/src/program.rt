@@ -4,6 +4,7 @@
 ghost use Rattle.std.specs.Prelude.{◌≡◌, ◌≢◌, IfErr};
 
 use crate::command_words::command_line::{Job, help, words};
+use crate::jobs::checking::answer_check;
 use crate::jobs::comparing::answer_compare;
 use crate::jobs::drawing::{draw_read, write_read_timeline};
 use crate::jobs::explaining::answer_explain;
@@ -44,6 +45,7 @@ fn answer_words<R: Read + Drop, W: Write, E: Write>(
     let given = words_after_first(alloc, named)?;
     match words(alloc, given.as_slice()) {
         Ok(Job::Help) => say_help(alloc, errors),
+        Ok(Job::Check) => answer_check(alloc, reader, output, errors),
         Ok(Job::Explain { asked }) => answer_explain(alloc, reader, asked, output, errors),
         Ok(Job::Compare { vary, form }) => {
             answer_compare(alloc, reader, vary, form, output, errors)
@@ -83,7 +85,7 @@ fn do_job<R: Read + Drop, W: Write>(
         Job::Picture { from, passes } => draw_read(alloc, reader, from, passes, &mut buffer)?,
         Job::Timeline => write_read_timeline(alloc, reader, &mut buffer)?,
         Job::Measure { form } => measure(alloc, reader, form, &mut buffer)?,
-        Job::Compare { .. } | Job::Explain { .. } | Job::Help => {}
+        Job::Compare { .. } | Job::Explain { .. } | Job::Check | Job::Help => {}
     }
     match buffer.flush() {
         Ok(()) => Ok(()),

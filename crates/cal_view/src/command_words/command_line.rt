@@ -43,6 +43,8 @@ pub enum Job<'a> {
         /// Which pass, and what of it.
         asked: Asked,
     },
+    /// Say what an input is, or why it is refused.
+    Check,
     /// Say how the program is used.
     Help,
 }
@@ -109,7 +111,14 @@ fn program<'a>(alloc: Global) -> Result<Command<'a>, AllocError> {
         .subcommand(timeline)?
         .subcommand(measure)?
         .subcommand(compare_word(alloc)?)?
-        .subcommand(explain_word(alloc)?)
+        .subcommand(explain_word(alloc)?)?
+        .subcommand(check_word(alloc))
+}
+
+fn check_word<'a>(alloc: Global) -> Command<'a> {
+    Command::new(alloc, "check")
+        .about("Say what an input is, or why it is refused")
+        .after_help(help_texts::CHECK)
 }
 
 fn explain_word<'a>(alloc: Global) -> Result<Command<'a>, AllocError> {
@@ -220,6 +229,7 @@ fn job_of<'a>(matches: &ArgMatches<'a>) -> Option<Job<'a>> {
         Some((name, own)) if name == "explain" => Job::Explain {
             asked: asked_of(own),
         },
+        Some((name, _)) if name == "check" => Job::Check,
         _ => Job::Help,
     };
     Some(job)

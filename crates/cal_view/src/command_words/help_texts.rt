@@ -259,3 +259,26 @@ pass 0 now 111 bandwidth 0
     core 1: class 3 other idle
     -> grant core 0 to thread 0 class 3"
 );
+
+/// Of the subcommand `check`.
+pub const CHECK: &str = help_with_a_run!(
+    "\
+Standard input: a task table (TOML) alone, or a task table, the line ---, and
+signals, arrivals or a history (CSV).
+Standard output: a line that says what it is. Of an input that is refused,
+standard error has the line of its fault, and below it where it is, what stands
+there, what is wanted, and what to do about it where that is plain.
+Exit status: 0 accepted, 2 rejected input, 3 memory or output was refused.",
+    "caladan_view check",
+    "\
+caladan-arrivals,1
+pass,100,0
+turn,105
+request,0,0,7,1,3
+end,3
+END
+
+It writes:
+
+a task table (cores 2, tasks 1, threads 1) and arrivals (passes 1, turns 1, requests 1)"
+);
