@@ -1,6 +1,7 @@
 //! What the words of the program ask for: a history recorded, drawn or compared, or arrivals made.
 
 pub mod arriving;
+pub mod checking;
 pub mod comparing;
 pub mod counting;
 pub mod drawing;

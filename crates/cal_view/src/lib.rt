@@ -6,6 +6,7 @@
 
 mod command_words;
 mod edge;
+mod explained;
 mod fault;
 mod jobs;
 mod picture;

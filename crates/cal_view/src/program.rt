@@ -9,6 +9,7 @@ use crate::edge::failure::Failure;
 use crate::edge::noted::Noted;
 use crate::edge::sources::{open_named, read_tables, said_of_reading};
 use crate::jobs::arriving::answer_arrivals;
+use crate::jobs::checking::answer_check;
 use crate::jobs::comparing::answer_compare;
 use crate::jobs::drawing::{answer_picture, write_read_timeline};
 use crate::jobs::explaining::answer_explain;
@@ -208,6 +209,7 @@ fn answer_job<R: Read + Drop, W: Write, E: Write>(
     errors: &mut E,
 ) -> Result<u8, RunFault> {
     match job {
+        Job::Check => answer_check(alloc, reader, output, errors),
         Job::Arrivals { asked } => answer_arrivals(alloc, reader, asked, output, errors),
         Job::Explain { asked } => answer_explain(alloc, reader, *asked, output, errors),
         Job::Compare { vary, form } => answer_compare(alloc, reader, *vary, *form, output, errors),
@@ -236,7 +238,8 @@ fn do_job<R: Read + Drop, W: Write>(
         Job::History { front } => record(alloc, reader, *front, &mut buffer)?,
         Job::Timeline => write_read_timeline(alloc, reader, &mut buffer)?,
         Job::Measure { form } => measure(alloc, reader, *form, &mut buffer)?,
-        Job::Picture { .. } | Job::Compare { .. } | Job::Explain { .. } | Job::Arrivals { .. } | Job::Help => {}
+        // (answer_job does these)
+        _ => {}
     }
     match buffer.flush() {
         Ok(()) => Ok(()),

@@ -49,6 +49,8 @@ pub enum Job<'a> {
         /// Which arrivals.
         asked: ArrivalWords<'a>,
     },
+    /// Say what an input is, or why it is refused.
+    Check,
     /// Say how the program is used.
     Help,
 }
@@ -187,7 +189,16 @@ fn program<'a>(alloc: Global) -> Result<Command<'a>, AllocError> {
         .subcommand(measure)?
         .subcommand(compare_word(alloc)?)?
         .subcommand(explain_word(alloc)?)?
+        .subcommand(check_word(alloc)?)?
         .subcommand(arrival_word(alloc)?)
+}
+
+fn check_word<'a>(alloc: Global) -> Result<Command<'a>, AllocError> {
+    Command::new(alloc, "check")
+        .about("Say what an input is, or why it is refused")
+        .after_long_help(help_texts::CHECK)
+        .arg(input_word(alloc))?
+        .arg(output_word(alloc))
 }
 
 fn explain_word<'a>(alloc: Global) -> Result<Command<'a>, AllocError> {
@@ -349,6 +360,7 @@ fn job_of<'a>(matches: &ArgMatches<'a>) -> Result<Job<'a>, Mistake> {
         Some((name, own)) if name == "explain" => Job::Explain {
             asked: asked_of(own),
         },
+        Some((name, _)) if name == "check" => Job::Check,
         _ => Job::Help,
     };
     Ok(job)

@@ -281,19 +281,23 @@ pass 0 now 111 bandwidth 0
 /// Of the subcommand `arrivals`.
 pub const ARRIVALS: &str = help_with_a_run!(
     "\
-Standard input: a task table (TOML); what follows a line --- is not read.
-Standard output: arrivals (CSV), which `measure`, `compare` and `caladan_sim lockstep` read after the
-table; with --table an input of these. Pass p has the clock p times the ticks, from p = 1, with a
-bandwidth figure of 0, and turn p comes half a turn later.
-A task's load is the work asked for, over the turns times its limit. Requests come by chance each for
-itself (poisson), as far apart as can be (even), or so many at once (bursts:N), each to one of the
-task's threads by chance. One that comes to a turn that is taken comes in the thread's next. With
-several tasks --load, --service and --pattern are given once, or once for each --task, in the same
-order. What comes to a task depends on its number, its limit, its own words, the turns and the seed.
-With --summary, of each task: how many requests came, how many of these stand before a later turn
-than they came to, how many found no turn and are left out, and the load of all others.
-Exit status: 0 done, 2 rejected input or a word that it refuses, which is named, 3 memory or output
-was refused.",
+Input: a task table (TOML); what follows a line --- is not read.
+Output: arrivals (CSV), which `measure`, `compare` and
+`caladan_sim lockstep` read after the table; with --table an input of these.
+Pass p has the clock p times the ticks, from p = 1, with a bandwidth figure of
+0, and turn p comes half a turn later.
+A task's load is the work asked for, over the turns times its limit. Requests
+come by chance each for itself (poisson), as far apart as can be (even), or so
+many at once (bursts:N), each to one of the task's threads by chance. One that
+comes to a turn that is taken comes in the thread's next. With several tasks
+--load, --service and --pattern are given once, or once for each --task, in the
+same order. What comes to a task depends on its number, its limit, its own
+words, the turns and the seed.
+With --summary, of each task: how many requests came, how many of these stand
+before a later turn than they came to, how many found no turn and are left out,
+and the load of all others.
+Exit status: 0 done, 2 rejected input or a word that it refuses, which is named,
+3 memory or output was refused.",
     "caladan_view arrivals --task 0 --load 0.5 --pattern even --turns 4",
     "\
 END
@@ -311,4 +315,27 @@ turn,35
 turn,45
 request,0,2,1,1,0
 end,9"
+);
+
+/// Of the subcommand `check`.
+pub const CHECK: &str = help_with_a_run!(
+    "\
+Input: a task table (TOML) alone, or a task table, the line ---, and
+signals, arrivals or a history (CSV).
+Output: a line that says what it is. Of an input that is refused,
+standard error has the line of its fault, and below it where it is, what stands
+there, what is wanted, and what to do about it where that is plain.
+Exit status: 0 accepted, 2 rejected input, 3 memory or output was refused.",
+    "caladan_view check",
+    "\
+caladan-arrivals,1
+pass,100,0
+turn,105
+request,0,0,7,1,3
+end,3
+END
+
+It writes:
+
+a task table (cores 2, tasks 1, threads 1) and arrivals (passes 1, turns 1, requests 1)"
 );

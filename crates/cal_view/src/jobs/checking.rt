@@ -1,0 +1,84 @@
+//! An input checked: what it is, or why it is refused.
+
+use crate::explained::end_explained;
+use crate::jobs::counting::count_passes;
+use cal_engine::{RunFault, read_input, read_parts, split_input};
+use cal_faults::{TraceKind, is_table_alone};
+use cal_machine::Config;
+use cal_trace::{FaultKind, read_arrivals, read_signals};
+use std::alloc::{AllocError, Global};
+use std::io::{Read, Write};
+
+/// Reads an input, of a task table alone or with signals, arrivals or a history, and writes in a
+/// line what it is; of one that is refused, the line of its fault and why. Answers the exit status.
+/// The faults that are answered are those of reading and writing, and `Memory`.
+pub fn answer_check<R: Read + Drop, W: Write, E: Write>(
+    alloc: Global,
+    mut reader: R,
+    output: &mut W,
+    errors: &mut E,
+) -> Result<u8, RunFault> {
+    let input = read_input(alloc, &mut reader)?;
+    let said = match accepted(alloc, input.as_slice()) {
+        Ok(said) => said,
+        Err(fault) => {
+            let wanted = [TraceKind::Signals, TraceKind::Arrivals, TraceKind::History];
+            return Ok(end_explained(alloc, input.as_slice(), &fault, &wanted, errors));
+        }
+    };
+    match output.write_all(said.as_bytes()) {
+        Ok(()) => Ok(0),
+        Err(_) => Err(RunFault::Write),
+    }
+}
+
+/// What an input is, in a line; or its fault.
+fn accepted(alloc: Global, input: &[u8]) -> Result<String, RunFault> {
+    if split_input(input).is_none() && is_table_alone(input) {
+        let config = Config::read(alloc, input)?;
+        return Ok(line_of(alloc, &config, "")?);
+    }
+    let (config, trace) = read_parts(alloc, input)?;
+    let what = trace_of(alloc, &config, input, trace)?;
+    Ok(line_of(alloc, &config, what.as_str())?)
+}
+
+/// The line of a table, and of what comes after it.
+fn line_of(alloc: Global, config: &Config, what: &str) -> Result<String, AllocError> {
+    let cores = config.machine().cores();
+    let tasks = config.tasks();
+    let threads = config.threads();
+    format!(in alloc; "a task table (cores {cores}, tasks {tasks}, threads {threads}){what}\n")
+}
+
+/// What a trace is: the first kind whose header it has.
+fn trace_of(
+    alloc: Global,
+    config: &Config,
+    input: &[u8],
+    trace: &[u8],
+) -> Result<String, RunFault> {
+    match read_signals(alloc, config, trace) {
+        Ok(signals) => {
+            let passes = signals.passes.as_slice().len();
+            return Ok(format!(in alloc; " and signals (passes {passes})")?);
+        }
+        Err(fault) if fault.kind == FaultKind::Header => {}
+        Err(fault) => return Err(RunFault::from(fault)),
+    }
+    match read_arrivals(alloc, config, trace) {
+        Ok(arrivals) => {
+            let passes = arrivals.passes.as_slice().len();
+            let turns = arrivals.turns.as_slice().len();
+            let requests = arrivals.requests.as_slice().len();
+            let what = format!(in alloc;
+                " and arrivals (passes {passes}, turns {turns}, requests {requests})"
+            )?;
+            return Ok(what);
+        }
+        Err(fault) if fault.kind == FaultKind::Header => {}
+        Err(fault) => return Err(RunFault::from(fault)),
+    }
+    let passes = count_passes(alloc, input)?;
+    Ok(format!(in alloc; " and a history (passes {passes})")?)
+}
