@@ -335,7 +335,8 @@ request,0,0,7,1,3
 end,3
 END
 
-It writes:
+It writes, with its two lines as one:
 
-a task table (cores 2, tasks 1, threads 1) and arrivals (passes 1, turns 1, requests 1)"
+a task table (cores 2, tasks 1, threads 1)
+and arrivals (passes 1, turns 1, requests 1)"
 );
