@@ -151,46 +151,28 @@ pub fn help(alloc: Global) -> Result<String, AllocError> {
     program(alloc)?.render_help()
 }
 
-/// The program, with a subcommand for each word.
+/// The program, with a subcommand for each word. A word is added as its turn comes, so that little
+/// stands to be dropped where memory is refused.
 fn program<'a>(alloc: Global) -> Result<Command<'a>, AllocError> {
-    let history = Command::new(alloc, "history")
-        .about("Decide the passes of a signal trace, and write them as a history")
-        .after_long_help(help_texts::HISTORY)
-        .arg(input_word(alloc))?
-        .arg(table_word(alloc))?
-        .arg(output_word(alloc))?;
-    let picture = Command::new(alloc, "picture")
-        .about("Draw a history as one SVG")
-        .after_long_help(help_texts::PICTURE)
-        .arg(input_word(alloc))?
-        .arg(from_word(alloc))?
-        .arg(passes_word(alloc))?
-        .arg(output_word(alloc))?;
-    let timeline = Command::new(alloc, "timeline")
-        .about("Write a history as trace events, for Perfetto and chrome://tracing")
-        .after_long_help(help_texts::TIMELINE)
-        .arg(input_word(alloc))?
-        .arg(output_word(alloc))?;
-    let measure = Command::new(alloc, "measure")
-        .about("Make a run on arrivals, and write its numbers")
-        .after_long_help(help_texts::MEASURE)
-        .arg(input_word(alloc))?
-        .arg(csv_word(alloc))?
-        .arg(output_word(alloc))?;
+    let program = bare_program(alloc)?;
+    let program = program.subcommand(history_word(alloc)?)?;
+    let program = program.subcommand(drawn_word(alloc)?)?;
+    let program = program.subcommand(timeline_word(alloc)?)?;
+    let program = program.subcommand(measure_word(alloc)?)?;
+    let program = program.subcommand(compare_word(alloc)?)?;
+    let program = program.subcommand(explain_word(alloc)?)?;
+    let program = program.subcommand(check_word(alloc)?)?;
+    program.subcommand(arrival_word(alloc)?)
+}
+
+/// The program before it has its words.
+fn bare_program<'a>(alloc: Global) -> Result<Command<'a>, AllocError> {
     Command::new(alloc, "caladan_view")
         .version(VERSION)
         .about("Looks at runs of the core scheduler of Caladan")
         .after_long_help(help_texts::PROGRAM)
         .no_binary_name(true)
-        .bin_name("caladan_view")?
-        .subcommand(history)?
-        .subcommand(picture)?
-        .subcommand(timeline)?
-        .subcommand(measure)?
-        .subcommand(compare_word(alloc)?)?
-        .subcommand(explain_word(alloc)?)?
-        .subcommand(check_word(alloc)?)?
-        .subcommand(arrival_word(alloc)?)
+        .bin_name("caladan_view")
 }
 
 fn check_word<'a>(alloc: Global) -> Result<Command<'a>, AllocError> {
@@ -198,6 +180,42 @@ fn check_word<'a>(alloc: Global) -> Result<Command<'a>, AllocError> {
         .about("Say what an input is, or why it is refused")
         .after_long_help(help_texts::CHECK)
         .arg(input_word(alloc))?
+        .arg(output_word(alloc))
+}
+
+fn history_word<'a>(alloc: Global) -> Result<Command<'a>, AllocError> {
+    Command::new(alloc, "history")
+        .about("Decide the passes of a signal trace, and write them as a history")
+        .after_long_help(help_texts::HISTORY)
+        .arg(input_word(alloc))?
+        .arg(table_word(alloc))?
+        .arg(output_word(alloc))
+}
+
+fn drawn_word<'a>(alloc: Global) -> Result<Command<'a>, AllocError> {
+    Command::new(alloc, "picture")
+        .about("Draw a history as one SVG")
+        .after_long_help(help_texts::PICTURE)
+        .arg(input_word(alloc))?
+        .arg(from_word(alloc))?
+        .arg(passes_word(alloc))?
+        .arg(output_word(alloc))
+}
+
+fn timeline_word<'a>(alloc: Global) -> Result<Command<'a>, AllocError> {
+    Command::new(alloc, "timeline")
+        .about("Write a history as trace events, for Perfetto and chrome://tracing")
+        .after_long_help(help_texts::TIMELINE)
+        .arg(input_word(alloc))?
+        .arg(output_word(alloc))
+}
+
+fn measure_word<'a>(alloc: Global) -> Result<Command<'a>, AllocError> {
+    Command::new(alloc, "measure")
+        .about("Make a run on arrivals, and write its numbers")
+        .after_long_help(help_texts::MEASURE)
+        .arg(input_word(alloc))?
+        .arg(csv_word(alloc))?
         .arg(output_word(alloc))
 }
 
