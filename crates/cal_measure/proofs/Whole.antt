@@ -13,7 +13,7 @@ use Rattle.cal_measure.specs.declared.cores.MachineCores.{MachineCores}
 use Rattle.cal_measure.specs.declared.states.CoreState.{CoreState}
 use Rattle.cal_measure.specs.declared.states.CoreState.TheVariants as states
 
-one : CoreState → Holder → Bool → ℕ
+abbrev one : CoreState → Holder → Bool → ℕ
 one state h b = cond (is_in_state state h b) 1 0
 
 -- each core is in one state
@@ -23,7 +23,7 @@ one_state Free false = refl
 one_state (Held placement) b = refl
 one_state (Leaving placement cause) b = refl
 
-in_below : List Action → CoreState → ℕ → ℕ
+abbrev in_below : List Action → CoreState → ℕ → ℕ
 in_below x state n = count_below (λ c. is_in_state state (holder_of x c) (is_banned x c)) n
 
 in_more : (x : List Action) (state : CoreState) (n : ℕ) → in_below x state (suc n) ≡ in_below x state n + one state (holder_of x n) (is_banned x n)
@@ -48,7 +48,7 @@ spread_out a b c d l k e = rw (sym e) (omega arith)
 grown_out : (s l k : ℕ) → (s + l) * k ≡ s * k + l * k
 grown_out s l k = omega arith
 
-time_below : Table → List PassEntry → CoreState → ℕ → ℕ
+abbrev time_below : Table → List PassEntry → CoreState → ℕ → ℕ
 time_below table h state n = sum_below (λ p. in_state_after table h state p * lasts_at h p) n
 
 time_more : (table : Table) (h : List PassEntry) (state : CoreState) (n : ℕ) →
@@ -61,7 +61,7 @@ lasts_more h n = refl
 whole_below : (table : Table) (h : List PassEntry) (n : ℕ) →
     time_below table h states.Held n + time_below table h states.Leaving n + time_below table h states.Banned n + time_below table h states.Free n
     ≡ sum_below (λ p. lasts_at h p) n * table.cores
-whole_below table h zero = refl
+whole_below table h zero = omega arith
 whole_below table h (suc n) =
     let x = actions_of (take (n + 1) h) in
     omega (

@@ -32,10 +32,9 @@ returns c =
     let services = c.in_ok-services.ensures ∙ ap (λ e. services_of_task table e c.args.journals.now t) end in
     let remaining = c.in_ok-remaining.ensures in
     let answered = c.in_ok-answered.ensures turns requests clocks ∙ ap (λ (l : List Service). map (response_of turns requests) l) (c.as_slice.ensures.value ∙ services) in
-    let waiting = ap (λ (l : List Request). map (so_far_of turns requests c.run_end-end.result) l) in
     let by_end = ap (λ (e : ℕ). map (so_far_of turns requests e) (left_of_task table c.args.left.now t)) end in
-    let pending = c.in_ok-pending.ensures turns requests clocks ∙ waiting (c.as_slice-2.ensures.value ∙ remaining) ∙ by_end in
-    let old = c.in_ok-oldest.ensures turns requests clocks ∙ waiting (c.as_slice-8.ensures.value ∙ remaining) ∙ by_end in
+    let pending = c.in_ok-pending.ensures turns requests clocks ∙ ap (λ (l : List Request). map (so_far_of turns requests c.run_end-end.result) l) (c.as_slice-2.ensures.value ∙ remaining) ∙ by_end in
+    let old = c.in_ok-oldest.ensures turns requests clocks ∙ ap (λ (l : List Request). map (so_far_of turns requests c.run_end-end.result) l) (c.as_slice-8.ensures.value ∙ remaining) ∙ by_end in
     record {
       given = c.given_to.ensures ∙ ap (λ (l : List Arrival). given_to table l t) c.as_slice-9.ensures;
       are = record {
