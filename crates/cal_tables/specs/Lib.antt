@@ -6,3 +6,4 @@ pub mod Varied
 pub mod Writing
 pub mod Laws
 pub mod Changed
+pub mod Rows

@@ -1,7 +1,11 @@
 //! The numbers of a run's cores, row by row.
 
+ghost use Rattle.std.specs.Prelude.{◌≡◌, ◌≤◌, ◌-◌, ◌^◌, min, Some};
+ghost use Rattle.cal_tables.specs.Rows.{core_figure_of, exact, machine_figure_of};
+
 use crate::figures::{Figure, Unit, count, share};
 use crate::measuring::RunNumbers;
+use cal_measure::{MachineCores, TaskCores};
 
 /// What a row says of the cores of each task.
 #[derive(Clone, Copy)]
@@ -112,10 +116,12 @@ pub fn machine_unit(line: MachineLine) -> Unit {
     }
 }
 
-/// What a row says of a task's cores, which a run may not have, where there is something.
-pub fn core_figure(numbers: &RunNumbers, task: usize, line: CoreLine) -> Option<Figure> {
-    let cores = numbers.cores.as_slice().get(task)?;
-    let lasted = numbers.machine.lasted;
+/// What a row says of a task with these numbers of cores, in a run that lasted so long.
+fn core_figure_of(cores: &TaskCores, lasted: u128, line: CoreLine) -> Option<Figure>
+    ensures { cores.now.held ≤ 2 ^ 100 → cores.now.leaving ≤ 2 ^ 100 →
+        cores.now.congested ≤ 2 ^ 100 → lasted ≤ 2 ^ 100 →
+        result ≡ core_figure_of cores.now lasted line }
+{
     let actions = cores.actions;
     match line {
         CoreLine::GrantsBeside => count(actions.grants_beside),
@@ -135,15 +141,32 @@ pub fn core_figure(numbers: &RunNumbers, task: usize, line: CoreLine) -> Option<
     }
 }
 
-/// Some clock ticks, as a figure.
-fn ticks(ticks: u128) -> Option<Figure> {
+/// What a row says of a task's cores, which a run may not have, where there is something.
+pub fn core_figure(numbers: &RunNumbers, task: usize, line: CoreLine) -> Option<Figure> {
+    let cores = numbers.cores.as_slice().get(task)?;
+    core_figure_of(cores, numbers.machine.lasted, line)
+}
+
+/// Some clock ticks, up to the greatest number, as a figure.
+fn ticks(ticks: u128) -> Option<Figure>
+    ensures { result ≡ Some (exact (min ticks (2 ^ 64 - 1))) }
+{
     Some(Figure::of(ticks.min(u64::MAX as u128) as u64))
 }
 
-/// What a row says of the machine's cores, of which there are so many, where there is something.
-pub fn machine_figure(numbers: &RunNumbers, line: MachineLine, cores: u8) -> Option<Figure> {
-    let machine = &numbers.machine;
-    let whole = machine.lasted.saturating_mul(cores as u128);
+/// What a row says of a machine with these numbers and so much core time in all, in a run whose
+/// turns last so long.
+fn machine_figure_of(
+    machine: &MachineCores,
+    whole: u128,
+    turns: u64,
+    line: MachineLine,
+) -> Option<Figure>
+    ensures { machine.now.held ≤ 2 ^ 100 → machine.now.leaving ≤ 2 ^ 100 →
+        machine.now.banned ≤ 2 ^ 100 → machine.now.free ≤ 2 ^ 100 →
+        machine.now.over_limit ≤ 2 ^ 100 → machine.now.lasted ≤ 2 ^ 100 → whole ≤ 2 ^ 100 →
+        result ≡ machine_figure_of machine.now whole turns line }
+{
     match line {
         MachineLine::Held => share(machine.held, whole),
         MachineLine::Leaving => share(machine.leaving, whole),
@@ -151,6 +174,12 @@ pub fn machine_figure(numbers: &RunNumbers, line: MachineLine, cores: u8) -> Opt
         MachineLine::Free => share(machine.free, whole),
         MachineLine::OverLimit => share(machine.over_limit, machine.lasted),
         MachineLine::ClockOfPasses => ticks(machine.lasted),
-        MachineLine::ClockOfRequests => ticks(numbers.turns as u128),
+        MachineLine::ClockOfRequests => Some(Figure::of(turns)),
     }
+}
+
+/// What a row says of the machine's cores, of which there are so many, where there is something.
+pub fn machine_figure(numbers: &RunNumbers, line: MachineLine, cores: u8) -> Option<Figure> {
+    let whole = numbers.machine.lasted.saturating_mul(cores as u128);
+    machine_figure_of(&numbers.machine, whole, numbers.turns, line)
 }

@@ -1,5 +1,8 @@
 //! The figures of rows, and how they are written.
 
+ghost use Rattle.std.specs.Prelude.{◌≡◌, ◌≤◌, ◌^◌, Some};
+ghost use Rattle.cal_tables.specs.Rows.{exact, few_for, if_below, ranked, share_of, time_in};
+
 use crate::sheet::NumberForm;
 use cal_measure::{Spread, Time, thousandths};
 use std::alloc::{AllocError, Global};
@@ -37,7 +40,9 @@ pub enum Rank {
 
 impl Figure {
     /// A number.
-    pub fn of(number: u64) -> Figure {
+    pub fn of(number: u64) -> Figure
+        ensures { result ≡ exact number }
+    {
         Figure {
             number,
             is_bound: false,
@@ -56,14 +61,20 @@ impl Figure {
 }
 
 /// A count, as a figure.
-pub fn count(number: usize) -> Option<Figure> {
+pub fn count(number: usize) -> Option<Figure>
+    ensures { result ≡ Some (exact number) }
+{
     Some(Figure::of(number as u64))
 }
 
 /// How many thousandths of a whole a part is, where there is a whole.
-pub fn share(part: u128, whole: u128) -> Option<Figure> {
-    let share = thousandths(part, whole)?;
-    Some(Figure::of(share.min(u64::MAX as u128) as u64))
+pub fn share(part: u128, whole: u128) -> Option<Figure>
+    ensures { part ≤ 2 ^ 100 → whole ≤ 2 ^ 100 → result ≡ share_of part whole }
+{
+    match thousandths(part, whole) {
+        None => None,
+        Some(share) => Some(Figure::of(share.min(u64::MAX as u128) as u64)),
+    }
 }
 
 /// How a rank is called.
@@ -79,7 +90,9 @@ pub fn rank_name(rank: Rank) -> &'static str {
 }
 
 /// One of some times.
-fn time_at(times: &Spread, rank: Rank) -> Option<Time> {
+fn time_in(times: &Spread, rank: Rank) -> Option<Time>
+    ensures { result ≡ time_in times.now rank }
+{
     match rank {
         Rank::Least => times.least,
         Rank::Median => times.median,
@@ -90,27 +103,45 @@ fn time_at(times: &Spread, rank: Rank) -> Option<Time> {
     }
 }
 
-/// So many times, where a rank needs more of them to tell it from the greatest.
-fn few_for(rank: Rank, count: usize) -> Option<usize> {
-    let needed = match rank {
-        Rank::NinetyNine => 100usize,
-        Rank::MostOfThousand => 1000,
-        _ => 0,
-    };
+/// So many times, where there are fewer than these.
+fn if_below(needed: usize, count: usize) -> Option<usize>
+    ensures { result ≡ if_below needed count }
+{
     if count < needed { Some(count) } else { None }
 }
 
-/// One of some times, as a figure.
-pub fn ranked(times: &Spread, rank: Rank) -> Option<Figure> {
-    let (number, is_bound) = match time_at(times, rank)? {
-        Time::Known(ticks) => (ticks, false),
-        Time::More(ticks) => (ticks, true),
-    };
-    Some(Figure {
-        number,
-        is_bound,
-        few: few_for(rank, times.count),
-    })
+/// So many times, where that is too few for a rank.
+fn few_for(rank: Rank, count: usize) -> Option<usize>
+    ensures { result ≡ few_for rank count }
+{
+    match rank {
+        Rank::Least => None,
+        Rank::Median => None,
+        Rank::Ninety => None,
+        Rank::NinetyNine => if_below(100, count),
+        Rank::MostOfThousand => if_below(1000, count),
+        Rank::Greatest => None,
+    }
+}
+
+/// The time at a rank, as a figure: of a pending request it is a bound.
+pub fn ranked(times: &Spread, rank: Rank) -> Option<Figure>
+    ensures { result ≡ ranked times.now rank }
+{
+    let few = few_for(rank, times.count);
+    match time_in(times, rank) {
+        None => None,
+        Some(Time::Known(ticks)) => Some(Figure {
+            number: ticks,
+            is_bound: false,
+            few,
+        }),
+        Some(Time::More(ticks)) => Some(Figure {
+            number: ticks,
+            is_bound: true,
+            few,
+        }),
+    }
 }
 
 /// A number as it is written: whole ones, or with three digits after the point.

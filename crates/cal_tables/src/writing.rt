@@ -98,50 +98,63 @@ pub fn unit(line: Line) -> Unit {
     }
 }
 
-/// The mean response of all requests; a bound where some are pending.
-fn mean_response(requests: &TaskRequests) -> Option<Figure> {
-    let mean = share(requests.together, requests.response.count as u128)?;
-    Some(Figure {
-        is_bound: requests.left > 0,
-        ..mean
-    })
-}
-
-/// How long the oldest pending request has waited, if there is one.
-fn oldest_pending(requests: &TaskRequests) -> Option<Figure> {
-    match requests.so_far.greatest? {
-        Time::Known(ticks) | Time::More(ticks) => Some(Figure::of(ticks)),
+/// A mean, which is a bound where some are pending.
+fn bound_if(pending: bool, mean: Option<Figure>) -> Option<Figure>
+    ensures { result ≡ bound_if pending mean }
+{
+    match mean {
+        None => None,
+        Some(figure) => Some(Figure {
+            number: figure.number,
+            is_bound: pending,
+            few: figure.few,
+        }),
     }
 }
 
-/// Which part of the core time that a task's threads held or left they worked.
-fn share_worked(numbers: &RunNumbers, task: usize) -> Option<Figure> {
-    let requests = numbers.requests.as_slice().get(task)?;
-    let cores = numbers.cores.as_slice().get(task)?;
-    share(
-        requests.work.worked,
-        cores.held.saturating_add(cores.leaving),
-    )
+/// How long the oldest pending request has waited, if there is one.
+fn oldest_in(greatest: Option<Time>) -> Option<Figure>
+    ensures { result ≡ oldest_in greatest }
+{
+    match greatest {
+        None => None,
+        Some(Time::Known(ticks)) => Some(Figure::of(ticks)),
+        Some(Time::More(ticks)) => Some(Figure::of(ticks)),
+    }
+}
+
+/// What a row says of a task with these numbers, which had so much core time, in a run whose turns
+/// last so long.
+fn figure_of(requests: &TaskRequests, had: u128, turns: u64, line: Line) -> Option<Figure>
+    ensures { requests.now.together ≤ 2 ^ 100 → requests.now.work.worked ≤ 2 ^ 100 →
+        had ≤ 2 ^ 100 → result ≡ figure_of requests.now had turns line }
+{
+    match line {
+        Line::Given => count(requests.given),
+        Line::Served => count(requests.served),
+        Line::Left => count(requests.left),
+        Line::ServedInATick => share(requests.served as u128, turns as u128),
+        Line::Response(rank) => ranked(&requests.response, rank),
+        Line::MeanResponse => {
+            let mean = share(requests.together, requests.response.count as u128);
+            bound_if(requests.left > 0, mean)
+        }
+        Line::Wait(rank) => ranked(&requests.wait, rank),
+        Line::Service(rank) => ranked(&requests.service, rank),
+        Line::Slowdown(rank) => ranked(&requests.slowdown, rank),
+        Line::OldestPending => oldest_in(requests.so_far.greatest),
+        Line::Thefts => count(requests.work.thefts),
+        Line::Suspensions => count(requests.work.suspensions),
+        Line::Worked => share(requests.work.worked, had),
+    }
 }
 
 /// What a row says of a task, which a run may not have, where there is something.
 pub fn figure(numbers: &RunNumbers, task: usize, line: Line) -> Option<Figure> {
     let requests = numbers.requests.as_slice().get(task)?;
-    match line {
-        Line::Given => count(requests.given),
-        Line::Served => count(requests.served),
-        Line::Left => count(requests.left),
-        Line::ServedInATick => share(requests.served as u128, numbers.turns as u128),
-        Line::Response(rank) => ranked(&requests.response, rank),
-        Line::MeanResponse => mean_response(requests),
-        Line::Wait(rank) => ranked(&requests.wait, rank),
-        Line::Service(rank) => ranked(&requests.service, rank),
-        Line::Slowdown(rank) => ranked(&requests.slowdown, rank),
-        Line::OldestPending => oldest_pending(requests),
-        Line::Thefts => count(requests.work.thefts),
-        Line::Suspensions => count(requests.work.suspensions),
-        Line::Worked => share_worked(numbers, task),
-    }
+    let cores = numbers.cores.as_slice().get(task)?;
+    let had = cores.held.saturating_add(cores.leaving);
+    figure_of(requests, had, numbers.turns, line)
 }
 
 /// The first row: the tasks, each with its kind.
