@@ -1,5 +1,5 @@
 -- TimedTurns and services, one turn more.
-use Rattle.std.proofs.Common.{◌≡◌, ℕ, Bool, true, false, ◌||◌, cond, List, [], ◌∷◌, ◌++◌, Option, Some, None, ◌+◌, ◌-◌, ◌^◌, min, refl, ap, sym, ◌∙◌, arith}
+use Rattle.std.proofs.Common.{◌≡◌, ℕ, Bool, true, false, ◌||◌, cond, List, [], ◌∷◌, ◌++◌, Option, Some, None, ◌+◌, refl, ap, sym, ◌∙◌, arith}
 use Rattle.std.specs.Option.{is_some, option_or}
 use Rattle.cal_measure.specs.Services.{any_serves, since_service, first_at_work, begun_since, worked_in, worked_since, clocked}
 use Rattle.cal_measure.specs.Ends.{ticks_of}

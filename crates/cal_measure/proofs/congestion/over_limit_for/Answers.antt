@@ -1,4 +1,4 @@
-use Rattle.std.proofs.Common.{◌≡◌, ◌∙◌, ℕ, Bool, length, cond, ap, arith}
+use Rattle.std.proofs.Common.{◌≡◌, ◌∙◌, Bool, length, cond, ap, arith}
 use Rattle.cal_policy.specs.Pass.Choice.{sum_below}
 use Rattle.cal_policy.proofs.PassLemmas.Bandwidth.{sum_more}
 use Rattle.cal_measure.specs.Cores.{is_over_limit}

@@ -1,4 +1,4 @@
-use Rattle.std.proofs.Common.{◌≡◌, ◌++◌, ◌∙◌, take, ap}
+use Rattle.std.proofs.Common.{◌++◌, ◌∙◌, take, ap}
 use Rattle.cal_measure.specs.Work.{stolen_by}
 use Rattle.cal_measure.proofs.Steps.{each_grown}
 use Rattle.cal_measure.proofs.work.put_stolen.Goals as goal

@@ -1,4 +1,4 @@
-use Rattle.std.proofs.Common.{◌≡◌, ◌++◌, ◌∙◌, ap, append_assoc}
+use Rattle.std.proofs.Common.{◌++◌, ◌∙◌, ap, append_assoc}
 use Rattle.cal_measure.specs.Joined.{joined_below}
 use Rattle.cal_measure.specs.Work.{suspension_at}
 use Rattle.cal_measure.proofs.Steps.{joined_more}

@@ -1,4 +1,4 @@
-use Rattle.std.proofs.Common.{◌≡◌, ◌++◌, ◌∙◌, take, ap}
+use Rattle.std.proofs.Common.{◌++◌, ◌∙◌, take, ap}
 use Rattle.cal_measure.specs.Work.{time_worked}
 use Rattle.cal_measure.proofs.Steps.{each_grown}
 use Rattle.cal_measure.proofs.work.put_worked.Goals as goal
