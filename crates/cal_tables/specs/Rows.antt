@@ -1,5 +1,5 @@
 -- Which number stands in which row.
-use Rattle.std.specs.Prelude.{ℕ, ◌+◌, ◌-◌, ◌*◌, ◌^◌, min, nat_lt, Bool, true, false}
+use Rattle.std.specs.Prelude.{ℕ, ◌-◌, ◌^◌, min, nat_lt, Bool, true, false}
 use Rattle.std.specs.Prelude.{Option, Some, None, if◌then◌else◌}
 use Rattle.cal_measure.specs.Shares.{thousandths_of}
 use Rattle.cal_measure.specs.declared.cores.MachineCores.{MachineCores}

@@ -86,9 +86,9 @@ up to the run's last clock: its ranks go over all requests, those left after the
 one falls on a request that is left there is `>` and for how long that one has waited. Of those
 served `wait` is from arrival until begun, `service` the time of the turns that worked, and
 `slowdown` the response over it; the rest of a response are interruptions. There is the least, by
-nearest rank the median, 90, 99 and 99.9 of 100, and the greatest; (7) says that a rank, which takes
-100 or 1,000, is of 7. With --csv `>` and this count have columns of their own. The mean counts what
-is left with the time so far. A dash means there was nothing to measure.
+nearest rank the median, 90, 99 and 99.9 of 100, and the greatest; (7) beside a rank says that it is
+of 7 times, where it takes 100 or 1,000. With --csv `>` and this count have columns of their own.
+The mean counts what is left with the time so far. A dash means there was nothing to measure.
 Of threads: requests stolen, requests suspended, and the part worked of the core time held or left.
 Of cores: the grants to the task's threads by class; the cores that it lost, to bans, to the
 bandwidth limit, to congested tasks; those that others lost for it; cuts and raises of its cap; the
