@@ -226,8 +226,6 @@ fn with_one(
     let by_bandwidth = is_loss(config, board, task, LossKind::Bandwidth, action);
     let by_task = is_loss(config, board, task, LossKind::Task, action);
     let taking = is_taking(config, board, task, action);
-    let cut = is_cut(config, board, task, action);
-    let raise = is_raise(config, board, task, action);
     TaskActions {
         grants_beside: plus(
             numbers.grants_beside,
@@ -245,8 +243,8 @@ fn with_one(
         lost_to_bandwidth: plus(numbers.lost_to_bandwidth, by_bandwidth),
         lost_to_tasks: plus(numbers.lost_to_tasks, by_task),
         taken_from_others: plus(numbers.taken_from_others, taking),
-        cuts: plus(numbers.cuts, cut),
-        raises: plus(numbers.raises, raise),
+        cuts: plus(numbers.cuts, is_cut(config, board, task, action)),
+        raises: plus(numbers.raises, is_raise(config, board, task, action)),
         bans: plus(numbers.bans, is_ban(config, task, action)),
     }
 }

@@ -17,7 +17,7 @@ returns c = λ x low a n.
       lost_to_bandwidth = counted (acts.is_loss table t kinds.Bandwidth) x action c.args.numbers.now.lost_to_bandwidth _ c.is_loss-by_bandwidth.result low n.lost_to_bandwidth (c.is_loss-by_bandwidth.ensures x a) c.plus-5.ensures;
       lost_to_tasks = counted (acts.is_loss table t kinds.Task) x action c.args.numbers.now.lost_to_tasks _ c.is_loss-by_task.result low n.lost_to_tasks (c.is_loss-by_task.ensures x a) c.plus-6.ensures;
       taken_from_others = counted (acts.is_taking table t) x action c.args.numbers.now.taken_from_others _ c.is_taking-taking.result low n.taken_from_others (c.is_taking-taking.ensures x a) c.plus-7.ensures;
-      cuts = counted (acts.is_cut table t) x action c.args.numbers.now.cuts _ c.is_cut-cut.result low n.cuts (c.is_cut-cut.ensures x a) c.plus-8.ensures;
-      raises = counted (acts.is_raise table t) x action c.args.numbers.now.raises _ c.is_raise-raise.result low n.raises (c.is_raise-raise.ensures x a) c.plus-9.ensures;
+      cuts = counted (acts.is_cut table t) x action c.args.numbers.now.cuts _ c.is_cut.result low n.cuts (c.is_cut.ensures x a) c.plus-8.ensures;
+      raises = counted (acts.is_raise table t) x action c.args.numbers.now.raises _ c.is_raise.result low n.raises (c.is_raise.ensures x a) c.plus-9.ensures;
       bans = counted (acts.is_ban table t) x action c.args.numbers.now.bans _ c.is_ban.result low n.bans (c.is_ban.ensures x) c.plus-10.ensures;
     }
