@@ -2,3 +2,4 @@ pub mod Serving
 pub mod Steps
 pub mod Counting
 pub mod Passes
+pub mod Whole

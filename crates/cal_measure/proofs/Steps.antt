@@ -1,12 +1,17 @@
 -- Loops over a list, one member more.
-use Rattle.std.proofs.Common.{◌≡◌, ◌<◌, ◌+◌, ◌∙◌, ℕ, List, [], ◌∷◌, ◌++◌, length, get_or, take, subst, sym, ap, append_assoc}
+use Rattle.std.proofs.Common.{◌≡◌, ◌<◌, ◌+◌, ◌∙◌, ℕ, List, [], ◌∷◌, ◌++◌, length, get_or, take, subst, sym, ap, append_assoc, refl, add-one}
 use Rattle.std.proofs.lemmas.List.{take_more}
 use Rattle.cal_policy.specs.History.Lists.{each_of}
 use Rattle.cal_policy.proofs.ListLemmas.OneMore.{each_of_push}
+use Rattle.cal_measure.specs.Joined.{joined_below}
 
 -- what holds of the members so far and the next one
 pub grown : {X : Type 0} (P : List X → Type 0) (xs : List X) (i : ℕ) (d : X) → i < length xs → P (take i xs ++ get_or xs i d ∷ []) → P (take (i + 1) xs)
 grown P xs i d lt h = subst P (sym (take_more xs i d lt)) h
+
+-- lists end to end, one list more
+pub joined_more : {X : Type 0} (f : ℕ → List X) (n : ℕ) → joined_below f n ++ f n ≡ joined_below f (n + 1)
+joined_more f n = rw (add-one n) refl
 
 -- what is made of each member, put after what was there
 pub each_grown : {X Y : Type 0} (f : List X → X → List Y) (front : List Y) (xs : List X) (i : ℕ) (d : X) (ys new : List Y) → i < length xs →

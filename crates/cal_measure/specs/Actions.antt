@@ -1,9 +1,9 @@
 -- What the passes of a history did to the cores of a task, counted. Each action is told those
 -- before it.
 use Rattle.std.specs.Prelude.{◌≡◌, ℕ, ◌==◌, ◌&&◌, Bool, true, false, not, List, [], ◌∷◌, length}
-use Rattle.std.specs.Prelude.{Option, Some, None, if◌then◌else◌}
+use Rattle.std.specs.Prelude.{Option, Some, None, nat_lt, if◌then◌else◌}
 use Rattle.cal_machine.specs.Table.{Table}
-use Rattle.cal_policy.specs.Board.Counts.{is_held_for}
+use Rattle.cal_policy.specs.Board.Counts.{cap_of, is_held_for}
 use Rattle.cal_policy.specs.History.{ban_of, holder_of}
 use Rattle.cal_policy.specs.History.CoreClasses.{class_number}
 use Rattle.cal_policy.specs.History.Lists.{each_of}
@@ -73,24 +73,33 @@ is_revoked_for table t ban causes.Bandwidth = false
 is_revoked_for table t ban (causes.Preempt task) = task == t
 
 -- it revokes for task t a core that none of its threads holds
-abbrev pub is_loss_by_others : Table → ℕ → List Action → Action → Bool
-is_loss_by_others table t before (Revoke core cause) =
+abbrev pub is_taking : Table → ℕ → List Action → Action → Bool
+is_taking table t before (Revoke core cause) =
     not (is_held_for table t (holder_of before core))
     && is_revoked_for table t (ban_of before core) cause
-is_loss_by_others table t before (Free core) = false
-is_loss_by_others table t before (Unban core) = false
-is_loss_by_others table t before (Ban core thread started) = false
-is_loss_by_others table t before (Cap task cap) = false
-is_loss_by_others table t before (Grant core thread class) = false
+is_taking table t before (Free core) = false
+is_taking table t before (Unban core) = false
+is_taking table t before (Ban core thread started) = false
+is_taking table t before (Cap task cap) = false
+is_taking table t before (Grant core thread class) = false
 
--- it gives task t a cap
-abbrev pub is_cap : ℕ → List Action → Action → Bool
-is_cap t before (Cap task cap) = task == t
-is_cap t before (Free core) = false
-is_cap t before (Unban core) = false
-is_cap t before (Ban core thread started) = false
-is_cap t before (Revoke core cause) = false
-is_cap t before (Grant core thread class) = false
+-- it gives task t a cap below the one that it had
+abbrev pub is_cut : Table → ℕ → List Action → Action → Bool
+is_cut table t before (Cap task cap) = (task == t) && nat_lt cap (cap_of table before t)
+is_cut table t before (Free core) = false
+is_cut table t before (Unban core) = false
+is_cut table t before (Ban core thread started) = false
+is_cut table t before (Revoke core cause) = false
+is_cut table t before (Grant core thread class) = false
+
+-- it gives task t a cap above the one that it had
+abbrev pub is_raise : Table → ℕ → List Action → Action → Bool
+is_raise table t before (Cap task cap) = (task == t) && nat_lt (cap_of table before t) cap
+is_raise table t before (Free core) = false
+is_raise table t before (Unban core) = false
+is_raise table t before (Ban core thread started) = false
+is_raise table t before (Revoke core cause) = false
+is_raise table t before (Grant core thread class) = false
 
 -- it bans a core for a thread of task t
 abbrev pub is_ban : Table → ℕ → List Action → Action → Bool
@@ -110,6 +119,7 @@ pub record AreActionsOf (table : Table) (t : ℕ) (x : List Action)
   pub lost_to_bans : numbers.lost_to_bans ≡ many_of (is_loss table t kinds.Ban) x
   pub lost_to_bandwidth : numbers.lost_to_bandwidth ≡ many_of (is_loss table t kinds.Bandwidth) x
   pub lost_to_tasks : numbers.lost_to_tasks ≡ many_of (is_loss table t kinds.Task) x
-  pub lost_by_others : numbers.lost_by_others ≡ many_of (is_loss_by_others table t) x
-  pub caps : numbers.caps ≡ many_of (is_cap t) x
+  pub taken_from_others : numbers.taken_from_others ≡ many_of (is_taking table t) x
+  pub cuts : numbers.cuts ≡ many_of (is_cut table t) x
+  pub raises : numbers.raises ≡ many_of (is_raise table t) x
   pub bans : numbers.bans ≡ many_of (is_ban table t) x

@@ -1,8 +1,8 @@
 -- What came of the cores of a task, and of the machine's, over a whole history.
-use Rattle.std.specs.Prelude.{◌≡◌, ℕ, ◌+◌, ◌*◌, ◌<◌, List, length, take, slice_index}
-use Rattle.std.specs.Prelude.{if◌then◌else◌}
+use Rattle.std.specs.Prelude.{◌≡◌, ℕ, ◌+◌, ◌-◌, ◌*◌, ◌<◌, Bool, nat_lt, List, length, take}
+use Rattle.std.specs.Prelude.{slice_get, slice_index, Option, Some, None, if◌then◌else◌}
 use Rattle.cal_machine.specs.Table.{Table}
-use Rattle.cal_policy.specs.Board.Counts.{held_by}
+use Rattle.cal_policy.specs.Board.Counts.{booked_by, held_by}
 use Rattle.cal_policy.specs.History.{actions_of}
 use Rattle.cal_policy.specs.Pass.Choice.{greatest_below, sum_below}
 use Rattle.cal_policy.specs.declared.history.entry.PassEntry.{PassEntry}
@@ -33,6 +33,28 @@ in_state_after table history state p =
 abbrev pub core_time : List PassEntry → (ℕ → ℕ) → ℕ
 core_time history cores = sum_below (λ p. cores p * lasts_at history p) (length history)
 
+-- how many cores the threads of task t leave after pass p: those that they hold or leave, but for
+-- those that they hold
+abbrev pub left_after : Table → List PassEntry → ℕ → ℕ → ℕ
+left_after table history t p =
+    booked_by table (actions_of (take (p + 1) history)) t - held_after table history t p
+
+-- the bandwidth figure of a pass, 0 where there is none
+abbrev pub bandwidth_in : Option PassEntry → ℕ
+bandwidth_in None = 0
+bandwidth_in (Some entry) = entry.input.bandwidth
+
+-- pass p found the bandwidth figure above the limit
+abbrev pub is_over_limit : Table → List PassEntry → ℕ → Bool
+is_over_limit table history p =
+    nat_lt table.bandwidth_limit (bandwidth_in (slice_get history p))
+
+-- for how long the bandwidth figure was above the limit: over the passes that found it so, how long
+-- what was so after each of them lasted
+abbrev pub over_limit_for : Table → List PassEntry → ℕ
+over_limit_for table history = sum_below
+    (λ p. if is_over_limit table history p then lasts_at history p else 0) (length history)
+
 -- for how long task t was congested: over the passes that found it so, how long what was so after
 -- each of them lasted
 abbrev pub congested_for : Table → List PassEntry → ℕ → ℕ
@@ -49,6 +71,7 @@ pub record AreCoresOf (table : Table) (history : List PassEntry) (t : ℕ)
   pub actions : AreActionsOf table t (actions_of history) numbers.actions
   pub most : numbers.most ≡ greatest_below (held_after table history t) (length history)
   pub held : numbers.held ≡ core_time history (held_after table history t)
+  pub leaving : numbers.leaving ≡ core_time history (left_after table history t)
   pub congested : numbers.congested ≡ congested_for table history t
 
 -- the numbers of the machine's cores in this history
@@ -59,3 +82,9 @@ pub record AreMachineCores (table : Table) (history : List PassEntry)
   pub leaving : numbers.leaving ≡ core_time history (in_state_after table history states.Leaving)
   pub banned : numbers.banned ≡ core_time history (in_state_after table history states.Banned)
   pub free : numbers.free ≡ core_time history (in_state_after table history states.Free)
+  pub over_limit : numbers.over_limit ≡ over_limit_for table history
+
+-- the parts of the machine's core time make the whole
+abbrev pub MakeTheWhole : Table → MachineCores → Type 0
+MakeTheWhole table numbers =
+    numbers.held + numbers.leaving + numbers.banned + numbers.free ≡ numbers.lasted * table.cores

@@ -1,9 +1,12 @@
+pub mod Joined
 pub mod Turns
+pub mod Ends
 pub mod Services
 pub mod Spread
 pub mod Clocks
+pub mod Work
+pub mod Shares
 pub mod Requests
 pub mod States
 pub mod Actions
 pub mod Cores
-pub mod Shares

@@ -33,6 +33,7 @@ turn_by before (Published number rec) = record {
   served = served_since before;
   stamp = rec.stamp;
   at_work = nat_lt 0 rec.running;
+  suspended = nat_lt 0 rec.paused;
 } ∷ []
 turn_by before (Arrived request) = []
 turn_by before (Took number command) = []

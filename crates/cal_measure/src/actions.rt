@@ -13,7 +13,7 @@ ghost use Rattle.cal_measure.specs.Actions.{AreActionsOf};
 
 use crate::cores::TaskActions;
 use cal_machine::Config;
-use cal_policy::state::{Board, holds_for};
+use cal_policy::state::{Board, cap_of, holds_for};
 use cal_policy::{Action, Cause, CoreClass};
 
 /// For what a core was lost.
@@ -128,11 +128,11 @@ fn is_revoked_for(config: &Config, board: &Board, task: usize, core: u8, cause: 
 }
 
 /// Whether an action revokes for a task a core that none of its threads holds.
-fn is_loss_by_others(config: &Config, board: &Board, task: usize, action: Action) -> bool
+fn is_taking(config: &Config, board: &Board, task: usize, action: Action) -> bool
     requires ready { IsReady config.now board.now }
     requires names { NamesTable config.now action }
     ensures { (x : List Action) → Agrees board.now x →
-        result ≡ acts.is_loss_by_others config.now task x action }
+        result ≡ acts.is_taking config.now task x action }
 {
     match action {
         Action::Revoke { core, cause } => {
@@ -147,12 +147,36 @@ fn is_loss_by_others(config: &Config, board: &Board, task: usize, action: Action
     }
 }
 
-/// Whether an action gives a task a cap.
-fn is_cap(task: usize, action: Action) -> bool
-    ensures { (x : List Action) → result ≡ acts.is_cap task x action }
+/// Whether an action gives a task a cap below the one that it had.
+fn is_cut(config: &Config, board: &Board, task: usize, action: Action) -> bool
+    requires { task < length config.now.tasks }
+    ensures { (x : List Action) → Agrees board.now x →
+        result ≡ acts.is_cut config.now task x action }
 {
+    config.limits();
     match action {
-        Action::Cap { task: capped, .. } => capped as usize == task,
+        Action::Cap { task: capped, cap } => {
+            capped as usize == task && cap < cap_of(config, board, task)
+        }
+        Action::Free { .. } => false,
+        Action::Unban { .. } => false,
+        Action::Ban { .. } => false,
+        Action::Revoke { .. } => false,
+        Action::Grant { .. } => false,
+    }
+}
+
+/// Whether an action gives a task a cap above the one that it had.
+fn is_raise(config: &Config, board: &Board, task: usize, action: Action) -> bool
+    requires { task < length config.now.tasks }
+    ensures { (x : List Action) → Agrees board.now x →
+        result ≡ acts.is_raise config.now task x action }
+{
+    config.limits();
+    match action {
+        Action::Cap { task: capped, cap } => {
+            capped as usize == task && cap_of(config, board, task) < cap
+        }
         Action::Free { .. } => false,
         Action::Unban { .. } => false,
         Action::Ban { .. } => false,
@@ -193,6 +217,7 @@ fn with_one(
 ) -> TaskActions
     requires ready { IsReady config.now board.now }
     requires names { NamesTable config.now action }
+    requires task { task < length config.now.tasks }
     ensures { (x : List Action) → length x + 1 < 2 ^ 64 → Agrees board.now x →
         AreActionsOf config.now task x numbers.now →
         AreActionsOf config.now task (x ++ action ∷ []) result }
@@ -200,7 +225,7 @@ fn with_one(
     let by_ban = is_loss(config, board, task, LossKind::Ban, action);
     let by_bandwidth = is_loss(config, board, task, LossKind::Bandwidth, action);
     let by_task = is_loss(config, board, task, LossKind::Task, action);
-    let by_others = is_loss_by_others(config, board, task, action);
+    let taking = is_taking(config, board, task, action);
     TaskActions {
         grants_beside: plus(
             numbers.grants_beside,
@@ -217,8 +242,9 @@ fn with_one(
         lost_to_bans: plus(numbers.lost_to_bans, by_ban),
         lost_to_bandwidth: plus(numbers.lost_to_bandwidth, by_bandwidth),
         lost_to_tasks: plus(numbers.lost_to_tasks, by_task),
-        lost_by_others: plus(numbers.lost_by_others, by_others),
-        caps: plus(numbers.caps, is_cap(task, action)),
+        taken_from_others: plus(numbers.taken_from_others, taking),
+        cuts: plus(numbers.cuts, is_cut(config, board, task, action)),
+        raises: plus(numbers.raises, is_raise(config, board, task, action)),
         bans: plus(numbers.bans, is_ban(config, task, action)),
     }
 }
@@ -233,6 +259,7 @@ pub fn count_actions(
 )
     requires ready { IsReady config.now board.old }
     requires names { All (NamesTable config.now) actions.now }
+    requires task { task < length config.now.tasks }
     ensures agrees { (x : List Action) → Agrees board.old x → Agrees board.new (x ++ actions.now) }
     ensures ready { IsReady config.now board.new }
     ensures numbers { (x : List Action) → length (x ++ actions.now) < 2 ^ 64 →

@@ -1,9 +1,9 @@
-//! How long a task was congested.
+//! How long a task was congested, and the bandwidth figure above its limit.
 
 ghost use Rattle.std.specs.Prelude.{◌≡◌, ◌<◌, ◌≤◌, ◌++◌, ◌∷◌, [], List, Some, length};
 ghost use Rattle.std.specs.Prelude.{if◌then◌else◌};
 ghost use Rattle.cal_machine.specs.declared.numbering.TheConstants.{MOST_THREADS};
-ghost use Rattle.cal_measure.specs.Cores.{congested_for};
+ghost use Rattle.cal_measure.specs.Cores.{congested_for, is_over_limit, over_limit_for};
 ghost use Rattle.cal_measure.specs.States.{found_congested};
 ghost use Rattle.cal_policy.specs.Board.KeepingSets.{FitAfter};
 ghost use Rattle.cal_policy.specs.Board.{IsReady, KeepingAgrees};
@@ -59,4 +59,28 @@ pub fn congested_for(config: &Config, history: &[PassEntry], task: usize) -> u12
         congested += ticks_if(found, lasts_at(history, pass)) as u128;
     }
     congested
+}
+
+/// Whether a pass found the bandwidth figure above the limit.
+fn is_over_limit(config: &Config, history: &[PassEntry], pass: usize) -> bool
+    ensures { result ≡ is_over_limit config.now history.now pass }
+{
+    let figure = match history.get(pass) {
+        Some(entry) => entry.input.bandwidth,
+        None => 0,
+    };
+    config.bandwidth_limit() < figure
+}
+
+/// How long the bandwidth figure was above the limit in a history, in clock ticks.
+pub fn over_limit_for(config: &Config, history: &[PassEntry]) -> u128
+    requires few { length history.now ≤ MOST_PASSES }
+    ensures { result ≡ over_limit_for config.now history.now }
+{
+    let mut over: u128 = 0;
+    for pass in 0..history.len() {
+        let above = is_over_limit(config, history, pass);
+        over += ticks_if(above, lasts_at(history, pass)) as u128;
+    }
+    over
 }

@@ -3,15 +3,15 @@
 ghost use Rattle.std.specs.Prelude.{◌≡◌, ◌<◌, ◌≤◌, ◌+◌, ◌*◌, ◌^◌, ℕ, [], length};
 ghost use Rattle.cal_machine.specs.Table.{Table};
 ghost use Rattle.cal_measure.specs.Actions.{AreActionsOf};
-ghost use Rattle.cal_measure.specs.Cores.{AreCoresOf, AreMachineCores};
+ghost use Rattle.cal_measure.specs.Cores.{AreCoresOf, AreMachineCores, MakeTheWhole};
 ghost use Rattle.cal_policy.specs.Pass.{IsLegal};
 ghost use Rattle.cal_policy.specs.declared.history.entry.TheConstants.{MOST_PASSES};
 
 use crate::actions::count_actions;
-use crate::congestion::congested_for;
+use crate::congestion::{congested_for, over_limit_for};
 use crate::states::{CoreState, apply_each, count_in_state, lasts_at};
 use cal_machine::Config;
-use cal_policy::state::{Board, held_by};
+use cal_policy::state::{Board, booked_by, held_by};
 use cal_policy::{PassEntry, legal_is_orderly, legal_is_short};
 
 /// What the passes of a history did to the cores of a task, counted.
@@ -31,9 +31,11 @@ pub struct TaskActions {
     pub lost_to_tasks: usize,
     /// Cores that were revoked while threads of others held them, for this task: since it was
     /// congested, or for a ban for one of its threads.
-    pub lost_by_others: usize,
-    /// How often it was given a cap.
-    pub caps: usize,
+    pub taken_from_others: usize,
+    /// How often its cap was cut: it was given one below the one that it had.
+    pub cuts: usize,
+    /// How often its cap was raised.
+    pub raises: usize,
     /// Bans of a core for one of its threads.
     pub bans: usize,
 }
@@ -48,6 +50,8 @@ pub struct TaskCores {
     /// The core time that its threads held: over the passes, the cores held after one times how
     /// long that lasted. In clock ticks.
     pub held: u128,
+    /// The core time that its threads left: the same of the cores that they were told to leave.
+    pub leaving: u128,
     /// How long it was congested, in clock ticks: over the passes that found it so, how long what
     /// was so after each lasted.
     pub congested: u128,
@@ -67,6 +71,9 @@ pub struct MachineCores {
     pub banned: u128,
     /// The core time that was free to be granted.
     pub free: u128,
+    /// How long the bandwidth figure was above the limit, in clock ticks: over the passes that found
+    /// it so, how long what was so after each lasted.
+    pub over_limit: u128,
 }
 
 impl TaskActions {
@@ -81,8 +88,9 @@ impl TaskActions {
             lost_to_bans: 0,
             lost_to_bandwidth: 0,
             lost_to_tasks: 0,
-            lost_by_others: 0,
-            caps: 0,
+            taken_from_others: 0,
+            cuts: 0,
+            raises: 0,
             bans: 0,
         }
     }
@@ -110,6 +118,7 @@ pub fn cores_of(config: &Config, history: &[PassEntry], task: usize) -> TaskCore
     let mut actions = TaskActions::none();
     let mut most: u8 = 0;
     let mut held: u128 = 0;
+    let mut leaving: u128 = 0;
     for pass in 0..history.len() {
         count_actions(
             config,
@@ -120,12 +129,15 @@ pub fn cores_of(config: &Config, history: &[PassEntry], task: usize) -> TaskCore
         );
         let holds = held_by(config, &board, task);
         most = most.max(holds);
+        let leaves = booked_by(config, &board, task).saturating_sub(holds);
         held += core_time(holds, lasts_at(history, pass));
+        leaving += core_time(leaves, lasts_at(history, pass));
     }
     TaskCores {
         actions,
         most,
         held,
+        leaving,
         congested: congested_for(config, history, task),
     }
 }
@@ -134,7 +146,8 @@ pub fn cores_of(config: &Config, history: &[PassEntry], task: usize) -> TaskCore
 pub fn machine_of(config: &Config, history: &[PassEntry]) -> MachineCores
     requires legal { IsLegal config.now history.now }
     requires few { length history.now ≤ MOST_PASSES }
-    ensures { AreMachineCores config.now history.now result }
+    ensures numbers { AreMachineCores config.now history.now result }
+    ensures whole { MakeTheWhole config.now result }
 {
     legal_is_orderly();
     config.limits();
@@ -159,5 +172,6 @@ pub fn machine_of(config: &Config, history: &[PassEntry]) -> MachineCores
         leaving,
         banned,
         free,
+        over_limit: over_limit_for(config, history),
     }
 }

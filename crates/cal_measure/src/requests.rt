@@ -1,21 +1,27 @@
 //! What came of the requests of a task.
 
 ghost use Rattle.std.specs.Prelude.{◌≡◌, ◌<◌, ◌++◌, ◌==◌, ℕ, List, length, map, IfOk, OnOk};
-ghost use Rattle.std.specs.Prelude.{slice_index_or};
+ghost use Rattle.std.specs.Prelude.{[], option_map};
 ghost use Rattle.std.specs.List.{count_by};
 ghost use Rattle.std.specs.List.{All};
 ghost use Rattle.cal_machine.specs.TableTasks.{owner_of, threads_of_table};
 ghost use Rattle.cal_trace.specs.Arrivals.FitsTable.{FitsTable};
 ghost use Rattle.cal_trace.specs.declared.arrivals.Arrival.{Arrival};
-ghost use Rattle.cal_measure.specs.Clocks.{AreClocksOf};
+ghost use Rattle.cal_measure.specs.Clocks.{AreClocksOf, run_end};
 ghost use Rattle.cal_measure.specs.Requests.{AreRequestsOf, given_to, left_at, left_of_task};
 ghost use Rattle.cal_measure.specs.Requests.{response_of, services_at, services_of_task};
-ghost use Rattle.cal_measure.specs.Requests.{so_far_of, wait_of};
+ghost use Rattle.cal_measure.specs.Requests.{slowdown_of, slowdowns_of, so_far_of, wait_of};
+ghost use Rattle.cal_measure.specs.Requests.{worked_of};
+ghost use Rattle.cal_measure.specs.Services.{clocked};
+ghost use Rattle.cal_measure.specs.Shares.{thousandths_of};
+ghost use Rattle.cal_measure.specs.Spread.{IsSpread};
 
-use crate::clocks::{ArrivalClocks, last_clock};
+use crate::clocks::{ArrivalClocks, run_end};
 use crate::services::{Service, services_of};
+use crate::shares::thousandths;
 use crate::spread::{Spread, spread_of};
-use crate::turns::turns_of;
+use crate::totals::total_of;
+use crate::work::{TaskWork, put_number, turns_at, work_of};
 use cal_kthread::{Journal, RequestList};
 use cal_machine::{Config, Request};
 use cal_trace::{Arrival, Arrivals};
@@ -30,49 +36,56 @@ pub struct TaskRequests {
     pub served: usize,
     /// How many of them were left.
     pub left: usize,
-    /// Of those served, the times from arrival to answer.
+    /// Of all of them, the times from arrival to answer; those left are pending, for the time from
+    /// their arrival to the run's last clock.
     pub response: Spread,
+    /// All these times together.
+    pub together: u128,
     /// Of those served, the times from arrival until they were begun.
     pub wait: Spread,
-    /// Of those left, the times from arrival to the clock of the last turn.
+    /// Of those served, how long they were worked at.
+    pub service: Spread,
+    /// Of those served that were worked at for some time, how many thousandths of that they took.
+    pub slowdown: Spread,
+    /// Of those left, the times from arrival to the run's last clock.
     pub so_far: Spread,
+    /// What its threads did in their turns.
+    pub work: TaskWork,
 }
 
-/// Puts the requests that a thread served at the end of a list. Fails only when out of memory.
+/// Puts the requests that a thread served at the end of a list, in a run with this last clock. Fails
+/// only when out of memory.
 fn put_services(
     alloc: Global,
     journals: &[Journal],
+    last: u64,
     thread: usize,
     services: &mut Vec<Service>,
 ) -> Result<(), AllocError>
     ensures { OnOk result (services.new.items
-        ≡ services.old.items ++ services_at journals.now thread) }
+        ≡ services.old.items ++ services_at last journals.now thread) }
 {
-    match journals.get(thread) {
-        None => Ok(()),
-        Some(journal) => {
-            let turns = turns_of(alloc, journal.as_slice())?;
-            services_of(turns.as_slice(), services)
-        }
-    }
+    let turns = turns_at(alloc, journals, last, thread)?;
+    services_of(turns.as_slice(), services)
 }
 
 /// The requests that the threads of a task served, thread by thread. Fails only when out of memory.
 fn task_services(
     alloc: Global,
     config: &Config,
+    last: u64,
     journals: &[Journal],
     task: usize,
 ) -> Result<Vec<Service>, AllocError>
     requires { task < length config.now.tasks }
     ensures { IfOk result (λ services. services.items
-        ≡ services_of_task config.now journals.now task) }
+        ≡ services_of_task config.now last journals.now task) }
 {
     config.limits();
     let (first, count) = config.threads_of(task);
     let mut services = Vec::new(alloc);
     for j in 0..count {
-        put_services(alloc, journals, first + j, &mut services)?;
+        put_services(alloc, journals, last, first + j, &mut services)?;
     }
     Ok(services)
 }
@@ -113,9 +126,9 @@ pub fn responses_of(
     requires task { task < length config.now.tasks }
     ensures { IfOk result (λ times. times.items
         ≡ map (response_of arrivals.now.turns arrivals.now.requests)
-        (services_of_task config.now journals.now task)) }
+        (services_of_task config.now (run_end arrivals.now) journals.now task)) }
 {
-    let services = task_services(alloc, config, journals, task)?;
+    let services = task_services(alloc, config, run_end(arrivals), journals, task)?;
     responses(alloc, clocks, services.as_slice())
 }
 
@@ -135,6 +148,55 @@ fn waits(
         times.push(service.begun.saturating_sub(clocks.of_request(service.id)))?;
     }
     Ok(times)
+}
+
+/// For how long each of these requests was worked at. Fails only when out of memory.
+fn works(alloc: Global, services: &[Service]) -> Result<Vec<u64>, AllocError>
+    ensures { IfOk result (λ times. times.items ≡ map worked_of services.now) }
+{
+    let mut times = Vec::new(alloc);
+    for service in services {
+        times.push(service.worked)?;
+    }
+    Ok(times)
+}
+
+/// How many thousandths of a time another one is, up to the greatest clock; of no time nothing.
+fn thousandths_clocked(part: u64, whole: u64) -> Option<u64>
+    ensures { result ≡ option_map clocked (thousandths_of part whole) }
+{
+    match thousandths(part as u128, whole as u128) {
+        Some(share) => Some(share.min(u64::MAX as u128) as u64),
+        None => None,
+    }
+}
+
+/// The slowdown of a request, in thousandths, where it was worked at for some time.
+fn slowdown(clocks: &ArrivalClocks, service: &Service) -> Option<u64>
+    ensures { (turns : List ℕ) (requests : List Arrival) → AreClocksOf turns requests clocks.now →
+        result ≡ slowdown_of turns requests service.now }
+{
+    let response = service
+        .answered
+        .saturating_sub(clocks.of_request(service.id));
+    thousandths_clocked(response, service.worked)
+}
+
+/// The slowdowns of these requests. Fails only when out of memory.
+fn slowdowns(
+    alloc: Global,
+    clocks: &ArrivalClocks,
+    services: &[Service],
+) -> Result<Vec<u64>, AllocError>
+    ensures { IfOk result (λ slowdowns. (turns : List ℕ) (requests : List Arrival) →
+        AreClocksOf turns requests clocks.now →
+        slowdowns.items ≡ slowdowns_of turns requests services.now) }
+{
+    let mut slowdowns = Vec::new(alloc);
+    for service in services {
+        put_number(&mut slowdowns, slowdown(clocks, service))?;
+    }
+    Ok(slowdowns)
 }
 
 /// The requests that were left with a thread.
@@ -209,6 +271,13 @@ fn given_to(config: &Config, requests: &[Arrival], task: usize) -> usize
     count
 }
 
+/// What these times come to, all of which are known. Fails only when out of memory.
+fn spread_of_known(alloc: Global, times: Vec<u64>) -> Result<Spread, AllocError>
+    ensures { IfOk result (IsSpread times.items []) }
+{
+    spread_of(times, Vec::new(alloc))
+}
+
 /// What came of the requests of a task, in a run on these arrivals. Fails only when out of memory.
 pub fn requests_of(
     alloc: Global,
@@ -224,18 +293,29 @@ pub fn requests_of(
     requires task { task < length config.now.tasks }
     ensures { IfOk result (AreRequestsOf config.now arrivals.now journals.now left.now task) }
 {
-    let services = task_services(alloc, config, journals, task)?;
+    let end = run_end(arrivals);
+    let services = task_services(alloc, config, end, journals, task)?;
     let remaining = task_left(alloc, config, left, task)?;
-    let end = last_clock(arrivals.turns.as_slice());
-    let response = spread_of(responses(alloc, clocks, services.as_slice())?)?;
-    let wait = spread_of(waits(alloc, clocks, services.as_slice())?)?;
-    let so_far = spread_of(so_far(alloc, clocks, end, remaining.as_slice())?)?;
+    let answered = responses(alloc, clocks, services.as_slice())?;
+    let pending = so_far(alloc, clocks, end, remaining.as_slice())?;
+    let together = total_of(answered.as_slice()) + total_of(pending.as_slice());
+    let response = spread_of(answered, pending)?;
+    let wait = spread_of_known(alloc, waits(alloc, clocks, services.as_slice())?)?;
+    let service = spread_of_known(alloc, works(alloc, services.as_slice())?)?;
+    let slowdown = spread_of_known(alloc, slowdowns(alloc, clocks, services.as_slice())?)?;
+    let oldest = so_far(alloc, clocks, end, remaining.as_slice())?;
+    let so_far = spread_of_known(alloc, oldest)?;
+    let work = work_of(alloc, config, end, journals, task)?;
     Ok(TaskRequests {
         given: given_to(config, arrivals.requests.as_slice(), task),
         served: services.len(),
         left: remaining.len(),
         response,
+        together,
         wait,
+        service,
+        slowdown,
         so_far,
+        work,
     })
 }

@@ -16,6 +16,8 @@ pub struct Turn {
     pub stamp: u64,
     /// Whether its publication shows a core: a thread that has one after its turn has worked.
     pub at_work: bool,
+    /// Whether its publication shows a suspended request.
+    pub suspended: bool,
 }
 
 /// The request that was served in this turn so far, with one entry more.
@@ -43,6 +45,7 @@ fn turn_by(served: Option<u64>, entry: Entry) -> Option<Turn>
             served,
             stamp: rec.stamp,
             at_work: rec.running > 0,
+            suspended: rec.paused > 0,
         }),
         Entry::Arrived(_) => None,
         Entry::Took(..) => None,

@@ -3,6 +3,7 @@ use Rattle.std.specs.Prelude.{◌≡◌, ℕ, List, length, map, Some, Ok, slice
 use Rattle.std.specs.List.Sorted.{IsNonDecreasing, IsPermutation}
 use Rattle.cal_machine.specs.Table.{Table}
 use Rattle.cal_machine.specs.Tasks.{threads_in}
+use Rattle.cal_measure.specs.Clocks.{run_end}
 use Rattle.cal_measure.specs.Cores.{IsHeldCourse}
 use Rattle.cal_measure.specs.Requests.{AreRequestsOf, response_of, services_of_task}
 use Rattle.cal_run.specs.Outcome.{IsRun}
@@ -20,7 +21,7 @@ pub record IsTaskCourse (table : Table) (arrivals : Arrivals) (outcome : Outcome
     (course : TaskCourse) : Type 0 where
   pub requests : AreRequestsOf table arrivals outcome.journals outcome.left t course.requests
   pub same : IsPermutation (map (response_of arrivals.turns arrivals.requests)
-      (services_of_task table outcome.journals t)) course.responses.items
+      (services_of_task table (run_end arrivals) outcome.journals t)) course.responses.items
   pub rises : IsNonDecreasing course.responses.items
   pub held : IsHeldCourse table outcome.history t course.held.items
 

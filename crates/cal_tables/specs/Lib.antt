@@ -7,3 +7,4 @@ pub mod Writing
 pub mod Laws
 pub mod Changed
 pub mod Joining
+pub mod Rows

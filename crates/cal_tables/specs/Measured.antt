@@ -1,7 +1,8 @@
 -- The numbers of a run.
 use Rattle.std.specs.Prelude.{◌≡◌, ℕ, List, length, Some, slice_get}
 use Rattle.cal_machine.specs.Table.{Table}
-use Rattle.cal_measure.specs.Cores.{AreCoresOf, AreMachineCores}
+use Rattle.cal_measure.specs.Clocks.{turns_last}
+use Rattle.cal_measure.specs.Cores.{AreCoresOf, AreMachineCores, MakeTheWhole}
 use Rattle.cal_measure.specs.Requests.{AreRequestsOf}
 use Rattle.cal_measure.specs.declared.cores.TaskCores.{TaskCores}
 use Rattle.cal_measure.specs.declared.requests.TaskRequests.{TaskRequests}
@@ -26,7 +27,7 @@ pub record AreCoresOfTasks (table : Table) (history : List PassEntry)
       AreCoresOf table history t of_task
 
 -- a run on these arrivals came to some outcome, and these are its numbers: of requests, of the
--- tasks' cores, and of the machine's
+-- tasks' cores, of the machine's, whose parts make the whole, and how long its turns last
 pub record IsMeasuredRun (table : Table) (arrivals : Arrivals)
     (numbers : RunNumbers) : Type 0 where
   pub outcome : Outcome
@@ -34,3 +35,5 @@ pub record IsMeasuredRun (table : Table) (arrivals : Arrivals)
   pub requests : AreNumbersOf table arrivals outcome numbers.requests.items
   pub cores : AreCoresOfTasks table outcome.history numbers.cores.items
   pub machine : AreMachineCores table outcome.history numbers.machine
+  pub whole : MakeTheWhole table numbers.machine
+  pub turns : numbers.turns ≡ turns_last arrivals

@@ -96,7 +96,7 @@ fn compared_text(
     form: NumberForm,
 ) -> Result<String, ComparisonFault> {
     let comparison = comparison_of(alloc, input, variation)?;
-    let sheet = comparison_sheet(alloc, variation, &comparison)?;
+    let sheet = comparison_sheet(alloc, variation, &comparison, form)?;
     Ok(sheet.written(alloc, form)?)
 }
 

@@ -1,10 +1,11 @@
 //! The numbers of a run's cores, row by row.
 
+ghost use Rattle.std.specs.Prelude.{◌≡◌, ◌≤◌, ◌-◌, ◌^◌, min, Some};
+ghost use Rattle.cal_tables.specs.Rows.{core_figure_of, exact, machine_figure_of};
+
+use crate::figures::{Figure, Unit, count, share};
 use crate::measuring::RunNumbers;
-use crate::sheet::Sheet;
-use crate::writing::{Unit, cell};
-use cal_measure::{MachineCores, TaskCores, thousandths};
-use std::alloc::{AllocError, Global};
+use cal_measure::{MachineCores, TaskCores};
 
 /// What a row says of the cores of each task.
 #[derive(Clone, Copy)]
@@ -15,27 +16,31 @@ pub enum CoreLine {
     LostToBans,
     LostToBandwidth,
     LostToTasks,
-    LostByOthers,
-    Caps,
+    TakenFromOthers,
+    Cuts,
+    Raises,
     Bans,
     Most,
     Mean,
+    MeanLeaving,
     Congested,
 }
 
 /// The rows of the tasks, in order.
-pub const CORE_LINES: [CoreLine; 12] = [
+pub const CORE_LINES: [CoreLine; 14] = [
     CoreLine::GrantsBeside,
     CoreLine::GrantsAgain,
     CoreLine::GrantsOther,
     CoreLine::LostToBans,
     CoreLine::LostToBandwidth,
     CoreLine::LostToTasks,
-    CoreLine::LostByOthers,
-    CoreLine::Caps,
+    CoreLine::TakenFromOthers,
+    CoreLine::Cuts,
+    CoreLine::Raises,
     CoreLine::Bans,
     CoreLine::Most,
     CoreLine::Mean,
+    CoreLine::MeanLeaving,
     CoreLine::Congested,
 ];
 
@@ -46,30 +51,38 @@ pub enum MachineLine {
     Leaving,
     Banned,
     Free,
+    OverLimit,
+    ClockOfPasses,
+    ClockOfRequests,
 }
 
 /// The rows of the machine, in order.
-pub const MACHINE_LINES: [MachineLine; 4] = [
+pub const MACHINE_LINES: [MachineLine; 7] = [
     MachineLine::Held,
     MachineLine::Leaving,
     MachineLine::Banned,
     MachineLine::Free,
+    MachineLine::OverLimit,
+    MachineLine::ClockOfPasses,
+    MachineLine::ClockOfRequests,
 ];
 
 /// What stands in front of a row of the tasks.
 pub fn core_label(line: CoreLine) -> &'static str {
     match line {
-        CoreLine::GrantsBeside => "grants class 1",
-        CoreLine::GrantsAgain => "grants class 2",
-        CoreLine::GrantsOther => "grants class 3",
+        CoreLine::GrantsBeside => "grants sibling",
+        CoreLine::GrantsAgain => "grants recently used",
+        CoreLine::GrantsOther => "grants other idle",
         CoreLine::LostToBans => "lost to bans",
         CoreLine::LostToBandwidth => "lost to bandwidth",
         CoreLine::LostToTasks => "lost to tasks",
-        CoreLine::LostByOthers => "lost by others",
-        CoreLine::Caps => "caps",
+        CoreLine::TakenFromOthers => "taken from others",
+        CoreLine::Cuts => "cap cuts",
+        CoreLine::Raises => "cap raises",
         CoreLine::Bans => "bans",
         CoreLine::Most => "most cores held",
         CoreLine::Mean => "mean cores held",
+        CoreLine::MeanLeaving => "mean cores being left",
         CoreLine::Congested => "share congested",
     }
 }
@@ -81,100 +94,92 @@ pub fn machine_label(line: MachineLine) -> &'static str {
         MachineLine::Leaving => "machine leaving",
         MachineLine::Banned => "machine banned",
         MachineLine::Free => "machine free",
+        MachineLine::OverLimit => "machine over its bandwidth limit",
+        MachineLine::ClockOfPasses => "machine clock of passes",
+        MachineLine::ClockOfRequests => "machine clock of requests",
     }
 }
 
 /// What the numbers of a row of the tasks count.
 pub fn core_unit(line: CoreLine) -> Unit {
     match line {
-        CoreLine::Mean | CoreLine::Congested => Unit::Thousandth,
+        CoreLine::Mean | CoreLine::MeanLeaving | CoreLine::Congested => Unit::Thousandth,
         _ => Unit::One,
     }
 }
 
-/// How many thousandths of a whole a part is, where there is a whole.
-fn share(part: u128, whole: u128) -> Option<u64> {
-    let share = thousandths(part, whole)?;
-    Some(share.min(u64::MAX as u128) as u64)
+/// What the numbers of a row of the machine count.
+pub fn machine_unit(line: MachineLine) -> Unit {
+    match line {
+        MachineLine::ClockOfPasses | MachineLine::ClockOfRequests => Unit::One,
+        _ => Unit::Thousandth,
+    }
 }
 
-/// What a row says of a task's cores, in a run that lasted so long, where there is something.
-pub fn core_figure(cores: &TaskCores, line: CoreLine, lasted: u128) -> Option<u64> {
+/// What a row says of a task with these numbers of cores, in a run that lasted so long.
+fn core_figure_of(cores: &TaskCores, lasted: u128, line: CoreLine) -> Option<Figure>
+    ensures { cores.now.held ≤ 2 ^ 100 → cores.now.leaving ≤ 2 ^ 100 →
+        cores.now.congested ≤ 2 ^ 100 → lasted ≤ 2 ^ 100 →
+        result ≡ core_figure_of cores.now lasted line }
+{
     let actions = cores.actions;
     match line {
-        CoreLine::GrantsBeside => Some(actions.grants_beside as u64),
-        CoreLine::GrantsAgain => Some(actions.grants_again as u64),
-        CoreLine::GrantsOther => Some(actions.grants_other as u64),
-        CoreLine::LostToBans => Some(actions.lost_to_bans as u64),
-        CoreLine::LostToBandwidth => Some(actions.lost_to_bandwidth as u64),
-        CoreLine::LostToTasks => Some(actions.lost_to_tasks as u64),
-        CoreLine::LostByOthers => Some(actions.lost_by_others as u64),
-        CoreLine::Caps => Some(actions.caps as u64),
-        CoreLine::Bans => Some(actions.bans as u64),
-        CoreLine::Most => Some(cores.most as u64),
+        CoreLine::GrantsBeside => count(actions.grants_beside),
+        CoreLine::GrantsAgain => count(actions.grants_again),
+        CoreLine::GrantsOther => count(actions.grants_other),
+        CoreLine::LostToBans => count(actions.lost_to_bans),
+        CoreLine::LostToBandwidth => count(actions.lost_to_bandwidth),
+        CoreLine::LostToTasks => count(actions.lost_to_tasks),
+        CoreLine::TakenFromOthers => count(actions.taken_from_others),
+        CoreLine::Cuts => count(actions.cuts),
+        CoreLine::Raises => count(actions.raises),
+        CoreLine::Bans => count(actions.bans),
+        CoreLine::Most => count(cores.most as usize),
         CoreLine::Mean => share(cores.held, lasted),
+        CoreLine::MeanLeaving => share(cores.leaving, lasted),
         CoreLine::Congested => share(cores.congested, lasted),
     }
 }
 
-/// The core time of a row of the machine.
-fn machine_time(machine: &MachineCores, line: MachineLine) -> u128 {
+/// What a row says of a task's cores, which a run may not have, where there is something.
+pub fn core_figure(numbers: &RunNumbers, task: usize, line: CoreLine) -> Option<Figure> {
+    let cores = numbers.cores.as_slice().get(task)?;
+    core_figure_of(cores, numbers.machine.lasted, line)
+}
+
+/// Some clock ticks, up to the greatest number, as a figure.
+fn ticks(ticks: u128) -> Option<Figure>
+    ensures { result ≡ Some (exact (min ticks (2 ^ 64 - 1))) }
+{
+    Some(Figure::of(ticks.min(u64::MAX as u128) as u64))
+}
+
+/// What a row says of a machine with these numbers and so much core time in all, in a run whose
+/// turns last so long.
+fn machine_figure_of(
+    machine: &MachineCores,
+    whole: u128,
+    turns: u64,
+    line: MachineLine,
+) -> Option<Figure>
+    ensures { machine.now.held ≤ 2 ^ 100 → machine.now.leaving ≤ 2 ^ 100 →
+        machine.now.banned ≤ 2 ^ 100 → machine.now.free ≤ 2 ^ 100 →
+        machine.now.over_limit ≤ 2 ^ 100 → machine.now.lasted ≤ 2 ^ 100 → whole ≤ 2 ^ 100 →
+        result ≡ machine_figure_of machine.now whole turns line }
+{
     match line {
-        MachineLine::Held => machine.held,
-        MachineLine::Leaving => machine.leaving,
-        MachineLine::Banned => machine.banned,
-        MachineLine::Free => machine.free,
+        MachineLine::Held => share(machine.held, whole),
+        MachineLine::Leaving => share(machine.leaving, whole),
+        MachineLine::Banned => share(machine.banned, whole),
+        MachineLine::Free => share(machine.free, whole),
+        MachineLine::OverLimit => share(machine.over_limit, machine.lasted),
+        MachineLine::ClockOfPasses => ticks(machine.lasted),
+        MachineLine::ClockOfRequests => Some(Figure::of(turns)),
     }
 }
 
 /// What a row says of the machine's cores, of which there are so many, where there is something.
-pub fn machine_figure(machine: &MachineCores, line: MachineLine, cores: u8) -> Option<u64> {
-    let whole = machine.lasted.saturating_mul(cores as u128);
-    share(machine_time(machine, line), whole)
-}
-
-/// A row: what it says of each task's cores.
-fn core_row(
-    alloc: Global,
-    line: CoreLine,
-    numbers: &RunNumbers,
-) -> Result<Vec<String>, AllocError> {
-    let lasted = numbers.machine.lasted;
-    let mut row = Vec::new(alloc);
-    row.push(String::from_str(alloc, core_label(line))?)?;
-    for task in numbers.cores.as_slice() {
-        row.push(cell(alloc, core_figure(task, line, lasted), core_unit(line))?)?;
-    }
-    Ok(row)
-}
-
-/// A row of the machine: one number after the label.
-fn machine_row(
-    alloc: Global,
-    line: MachineLine,
-    numbers: &RunNumbers,
-    cores: u8,
-) -> Result<Vec<String>, AllocError> {
-    let figure = machine_figure(&numbers.machine, line, cores);
-    let mut row = Vec::new(alloc);
-    row.push(String::from_str(alloc, machine_label(line))?)?;
-    row.push(cell(alloc, figure, Unit::Thousandth)?)?;
-    Ok(row)
-}
-
-/// Puts the rows of the cores, of a machine of so many, at the end of a sheet. Fails only when out
-/// of memory.
-pub fn put_core_rows(
-    alloc: Global,
-    sheet: &mut Sheet,
-    numbers: &RunNumbers,
-    cores: u8,
-) -> Result<(), AllocError> {
-    for line in CORE_LINES {
-        sheet.put(core_row(alloc, line, numbers)?)?;
-    }
-    for line in MACHINE_LINES {
-        sheet.put(machine_row(alloc, line, numbers, cores)?)?;
-    }
-    Ok(())
+pub fn machine_figure(numbers: &RunNumbers, line: MachineLine, cores: u8) -> Option<Figure> {
+    let whole = numbers.machine.lasted.saturating_mul(cores as u128);
+    machine_figure_of(&numbers.machine, whole, numbers.turns, line)
 }

@@ -6,6 +6,7 @@
 mod comparing;
 mod core_rows;
 mod courses;
+mod figures;
 mod joining;
 mod laws;
 mod measuring;

@@ -8,13 +8,13 @@ ghost use Rattle.cal_run.specs.Outcome.{outcome_of};
 ghost use Rattle.cal_trace.specs.Arrivals.FitsTable.{FitsTable};
 ghost use Rattle.cal_tables.specs.Measured.{AreCoresOfTasks, AreNumbersOf, IsMeasuredRun};
 
-use crate::core_rows::put_core_rows;
 use crate::sheet::NumberForm;
 use crate::writing::sheet_of;
 use cal_engine::{RunFault, read_input, run_input};
 use cal_machine::Config;
 use cal_measure::{
     ArrivalClocks, MachineCores, TaskCores, TaskRequests, cores_of, machine_of, requests_of,
+    turns_last,
 };
 use cal_policy::PassEntry;
 use cal_run::{RunEnd, lockstep_end};
@@ -31,6 +31,8 @@ pub struct RunNumbers {
     pub cores: Vec<TaskCores>,
     /// What came of the machine's cores.
     pub machine: MachineCores,
+    /// How long the run's turns last, in clock ticks.
+    pub turns: u64,
 }
 
 /// The numbers of each task's requests, in task order. Fails only when out of memory.
@@ -94,6 +96,7 @@ pub fn measured_run(
         requests,
         cores,
         machine,
+        turns: turns_last(arrivals),
     })
 }
 
@@ -101,8 +104,7 @@ pub fn measured_run(
 fn measured_text(alloc: Global, input: &[u8], form: NumberForm) -> Result<String, RunFault> {
     let (config, arrivals) = run_input(alloc, input)?;
     let numbers = measured_run(alloc, &config, &arrivals)?;
-    let mut sheet = sheet_of(alloc, &config, numbers.requests.as_slice())?;
-    put_core_rows(alloc, &mut sheet, &numbers, config.machine().cores())?;
+    let sheet = sheet_of(alloc, &config, &numbers, form)?;
     Ok(sheet.written(alloc, form)?)
 }
 

@@ -1,130 +1,164 @@
 //! The numbers of a run, row by row.
 
-use crate::sheet::Sheet;
+use crate::core_rows::{
+    CORE_LINES, CoreLine, MACHINE_LINES, MachineLine, core_figure, core_label, core_unit,
+    machine_figure, machine_label, machine_unit,
+};
+use crate::figures::{
+    Figure, Rank, Unit, count, put_figure, put_heading, rank_name, ranked, share,
+};
+use crate::measuring::RunNumbers;
+use crate::sheet::{NumberForm, Sheet};
 use cal_machine::{Config, Kind};
-use cal_measure::{Spread, TaskRequests};
+use cal_measure::{TaskRequests, Time};
 use std::alloc::{AllocError, Global};
 
-/// Which of some times.
-#[derive(Clone, Copy)]
-pub enum Rank {
-    Least,
-    Median,
-    Ninety,
-    NinetyNine,
-    MostOfThousand,
-    Greatest,
-}
-
-/// What a row says of each task.
+/// What a row says of each task's requests and threads.
 #[derive(Clone, Copy)]
 pub enum Line {
     Given,
     Served,
     Left,
+    ServedInATick,
     Response(Rank),
+    MeanResponse,
     Wait(Rank),
-    LongestLeft,
+    Service(Rank),
+    Slowdown(Rank),
+    OldestPending,
+    Thefts,
+    Suspensions,
+    Worked,
 }
 
 /// The rows, in order.
-pub const LINES: [Line; 16] = [
+pub const LINES: [Line; 33] = [
     Line::Given,
     Line::Served,
     Line::Left,
+    Line::ServedInATick,
     Line::Response(Rank::Least),
     Line::Response(Rank::Median),
     Line::Response(Rank::Ninety),
     Line::Response(Rank::NinetyNine),
     Line::Response(Rank::MostOfThousand),
     Line::Response(Rank::Greatest),
+    Line::MeanResponse,
     Line::Wait(Rank::Least),
     Line::Wait(Rank::Median),
     Line::Wait(Rank::Ninety),
     Line::Wait(Rank::NinetyNine),
     Line::Wait(Rank::MostOfThousand),
     Line::Wait(Rank::Greatest),
-    Line::LongestLeft,
+    Line::Service(Rank::Least),
+    Line::Service(Rank::Median),
+    Line::Service(Rank::Ninety),
+    Line::Service(Rank::NinetyNine),
+    Line::Service(Rank::MostOfThousand),
+    Line::Service(Rank::Greatest),
+    Line::Slowdown(Rank::Least),
+    Line::Slowdown(Rank::Median),
+    Line::Slowdown(Rank::Ninety),
+    Line::Slowdown(Rank::NinetyNine),
+    Line::Slowdown(Rank::MostOfThousand),
+    Line::Slowdown(Rank::Greatest),
+    Line::OldestPending,
+    Line::Thefts,
+    Line::Suspensions,
+    Line::Worked,
 ];
-
-/// How a rank is called.
-fn rank_name(rank: Rank) -> &'static str {
-    match rank {
-        Rank::Least => "least",
-        Rank::Median => "median",
-        Rank::Ninety => "90 of 100",
-        Rank::NinetyNine => "99 of 100",
-        Rank::MostOfThousand => "99.9 of 100",
-        Rank::Greatest => "greatest",
-    }
-}
 
 /// What stands in front of a row.
 pub fn label(alloc: Global, line: Line) -> Result<String, AllocError> {
+    let name = match line {
+        Line::Response(rank) => return format!(in alloc; "response {}", rank_name(rank)),
+        Line::Wait(rank) => return format!(in alloc; "wait {}", rank_name(rank)),
+        Line::Service(rank) => return format!(in alloc; "service {}", rank_name(rank)),
+        Line::Slowdown(rank) => return format!(in alloc; "slowdown {}", rank_name(rank)),
+        Line::Given => "requests given",
+        Line::Served => "requests served",
+        Line::Left => "requests left",
+        Line::ServedInATick => "served in a tick",
+        Line::MeanResponse => "response mean",
+        Line::OldestPending => "oldest pending",
+        Line::Thefts => "thefts",
+        Line::Suspensions => "suspensions",
+        Line::Worked => "share worked",
+    };
+    String::from_str(alloc, name)
+}
+
+/// What the numbers of a row count.
+pub fn unit(line: Line) -> Unit {
     match line {
-        Line::Given => String::from_str(alloc, "requests given"),
-        Line::Served => String::from_str(alloc, "requests served"),
-        Line::Left => String::from_str(alloc, "requests left"),
-        Line::Response(rank) => format!(in alloc; "response {}", rank_name(rank)),
-        Line::Wait(rank) => format!(in alloc; "wait {}", rank_name(rank)),
-        Line::LongestLeft => String::from_str(alloc, "longest left"),
-    }
-}
-
-/// One of some times.
-fn ranked(times: &Spread, rank: Rank) -> Option<u64> {
-    match rank {
-        Rank::Least => times.least,
-        Rank::Median => times.median,
-        Rank::Ninety => times.ninety,
-        Rank::NinetyNine => times.ninety_nine,
-        Rank::MostOfThousand => times.most_of_thousand,
-        Rank::Greatest => times.greatest,
-    }
-}
-
-/// What a row says of a task, where there is something.
-pub fn figure(numbers: &TaskRequests, line: Line) -> Option<u64> {
-    match line {
-        Line::Given => Some(numbers.given as u64),
-        Line::Served => Some(numbers.served as u64),
-        Line::Left => Some(numbers.left as u64),
-        Line::Response(rank) => ranked(&numbers.response, rank),
-        Line::Wait(rank) => ranked(&numbers.wait, rank),
-        Line::LongestLeft => numbers.so_far.greatest,
-    }
-}
-
-/// What a number counts.
-#[derive(Clone, Copy)]
-pub enum Unit {
-    /// Whole ones.
-    One,
-    /// Thousandths of one.
-    Thousandth,
-}
-
-/// A number as it is written: whole ones, or with three digits after the point.
-pub fn number(alloc: Global, number: u64, unit: Unit) -> Result<String, AllocError> {
-    match unit {
-        Unit::One => format!(in alloc; "{number}"),
-        Unit::Thousandth => {
-            let (ones, rest) = (number / 1000, number % 1000);
-            format!(in alloc; "{ones}.{rest:03}")
+        Line::ServedInATick | Line::MeanResponse | Line::Slowdown(_) | Line::Worked => {
+            Unit::Thousandth
         }
+        _ => Unit::One,
     }
 }
 
-/// A figure as it is written; a dash where there is none.
-pub fn cell(alloc: Global, figure: Option<u64>, unit: Unit) -> Result<String, AllocError> {
-    match figure {
-        Some(figure) => number(alloc, figure, unit),
-        None => String::from_str(alloc, "-"),
+/// A mean, which is a bound where some are pending.
+fn bound_if(pending: bool, mean: Option<Figure>) -> Option<Figure>
+    ensures { result ≡ bound_if pending mean }
+{
+    match mean {
+        None => None,
+        Some(figure) => Some(Figure {
+            number: figure.number,
+            is_bound: pending,
+            few: figure.few,
+        }),
     }
+}
+
+/// How long the oldest pending request has waited, if there is one.
+fn oldest_in(greatest: Option<Time>) -> Option<Figure>
+    ensures { result ≡ oldest_in greatest }
+{
+    match greatest {
+        None => None,
+        Some(Time::Known(ticks)) => Some(Figure::of(ticks)),
+        Some(Time::More(ticks)) => Some(Figure::of(ticks)),
+    }
+}
+
+/// What a row says of a task with these numbers, which had so much core time, in a run whose turns
+/// last so long.
+fn figure_of(requests: &TaskRequests, had: u128, turns: u64, line: Line) -> Option<Figure>
+    ensures { requests.now.together ≤ 2 ^ 100 → requests.now.work.worked ≤ 2 ^ 100 →
+        had ≤ 2 ^ 100 → result ≡ figure_of requests.now had turns line }
+{
+    match line {
+        Line::Given => count(requests.given),
+        Line::Served => count(requests.served),
+        Line::Left => count(requests.left),
+        Line::ServedInATick => share(requests.served as u128, turns as u128),
+        Line::Response(rank) => ranked(&requests.response, rank),
+        Line::MeanResponse => {
+            let mean = share(requests.together, requests.response.count as u128);
+            bound_if(requests.left > 0, mean)
+        }
+        Line::Wait(rank) => ranked(&requests.wait, rank),
+        Line::Service(rank) => ranked(&requests.service, rank),
+        Line::Slowdown(rank) => ranked(&requests.slowdown, rank),
+        Line::OldestPending => oldest_in(requests.so_far.greatest),
+        Line::Thefts => count(requests.work.thefts),
+        Line::Suspensions => count(requests.work.suspensions),
+        Line::Worked => share(requests.work.worked, had),
+    }
+}
+
+/// What a row says of a task, which a run may not have, where there is something.
+pub fn figure(numbers: &RunNumbers, task: usize, line: Line) -> Option<Figure> {
+    let requests = numbers.requests.as_slice().get(task)?;
+    let cores = numbers.cores.as_slice().get(task)?;
+    let had = cores.held.saturating_add(cores.leaving);
+    figure_of(requests, had, numbers.turns, line)
 }
 
 /// The first row: the tasks, each with its kind.
-fn heading(alloc: Global, config: &Config) -> Result<Vec<String>, AllocError> {
+fn heading(alloc: Global, config: &Config, form: NumberForm) -> Result<Vec<String>, AllocError> {
     let mut row = Vec::new(alloc);
     row.push(String::from_str(alloc, "measure")?)?;
     for task in 0..config.tasks() {
@@ -132,35 +166,88 @@ fn heading(alloc: Global, config: &Config) -> Result<Vec<String>, AllocError> {
             Kind::LatencyCritical => "lc",
             Kind::BestEffort => "be",
         };
-        row.push(format!(in alloc; "task {task} {kind}")?)?;
+        let name = format!(in alloc; "task {task} {kind}")?;
+        put_heading(alloc, &mut row, name, form)?;
     }
     Ok(row)
 }
 
-/// A row: what it says of each task.
+/// A row of each task's requests and threads.
 fn line_row(
     alloc: Global,
-    numbers: &[TaskRequests],
+    numbers: &RunNumbers,
     line: Line,
+    form: NumberForm,
 ) -> Result<Vec<String>, AllocError> {
     let mut row = Vec::new(alloc);
     row.push(label(alloc, line)?)?;
-    for task in numbers {
-        row.push(cell(alloc, figure(task, line), Unit::One)?)?;
+    for task in 0..numbers.requests.len() {
+        let figure = figure(numbers, task, line);
+        put_figure(alloc, &mut row, figure, unit(line), form)?;
     }
     Ok(row)
+}
+
+/// A row of each task's cores.
+fn core_row(
+    alloc: Global,
+    numbers: &RunNumbers,
+    line: CoreLine,
+    form: NumberForm,
+) -> Result<Vec<String>, AllocError> {
+    let mut row = Vec::new(alloc);
+    row.push(String::from_str(alloc, core_label(line))?)?;
+    for task in 0..numbers.cores.len() {
+        let figure = core_figure(numbers, task, line);
+        put_figure(alloc, &mut row, figure, core_unit(line), form)?;
+    }
+    Ok(row)
+}
+
+/// A row of a machine of so many cores: one number after the label.
+fn machine_row(
+    alloc: Global,
+    numbers: &RunNumbers,
+    line: MachineLine,
+    cores: u8,
+    form: NumberForm,
+) -> Result<Vec<String>, AllocError> {
+    let mut row = Vec::new(alloc);
+    row.push(String::from_str(alloc, machine_label(line))?)?;
+    let figure = machine_figure(numbers, line, cores);
+    put_figure(alloc, &mut row, figure, machine_unit(line), form)?;
+    Ok(row)
+}
+
+/// Puts the rows of the tasks' cores and of the machine, of so many cores.
+fn put_core_rows(
+    alloc: Global,
+    sheet: &mut Sheet,
+    numbers: &RunNumbers,
+    cores: u8,
+    form: NumberForm,
+) -> Result<(), AllocError> {
+    for line in CORE_LINES {
+        sheet.put(core_row(alloc, numbers, line, form)?)?;
+    }
+    for line in MACHINE_LINES {
+        sheet.put(machine_row(alloc, numbers, line, cores, form)?)?;
+    }
+    Ok(())
 }
 
 /// The numbers of a run of this table, row by row. Fails only when out of memory.
 pub fn sheet_of(
     alloc: Global,
     config: &Config,
-    numbers: &[TaskRequests],
+    numbers: &RunNumbers,
+    form: NumberForm,
 ) -> Result<Sheet, AllocError> {
     let mut sheet = Sheet::new(alloc);
-    sheet.put(heading(alloc, config)?)?;
+    sheet.put(heading(alloc, config, form)?)?;
     for line in LINES {
-        sheet.put(line_row(alloc, numbers, line)?)?;
+        sheet.put(line_row(alloc, numbers, line, form)?)?;
     }
+    put_core_rows(alloc, &mut sheet, numbers, config.machine().cores(), form)?;
     Ok(sheet)
 }

@@ -2,7 +2,7 @@
 
 use crate::compared::sheet::Graphs;
 use crate::page::Page;
-use cal_measure::TaskRequests;
+use cal_measure::{TaskRequests, Time};
 use cal_tables::TaskCourse;
 
 /// The most cores that a task held after a pass.
@@ -26,11 +26,22 @@ pub fn tell_runs(graphs: &Graphs<'_>, page: &mut Page) {
 fn tell_requests(requests: &TaskRequests, page: &mut Page) {
     let (served, given) = (requests.served as u64, requests.given as u64);
     page.fill("{} of {} requests answered", &[served, given]);
-    if let Some(median) = requests.response.median {
-        page.fill(", half of these within {} ticks", &[median]);
+    match requests.response.median {
+        Some(Time::Known(median)) => page.fill(", half of all within {} ticks", &[median]),
+        _ => {}
     }
-    if let Some(greatest) = requests.response.greatest {
-        page.fill(", all within {}", &[greatest]);
+    match requests.response.greatest {
+        Some(Time::Known(greatest)) => page.fill(", all within {}", &[greatest]),
+        Some(Time::More(_)) => tell_pending(requests, page),
+        None => {}
+    }
+}
+
+/// For how long the oldest request is pending.
+fn tell_pending(requests: &TaskRequests, page: &mut Page) {
+    match requests.so_far.greatest {
+        Some(Time::Known(oldest)) => page.fill(", the oldest pending for {}", &[oldest]),
+        _ => {}
     }
 }
 

@@ -5,10 +5,11 @@ use crate::comparing::changes::{Change, changes_of};
 use crate::comparing::{Comparison, Variation};
 use crate::core_rows::{
     CORE_LINES, CoreLine, MACHINE_LINES, MachineLine, core_figure, core_label, core_unit,
-    machine_figure, machine_label,
+    machine_figure, machine_label, machine_unit,
 };
-use crate::sheet::Sheet;
-use crate::writing::{LINES, Line, Unit, cell, figure, label, number};
+use crate::figures::{Figure, Unit, number, put_figure, put_heading};
+use crate::sheet::{NumberForm, Sheet};
+use crate::writing::{LINES, Line, figure, label, unit};
 use std::alloc::{AllocError, Global};
 
 /// What a row says of each run.
@@ -38,24 +39,21 @@ impl Row {
     /// What its numbers count.
     fn unit(self) -> Unit {
         match self {
-            Row::Requests(..) => Unit::One,
+            Row::Requests(_, line) => unit(line),
             Row::Cores(_, line) => core_unit(line),
-            Row::Machine(_) => Unit::Thousandth,
+            Row::Machine(line) => machine_unit(line),
         }
     }
 
     /// What it says of a run, which may have no such task.
-    fn figure_in(self, runs: &Comparison, column: usize) -> Option<u64> {
+    fn figure_in(self, runs: &Comparison, column: usize) -> Option<Figure> {
         let numbers = runs.columns.as_slice().get(column)?;
         match self {
-            Row::Requests(task, line) => figure(numbers.requests.as_slice().get(task)?, line),
-            Row::Cores(task, line) => {
-                let of_task = numbers.cores.as_slice().get(task)?;
-                core_figure(of_task, line, numbers.machine.lasted)
-            }
+            Row::Requests(task, line) => figure(numbers, task, line),
+            Row::Cores(task, line) => core_figure(numbers, task, line),
             Row::Machine(line) => {
                 let table = runs.tables.as_slice().get(column)?;
-                machine_figure(&numbers.machine, line, table.machine().cores())
+                machine_figure(numbers, line, table.machine().cores())
             }
         }
     }
@@ -88,6 +86,7 @@ fn heading_row(
     alloc: Global,
     variation: Option<Variation<'_>>,
     columns: usize,
+    form: NumberForm,
 ) -> Result<Vec<String>, AllocError> {
     let mut row = Vec::new(alloc);
     row.push(String::from_str(alloc, corner(variation))?)?;
@@ -95,10 +94,10 @@ fn heading_row(
         let name = name_of(alloc, variation, column)?;
         if column > 0 {
             let change = format!(in alloc; "change {}", name.as_str())?;
-            row.push(name)?;
+            put_heading(alloc, &mut row, name, form)?;
             row.push(change)?;
         } else {
-            row.push(name)?;
+            put_heading(alloc, &mut row, name, form)?;
         }
     }
     Ok(row)
@@ -116,23 +115,33 @@ fn change_cell(alloc: Global, change: Change, unit: Unit) -> Result<String, Allo
     format!(in alloc; "{sign}{}", text.as_str())
 }
 
-/// What a row says of each run.
-fn figures_in(alloc: Global, runs: &Comparison, row: Row) -> Result<Vec<Option<u64>>, AllocError> {
-    let mut figures = Vec::new(alloc);
+/// The number that a row says of each run; where it says a bound, none.
+fn known_in(alloc: Global, runs: &Comparison, row: Row) -> Result<Vec<Option<u64>>, AllocError> {
+    let mut known = Vec::new(alloc);
     for column in 0..runs.columns.len() {
-        figures.push(row.figure_in(runs, column))?;
+        let number = match row.figure_in(runs, column) {
+            Some(figure) => figure.known(),
+            None => None,
+        };
+        known.push(number)?;
     }
-    Ok(figures)
+    Ok(known)
 }
 
 /// The cells of a row: what it says of each run, and the change from the first.
-fn cells_of(alloc: Global, runs: &Comparison, row: Row) -> Result<Vec<String>, AllocError> {
-    let figures = figures_in(alloc, runs, row)?;
-    let changes = changes_of(alloc, figures.as_slice())?;
+fn cells_of(
+    alloc: Global,
+    runs: &Comparison,
+    row: Row,
+    form: NumberForm,
+) -> Result<Vec<String>, AllocError> {
+    let known = known_in(alloc, runs, row)?;
+    let changes = changes_of(alloc, known.as_slice())?;
     let mut cells = Vec::new(alloc);
     cells.push(row.label(alloc)?)?;
-    for column in 0..figures.len().min(changes.len()) {
-        cells.push(cell(alloc, figures[column], row.unit())?)?;
+    for column in 0..changes.len() {
+        let figure = row.figure_in(runs, column);
+        put_figure(alloc, &mut cells, figure, row.unit(), form)?;
         if column > 0 {
             cells.push(change_cell(alloc, changes[column], row.unit())?)?;
         }
@@ -155,9 +164,10 @@ fn put_requests(
     sheet: &mut Sheet,
     runs: &Comparison,
     task: usize,
+    form: NumberForm,
 ) -> Result<(), AllocError> {
     for line in LINES {
-        sheet.put(cells_of(alloc, runs, Row::Requests(task, line))?)?;
+        sheet.put(cells_of(alloc, runs, Row::Requests(task, line), form)?)?;
     }
     Ok(())
 }
@@ -168,17 +178,23 @@ fn put_cores(
     sheet: &mut Sheet,
     runs: &Comparison,
     task: usize,
+    form: NumberForm,
 ) -> Result<(), AllocError> {
     for line in CORE_LINES {
-        sheet.put(cells_of(alloc, runs, Row::Cores(task, line))?)?;
+        sheet.put(cells_of(alloc, runs, Row::Cores(task, line), form)?)?;
     }
     Ok(())
 }
 
 /// Puts the rows of the machine's cores.
-fn put_machine(alloc: Global, sheet: &mut Sheet, runs: &Comparison) -> Result<(), AllocError> {
+fn put_machine(
+    alloc: Global,
+    sheet: &mut Sheet,
+    runs: &Comparison,
+    form: NumberForm,
+) -> Result<(), AllocError> {
     for line in MACHINE_LINES {
-        sheet.put(cells_of(alloc, runs, Row::Machine(line))?)?;
+        sheet.put(cells_of(alloc, runs, Row::Machine(line), form)?)?;
     }
     Ok(())
 }
@@ -189,13 +205,14 @@ pub fn comparison_sheet(
     alloc: Global,
     variation: Option<Variation<'_>>,
     runs: &Comparison,
+    form: NumberForm,
 ) -> Result<Sheet, AllocError> {
     let mut sheet = Sheet::new(alloc);
-    sheet.put(heading_row(alloc, variation, runs.columns.len())?)?;
+    sheet.put(heading_row(alloc, variation, runs.columns.len(), form)?)?;
     for task in 0..most_tasks(runs) {
-        put_requests(alloc, &mut sheet, runs, task)?;
-        put_cores(alloc, &mut sheet, runs, task)?;
+        put_requests(alloc, &mut sheet, runs, task, form)?;
+        put_cores(alloc, &mut sheet, runs, task, form)?;
     }
-    put_machine(alloc, &mut sheet, runs)?;
+    put_machine(alloc, &mut sheet, runs, form)?;
     Ok(sheet)
 }

@@ -83,21 +83,30 @@ pub const MEASURE: &str = help_with_a_run!(
 Input: a task table (TOML), the line ---, and arrivals (CSV), as
 `caladan_sim lockstep` reads.
 Output: the numbers of each task's requests and cores, in the run that
-`caladan_sim lockstep` makes, in clock ticks; with --csv as CSV. A request
-arrives at the clock of its turn, is begun at the stamp of the first publication
-with it at work, and answered at the stamp of the publication of the turn that
-served it. `response` is from arrival to answer and `wait` from arrival until
-begun, of those that were served: the least, by nearest rank the median, 90, 99
-and 99.9 of 100, and the greatest. `longest left` is from arrival to the last
-turn's clock, of those that were left. A dash means there was nothing to
-measure.
-Of cores: the grants to the task's threads by class; the cores that it lost, to
-bans, to the bandwidth limit, to congested tasks; those that others lost for it;
-how often it was given a cap; the bans for its threads; the most cores that it
-held after a pass, and how many over the run's clock; and the part of the run's
-clock for which it was congested. `machine` is of the machine's core time: the
-parts held, being left, banned and empty, and free to be granted. A state lasts
-from its pass's clock to the next pass's.
+`caladan_sim lockstep` makes, in clock ticks; with --csv as CSV. A turn takes
+its time: it ends at the clock of its thread's next turn, and the last one at
+the run's last clock. A request arrives at the clock of its turn, is begun with
+the first turn that works at it, and answered at the end of the one that serves
+it. `response` is from arrival to answer, and of a request that is left more
+than the time up to the run's last clock: its ranks go over all requests, those
+left after the others, and where one falls on a request that is left there is
+`>` and for how long that one has waited. Of those served `wait` is from arrival
+until begun, `service` the time of the turns that worked, and `slowdown` the
+response over it; the rest of a response are interruptions. There is the least,
+by nearest rank the median, 90, 99 and 99.9 of 100, and the greatest; (7) beside
+a rank says that it is of 7 times, where it takes 100 or 1,000. With --csv `>`
+and this count have columns of their own. The mean counts what is left with the
+time so far. A dash means there was nothing to measure.
+Of threads: requests stolen, requests suspended, and the part worked of the core
+time held or left. Of cores: the grants to the task's threads by class; the
+cores that it lost, to bans, to the bandwidth limit, to congested tasks; those
+that others lost for it; cuts and raises of its cap; the bans for its threads;
+the most cores that it held after a pass, and how many it held, and was leaving,
+over the run's clock; and the part of the run's clock for which it was
+congested. `machine` is of the machine's core time: the parts held, being left,
+banned and empty, and free to be granted; for which part of the clock the
+bandwidth figure was over the limit; and the clocks of the passes and of the
+turns. A state lasts from its pass's clock to the next pass's.
 Exit status: 0 done, 2 rejected input, 3 memory or output was refused.",
     "caladan_view measure",
     "\
@@ -115,39 +124,61 @@ END
 
 It writes:
 
-measure               task 0 lc
-requests given                2
-requests served               2
-requests left                 0
-response least                0
-response median               0
-response 90 of 100           20
-response 99 of 100           20
-response 99.9 of 100         20
-response greatest            20
-wait least                    0
-wait median                   0
-wait 90 of 100               20
-wait 99 of 100               20
-wait 99.9 of 100             20
-wait greatest                20
-longest left                  -
-grants class 1                0
-grants class 2                0
-grants class 3                1
-lost to bans                  0
-lost to bandwidth             0
-lost to tasks                 0
-lost by others                0
-caps                          0
-bans                          0
-most cores held               1
-mean cores held           0.500
-share congested           0.500
-machine held              0.250
-machine leaving           0.000
-machine banned            0.000
-machine free              0.750"
+measure                           task 0 lc
+requests given                            2
+requests served                           2
+requests left                             0
+served in a tick                      0.050
+response least                            0
+response median                           0
+response 90 of 100                       40
+response 99 of 100                   40 (2)
+response 99.9 of 100                 40 (2)
+response greatest                        40
+response mean                        20.000
+wait least                                0
+wait median                               0
+wait 90 of 100                           20
+wait 99 of 100                       20 (2)
+wait 99.9 of 100                     20 (2)
+wait greatest                            20
+service least                             0
+service median                            0
+service 90 of 100                        20
+service 99 of 100                    20 (2)
+service 99.9 of 100                  20 (2)
+service greatest                         20
+slowdown least                        2.000
+slowdown median                       2.000
+slowdown 90 of 100                    2.000
+slowdown 99 of 100                2.000 (1)
+slowdown 99.9 of 100              2.000 (1)
+slowdown greatest                     2.000
+oldest pending                            -
+thefts                                    0
+suspensions                               0
+share worked                          1.000
+grants sibling                            0
+grants recently used                      0
+grants other idle                         1
+lost to bans                              0
+lost to bandwidth                         0
+lost to tasks                             0
+taken from others                         0
+cap cuts                                  0
+cap raises                                0
+bans                                      0
+most cores held                           1
+mean cores held                       0.500
+mean cores being left                 0.000
+share congested                       0.500
+machine held                          0.250
+machine leaving                       0.000
+machine banned                        0.000
+machine free                          0.750
+machine over its bandwidth limit      0.000
+machine clock of passes                  40
+machine clock of requests                40"
 );
 
 /// Of the subcommand `compare`.
@@ -198,39 +229,61 @@ END
 
 It writes:
 
-measure                      table 0  table 1  change table 1
-task 0 requests given              2        2               0
-task 0 requests served             2        1              -1
-task 0 requests left               0        1              +1
-task 0 response least              0       40             +40
-task 0 response median             0       40             +40
-task 0 response 90 of 100         20       40             +20
-task 0 response 99 of 100         20       40             +20
-task 0 response 99.9 of 100       20       40             +20
-task 0 response greatest          20       40             +20
-task 0 wait least                  0       40             +40
-task 0 wait median                 0       40             +40
-task 0 wait 90 of 100             20       40             +20
-task 0 wait 99 of 100             20       40             +20
-task 0 wait 99.9 of 100           20       40             +20
-task 0 wait greatest              20       40             +20
-task 0 longest left                -        0               -
-task 0 grants class 1              0        0               0
-task 0 grants class 2              0        0               0
-task 0 grants class 3              1        1               0
-task 0 lost to bans                0        0               0
-task 0 lost to bandwidth           0        0               0
-task 0 lost to tasks               0        0               0
-task 0 lost by others              0        0               0
-task 0 caps                        0        0               0
-task 0 bans                        0        0               0
-task 0 most cores held             1        1               0
-task 0 mean cores held         0.500    0.000          -0.500
-task 0 share congested         0.500    0.000          -0.500
-machine held                   0.250    0.000          -0.250
-machine leaving                0.000    0.000               0
-machine banned                 0.000    0.000               0
-machine free                   0.750    1.000          +0.250"
+measure                             table 0  table 1  change table 1
+task 0 requests given                     2        2               0
+task 0 requests served                    2        1              -1
+task 0 requests left                      0        1              +1
+task 0 served in a tick               0.050    0.025          -0.025
+task 0 response least                     0       40             +40
+task 0 response median                    0       40             +40
+task 0 response 90 of 100                40       >0               -
+task 0 response 99 of 100            40 (2)   >0 (2)               -
+task 0 response 99.9 of 100          40 (2)   >0 (2)               -
+task 0 response greatest                 40       >0               -
+task 0 response mean                 20.000  >20.000               -
+task 0 wait least                         0       40             +40
+task 0 wait median                        0       40             +40
+task 0 wait 90 of 100                    20       40             +20
+task 0 wait 99 of 100                20 (2)   40 (1)             +20
+task 0 wait 99.9 of 100              20 (2)   40 (1)             +20
+task 0 wait greatest                     20       40             +20
+task 0 service least                      0        0               0
+task 0 service median                     0        0               0
+task 0 service 90 of 100                 20        0             -20
+task 0 service 99 of 100             20 (2)    0 (1)             -20
+task 0 service 99.9 of 100           20 (2)    0 (1)             -20
+task 0 service greatest                  20        0             -20
+task 0 slowdown least                 2.000        -               -
+task 0 slowdown median                2.000        -               -
+task 0 slowdown 90 of 100             2.000        -               -
+task 0 slowdown 99 of 100         2.000 (1)        -               -
+task 0 slowdown 99.9 of 100       2.000 (1)        -               -
+task 0 slowdown greatest              2.000        -               -
+task 0 oldest pending                     -        0               -
+task 0 thefts                             0        0               0
+task 0 suspensions                        0        0               0
+task 0 share worked                   1.000        -               -
+task 0 grants sibling                     0        0               0
+task 0 grants recently used               0        0               0
+task 0 grants other idle                  1        1               0
+task 0 lost to bans                       0        0               0
+task 0 lost to bandwidth                  0        0               0
+task 0 lost to tasks                      0        0               0
+task 0 taken from others                  0        0               0
+task 0 cap cuts                           0        0               0
+task 0 cap raises                         0        0               0
+task 0 bans                               0        0               0
+task 0 most cores held                    1        1               0
+task 0 mean cores held                0.500    0.000          -0.500
+task 0 mean cores being left          0.000    0.000               0
+task 0 share congested                0.500    0.000          -0.500
+machine held                          0.250    0.000          -0.250
+machine leaving                       0.000    0.000               0
+machine banned                        0.000    0.000               0
+machine free                          0.750    1.000          +0.250
+machine over its bandwidth limit      0.000    0.000               0
+machine clock of passes                  40       40               0
+machine clock of requests                40       40               0"
 );
 
 /// Of the subcommand `explain`.

@@ -16,7 +16,8 @@ returns c = λ x low a n.
       lost_to_bans = counted (acts.is_loss table t kinds.Ban) x action c.args.numbers.now.lost_to_bans _ c.is_loss-by_ban.result low n.lost_to_bans (c.is_loss-by_ban.ensures x a) c.plus-4.ensures;
       lost_to_bandwidth = counted (acts.is_loss table t kinds.Bandwidth) x action c.args.numbers.now.lost_to_bandwidth _ c.is_loss-by_bandwidth.result low n.lost_to_bandwidth (c.is_loss-by_bandwidth.ensures x a) c.plus-5.ensures;
       lost_to_tasks = counted (acts.is_loss table t kinds.Task) x action c.args.numbers.now.lost_to_tasks _ c.is_loss-by_task.result low n.lost_to_tasks (c.is_loss-by_task.ensures x a) c.plus-6.ensures;
-      lost_by_others = counted (acts.is_loss_by_others table t) x action c.args.numbers.now.lost_by_others _ c.is_loss_by_others-by_others.result low n.lost_by_others (c.is_loss_by_others-by_others.ensures x a) c.plus-7.ensures;
-      caps = counted (acts.is_cap t) x action c.args.numbers.now.caps _ c.is_cap.result low n.caps (c.is_cap.ensures x) c.plus-8.ensures;
-      bans = counted (acts.is_ban table t) x action c.args.numbers.now.bans _ c.is_ban.result low n.bans (c.is_ban.ensures x) c.plus-9.ensures;
+      taken_from_others = counted (acts.is_taking table t) x action c.args.numbers.now.taken_from_others _ c.is_taking-taking.result low n.taken_from_others (c.is_taking-taking.ensures x a) c.plus-7.ensures;
+      cuts = counted (acts.is_cut table t) x action c.args.numbers.now.cuts _ c.is_cut.result low n.cuts (c.is_cut.ensures x a) c.plus-8.ensures;
+      raises = counted (acts.is_raise table t) x action c.args.numbers.now.raises _ c.is_raise.result low n.raises (c.is_raise.ensures x a) c.plus-9.ensures;
+      bans = counted (acts.is_ban table t) x action c.args.numbers.now.bans _ c.is_ban.result low n.bans (c.is_ban.ensures x) c.plus-10.ensures;
     }

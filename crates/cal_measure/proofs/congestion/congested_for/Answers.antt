@@ -1,4 +1,4 @@
-use Rattle.std.proofs.Common.{◌≡◌, ◌∙◌, ◌≤◌, ℕ, Bool, List, length, take, cond, refl, subst, ap, sym, arith}
+use Rattle.std.proofs.Common.{◌≡◌, ◌∙◌, Bool, List, length, take, cond, refl, subst, ap, sym, arith}
 use Rattle.std.proofs.lemmas.Option.{slice_get_read}
 use Rattle.cal_policy.specs.Board.{KeepingAgrees}
 use Rattle.cal_policy.specs.History.{looks_of}

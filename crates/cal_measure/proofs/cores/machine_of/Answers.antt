@@ -12,6 +12,7 @@ use Rattle.cal_measure.specs.States.{lasts_at}
 use Rattle.cal_measure.specs.declared.states.CoreState.{CoreState}
 use Rattle.cal_measure.specs.declared.states.CoreState.TheVariants as states
 use Rattle.cal_measure.proofs.Passes.{actions_more, time_more}
+use Rattle.cal_measure.proofs.Whole.{make_whole}
 use Rattle.cal_measure.proofs.cores.machine_of.Goals as goal
 
 pub apply_each-requires-clause-names : goal.apply_each-requires-clause-names
@@ -57,8 +58,8 @@ loop-pass-preserved c =
       few_free = omega (arith, inv.few_free, c.core_time-free.ensures.few);
     }
 
-pub returns : goal.returns
-returns c =
+pub returns-clause-numbers : goal.returns-clause-numbers
+returns-clause-numbers c =
     let table = c.args.config.now in
     let h = c.args.history.now in
     let inv = c.loop-pass.invariant in
@@ -70,4 +71,8 @@ returns c =
       leaving = inv.leaving ∙ ap (sum_below (time states.Leaving)) end;
       banned = inv.banned ∙ ap (sum_below (time states.Banned)) end;
       free = inv.free ∙ ap (sum_below (time states.Free)) end;
+      over_limit = c.over_limit_for.ensures;
     }
+
+pub returns-clause-whole : goal.returns-clause-whole
+returns-clause-whole c = make_whole c.args.config.now c.args.history.now _ (returns-clause-numbers c)

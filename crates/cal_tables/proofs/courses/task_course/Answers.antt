@@ -1,6 +1,7 @@
 use Rattle.std.proofs.Common.{◌∙◌, ℕ, List, map, ap, subst, sym}
 use Rattle.std.proofs.lemmas.List.Sorted.{IsNonDecreasingBy-from_sort}
 use Rattle.std.specs.List.Sorted.{IsPermutation}
+use Rattle.cal_measure.specs.Clocks.{run_end}
 use Rattle.cal_measure.specs.Cores.{IsHeldCourse}
 use Rattle.cal_measure.specs.Requests.{AreRequestsOf, response_of, services_of_task}
 use Rattle.cal_policy.specs.Pass.{IsLegal}
@@ -24,7 +25,7 @@ returns c =
       requests = subst (λ js. AreRequestsOf table c.args.arrivals.now js outcome.left t c.in_ok-requests.requests) c.as_slice-journals.ensures
           (subst (λ ls. AreRequestsOf table c.args.arrivals.now c.as_slice-journals.result.now ls t c.in_ok-requests.requests) c.as_slice-left.ensures c.in_ok-requests.ensures);
       same = subst (λ (times : List ℕ). IsPermutation times rising)
-          (c.in_ok-responses.ensures ∙ ap (λ js. map (response_of turns requests) (services_of_task table js t)) c.as_slice-journals.ensures)
+          (c.in_ok-responses.ensures ∙ ap (λ js. map (response_of turns requests) (services_of_task table (run_end c.args.arrivals.now) js t)) c.as_slice-journals.ensures)
           c.sort.ensures.permutation;
       rises = IsNonDecreasingBy-from_sort (λ x. x) rising c.in_ok-sort.ensures.sorted;
       held = subst (λ (h : List PassEntry). IsHeldCourse table h t c.in_ok-held.held.items) c.as_slice.ensures c.in_ok-held.ensures;
