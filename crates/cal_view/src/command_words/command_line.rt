@@ -80,8 +80,8 @@ pub fn words<'a>(alloc: Global, words: &'a [&'a str]) -> Result<Request<'a>, Err
     let matches = program(alloc)?.try_get_matches_from(words)?;
     let places = places_of(&matches);
     let tables = match places {
-        Ok(places) => listed(alloc, places.tables)?,
-        Err(_) => Vec::new(alloc),
+        Ok(places) if places.has_tables => tables_of(alloc, &matches)?,
+        _ => Vec::new(alloc),
     };
     match (job_of(&matches), places) {
         (Ok(job), Ok(places)) => Ok(Request {
@@ -347,25 +347,26 @@ fn job_of<'a>(matches: &ArgMatches<'a>) -> Result<Job<'a>, Mistake> {
     Ok(job)
 }
 
-/// What the words say of files: those of tables, that of the input, that of the answer.
+/// What the words say of files: whether those without an option are tables, that of the input, that
+/// of the answer.
 #[derive(Clone, Copy)]
-struct Places<'m, 'a> {
-    tables: &'m [&'a str],
+struct Places<'a> {
+    has_tables: bool,
     input: Option<&'a str>,
     output: Option<&'a str>,
 }
 
 /// What a parsed command line says of files, or what is wrong with it.
-fn places_of<'m, 'a>(matches: &'m ArgMatches<'a>) -> Result<Places<'m, 'a>, Mistake> {
+fn places_of<'a>(matches: &ArgMatches<'a>) -> Result<Places<'a>, Mistake> {
     match matches.subcommand() {
         Some((name, own)) if name == "compare" => compared_places(own),
         Some((_, own)) => Ok(Places {
-            tables: &[],
+            has_tables: false,
             input: own.get_str("input"),
             output: own.get_str("output"),
         }),
         None => Ok(Places {
-            tables: &[],
+            has_tables: false,
             input: None,
             output: None,
         }),
@@ -373,45 +374,49 @@ fn places_of<'m, 'a>(matches: &'m ArgMatches<'a>) -> Result<Places<'m, 'a>, Mist
 }
 
 /// What the words of `compare` say of files. With arrivals the others are tables; without them there
-/// is one other, which is the input.
-fn compared_places<'m, 'a>(own: &'m ArgMatches<'a>) -> Result<Places<'m, 'a>, Mistake> {
-    let files = own.get_strs("tables").unwrap_or(&[]);
-    let output = own.get_str("output");
-    let Some(arrivals) = own.get_str("arrivals") else {
-        return match files {
-            [] => Ok(Places {
-                tables: &[],
-                input: None,
-                output,
-            }),
-            [input] => Ok(Places {
-                tables: &[],
-                input: Some(*input),
-                output,
-            }),
-            _ => Err(Mistake::NoArrivals),
-        };
-    };
-    if files.is_empty() {
+/// is one other at most, which is the input.
+fn compared_places<'a>(own: &ArgMatches<'a>) -> Result<Places<'a>, Mistake> {
+    let count = count_of(own);
+    let arrivals = own.get_str("arrivals");
+    if arrivals.is_none() && count > 1 {
+        return Err(Mistake::NoArrivals);
+    }
+    if arrivals.is_some() && count == 0 {
         return Err(Mistake::NoTable);
     }
-    if files.len() > 1 && own.get_str("vary").is_some() {
+    if count > 1 && own.get_str("vary").is_some() {
         return Err(Mistake::TwoTables);
     }
+    let input = match arrivals {
+        Some(arrivals) => Some(arrivals),
+        None => own.get_str("tables"),
+    };
     Ok(Places {
-        tables: files,
-        input: Some(arrivals),
-        output,
+        has_tables: arrivals.is_some(),
+        input,
+        output: own.get_str("output"),
     })
 }
 
-/// The same names in a list of their own.
-fn listed<'a>(alloc: Global, names: &[&'a str]) -> Result<Vec<&'a str>, AllocError> {
-    let mut listed = Vec::new(alloc);
-    for name in names {
-        listed.push(*name)?;
+/// How many files stand after `compare` without an option.
+fn count_of(own: &ArgMatches<'_>) -> usize {
+    match own.get_strs("tables") {
+        Some(files) => files.len(),
+        None => 0,
     }
-    Ok(listed)
+}
+
+/// The files of a parsed command line that stand after `compare` without an option.
+fn tables_of<'a>(alloc: Global, matches: &ArgMatches<'a>) -> Result<Vec<&'a str>, AllocError> {
+    let mut tables = Vec::new(alloc);
+    if let Some((_, own)) = matches.subcommand() {
+        if let Some(files) = own.get_strs("tables") {
+            for name in files {
+                tables.push(*name)?;
+            }
+        }
+    }
+    Ok(tables)
 }
 
 /// What the options of `compare` ask for.
