@@ -1,6 +1,6 @@
 //! The words after `arrivals`.
 
-use crate::command_words::command_line::{input_word, listed, output_word, table_word};
+use crate::command_words::command_line::{all_words, input_word, output_word, table_word};
 use crate::command_words::help_texts;
 use clap::{Arg, ArgAction, ArgMatches, Command};
 use std::alloc::{AllocError, Global};
@@ -130,24 +130,15 @@ pub fn arrival_words<'a>(
     matches: &ArgMatches<'a>,
 ) -> Result<ArrivalWords<'a>, AllocError> {
     Ok(ArrivalWords {
-        tasks: all_of(alloc, matches, "task")?,
-        loads: all_of(alloc, matches, "load")?,
-        services: all_of(alloc, matches, "service")?,
-        patterns: all_of(alloc, matches, "pattern")?,
+        tasks: all_words(alloc, matches, "task")?,
+        loads: all_words(alloc, matches, "load")?,
+        services: all_words(alloc, matches, "service")?,
+        patterns: all_words(alloc, matches, "pattern")?,
         turns: number_of(matches, "turns"),
         ticks: number_of(matches, "ticks"),
         seed: number_of(matches, "seed"),
         form: form_of(matches.get_flag("table"), matches.get_flag("summary")),
     })
-}
-
-/// All words of an option.
-fn all_of<'a>(
-    alloc: Global,
-    matches: &ArgMatches<'a>,
-    id: &str,
-) -> Result<Vec<&'a str>, AllocError> {
-    listed(alloc, matches.get_strs(id).unwrap_or(&[]))
 }
 
 /// The number of an option that has a default.

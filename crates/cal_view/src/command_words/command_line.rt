@@ -94,7 +94,7 @@ pub fn words<'a>(alloc: Global, words: &'a [&'a str]) -> Result<Request<'a>, Err
         Ok(places) => places,
         Err(mistake) => return Err(refused(alloc, mistake)?),
     };
-    let tables = listed(alloc, places.tables)?;
+    let tables = tables_of(alloc, &matches, places.has_tables)?;
     Ok(Request {
         job,
         tables,
@@ -384,25 +384,26 @@ fn job_of<'a>(matches: &ArgMatches<'a>) -> Result<Job<'a>, Mistake> {
     Ok(job)
 }
 
-/// What the words say of files: those of tables, that of the input, that of the answer.
+/// What the words say of files: whether those without an option are tables, that of the input, that
+/// of the answer.
 #[derive(Clone, Copy)]
-struct Places<'m, 'a> {
-    tables: &'m [&'a str],
+struct Places<'a> {
+    has_tables: bool,
     input: Option<&'a str>,
     output: Option<&'a str>,
 }
 
 /// What a parsed command line says of files, or what is wrong with it.
-fn places_of<'m, 'a>(matches: &'m ArgMatches<'a>) -> Result<Places<'m, 'a>, Mistake> {
+fn places_of<'a>(matches: &ArgMatches<'a>) -> Result<Places<'a>, Mistake> {
     match matches.subcommand() {
         Some((name, own)) if name == "compare" => compared_places(own),
         Some((_, own)) => Ok(Places {
-            tables: &[],
+            has_tables: false,
             input: own.get_str("input"),
             output: own.get_str("output"),
         }),
         None => Ok(Places {
-            tables: &[],
+            has_tables: false,
             input: None,
             output: None,
         }),
@@ -410,45 +411,63 @@ fn places_of<'m, 'a>(matches: &'m ArgMatches<'a>) -> Result<Places<'m, 'a>, Mist
 }
 
 /// What the words of `compare` say of files. With arrivals the others are tables; without them there
-/// is one other, which is the input.
-fn compared_places<'m, 'a>(own: &'m ArgMatches<'a>) -> Result<Places<'m, 'a>, Mistake> {
-    let files = own.get_strs("tables").unwrap_or(&[]);
-    let output = own.get_str("output");
-    let Some(arrivals) = own.get_str("arrivals") else {
-        return match files {
-            [] => Ok(Places {
-                tables: &[],
-                input: None,
-                output,
-            }),
-            [input] => Ok(Places {
-                tables: &[],
-                input: Some(*input),
-                output,
-            }),
-            _ => Err(Mistake::NoArrivals),
-        };
-    };
-    if files.is_empty() {
+/// is one other at most, which is the input.
+fn compared_places<'a>(own: &ArgMatches<'a>) -> Result<Places<'a>, Mistake> {
+    let count = count_of(own);
+    let arrivals = own.get_str("arrivals");
+    if arrivals.is_none() && count > 1 {
+        return Err(Mistake::NoArrivals);
+    }
+    if arrivals.is_some() && count == 0 {
         return Err(Mistake::NoTable);
     }
-    if files.len() > 1 && own.get_str("vary").is_some() {
+    if count > 1 && own.get_str("vary").is_some() {
         return Err(Mistake::TwoTables);
     }
+    let input = match arrivals {
+        Some(arrivals) => Some(arrivals),
+        None => own.get_str("tables"),
+    };
     Ok(Places {
-        tables: files,
-        input: Some(arrivals),
-        output,
+        has_tables: arrivals.is_some(),
+        input,
+        output: own.get_str("output"),
     })
 }
 
-/// The same words in a list of their own.
-pub fn listed<'a>(alloc: Global, names: &[&'a str]) -> Result<Vec<&'a str>, AllocError> {
-    let mut listed = Vec::new(alloc);
-    for name in names {
-        listed.push(*name)?;
+/// How many files stand after `compare` without an option.
+fn count_of(own: &ArgMatches<'_>) -> usize {
+    match own.get_strs("tables") {
+        Some(files) => files.len(),
+        None => 0,
     }
-    Ok(listed)
+}
+
+/// All words of an option, or of an argument, in the order given.
+pub fn all_words<'a>(
+    alloc: Global,
+    own: &ArgMatches<'a>,
+    id: &str,
+) -> Result<Vec<&'a str>, AllocError> {
+    let mut words = Vec::new(alloc);
+    if let Some(given) = own.get_strs(id) {
+        for word in given {
+            words.push(*word)?;
+        }
+    }
+    Ok(words)
+}
+
+/// The files of tables of a parsed command line.
+fn tables_of<'a>(
+    alloc: Global,
+    matches: &ArgMatches<'a>,
+    has_tables: bool,
+) -> Result<Vec<&'a str>, AllocError> {
+    match matches.subcommand() {
+        Some((_, own)) if has_tables => all_words(alloc, own, "tables"),
+        _ => Ok(Vec::new(alloc)),
+    }
 }
 
 /// What the options of `compare` ask for.
