@@ -1,5 +1,8 @@
 //! The numbers of a run, row by row.
 
+ghost use Rattle.std.specs.Prelude.{◌≡◌, ◌≤◌, ◌^◌};
+ghost use Rattle.cal_tables.specs.Rows.{bound_if, figure_of, oldest_in};
+
 use crate::core_rows::{
     CORE_LINES, CoreLine, MACHINE_LINES, MachineLine, core_figure, core_label, core_unit,
     machine_figure, machine_label, machine_unit,

@@ -67,12 +67,12 @@ fn task_word<'a>(alloc: Global) -> Arg<'a> {
     some_words(alloc, "task", "TASK")
         .required(true)
         .value_parser(clap::value_parser!(u64))
-        .help("A task that requests come to; what follows is of all such tasks, or given for each")
+        .help("A task that requests come to, with the options of all or of each")
 }
 
 fn load_word<'a>(alloc: Global) -> Arg<'a> {
     some_words(alloc, "load", "LOAD").required(true).help(
-        "The work that comes, as a part of all turns of the task's threads, as 0.7",
+        "The work that comes, as a part of the task's turns, as 0.7",
     )
 }
 
