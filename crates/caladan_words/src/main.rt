@@ -9,6 +9,7 @@
 ghost use Rattle.std.specs.Prelude.{◌≡◌, ◌≢◌, IfErr};
 
 use cal_engine::{RunFault, end_with, given_words, refuse_words, words, words_after_first};
+use cal_refusals::asks_why;
 use cal_view::{Noted, end_answer};
 use std::alloc::Global;
 use std::io::Write;
@@ -75,6 +76,7 @@ fn answer_words<W: Write, E: Write>(
     };
     let given = words_after_first(alloc, asked)?;
     match asked.first() {
+        Some(program) if program.as_str() == "caladan_sim" && asks_why(asked) => Ok(IS_A_JOB),
         Some(program) if program.as_str() == "caladan_sim" => {
             sim_words(alloc, given.as_slice(), output, errors)
         }

@@ -1,0 +1,131 @@
+//! The words of caladan_sim with `--explain`.
+
+ghost use Rattle.std.specs.Prelude.{◌≡◌, ◌≢◌, IfErr, IfOk};
+ghost use Rattle.cal_engine.specs.Program.{DoesJob};
+
+use crate::ending::end_explained;
+use cal_engine::{
+    Job, RunFault, Verdict, decide, end_with, read_input, refuse_words, run_audit, run_lockstep,
+    run_sim, words,
+};
+use cal_faults::TraceKind;
+use std::alloc::{AllocError, Global};
+use std::io::{Read, Write};
+use std::sync::Wait;
+use std::thread::Threads;
+
+/// The option.
+const EXPLAIN: &str = "--explain";
+
+/// Whether the option stands after a named word, among the name of the program and the words after
+/// it.
+pub fn asks_why(named: &[String]) -> bool {
+    for (place, word) in named.iter().enumerate() {
+        if 2 <= place && word.as_str() == EXPLAIN {
+            return true;
+        }
+    }
+    false
+}
+
+/// The words after the program's name without the option.
+fn words_without<'a>(alloc: Global, named: &'a [String]) -> Result<Vec<&'a str>, AllocError> {
+    let mut given = Vec::new(alloc);
+    for (place, word) in named.iter().enumerate() {
+        let is_option = 2 <= place && word.as_str() == EXPLAIN;
+        if 1 <= place && !is_option {
+            given.push(word.as_str())?;
+        }
+    }
+    Ok(given)
+}
+
+/// Runs caladan_sim on the words after its name without the option, as `run_program` does, and
+/// writes below the line of an input that is refused why. The input is read to its end before the
+/// job is begun.
+pub fn run_explained<H: Threads + Wait + Sync, R: Read + Drop, W: Write, E: Write>(
+    rt: &H,
+    alloc: Global,
+    named: &[String],
+    reader: R,
+    output: &mut W,
+    errors: &mut E,
+) -> u8
+    // Where the words or the input are refused nothing is written on the output.
+    ensures refused { result ≡ 2 → output.new ≡ output.old }
+{
+    match answer_words(rt, alloc, named, reader, output, errors) {
+        Ok(status) => status,
+        Err(fault) => end_with("caladan_sim", &fault, errors),
+    }
+}
+
+/// Does what the words ask for. The faults are those of the words and of reading.
+fn answer_words<H: Threads + Wait + Sync, R: Read + Drop, W: Write, E: Write>(
+    rt: &H,
+    alloc: Global,
+    named: &[String],
+    mut reader: R,
+    output: &mut W,
+    errors: &mut E,
+) -> Result<u8, RunFault>
+    ensures refused { IfOk result (λ status. status ≡ 2 → output.new ≡ output.old) }
+    ensures untouched { IfErr result (λ fault. fault ≢ RunFault.Write → output.new ≡ output.old) }
+{
+    let given = words_without(alloc, named)?;
+    let job = match words(alloc, given.as_slice()) {
+        Ok(job) => job,
+        Err(error) => return refuse_words(&error, output, errors),
+    };
+    let input = read_input(alloc, &mut reader)?;
+    let input = input.as_slice();
+    match do_job(rt, alloc, job, input, output) {
+        Ok(status) => Ok(status),
+        Err(fault) => {
+            let wanted = [trace_of(job)];
+            Ok(end_explained(alloc, "caladan_sim", input, &fault, &wanted, errors))
+        }
+    }
+}
+
+/// The trace that a job reads.
+fn trace_of(job: Job) -> TraceKind {
+    match job {
+        Job::Decide => TraceKind::Signals,
+        Job::Lockstep(_) | Job::Sim(_) => TraceKind::Arrivals,
+        Job::Audit => TraceKind::History,
+    }
+}
+
+/// Does a job on an input by its engine, and answers the exit status where there is no fault.
+fn do_job<H: Threads + Wait + Sync, W: Write>(
+    rt: &H,
+    alloc: Global,
+    job: Job,
+    input: &[u8],
+    output: &mut W,
+) -> Result<u8, RunFault>
+    // The job was done on this input as run_program does it.
+    ensures job { DoesJob job result input.now (W.contents output.old) (W.contents output.new) }
+    ensures status { IfOk result (λ status. status ≢ 2) }
+    ensures untouched { IfErr result (λ fault. fault ≢ RunFault.Write → output.new ≡ output.old) }
+{
+    match job {
+        Job::Decide => {
+            decide(alloc, input, output)?;
+            Ok(0)
+        }
+        Job::Lockstep(answer) => {
+            run_lockstep(alloc, input, answer, output)?;
+            Ok(0)
+        }
+        Job::Sim(answer) => {
+            run_sim(rt, alloc, input, answer, output)?;
+            Ok(0)
+        }
+        Job::Audit => match run_audit(alloc, input, output)? {
+            Verdict::Legal => Ok(0),
+            Verdict::Illegal { .. } => Ok(1),
+        },
+    }
+}
