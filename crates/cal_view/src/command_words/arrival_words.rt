@@ -67,25 +67,25 @@ fn task_word<'a>(alloc: Global) -> Arg<'a> {
     some_words(alloc, "task", "TASK")
         .required(true)
         .value_parser(clap::value_parser!(u64))
-        .help("A task that requests come to, with the options of all or of each")
+        .help("A task that requests come to")
 }
 
 fn load_word<'a>(alloc: Global) -> Arg<'a> {
     some_words(alloc, "load", "LOAD").required(true).help(
-        "The work that comes, as a part of the task's turns, as 0.7",
+        "The work that comes, as a part of its turns, as 0.7",
     )
 }
 
 fn service_word<'a>(alloc: Global) -> Arg<'a> {
     some_words(alloc, "service", "TURNS")
         .default_value("1")
-        .help("The turns that requests take, as 3 or 90%:1,10%:20")
+        .help("Turns of a request: 3, or 90%:1,10%:20")
 }
 
 fn pattern_word<'a>(alloc: Global) -> Arg<'a> {
     some_words(alloc, "pattern", "PATTERN")
         .default_value("poisson")
-        .help("How they come: poisson, even, or bursts:N of N at once")
+        .help("poisson, even or bursts:N")
 }
 
 fn one_number<'a>(alloc: Global, name: &'a str, value: &'a str) -> Arg<'a> {
@@ -99,21 +99,21 @@ fn turns_word<'a>(alloc: Global) -> Arg<'a> {
     one_number(alloc, "turns", "N")
         .default_value("1000")
         .value_parser(clap::value_parser!(u64).range(1..=174_762))
-        .help("How many turns each thread makes, and as many passes, 1 to 174762")
+        .help("Turns of each thread, 1 to 174762")
 }
 
 fn ticks_word<'a>(alloc: Global) -> Arg<'a> {
     one_number(alloc, "ticks", "N")
         .default_value("10")
         .value_parser(clap::value_parser!(u64).range(1..=1_000_000_000))
-        .help("How many ticks a turn takes, 1 to 1000000000")
+        .help("Ticks of a turn, 1 to 1000000000")
 }
 
 fn seed_word<'a>(alloc: Global) -> Arg<'a> {
     one_number(alloc, "seed", "SEED")
         .default_value("1")
         .value_parser(clap::value_parser!(u64))
-        .help("What chance goes by: the same words make the same arrivals")
+        .help("The seed: the same makes the same")
 }
 
 fn summary_word<'a>(alloc: Global) -> Result<Arg<'a>, AllocError> {
