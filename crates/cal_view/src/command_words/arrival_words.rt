@@ -71,9 +71,9 @@ fn task_word<'a>(alloc: Global) -> Arg<'a> {
 }
 
 fn load_word<'a>(alloc: Global) -> Arg<'a> {
-    some_words(alloc, "load", "LOAD").required(true).help(
-        "The work that comes, as a part of its turns, as 0.7",
-    )
+    some_words(alloc, "load", "LOAD")
+        .required(true)
+        .help("The work that comes, as a part of its turns, as 0.7")
 }
 
 fn service_word<'a>(alloc: Global) -> Arg<'a> {
