@@ -6,7 +6,6 @@
 
 mod command_words;
 mod edge;
-mod explained;
 mod fault;
 mod jobs;
 mod picture;

@@ -239,7 +239,8 @@ fn do_job<R: Read + Drop, W: Write>(
         Job::Timeline => write_read_timeline(alloc, reader, &mut buffer)?,
         Job::Measure { form } => measure(alloc, reader, *form, &mut buffer)?,
         // (answer_job does these)
-        _ => {}
+        Job::Arrivals { .. } | Job::Check | Job::Compare { .. } | Job::Explain { .. } => {}
+        Job::Picture { .. } | Job::Help => {}
     }
     match buffer.flush() {
         Ok(()) => Ok(()),

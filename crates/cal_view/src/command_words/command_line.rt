@@ -80,10 +80,11 @@ pub struct Request<'a> {
 /// What the words after the program's name ask for; no words are `Job::Help`.
 ///
 /// The error is clap's own. A word that is not in the table is refused; CSV and a picture at once
-/// are an error of the kind `ArgumentConflict`, a key with no values one of the kind
-/// `ValueValidation`; a request for help is an error of the kind `DisplayHelp`, one for the version
-/// of the kind `DisplayVersion`, whose texts go to the standard output; out of memory has the kind
-/// `OutOfMemory`.
+/// are an error of the kind `ArgumentConflict`, and so is a key to vary of several tables; a key
+/// with no values is one of the kind `ValueValidation`; several files without one of arrivals, or
+/// one of arrivals alone, of the kind `MissingRequiredArgument`; a request for help is an error of
+/// the kind `DisplayHelp`, one for the version of the kind `DisplayVersion`, whose texts go to the
+/// standard output; out of memory has the kind `OutOfMemory`.
 pub fn words<'a>(alloc: Global, words: &'a [&'a str]) -> Result<Request<'a>, Error> {
     let matches = program(alloc)?.try_get_matches_from(words)?;
     let job = match asked_job(alloc, &matches)? {

@@ -1,10 +1,10 @@
 //! An input checked: what it is, or why it is refused.
 
-use crate::explained::end_explained;
 use crate::jobs::counting::count_passes;
 use cal_engine::{RunFault, read_input, read_parts, split_input};
 use cal_faults::{TraceKind, is_table_alone};
 use cal_machine::Config;
+use cal_refusals::end_explained;
 use cal_trace::{FaultKind, read_arrivals, read_signals};
 use std::alloc::{AllocError, Global};
 use std::io::{Read, Write};
@@ -23,7 +23,8 @@ pub fn answer_check<R: Read + Drop, W: Write, E: Write>(
         Ok(said) => said,
         Err(fault) => {
             let wanted = [TraceKind::Signals, TraceKind::Arrivals, TraceKind::History];
-            return Ok(end_explained(alloc, input.as_slice(), &fault, &wanted, errors));
+            let input = input.as_slice();
+            return Ok(end_explained(alloc, "caladan_view", input, &fault, &wanted, errors));
         }
     };
     match output.write_all(said.as_bytes()) {
