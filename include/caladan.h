@@ -27,12 +27,13 @@
  * change are the words of the texts and how fast a call answers. A higher version may have more calls,
  * numbers and fields, and says so here; the soname of libcaladan_c.so has the version.
  *
+ * Since version 2: no pass answers CALADAN_NO_MEMORY any more, and a core may be given as any number, also
+ * one above 255. New are the words of a look as one run (CALADAN_WORDS, caladan_look_words,
+ * caladan_look_set_words) and CALADAN_IS_THIS_VERSION.
  * Since version 1: nothing that was there has changed. New are caladan_pass_each, caladan_first_unfit,
  * caladan_table, caladan_table_task, caladan_thread, caladan_gone and caladan_revoked, the same of a guard
  * (caladan_guard_pass_each and so on), the judgements from CALADAN_NO_PAIR on, the answer CALADAN_LOST,
- * the texts, the words of a look as one run (CALADAN_WORDS, caladan_look_words, caladan_look_set_words),
- * CALADAN_HISTORY_HEADER, CALADAN_MOST_CORES, CALADAN_MOST_THREADS and CALADAN_IS_THIS_VERSION. A core may
- * be given as any number, also one above 255.
+ * the texts, CALADAN_HISTORY_HEADER, CALADAN_MOST_CORES and CALADAN_MOST_THREADS.
  */
 #ifndef CALADAN_H
 #define CALADAN_H
@@ -47,7 +48,7 @@ extern "C" {
 
 /* The version of this interface, which caladan_version answers. Whether the library that a program is linked
  * with has it, so that what this header says is said of that library: */
-#define CALADAN_VERSION 2
+#define CALADAN_VERSION 3
 #define CALADAN_IS_THIS_VERSION() (caladan_version() == CALADAN_VERSION)
 
 /* What the library takes each struct to be, in bytes: its size, and the place of each field. A compiler for

@@ -1,41 +1,75 @@
 //! A refusal explained.
 
-use crate::parts::part_after;
-use crate::refusal::{Refusal, TraceKind};
+use crate::parts::{bytes_of, part_after};
+use crate::refusal::{Lines, Refusal, TraceKind};
 use crate::separator::tell_separator;
-use crate::table::tell_table;
+use crate::table::{TableText, tell_table};
+use crate::text::after;
 use crate::trace::{RefusedTrace, tell_trace};
 use std::alloc::{AllocError, Global};
 
 /// Why an input was refused, as lines that each begin with two blanks and end in a line feed: where,
 /// what stands there, what is wanted, and what to do about it where that is plain. It is given what
-/// the refusing call answered, and which traces the word that refused it reads. Fails only when out
-/// of memory.
+/// the refusing call answered, which traces the word that refused it reads, and from where lines are
+/// counted. Fails only when out of memory.
 pub fn explanation(
     alloc: Global,
     input: &[u8],
     refusal: Refusal,
     wanted: &[TraceKind],
+    lines: Lines,
 ) -> Result<String, AllocError> {
     let mut told = String::new(alloc);
     match refusal {
         Refusal::Separator => tell_separator(&mut told, input, wanted)?,
         Refusal::Table { table, fault } => {
-            tell_table(alloc, &mut told, input, part_after(input, table), fault)?
+            let part = part_after(input, table);
+            let Counted {
+                input: shown,
+                start,
+            } = counted(input, part.start, lines);
+            let text = TableText {
+                input: shown,
+                start,
+                bytes: bytes_of(input, part),
+            };
+            tell_table(alloc, &mut told, text, fault)?
         }
         Refusal::Trace {
             table,
             tables,
             fault,
         } => {
+            let start = part_after(input, tables).start;
+            let Counted {
+                input: shown,
+                start,
+            } = counted(input, start, lines);
             let refused = RefusedTrace {
-                input,
-                table: part_after(input, table),
-                start: part_after(input, tables).start,
+                input: shown,
+                table: bytes_of(input, part_after(input, table)),
+                start,
                 fault,
             };
             tell_trace(alloc, &mut told, refused, wanted)?
         }
     }
     Ok(told)
+}
+
+/// A text in which lines are counted, and where a part of it begins.
+struct Counted<'a> {
+    input: &'a [u8],
+    start: usize,
+}
+
+/// The text in which lines are counted of a part that begins at this place.
+fn counted(input: &[u8], start: usize, lines: Lines) -> Counted<'_> {
+    match lines {
+        Lines::OfInput => Counted { input, start },
+        Lines::OfPart => Counted {
+            input: after(input, start),
+            start: 0,
+        },
+    }
 }

@@ -17,6 +17,6 @@ mod text;
 mod trace;
 
 pub use explaining::explanation;
-pub use refusal::{Refusal, TraceKind};
+pub use refusal::{Lines, Refusal, TraceKind};
 pub use separator::is_table_alone;
 pub use table::value_wanted;

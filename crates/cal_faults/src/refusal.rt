@@ -26,6 +26,15 @@ pub enum Refusal {
     },
 }
 
+/// From where the lines of an input are counted.
+#[derive(Clone, Copy, Debug, PartialEq, Eq)]
+pub enum Lines {
+    /// From its first.
+    OfInput,
+    /// From the first of the part with the fault, which is a file of its own.
+    OfPart,
+}
+
 /// What a trace is, as its header names it.
 #[derive(Clone, Copy, Debug, PartialEq, Eq)]
 pub enum TraceKind {

@@ -6,7 +6,6 @@ mod sums;
 mod toml_text;
 
 use crate::near::nearest;
-use crate::parts::{Part, bytes_of};
 use crate::table::finding::find_key;
 use crate::table::keys::{Spot, TASK_KEYS, TOP_KEYS, first_spot, is_among, put_want};
 use crate::table::sums::{tell_guarantees, tell_threads};
@@ -20,7 +19,7 @@ use toml::{Table, Value};
 /// A table in its input.
 #[derive(Clone, Copy)]
 pub struct TableText<'a> {
-    /// The whole input.
+    /// The text in which lines are counted, to its end.
     pub input: &'a [u8],
     /// Where the table begins in it.
     pub start: usize,
@@ -46,15 +45,9 @@ impl<'a> TableText<'a> {
 pub fn tell_table(
     alloc: Global,
     told: &mut String,
-    input: &[u8],
-    part: Part,
+    text: TableText<'_>,
     fault: ConfigFault,
 ) -> Result<(), AllocError> {
-    let text = TableText {
-        input,
-        start: part.start,
-        bytes: bytes_of(input, part),
-    };
     let read = match str::from_utf8(text.bytes) {
         Ok(read) => read,
         Err(error) => return toml_text::tell_no_text(told, text, error.valid_up_to()),

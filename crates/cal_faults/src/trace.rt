@@ -9,7 +9,6 @@ mod order;
 mod ranges;
 mod rows;
 
-use crate::parts::{Part, bytes_of};
 use crate::refusal::TraceKind;
 use crate::text::{after, tell_place};
 use crate::trace::before::Before;
@@ -26,11 +25,11 @@ use std::alloc::{AllocError, Global};
 /// A trace that was refused, in its input.
 #[derive(Clone, Copy)]
 pub struct RefusedTrace<'a> {
-    /// The whole input.
+    /// The text in which lines are counted, to its end.
     pub input: &'a [u8],
-    /// Its table.
-    pub table: Part,
-    /// Where the trace begins.
+    /// The table that the trace was read for.
+    pub table: &'a [u8],
+    /// Where the trace begins in the text.
     pub start: usize,
     /// What is wrong with it.
     pub fault: TraceFault,
@@ -90,7 +89,7 @@ pub fn tell_trace(
     if refused.fault.kind == FaultKind::Header {
         return tell_header(alloc, told, refused, wanted);
     }
-    let config = match Config::read(alloc, bytes_of(refused.input, refused.table)) {
+    let config = match Config::read(alloc, refused.table) {
         Ok(config) => config,
         Err(ConfigFault::Memory) => return Err(AllocError),
         Err(_) => return Ok(()),

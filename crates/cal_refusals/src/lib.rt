@@ -8,5 +8,5 @@
 mod ending;
 mod running;
 
-pub use ending::end_explained;
+pub use ending::{PartFiles, RefusedInput, end_explained, explain_fault};
 pub use running::{asks_why, run_explained};

@@ -3,7 +3,7 @@
 ghost use Rattle.std.specs.Prelude.{◌≡◌, ◌≢◌, IfErr, IfOk};
 ghost use Rattle.cal_engine.specs.Program.{DoesJob};
 
-use crate::ending::end_explained;
+use crate::ending::{RefusedInput, end_explained};
 use cal_engine::{
     Job, RunFault, Verdict, decide, end_with, read_input, refuse_words, run_audit, run_lockstep,
     run_sim, words,
@@ -82,8 +82,13 @@ fn answer_words<H: Threads + Wait + Sync, R: Read + Drop, W: Write, E: Write>(
     match do_job(rt, alloc, job, input, output) {
         Ok(status) => Ok(status),
         Err(fault) => {
-            let wanted = [trace_of(job)];
-            Ok(end_explained(alloc, "caladan_sim", input, &fault, &wanted, errors))
+            let refused = RefusedInput {
+                input,
+                wanted: &[trace_of(job)],
+                tables: 1,
+                files: None,
+            };
+            Ok(end_explained(alloc, "caladan_sim", refused, &fault, errors))
         }
     }
 }

@@ -1,7 +1,10 @@
 //! What the program says of the fault of several tables, and of a pass that is not there.
 
 use cal_engine::{RunFault, status};
+use cal_faults::value_wanted;
+use cal_refusals::{RefusedInput, explain_fault};
 use cal_tables::{ComparisonFault, Variation};
+use std::alloc::Global;
 use std::io::Write;
 
 /// Writes the one line that the program says of a fault that a table or a value has, which stands
@@ -25,6 +28,27 @@ pub fn end_comparison<W: Write>(
         None => writeln!(errors, "caladan_view: table {table} {reason}"),
     };
     Ok(2)
+}
+
+/// Writes why a table or a value has a fault: of a table what stands in it or in the arrivals, of a
+/// value what is wanted. Where memory is refused nothing is written.
+pub fn explain_comparison<W: Write>(
+    alloc: Global,
+    read: RefusedInput<'_>,
+    fault: &ComparisonFault,
+    variation: Option<Variation<'_>>,
+    errors: &mut W,
+) {
+    let table = fault.table.unwrap_or(0);
+    match (variation, fault.fault) {
+        (None, fault) => explain_fault(alloc, read, table, &fault, errors),
+        (Some(variation), RunFault::Config(_)) => {
+            if let Ok(wanted) = value_wanted(alloc, variation.key) {
+                let _ = errors.write_all(wanted.as_bytes());
+            }
+        }
+        (Some(_), _) => {}
+    }
 }
 
 /// The key and the value that make this table, where it is made by one.

@@ -10,6 +10,7 @@ mod fault;
 mod jobs;
 mod picture;
 mod program;
+mod refusing;
 mod story;
 mod timeline;
 

@@ -11,10 +11,13 @@ use crate::edge::sources::{open_named, read_tables, said_of_reading};
 use crate::jobs::arriving::answer_arrivals;
 use crate::jobs::checking::answer_check;
 use crate::jobs::comparing::answer_compare;
-use crate::jobs::drawing::{answer_picture, write_read_timeline};
+use crate::jobs::drawing::answer_picture;
 use crate::jobs::explaining::answer_explain;
 use crate::jobs::recording::record;
-use cal_engine::{RunFault, refuse_words, words_after_first};
+use crate::refusing::{end_refusal, refused_input};
+use crate::timeline::write_timeline;
+use cal_engine::{RunFault, read_input, refuse_words, words_after_first};
+use cal_refusals::RefusedInput;
 use cal_tables::measure;
 use std::alloc::Global;
 use std::io::{BufWriter, Read, Write};
@@ -138,7 +141,7 @@ fn answer_input<'a, H: Files, R: Read, W: Write, E: Write>(
 ) -> Result<u8, Failure<'a>> {
     let answer = match request.output {
         Some(name) => return answer_into(rt, alloc, request, name, input, errors),
-        None => answer_job(alloc, &request.job, &mut *input, output, errors),
+        None => answer_job(alloc, request, &mut *input, output, errors),
     };
     match answer {
         Ok(status) => Ok(status),
@@ -161,7 +164,7 @@ fn answer_into<'a, H: Files, R: Read, E: Write>(
         Err(said) => return Err(Failure::of_file(RunFault::Write, name, said)),
     };
     let mut file = Noted::new(file);
-    match answer_job(alloc, &request.job, &mut *input, &mut file, errors) {
+    match answer_job(alloc, request, &mut *input, &mut file, errors) {
         Ok(2) => {
             file.inner().remove(rt);
             Ok(2)
@@ -200,34 +203,54 @@ fn failure_of<'a, R: Read, W: Write>(
     }
 }
 
-/// Does a job on an input, and answers the exit status where there is no fault.
+/// Does the job of a request on an input, and answers the exit status where there is no fault. Of an
+/// input that is refused it says why.
 fn answer_job<R: Read + Drop, W: Write, E: Write>(
     alloc: Global,
-    job: &Job<'_>,
-    reader: R,
+    request: &Request<'_>,
+    mut reader: R,
     output: &mut W,
     errors: &mut E,
 ) -> Result<u8, RunFault> {
+    if let Job::Arrivals { asked } = &request.job {
+        return answer_arrivals(alloc, reader, asked, output, errors);
+    }
+    let input = read_input(alloc, &mut reader)?;
+    let refused = refused_input(request, input.as_slice());
+    match answer_read(alloc, &request.job, refused, output, errors) {
+        Ok(status) => Ok(status),
+        Err(fault) => end_refusal(alloc, refused, fault, errors),
+    }
+}
+
+/// Does a job on an input that was read, and answers the exit status where there is no fault.
+fn answer_read<W: Write, E: Write>(
+    alloc: Global,
+    job: &Job<'_>,
+    read: RefusedInput<'_>,
+    output: &mut W,
+    errors: &mut E,
+) -> Result<u8, RunFault> {
+    let input = read.input;
     match job {
-        Job::Check => answer_check(alloc, reader, output, errors),
-        Job::Arrivals { asked } => answer_arrivals(alloc, reader, asked, output, errors),
-        Job::Explain { asked } => answer_explain(alloc, reader, *asked, output, errors),
-        Job::Compare { vary, form } => answer_compare(alloc, reader, *vary, *form, output, errors),
+        Job::Check => answer_check(alloc, input, output),
+        Job::Explain { asked } => answer_explain(alloc, input, *asked, output, errors),
+        Job::Compare { vary, form } => answer_compare(alloc, read, *vary, *form, output, errors),
         Job::Picture { from, passes } => {
-            answer_picture(alloc, reader, *from, *passes, output, errors)
+            answer_picture(alloc, input, *from, *passes, output, errors)
         }
         job => {
-            do_job(alloc, job, reader, output)?;
+            do_job(alloc, job, input, output)?;
             Ok(0)
         }
     }
 }
 
 /// Does a job that says nothing of an input that it accepts. What is written goes through a buffer.
-fn do_job<R: Read + Drop, W: Write>(
+fn do_job<W: Write>(
     alloc: Global,
     job: &Job<'_>,
-    reader: R,
+    input: &[u8],
     output: &mut W,
 ) -> Result<(), RunFault> {
     let mut buffer = match BufWriter::new(alloc, output) {
@@ -235,10 +258,10 @@ fn do_job<R: Read + Drop, W: Write>(
         Err(_) => return Err(RunFault::Memory),
     };
     match job {
-        Job::History { front } => record(alloc, reader, *front, &mut buffer)?,
-        Job::Timeline => write_read_timeline(alloc, reader, &mut buffer)?,
-        Job::Measure { form } => measure(alloc, reader, *form, &mut buffer)?,
-        // (answer_job does these)
+        Job::History { front } => record(alloc, input, *front, &mut buffer)?,
+        Job::Timeline => write_timeline(alloc, input, &mut buffer)?,
+        Job::Measure { form } => measure(alloc, input, *form, &mut buffer)?,
+        // (answer_job and answer_read do these)
         Job::Arrivals { .. } | Job::Check | Job::Compare { .. } | Job::Explain { .. } => {}
         Job::Picture { .. } | Job::Help => {}
     }

@@ -43,7 +43,8 @@ whole input to copy; `man caladan-formats` describes everything.
 
 Exit status: 0 done, 1 an illegal history, 2 bad arguments or rejected input, 3
 memory, output or a thread was refused. A fault is one line on the standard
-error.",
+error; with --explain after the subcommand, lines below it say why an input was
+refused.",
 };
 
 /// Of the subcommand `decide`.

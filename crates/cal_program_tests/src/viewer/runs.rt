@@ -97,7 +97,12 @@ fn faults_have_the_program_in_front(rt: HostRuntime) -> Result<(), Fail> {
     assert_eq!(rt; ran.status, 2);
     assert_eq!(rt;
         ran.errors.as_slice(),
-        b"caladan_view: no separator\n".as_slice()
+        b"caladan_view: no separator
+  no line is ---
+  wanted: a task table, a line ---, and a trace that begins with
+    `caladan-history,2` or `caladan-history,1`
+"
+        .as_slice()
     );
     assert_eq!(rt; ran.output.len(), 0);
     let ran = run(&rt, &["picture", "--passes", "0"], TABLE)?;

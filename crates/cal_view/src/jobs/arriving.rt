@@ -8,9 +8,11 @@ ghost use Rattle.std.specs.Prelude.{◌≡◌, ◌≢◌, IfErr, IfOk};
 use crate::command_words::arrival_words::{ArrivalForm, ArrivalWords};
 use crate::jobs::arriving::loads::{are_known, asked_loads, word_at};
 use crate::jobs::arriving::summary::summary_of;
+use crate::refusing::end_refusal;
 use cal_engine::{INPUT_LIMIT, RunFault, read_input, split_input};
-use cal_load::{LoadFault, Made, Timing, WordFault, made_arrivals};
+use cal_load::{LoadFault, Made, TaskLoad, Timing, WordFault, made_arrivals};
 use cal_machine::{Config, ConfigFault};
+use cal_refusals::RefusedInput;
 use std::alloc::{AllocError, Global};
 use std::io::{Read, Write};
 
@@ -65,7 +67,7 @@ struct Answer {
 /// those of words that it refuses. Nothing is written before all was made.
 pub fn answer_arrivals<R: Read + Drop, W: Write, E: Write>(
     alloc: Global,
-    reader: R,
+    mut reader: R,
     asked: &ArrivalWords<'_>,
     output: &mut W,
     errors: &mut E,
@@ -74,13 +76,34 @@ pub fn answer_arrivals<R: Read + Drop, W: Write, E: Write>(
     ensures refused { IfOk result (λ status. status ≢ 0 → output.new ≡ output.old) }
     ensures untouched { IfErr result (λ fault. fault ≢ RunFault.Write → output.new ≡ output.old) }
 {
-    match made_answer(alloc, reader, asked) {
+    let loads = match asked_loads(alloc, asked) {
+        Ok(loads) => loads,
+        Err(LoadFault::Memory) => return Err(RunFault::Memory),
+        Err(LoadFault::Word(fault)) => return Ok(refuse_word(&fault, errors)),
+    };
+    let input = read_input(alloc, &mut reader)?;
+    match made_answer(alloc, input.as_slice(), asked, loads.as_slice()) {
         Ok(answer) => write_answer(&answer, output),
-        Err(Unmade::Run(fault)) => Err(fault),
-        Err(Unmade::Word(fault)) => {
-            let _ = writeln!(errors, "caladan_view: {fault}");
-            Ok(2)
-        }
+        Err(Unmade::Run(fault)) => end_refusal(alloc, table_alone(input.as_slice()), fault, errors),
+        Err(Unmade::Word(fault)) => Ok(refuse_word(&fault, errors)),
+    }
+}
+
+/// Says what is wrong with a word, and answers the exit status, 2.
+fn refuse_word<E: Write>(fault: &WordFault<'_>, errors: &mut E) -> u8
+    ensures { result ≡ 2 }
+{
+    let _ = writeln!(errors, "caladan_view: {fault}");
+    2
+}
+
+/// An input of which the table alone is read, for where it is refused.
+fn table_alone(input: &[u8]) -> RefusedInput<'_> {
+    RefusedInput {
+        input,
+        wanted: &[],
+        tables: 1,
+        files: None,
     }
 }
 
@@ -98,23 +121,22 @@ fn write_answer<W: Write>(answer: &Answer, output: &mut W) -> Result<u8, RunFaul
     }
 }
 
-/// Reads a task table, and makes what the words ask for.
-fn made_answer<'a, R: Read + Drop>(
+/// Makes what the words ask for, which are these loads, for the task table of an input.
+fn made_answer<'a>(
     alloc: Global,
-    mut reader: R,
+    input: &[u8],
     asked: &ArrivalWords<'a>,
+    loads: &[TaskLoad],
 ) -> Result<Answer, Unmade<'a>> {
-    let loads = asked_loads(alloc, asked)?;
-    let input = read_input(alloc, &mut reader)?;
-    let table = table_of(input.as_slice());
+    let table = table_of(input);
     let config = Config::read(alloc, table)?;
-    are_known(&config, loads.as_slice(), asked.tasks.as_slice())?;
+    are_known(&config, loads, asked.tasks.as_slice())?;
     let timing = Timing {
         turns: asked.turns,
         ticks: asked.ticks,
     };
     let word = word_at(asked.loads.as_slice(), 0);
-    let made = made_arrivals(alloc, &config, loads.as_slice(), timing, asked.seed, word)?;
+    let made = made_arrivals(alloc, &config, loads, timing, asked.seed, word)?;
     answer_of(alloc, &config, asked, table, made)
 }
 

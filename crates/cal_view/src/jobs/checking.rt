@@ -1,32 +1,17 @@
 //! An input checked: what it is, or why it is refused.
 
 use crate::jobs::counting::count_passes;
-use cal_engine::{RunFault, read_input, read_parts, split_input};
-use cal_faults::{TraceKind, is_table_alone};
+use cal_engine::{RunFault, read_parts, split_input};
+use cal_faults::is_table_alone;
 use cal_machine::Config;
-use cal_refusals::end_explained;
 use cal_trace::{FaultKind, read_arrivals, read_signals};
 use std::alloc::{AllocError, Global};
-use std::io::{Read, Write};
+use std::io::Write;
 
-/// Reads an input, of a task table alone or with signals, arrivals or a history, and writes in a
-/// line what it is; of one that is refused, the line of its fault and why. Answers the exit status.
-/// The faults that are answered are those of reading and writing, and `Memory`.
-pub fn answer_check<R: Read + Drop, W: Write, E: Write>(
-    alloc: Global,
-    mut reader: R,
-    output: &mut W,
-    errors: &mut E,
-) -> Result<u8, RunFault> {
-    let input = read_input(alloc, &mut reader)?;
-    let said = match accepted(alloc, input.as_slice()) {
-        Ok(said) => said,
-        Err(fault) => {
-            let wanted = [TraceKind::Signals, TraceKind::Arrivals, TraceKind::History];
-            let input = input.as_slice();
-            return Ok(end_explained(alloc, "caladan_view", input, &fault, &wanted, errors));
-        }
-    };
+/// Writes in a line what an input is: a task table, alone or with signals, arrivals or a history.
+/// Answers the exit status, 0. The fault is the input's, or that of writing.
+pub fn answer_check<W: Write>(alloc: Global, input: &[u8], output: &mut W) -> Result<u8, RunFault> {
+    let said = accepted(alloc, input)?;
     match output.write_all(said.as_bytes()) {
         Ok(()) => Ok(0),
         Err(_) => Err(RunFault::Write),

@@ -2,25 +2,26 @@
 
 use crate::command_words::command_line::Form;
 use crate::command_words::variation::{key_of, values_of};
-use crate::fault::end_comparison;
+use crate::fault::{end_comparison, explain_comparison};
 use cal_engine::RunFault;
 use cal_picture::draw_comparison;
+use cal_refusals::RefusedInput;
 use cal_tables::{ComparisonFault, Variation, compare};
 use std::alloc::Global;
-use std::io::{BufWriter, Read, Write};
+use std::io::{BufWriter, Write};
 
 /// Compares the runs of an input, of its tables or, with a key and values, of those that its table
 /// gives with each of them, and answers the exit status.
-pub fn answer_compare<R: Read + Drop, W: Write, E: Write>(
+pub fn answer_compare<W: Write, E: Write>(
     alloc: Global,
-    reader: R,
+    read: RefusedInput<'_>,
     vary: Option<&str>,
     form: Form,
     output: &mut W,
     errors: &mut E,
 ) -> Result<u8, RunFault> {
     let Some(vary) = vary else {
-        return answer_comparison(alloc, reader, None, form, output, errors);
+        return answer_comparison(alloc, read, None, form, output, errors);
     };
     let values = values_of(alloc, vary)?;
     let key = key_of(vary);
@@ -28,29 +29,33 @@ pub fn answer_compare<R: Read + Drop, W: Write, E: Write>(
         key,
         values: values.as_slice(),
     };
-    answer_comparison(alloc, reader, Some(variation), form, output, errors)
+    answer_comparison(alloc, read, Some(variation), form, output, errors)
 }
 
 /// Compares the runs of an input, and answers the exit status: its faults name the table or the
-/// value that has them.
-fn answer_comparison<R: Read + Drop, W: Write, E: Write>(
+/// value that has them, and why.
+fn answer_comparison<W: Write, E: Write>(
     alloc: Global,
-    reader: R,
+    read: RefusedInput<'_>,
     variation: Option<Variation<'_>>,
     form: Form,
     output: &mut W,
     errors: &mut E,
 ) -> Result<u8, RunFault> {
-    match write_comparison(alloc, reader, variation, form, output) {
+    match write_comparison(alloc, read.input, variation, form, output) {
         Ok(()) => Ok(0),
-        Err(fault) => end_comparison(&fault, variation, errors),
+        Err(fault) => {
+            let status = end_comparison(&fault, variation, errors)?;
+            explain_comparison(alloc, read, &fault, variation, errors);
+            Ok(status)
+        }
     }
 }
 
 /// Compares the runs of an input. What is written goes through a buffer.
-fn write_comparison<R: Read + Drop, W: Write>(
+fn write_comparison<W: Write>(
     alloc: Global,
-    reader: R,
+    input: &[u8],
     variation: Option<Variation<'_>>,
     form: Form,
     output: &mut W,
@@ -60,8 +65,8 @@ fn write_comparison<R: Read + Drop, W: Write>(
         Err(_) => return Err(ComparisonFault::from(RunFault::Memory)),
     };
     match form {
-        Form::Numbers(form) => compare(alloc, reader, variation, form, &mut buffer)?,
-        Form::Picture => draw_comparison(alloc, reader, variation, &mut buffer)?,
+        Form::Numbers(form) => compare(alloc, input, variation, form, &mut buffer)?,
+        Form::Picture => draw_comparison(alloc, input, variation, &mut buffer)?,
     }
     match buffer.flush() {
         Ok(()) => Ok(()),

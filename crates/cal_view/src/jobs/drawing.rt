@@ -1,18 +1,17 @@
-//! The history of an input drawn, or written as trace events.
+//! The history of an input drawn.
 
 use crate::fault::end_without_pass;
 use crate::picture::{Drawn, draw_picture};
-use crate::timeline::write_timeline;
-use cal_engine::{RunFault, read_input};
+use cal_engine::RunFault;
 use std::alloc::Global;
-use std::io::{BufWriter, Read, Write};
+use std::io::{BufWriter, Write};
 
-/// Reads an input of a table and a history, and draws the passes from `from` on, no more than so
-/// many. Answers the exit status: 0, or 2 where there is no such pass. The faults are those of
-/// `read_input` and then of `draw_picture`.
-pub fn answer_picture<R: Read + Drop, W: Write, E: Write>(
+/// Draws the passes from `from` on, no more than so many, of an input of a table and a history.
+/// Answers the exit status: 0, or 2 where there is no such pass. The faults are those of
+/// `draw_picture`.
+pub fn answer_picture<W: Write, E: Write>(
     alloc: Global,
-    reader: R,
+    input: &[u8],
     from: Option<usize>,
     passes: Option<usize>,
     output: &mut W,
@@ -22,35 +21,11 @@ pub fn answer_picture<R: Read + Drop, W: Write, E: Write>(
         Ok(buffer) => buffer,
         Err(_) => return Err(RunFault::Memory),
     };
-    if let Drawn::NoPass { passes } = draw_read(alloc, reader, from, passes, &mut buffer)? {
+    if let Drawn::NoPass { passes } = draw_picture(alloc, input, from, passes, &mut buffer)? {
         return Ok(end_without_pass(from.unwrap_or(0), passes, errors));
     }
     match buffer.flush() {
         Ok(()) => Ok(0),
         Err(_) => Err(RunFault::Write),
     }
-}
-
-/// Reads an input of a table and a history, and draws the passes that were asked for. The faults
-/// are those of `read_input` and then of `draw_picture`.
-fn draw_read<R: Read + Drop, W: Write>(
-    alloc: Global,
-    mut reader: R,
-    from: Option<usize>,
-    passes: Option<usize>,
-    writer: &mut W,
-) -> Result<Drawn, RunFault> {
-    let input = read_input(alloc, &mut reader)?;
-    draw_picture(alloc, input.as_slice(), from, passes, writer)
-}
-
-/// Reads an input of a table and a history, and writes it as trace events. The faults are those of
-/// `read_input` and then of `write_timeline`.
-pub fn write_read_timeline<R: Read + Drop, W: Write>(
-    alloc: Global,
-    mut reader: R,
-    writer: &mut W,
-) -> Result<(), RunFault> {
-    let input = read_input(alloc, &mut reader)?;
-    write_timeline(alloc, input.as_slice(), writer)
 }

@@ -1,13 +1,13 @@
 //! A pass of an input explained.
 
 use crate::fault::end_without_pass;
-use cal_engine::{RunFault, decided_run, read_input, read_parts};
+use cal_engine::{RunFault, decided_run, read_parts};
 use cal_explain::{ExplainFault, Explained, Scope, explain_pass, explain_verdict};
 use cal_machine::Config;
 use cal_policy::{PassEntry, Verdict};
 use cal_trace::read_history;
 use std::alloc::Global;
-use std::io::{BufWriter, Read, Write};
+use std::io::{BufWriter, Write};
 
 /// Which pass is explained, and what of it.
 #[derive(Clone, Copy, Debug, PartialEq, Eq)]
@@ -44,13 +44,13 @@ enum Unexplained {
     NoInput { pass: usize },
 }
 
-/// Reads an input of a task table and a history, or signals, which are decided first, and explains
-/// a pass of it; without one, it writes whether the history is legal, and explains its first
+/// Explains a pass of an input of a task table and a history, or signals, which are decided first;
+/// without one, it writes whether the history is legal, and explains its first
 /// illegal pass. Answers the exit status: 0, 1 where the history is illegal, 2 where there is no
 /// such pass, task or core. Nothing is written before the whole input was read and accepted.
-pub fn answer_explain<R: Read + Drop, W: Write, E: Write>(
+pub fn answer_explain<W: Write, E: Write>(
     alloc: Global,
-    reader: R,
+    input: &[u8],
     asked: Asked,
     output: &mut W,
     errors: &mut E,
@@ -59,7 +59,7 @@ pub fn answer_explain<R: Read + Drop, W: Write, E: Write>(
         Ok(buffer) => buffer,
         Err(_) => return Err(RunFault::Memory),
     };
-    let status = match explain_read(alloc, reader, asked, &mut buffer)? {
+    let status = match explain_read(alloc, input, asked, &mut buffer)? {
         Answer::Done => 0,
         Answer::Illegal => 1,
         Answer::Refused(reason) => return Ok(refuse(reason, errors)),
@@ -96,15 +96,14 @@ fn refuse<E: Write>(reason: Unexplained, errors: &mut E) -> u8 {
     2
 }
 
-/// Reads an input, and explains a pass of it, or says why it cannot.
-fn explain_read<R: Read + Drop, W: Write>(
+/// Explains a pass of an input, or says why it cannot.
+fn explain_read<W: Write>(
     alloc: Global,
-    mut reader: R,
+    input: &[u8],
     asked: Asked,
     writer: &mut W,
 ) -> Result<Answer, RunFault> {
-    let input = read_input(alloc, &mut reader)?;
-    let (config, history) = passes_of(alloc, input.as_slice())?;
+    let (config, history) = passes_of(alloc, input)?;
     let scope = match scope_of(&config, asked) {
         Ok(scope) => scope,
         Err(reason) => return Ok(Answer::Refused(reason)),

@@ -1,0 +1,69 @@
+//! The input of a job that is refused, explained.
+
+ghost use Rattle.std.specs.Prelude.{◌≡◌, IfErr, IfOk};
+
+use crate::command_words::command_line::{Job, Request};
+use cal_engine::RunFault;
+use cal_faults::TraceKind;
+use cal_refusals::{PartFiles, RefusedInput, end_explained};
+use std::alloc::Global;
+use std::io::Write;
+
+/// Writes the line of a fault that a part of an input has, and below it why it was refused, and
+/// answers the exit status, 2. Any other fault is the error.
+pub fn end_refusal<E: Write>(
+    alloc: Global,
+    refused: RefusedInput<'_>,
+    fault: RunFault,
+    errors: &mut E,
+) -> Result<u8, RunFault>
+    ensures status { IfOk result (λ status. status ≡ 2) }
+    ensures kind { IfErr result (λ other. other ≡ fault) }
+{
+    match fault {
+        RunFault::Separator | RunFault::Config(_) | RunFault::Trace(_) => {
+            end_explained(alloc, "caladan_view", refused, &fault, errors);
+            Ok(2)
+        }
+        fault => Err(fault),
+    }
+}
+
+/// The input of a request, for where it is refused.
+pub fn refused_input<'a>(request: &'a Request<'a>, input: &'a [u8]) -> RefusedInput<'a> {
+    let tables = request.tables.as_slice();
+    RefusedInput {
+        input,
+        wanted: traces_of(&request.job),
+        tables: tables_of(&request.job),
+        files: if tables.is_empty() {
+            None
+        } else {
+            Some(PartFiles {
+                tables,
+                trace: request.input,
+            })
+        },
+    }
+}
+
+/// The traces that a job reads.
+fn traces_of(job: &Job<'_>) -> &'static [TraceKind] {
+    match job {
+        Job::History { .. } => &[TraceKind::Signals],
+        Job::Picture { .. } | Job::Timeline => &[TraceKind::History],
+        Job::Measure { .. } | Job::Compare { .. } => &[TraceKind::Arrivals],
+        Job::Explain { .. } => &[TraceKind::Signals, TraceKind::History],
+        Job::Check => &[TraceKind::Signals, TraceKind::Arrivals, TraceKind::History],
+        Job::Arrivals { .. } | Job::Help => &[],
+    }
+}
+
+/// How many tables come before the trace that a job reads, or more where it is after the last
+/// separator.
+fn tables_of(job: &Job<'_>) -> usize {
+    match job {
+        Job::Compare { vary: None, .. } => usize::MAX,
+        _ => 1,
+    }
+}
