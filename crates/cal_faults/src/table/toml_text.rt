@@ -69,7 +69,7 @@ fn remedy_of_value(value: &[u8]) -> Option<&'static str> {
     if *first == b'=' {
         Some("a key and its value have one = between them")
     } else if value.ends_with(b";") || value.ends_with(b",") {
-        Some("a value has nothing behind it in its line")
+        Some("a value has nothing behind it in its line: take out the last `,` or `;`")
     } else if first.is_ascii_alphabetic() {
         Some("a text has quotes: kind = \"lc\"")
     } else if first.is_ascii_digit() && before(value, 1) == b"0".as_slice() {

@@ -3,6 +3,7 @@
 use crate::refusal::TraceKind;
 use crate::trace::Case;
 use crate::trace::before::is_look;
+use crate::trace::forms::form_of;
 use std::alloc::AllocError;
 use std::fmt::Write;
 
@@ -54,7 +55,19 @@ fn tell_looks(told: &mut String, case: &Case<'_>) -> Result<(), AllocError> {
         told,
         "  looks of pass {pass}: {looks}; threads of the table: {threads}"
     )?;
-    writeln!(told, "  wanted: a look of thread {looks}")
+    let form = form_of(case.kind, case.is_first_version, b"whole", b"").unwrap_or("");
+    writeln!(
+        told,
+        "  wanted: a look of thread {looks} before this, as `busy`, or as"
+    )?;
+    writeln!(told, "    `{form}`")?;
+    if case.before.passes == 1 && looks != 0 {
+        writeln!(
+            told,
+            "  or, if there is no thread {looks}, a table whose limits make {looks}"
+        )?;
+    }
+    Ok(())
 }
 
 /// Puts why a row of signals or of a history may not come here.
@@ -90,7 +103,12 @@ fn tell_look(told: &mut String, case: &Case<'_>) -> Result<(), AllocError> {
             told,
             "  pass {pass} has a look of each thread of the table; threads: {threads}"
         )?;
-        told.push_str("  wanted: its actions, another pass or the end row\n")
+        told.push_str(match case.kind {
+            TraceKind::History => {
+                "  wanted: its actions, a pass row before further looks, or the end row\n"
+            }
+            _ => "  wanted: a pass row before further looks, or the end row\n",
+        })
     }
 }
 
@@ -112,5 +130,7 @@ fn tell_arrivals(told: &mut String, case: &Case<'_>, word: &[u8]) -> Result<(), 
         told,
         "  the request before it is for thread {thread} and turn {turn}"
     )?;
-    told.push_str("  wanted: a later turn of that thread, or a thread after it\n")
+    told.push_str(
+        "  wanted: requests by thread and, of a thread, by turn, one at most for each turn\n",
+    )
 }

@@ -83,7 +83,8 @@ pub fn tell_range(told: &mut String, case: &Case<'_>) -> Result<(), AllocError> 
             _ => {}
         }
     }
-    case.tell_row(told)?;
+    let is_turn = case.rows.word() == b"turn".as_slice();
+    case.tell_field(told, if is_turn { 1 } else { 0 })?;
     tell_row(told, case)
 }
 
@@ -132,9 +133,7 @@ fn tell_turn(told: &mut String, case: &Case<'_>) -> Result<(), AllocError> {
     if most <= case.before.turns {
         return writeln!(told, "  wanted: at most {most} (MOST_TURNS) turns");
     }
-    let least = case.before.clock.max(1);
-    writeln!(
-        told,
-        "  wanted: a clock of {least} or more: none falls, and none is 0"
-    )
+    let clock = case.before.clock;
+    writeln!(told, "  the clock of the turn before it is {clock}")?;
+    told.push_str("  wanted: turns in the order of their clocks, none of which is 0\n")
 }
