@@ -232,7 +232,7 @@ CALADAN_PLACE(caladan_counts, held, 0);
 CALADAN_PLACE(caladan_counts, booked, 1);
 CALADAN_PLACE(caladan_counts, cap, 2);
 
-/* The version: 2 [proved]. */
+/* The version: 3 [proved]. */
 uint32_t caladan_version(void);
 
 /* Opens the task table that a text spells (docs/POLICY.md), in a closed handle: DONE, or the table's

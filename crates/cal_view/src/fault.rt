@@ -2,6 +2,7 @@
 
 use cal_engine::{RunFault, status};
 use cal_faults::value_wanted;
+use cal_machine::ConfigFault;
 use cal_refusals::{RefusedInput, explain_fault};
 use cal_tables::{ComparisonFault, Variation};
 use std::alloc::Global;
@@ -42,8 +43,13 @@ pub fn explain_comparison<W: Write>(
     let table = fault.table.unwrap_or(0);
     match (variation, fault.fault) {
         (None, fault) => explain_fault(alloc, read, table, &fault, errors),
-        (Some(variation), RunFault::Config(_)) => {
-            if let Ok(wanted) = value_wanted(alloc, variation.key) {
+        (Some(variation), RunFault::Config(fault)) => {
+            // Of a key that the table has not, which keys there are.
+            let key = match fault {
+                ConfigFault::UnknownKey => "",
+                _ => variation.key,
+            };
+            if let Ok(wanted) = value_wanted(alloc, key) {
                 let _ = errors.write_all(wanted.as_bytes());
             }
         }

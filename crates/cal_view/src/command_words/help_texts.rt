@@ -11,8 +11,9 @@ answer goes to a file, which is there only once the answer is whole.
 `caladan_view SUBCOMMAND --help` says what is read and written, with a whole
 input to copy; `man caladan-formats` has all of it.
 
-Exit status: 0 done, 2 bad arguments or rejected input, 3 memory or output was
-refused. A fault is one line on the standard error.";
+Exit status: 0 done, 1 an illegal history explained, 2 bad arguments or rejected
+input, 3 memory or output was refused. A fault has one line on the standard
+error, and of a rejected input the lines below it say why.";
 
 /// Of the subcommand `history`.
 pub const HISTORY: &str = help_with_a_run!(
