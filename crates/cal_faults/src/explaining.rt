@@ -27,7 +27,7 @@ pub fn explanation(
             let Counted {
                 input: shown,
                 start,
-            } = counted(input, part.start, lines);
+            } = counted_text(input, part.start, lines);
             let text = TableText {
                 input: shown,
                 start,
@@ -44,7 +44,7 @@ pub fn explanation(
             let Counted {
                 input: shown,
                 start,
-            } = counted(input, start, lines);
+            } = counted_text(input, start, lines);
             let refused = RefusedTrace {
                 input: shown,
                 table: bytes_of(input, part_after(input, table)),
@@ -64,7 +64,7 @@ struct Counted<'a> {
 }
 
 /// The text in which lines are counted of a part that begins at this place.
-fn counted(input: &[u8], start: usize, lines: Lines) -> Counted<'_> {
+fn counted_text(input: &[u8], start: usize, lines: Lines) -> Counted<'_> {
     match lines {
         Lines::OfInput => Counted { input, start },
         Lines::OfPart => Counted {
