@@ -213,9 +213,7 @@ fn answer_job<R: Read + Drop, W: Write, E: Write>(
         Job::Arrivals { asked } => answer_arrivals(alloc, reader, asked, output, errors),
         Job::Explain { asked } => answer_explain(alloc, reader, *asked, output, errors),
         Job::Compare { vary, form } => answer_compare(alloc, reader, *vary, *form, output, errors),
-        Job::Picture { from, passes } => {
-            answer_picture(alloc, reader, *from, *passes, output, errors)
-        }
+        Job::Picture { shown } => answer_picture(alloc, reader, *shown, output, errors),
         job => {
             do_job(alloc, job, reader, output)?;
             Ok(0)

@@ -1,20 +1,19 @@
 //! The history of an input drawn, or written as trace events.
 
-use crate::fault::end_without_pass;
-use crate::picture::{Drawn, draw_picture};
+use crate::fault::{end_without_pass, end_without_task};
+use crate::picture::{Drawn, Shown, draw_picture};
 use crate::timeline::write_timeline;
 use cal_engine::{RunFault, read_input};
 use std::alloc::Global;
 use std::io::{BufWriter, Read, Write};
 
-/// Reads an input of a table and a history, and draws the passes from `from` on, no more than so
-/// many. Answers the exit status: 0, or 2 where there is no such pass. The faults are those of
-/// `read_input` and then of `draw_picture`.
+/// Reads an input of a table and a history, and draws what is to be shown of it. Answers the exit
+/// status: 0, or 2 where there is no such pass or task. The faults are those of `read_input` and then
+/// of `draw_picture`.
 pub fn answer_picture<R: Read + Drop, W: Write, E: Write>(
     alloc: Global,
     reader: R,
-    from: Option<usize>,
-    passes: Option<usize>,
+    shown: Shown,
     output: &mut W,
     errors: &mut E,
 ) -> Result<u8, RunFault> {
@@ -22,8 +21,12 @@ pub fn answer_picture<R: Read + Drop, W: Write, E: Write>(
         Ok(buffer) => buffer,
         Err(_) => return Err(RunFault::Memory),
     };
-    if let Drawn::NoPass { passes } = draw_read(alloc, reader, from, passes, &mut buffer)? {
-        return Ok(end_without_pass(from.unwrap_or(0), passes, errors));
+    match draw_read(alloc, reader, shown, &mut buffer)? {
+        Drawn::Done => {}
+        Drawn::NoPass { passes } => {
+            return Ok(end_without_pass(shown.from.unwrap_or(0), passes, errors));
+        }
+        Drawn::NoTask { tasks } => return Ok(end_without_task(tasks, errors)),
     }
     match buffer.flush() {
         Ok(()) => Ok(0),
@@ -31,17 +34,16 @@ pub fn answer_picture<R: Read + Drop, W: Write, E: Write>(
     }
 }
 
-/// Reads an input of a table and a history, and draws the passes that were asked for. The faults
-/// are those of `read_input` and then of `draw_picture`.
+/// Reads an input of a table and a history, and draws what is to be shown of it. The faults are those
+/// of `read_input` and then of `draw_picture`.
 fn draw_read<R: Read + Drop, W: Write>(
     alloc: Global,
     mut reader: R,
-    from: Option<usize>,
-    passes: Option<usize>,
+    shown: Shown,
     writer: &mut W,
 ) -> Result<Drawn, RunFault> {
     let input = read_input(alloc, &mut reader)?;
-    draw_picture(alloc, input.as_slice(), from, passes, writer)
+    draw_picture(alloc, input.as_slice(), shown, writer)
 }
 
 /// Reads an input of a table and a history, and writes it as trace events. The faults are those of
