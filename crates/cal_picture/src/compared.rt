@@ -86,6 +86,7 @@ viewBox='0 0 {} {}' lang='en' role='img' aria-labelledby='a b'>\n<title id='a'>"
     page.put("</title>\n<desc id='b'>What came of each task with each table.");
     tell_tasks(graphs, page);
     page.put(" `caladan_view compare` has the numbers.</desc>\n");
+    page.fill("<path class='pa' d='M0 0h{}v{}H0z'/>\n", &[CANVAS, high]);
 }
 
 /// What is compared, how it is drawn, and the colour of each table.

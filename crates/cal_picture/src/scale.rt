@@ -1,6 +1,7 @@
-//! Where numbers stand on the paper: times by their logarithms, all else in proportion.
+//! Where numbers stand on the paper: times and what is pending by their logarithms, all else in
+//! proportion.
 
-use crate::compared::sheet::{LEFT, PLOT};
+use crate::compared::sheet::{GRAPH, LEFT, PLOT};
 
 /// `part` of `whole`, of a length.
 pub fn scaled(length: u64, part: u64, whole: u64) -> u64 {
@@ -69,29 +70,31 @@ fn power_of(exponent: u64) -> u64 {
     power
 }
 
-/// A scale of times: the left edge stands for 0, and after some room come powers of ten, one as far
-/// from the next as any other.
+/// A scale of times: the left edge stands for 0, after some room comes a power of ten, and the
+/// others as far from one another, up to the greatest time at the right edge.
 #[derive(Clone, Copy)]
 pub struct TimeScale {
     /// The exponent of the first power of ten.
     pub first: u64,
-    /// That of the last one, which is greater.
+    /// That of the first power of ten above the greatest time.
     pub last: u64,
+    /// The time at the right edge.
+    pub greatest: u64,
+    /// 1,000 times the logarithm of the greatest time over the first power of ten.
+    whole: u64,
 }
 
 impl TimeScale {
     /// The scale on which these times and all between them stand.
     pub fn new(least: u64, greatest: u64) -> TimeScale {
-        let (_, first) = decade(least);
-        let (power, exponent) = decade(greatest);
-        let over = if power < greatest {
-            exponent.saturating_add(1)
-        } else {
-            exponent
-        };
+        let (power, first) = decade(least);
+        let greatest = greatest.max(power.saturating_mul(2));
+        let (_, exponent) = decade(greatest);
         TimeScale {
             first,
-            last: over.max(first.saturating_add(1)),
+            last: exponent.saturating_add(1),
+            greatest,
+            whole: log(greatest).saturating_sub(first.saturating_mul(1000)),
         }
     }
 
@@ -111,9 +114,45 @@ impl TimeScale {
             return LEFT;
         }
         let far = log(time).saturating_sub(self.first.saturating_mul(1000));
-        let whole = self.decades().saturating_mul(1000);
-        let room = scaled(PLOT - NOTHING, far, whole).min(PLOT - NOTHING);
+        let room = scaled(PLOT - NOTHING, far, self.whole).min(PLOT - NOTHING);
         (LEFT + NOTHING).saturating_add(room)
+    }
+}
+
+/// The room at the top of a plot, from the least part that is pending to none at all, which has no
+/// logarithm.
+const NONE_PENDING: u64 = 16;
+
+/// A scale of shares that were answered: with each step up of one height a tenth as much is pending,
+/// and at the top nothing is.
+#[derive(Clone, Copy)]
+pub struct ShareScale {
+    /// How many tenths it goes over: as many as the most requests can tell apart, 1 to 3.
+    pub decades: u64,
+}
+
+impl ShareScale {
+    /// The scale for so many requests at most.
+    pub fn new(requests: u64) -> ShareScale {
+        let (power, exponent) = decade(requests);
+        let over = if power < requests {
+            exponent.saturating_add(1)
+        } else {
+            exponent
+        };
+        ShareScale {
+            decades: over.max(1).min(3),
+        }
+    }
+
+    /// How high the share is where so many requests of all are pending.
+    pub fn height(&self, pending: u64, all: u64) -> u64 {
+        if pending == 0 {
+            return GRAPH;
+        }
+        let far = log(all).saturating_sub(log(pending));
+        let whole = self.decades.saturating_mul(1000);
+        scaled(GRAPH - NONE_PENDING, far, whole).min(GRAPH - NONE_PENDING)
     }
 }
 

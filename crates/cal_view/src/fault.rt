@@ -1,4 +1,4 @@
-//! What the program says of the fault of several tables, and of a pass that is not there.
+//! What the program says of the fault of several tables, and of a pass or a task that is not there.
 
 use cal_engine::{RunFault, status};
 use cal_faults::value_wanted;
@@ -70,6 +70,16 @@ pub fn end_without_pass<W: Write>(pass: usize, passes: usize, errors: &mut W) ->
     let _ = writeln!(
         errors,
         "caladan_view: no pass {pass}: there are {passes}, from 0"
+    );
+    2
+}
+
+/// Writes the line that the program says where a table has so many tasks and not the one that was
+/// asked for, and answers the exit status after it.
+pub fn end_without_task<W: Write>(tasks: usize, errors: &mut W) -> u8 {
+    let _ = writeln!(
+        errors,
+        "caladan_view: no such task: there are {tasks}, from 0"
     );
     2
 }

@@ -17,6 +17,6 @@ mod timeline;
 pub use command_words::command_line::{Form, Job, Request, words};
 pub use edge::noted::Noted;
 pub use jobs::recording::{Front, record};
-pub use picture::{Drawn, draw_picture};
+pub use picture::{Drawn, Shown, draw_picture};
 pub use program::{end_answer, run_program, say_help};
 pub use timeline::write_timeline;

@@ -29,6 +29,7 @@ use crate::picture::tasks::draw_tasks;
 use crate::story::Story;
 use crate::story::window::{Columns, Window};
 use cal_engine::{RunFault, recorded_passes};
+use cal_machine::Config;
 use cal_picture::Page;
 use std::alloc::Global;
 use std::io::Write;
@@ -43,34 +44,55 @@ pub enum Drawn {
         /// How many passes it has.
         passes: usize,
     },
+    /// Its table has no such task, but so many. Nothing was written.
+    NoTask {
+        /// How many tasks it has.
+        tasks: usize,
+    },
 }
 
-/// Draws the history of an input, from pass `from` on and no more than so many passes, as one SVG
-/// that stands alone. It takes any history; of one that is not orderly it draws what fits and
-/// passes over the rest. It keeps only what shows, and writes nothing of an input that is refused.
-/// Of a history without passes it says that, where `from` is 0.
+/// What of a history is drawn.
+#[derive(Clone, Copy, Debug, PartialEq, Eq)]
+pub struct Shown {
+    /// The first pass; without it the first of the history.
+    pub from: Option<usize>,
+    /// How many passes at most; without it all, or 64 of more than 80.
+    pub passes: Option<usize>,
+    /// The task that is drawn alone; without it all are.
+    pub task: Option<usize>,
+}
+
+/// Draws what is to be shown of the history of an input as one SVG that stands alone. It takes any
+/// history; of one that is not orderly it draws what fits and passes over the rest. It keeps only
+/// what shows, and writes nothing of an input that is refused. Of a history without passes it says
+/// that, where `from` is 0.
 ///
 /// The faults come in this order: `Separator`, `Config`, `Trace`, `Write`; `Memory` may come at any
 /// place. What is drawn is only tested; the spans in it are `spans_of`.
 pub fn draw_picture<W: Write>(
     alloc: Global,
     input: &[u8],
-    from: Option<usize>,
-    passes: Option<usize>,
+    shown: Shown,
     writer: &mut W,
 ) -> Result<Drawn, RunFault> {
     let count = count_passes(alloc, input)?;
-    if is_beyond(from, count) {
+    if is_beyond(shown.from, count) {
         return Ok(Drawn::NoPass { passes: count });
     }
-    let window = Window::new(count, from, passes);
+    let window = Window::new(count, shown.from, shown.passes);
     let (config, history) = recorded_passes(alloc, input)?;
+    if is_missing(&config, shown.task) {
+        let tasks = config.tasks();
+        return Ok(Drawn::NoTask { tasks });
+    }
     let story = Story::of(alloc, &config, history, window)?;
+    let story = story.kept(alloc, &config, shown.task)?;
     let columns = Columns::new(alloc, story.shown.as_slice(), window)?;
-    let layout = Layout::new(alloc, &config, &story, window, &columns)?;
+    let layout = Layout::new(alloc, &config, &story, window, &columns, shown.task)?;
     let sheet = Sheet {
         config: &config,
         window,
+        only: shown.task,
         story: &story,
         columns: &columns,
         layout: &layout,
@@ -87,6 +109,14 @@ pub fn draw_picture<W: Write>(
 fn is_beyond(from: Option<usize>, passes: usize) -> bool {
     let from = from.unwrap_or(0);
     from > 0 && from >= passes
+}
+
+/// Whether a table does not have the task that is to be drawn.
+fn is_missing(config: &Config, task: Option<usize>) -> bool {
+    match task {
+        Some(task) => task >= config.tasks(),
+        None => false,
+    }
 }
 
 /// The parts of a picture, each drawn on a page of its own.
@@ -145,6 +175,7 @@ viewBox='0 0 {} {}' lang='en' role='img' aria-labelledby='a b'>\n<title id='a'>"
     page.put("</title>\n<desc id='b'>");
     tell_picture(sheet, page);
     page.put(" The report has the same in words.</desc>\n");
+    page.fill("<path class='pa' d='M0 0h{}v{}H0z'/>\n", &[wide, high]);
 }
 
 fn tell_picture(sheet: &Sheet<'_>, page: &mut Page) {

@@ -236,9 +236,7 @@ fn answer_read<W: Write, E: Write>(
         Job::Check => answer_check(alloc, input, output),
         Job::Explain { asked } => answer_explain(alloc, input, *asked, output, errors),
         Job::Compare { vary, form } => answer_compare(alloc, read, *vary, *form, output, errors),
-        Job::Picture { from, passes } => {
-            answer_picture(alloc, input, *from, *passes, output, errors)
-        }
+        Job::Picture { shown } => answer_picture(alloc, input, *shown, output, errors),
         job => {
             do_job(alloc, job, input, output)?;
             Ok(0)

@@ -13,6 +13,7 @@ ghost use Rattle.cal_trace.specs.History.Reading.{IsOpen};
 
 use crate::story::clocks::{ClockedBan, ClockedSpan};
 use crate::story::gathering::Gathering;
+use crate::story::numbers::task_of;
 use crate::story::slots::Slot;
 use crate::story::standing::Row;
 use crate::story::sums::Sums;
@@ -21,7 +22,7 @@ use cal_engine::RunFault;
 use cal_machine::Config;
 use cal_policy::PassEntry;
 use cal_trace::HistoryRows;
-use std::alloc::Global;
+use std::alloc::{AllocError, Global};
 
 /// All that is drawn of a history: what touches the window, and sums of all.
 #[derive(Drop)]
@@ -59,4 +60,56 @@ impl Story {
         gathering.passes(config, &mut history, window)?;
         Ok(gathering.story())
     }
+
+    /// The same with the spans of a task's threads alone and the bans for these, where a task is
+    /// given.
+    pub fn kept(
+        self,
+        alloc: Global,
+        config: &Config,
+        task: Option<usize>,
+    ) -> Result<Story, AllocError> {
+        let Some(task) = task else {
+            return Ok(self);
+        };
+        let spans = spans_of_task(alloc, config, self.spans.as_slice(), task)?;
+        let bans = bans_of_task(alloc, config, self.bans.as_slice(), task)?;
+        Ok(Story {
+            spans,
+            bans,
+            ..self
+        })
+    }
+}
+
+/// The spans of a task's threads.
+fn spans_of_task(
+    alloc: Global,
+    config: &Config,
+    spans: &[ClockedSpan],
+    task: usize,
+) -> Result<Vec<ClockedSpan>, AllocError> {
+    let mut kept = Vec::new(alloc);
+    for clocked in spans {
+        if task_of(config, clocked.span.thread) == Some(task) {
+            kept.push(*clocked)?;
+        }
+    }
+    Ok(kept)
+}
+
+/// The bans for a task's threads.
+fn bans_of_task(
+    alloc: Global,
+    config: &Config,
+    bans: &[ClockedBan],
+    task: usize,
+) -> Result<Vec<ClockedBan>, AllocError> {
+    let mut kept = Vec::new(alloc);
+    for clocked in bans {
+        if task_of(config, clocked.ban.thread) == Some(task) {
+            kept.push(*clocked)?;
+        }
+    }
+    Ok(kept)
 }

@@ -1,7 +1,7 @@
 //! What the picture of several runs is drawn from, and where its parts stand, in whole pixels.
 
 use crate::page::Page;
-use crate::scale::{ClockScale, TimeScale};
+use crate::scale::{ClockScale, ShareScale, TimeScale};
 use cal_machine::Kind;
 use cal_tables::{Courses, RunCourse, TaskCourse, Variation};
 
@@ -18,7 +18,7 @@ pub const RIGHT: u64 = LEFT + PLOT;
 pub const CANVAS: u64 = RIGHT + 96;
 
 /// The height of a plot of steps.
-pub const GRAPH: u64 = 120;
+pub const GRAPH: u64 = 160;
 
 /// The height of a strip.
 pub const STRIP: u64 = 22;
@@ -40,6 +40,7 @@ pub struct Graphs<'a> {
     pub courses: &'a Courses,
     pub variation: Option<Variation<'a>>,
     pub times: TimeScale,
+    pub shares: ShareScale,
     pub clocks: ClockScale,
     /// How many tasks are shown: the most that a table has.
     pub tasks: usize,
@@ -89,6 +90,24 @@ fn times_of(runs: &[RunCourse]) -> TimeScale {
     }
 }
 
+/// The most requests that came to a task of a run.
+fn most_given(run: &RunCourse) -> u64 {
+    let mut most = 0u64;
+    for task in run.tasks.as_slice() {
+        most = most.max(task.requests.given as u64);
+    }
+    most
+}
+
+/// The scale on which the shares of all tasks of all runs stand.
+fn shares_of(runs: &[RunCourse]) -> ShareScale {
+    let mut most = 0u64;
+    for run in runs {
+        most = most.max(most_given(run));
+    }
+    ShareScale::new(most)
+}
+
 /// From the clock of the first pass to that of the last.
 fn clocks_of(runs: &[RunCourse]) -> ClockScale {
     let clocks = match runs.get(0) {
@@ -119,6 +138,7 @@ impl<'a> Graphs<'a> {
             courses,
             variation,
             times: times_of(runs),
+            shares: shares_of(runs),
             clocks: clocks_of(runs),
             tasks: most_tasks(runs),
         }
@@ -207,18 +227,39 @@ impl<'a> Graphs<'a> {
         (x, row.saturating_mul(18).saturating_add(LEGEND))
     }
 
-    /// The top of the plot of a task.
+    /// Whether requests came to a task in some run.
+    pub fn has_requests(&self, task: usize) -> bool {
+        for run in 0..self.runs() {
+            match self.course(run, task) {
+                Some(course) if course.requests.given > 0 => return true,
+                _ => {}
+            }
+        }
+        false
+    }
+
+    /// How high the plot of a task is: one to which no request came has none.
+    fn plot_height(&self, task: usize) -> u64 {
+        if self.has_requests(task) { GRAPH } else { 0 }
+    }
+
+    /// The top of what is drawn of a task.
     pub fn top(&self, task: usize) -> u64 {
         let (_, last) = self.entry_at(self.runs().saturating_sub(1));
         let strips = STEP.saturating_mul(self.runs() as u64);
-        let block = strips.saturating_add(GRAPH + UNDER + BETWEEN);
-        let first = last.saturating_add(36);
-        block.saturating_mul(task as u64).saturating_add(first)
+        let mut top = last.saturating_add(36);
+        for before in 0..task {
+            top = top
+                .saturating_add(self.plot_height(before))
+                .saturating_add(strips)
+                .saturating_add(UNDER + BETWEEN);
+        }
+        top
     }
 
     /// The foot of the plot of a task.
     pub fn base(&self, task: usize) -> u64 {
-        self.top(task).saturating_add(GRAPH)
+        self.top(task).saturating_add(self.plot_height(task))
     }
 
     /// The top of the strip of a run.

@@ -4,11 +4,14 @@ use crate::compared::sheet::{GRAPH, Graphs, LEFT, RIGHT};
 use crate::compared::style::dash_of;
 use crate::compared::words::tell_task;
 use crate::page::Page;
-use crate::scale::scaled;
 use cal_tables::TaskCourse;
 
-/// Writes the plot of a task.
+/// Writes the name of a task, and its plot where requests came to it.
 pub fn draw_plot(graphs: &Graphs<'_>, task: usize, page: &mut Page) {
+    draw_name(graphs, task, page);
+    if !graphs.has_requests(task) {
+        return;
+    }
     draw_shares(graphs, task, page);
     draw_ticks(graphs, task, page);
     for run in 0..graphs.runs() {
@@ -16,8 +19,8 @@ pub fn draw_plot(graphs: &Graphs<'_>, task: usize, page: &mut Page) {
     }
 }
 
-/// The name of the task, and the lines of the shares.
-fn draw_shares(graphs: &Graphs<'_>, task: usize, page: &mut Page) {
+/// The name of a task, and below it what its plot shows.
+fn draw_name(graphs: &Graphs<'_>, task: usize, page: &mut Page) {
     let top = graphs.top(task);
     let first = top.saturating_add(10);
     page.fill(
@@ -25,28 +28,55 @@ fn draw_shares(graphs: &Graphs<'_>, task: usize, page: &mut Page) {
         &[first, task as u64],
     );
     page.put(graphs.kind_word(task));
-    let (second, third) = (top.saturating_add(26), top.saturating_add(39));
-    page.fill(
-        "</text><text class='q' x='16' y='{}'>requests answered</text>\
-<text class='q' x='16' y='{}'>within so many ticks</text>\n",
-        &[second, third],
-    );
-    for quarter in 0..5u64 {
-        draw_share(graphs.base(task), quarter, page);
+    page.put("</text>");
+    if graphs.has_requests(task) {
+        draw_line(top.saturating_add(26), "requests answered", page);
+        draw_line(top.saturating_add(39), "within so many ticks;", page);
+        draw_line(top.saturating_add(52), "pending ones by", page);
+        draw_line(top.saturating_add(65), "powers of ten", page);
+    } else {
+        draw_line(top.saturating_add(26), "no requests", page);
+    }
+    page.put("\n");
+}
+
+/// A line of words at the left of a plot.
+fn draw_line(y: u64, words: &str, page: &mut Page) {
+    page.fill("<text class='q' x='16' y='{}'>", &[y]);
+    page.join("{}</text>", &[words]);
+}
+
+/// The lines of the shares.
+fn draw_shares(graphs: &Graphs<'_>, task: usize, page: &mut Page) {
+    for (pending, name, decades) in MARKS {
+        if decades <= graphs.shares.decades {
+            draw_share(graphs, graphs.base(task), pending, name, page);
+        }
     }
 }
 
-/// The line of so many quarters of all requests.
-fn draw_share(base: u64, quarter: u64, page: &mut Page) {
-    let y = base.saturating_sub(scaled(GRAPH, quarter, 4));
-    let part = quarter.saturating_mul(25);
+/// The shares that have a line: how many of 1,000 requests are pending there, the share's name, and
+/// how many powers of ten a scale has at least that shows it.
+const MARKS: [(u64, &str, u64); 6] = [
+    (1000, "0%", 1),
+    (500, "50%", 1),
+    (100, "90%", 1),
+    (10, "99%", 2),
+    (1, "99.9%", 3),
+    (0, "100%", 1),
+];
+
+/// The line of a share of all requests.
+fn draw_share(graphs: &Graphs<'_>, base: u64, pending: u64, name: &str, page: &mut Page) {
+    let y = base.saturating_sub(graphs.shares.height(pending, 1000));
     page.fill(
-        "<path class='g' d='M{} {}H{}'/><text class='q e' x='{}' y='{}'>{}%</text>\n",
-        &[LEFT, y, RIGHT, LEFT - 6, y.saturating_add(4), part],
+        "<path class='g' d='M{} {}H{}'/><text class='q e' x='{}' y='{}'>",
+        &[LEFT, y, RIGHT, LEFT - 6, y.saturating_add(4)],
     );
+    page.join("{}</text>\n", &[name]);
 }
 
-/// A tick at 0 and at each power of ten, and at two and five times it.
+/// A tick at 0 and at each power of ten, and at two and five times it, up to the greatest time.
 fn draw_ticks(graphs: &Graphs<'_>, task: usize, page: &mut Page) {
     let base = graphs.base(task);
     page.put("<g class='m'>");
@@ -54,8 +84,6 @@ fn draw_ticks(graphs: &Graphs<'_>, task: usize, page: &mut Page) {
     for exponent in graphs.times.first..graphs.times.last {
         draw_decade(graphs, base, exponent, page);
     }
-    let end = graphs.times.tick(graphs.times.last, 1);
-    draw_tick(graphs.times.at(end), base, end, true, page);
     let (x, y) = (RIGHT + 40, base.saturating_add(14));
     page.fill("</g><text class='q' x='{}' y='{}'>ticks</text>\n", &[x, y]);
 }
@@ -65,7 +93,9 @@ fn draw_decade(graphs: &Graphs<'_>, base: u64, exponent: u64, page: &mut Page) {
     let room = graphs.times.decades() <= 4;
     for times in [1u64, 2, 5] {
         let time = graphs.times.tick(exponent, times);
-        draw_tick(graphs.times.at(time), base, time, room || times == 1, page);
+        if time <= graphs.times.greatest {
+            draw_tick(graphs.times.at(time), base, time, room || times == 1, page);
+        }
     }
 }
 
@@ -103,7 +133,8 @@ fn draw_stairs(graphs: &Graphs<'_>, course: &TaskCourse, base: u64, page: &mut P
         let x = graphs.times.at(times[place]);
         let next = place.saturating_add(1);
         if place_of(graphs, times, next) != Some(x) {
-            let y = base.saturating_sub(scaled(GRAPH, next as u64, given));
+            let pending = given.saturating_sub(next as u64);
+            let y = base.saturating_sub(graphs.shares.height(pending, given));
             page.fill("H{}V{}", &[x, y]);
         }
     }

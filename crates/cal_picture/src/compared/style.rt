@@ -34,12 +34,13 @@ pub fn draw_style(graphs: &Graphs<'_>, page: &mut Page) {
 fn draw_tones(graphs: &Graphs<'_>, scheme: Scheme, page: &mut Page) {
     let tone = paper_of(scheme);
     page.join(
-        "svg{background:{};fill:{};color-scheme:{}}.q{fill:{}}.n{fill:{}}.g{stroke:{}}\
+        "svg{background:{};fill:{};color-scheme:{}}.pa{fill:{}}.q{fill:{}}.n{fill:{}}.g{stroke:{}}\
 .g2{stroke:{}}",
         &[
             tone.paper,
             tone.ink,
             tone.name,
+            tone.paper,
             tone.second,
             tone.lane,
             tone.grid,

@@ -53,7 +53,9 @@ pub fn tell_task(graphs: &Graphs<'_>, task: usize, run: usize, page: &mut Page) 
     match graphs.course(run, task) {
         Some(course) => {
             tell_requests(&course.requests, page);
-            page.fill("; at most {} cores held", &[most_held(course)]);
+            let most = most_held(course);
+            page.fill("; at most {} core", &[most]);
+            page.put(if most == 1 { " held" } else { "s held" });
         }
         None => page.put("no such task"),
     }

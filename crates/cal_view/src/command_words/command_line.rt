@@ -4,6 +4,7 @@ use crate::command_words::arrival_words::{ArrivalWords, arrival_word, arrival_wo
 use crate::command_words::help_texts;
 use crate::jobs::explaining::Asked;
 use crate::jobs::recording::Front;
+use crate::picture::Shown;
 use cal_engine::VERSION;
 use cal_tables::NumberForm;
 use clap::error::ErrorKind;
@@ -20,10 +21,8 @@ pub enum Job<'a> {
     },
     /// Draw passes of a history.
     Picture {
-        /// The first pass; without it the first of the history.
-        from: Option<usize>,
-        /// How many passes; without it all, or the first 64 of more than 80.
-        passes: Option<usize>,
+        /// Which passes, and what of them.
+        shown: Shown,
     },
     /// Write a history as trace events.
     Timeline,
@@ -200,6 +199,7 @@ fn drawn_word<'a>(alloc: Global) -> Result<Command<'a>, AllocError> {
         .arg(input_word(alloc))?
         .arg(from_word(alloc))?
         .arg(passes_word(alloc))?
+        .arg(number_word(alloc, "task", "TASK", "Draw this task alone"))?
         .arg(output_word(alloc))
 }
 
@@ -368,8 +368,7 @@ fn job_of<'a>(matches: &ArgMatches<'a>) -> Result<Job<'a>, Mistake> {
             front: front_of(own.get_flag("table")),
         },
         Some((name, own)) if name == "picture" => Job::Picture {
-            from: number(own, "from"),
-            passes: number(own, "passes"),
+            shown: shown_of(own),
         },
         Some((name, _)) if name == "timeline" => Job::Timeline,
         Some((name, own)) if name == "measure" => Job::Measure {
@@ -478,6 +477,15 @@ fn comparison_of<'a>(matches: &ArgMatches<'a>) -> Result<Job<'a>, Mistake> {
     match vary {
         Some(vary) if !vary.contains('=') => Err(Mistake::NoValues),
         _ => Ok(Job::Compare { vary, form }),
+    }
+}
+
+/// What the options of `picture` ask for.
+fn shown_of(matches: &ArgMatches<'_>) -> Shown {
+    Shown {
+        from: number(matches, "from"),
+        passes: number(matches, "passes"),
+        task: number(matches, "task"),
     }
 }
 

@@ -45,8 +45,8 @@ pub const PICTURE: &str = help_with_a_run!(
     "\
 Input: a task table (TOML), the line ---, and a history (CSV).
 Output: one SVG, which any browser opens.
-Exit status: 0 done, 2 rejected input or no such pass, 3 memory or output was
-refused.",
+Exit status: 0 done, 2 rejected input or no such pass or task, 3 memory or
+output was refused.",
     "caladan_view picture > picture.svg",
     "\
 caladan-history,2

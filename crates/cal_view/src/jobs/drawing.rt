@@ -1,19 +1,17 @@
 //! The history of an input drawn.
 
-use crate::fault::end_without_pass;
-use crate::picture::{Drawn, draw_picture};
+use crate::fault::{end_without_pass, end_without_task};
+use crate::picture::{Drawn, Shown, draw_picture};
 use cal_engine::RunFault;
 use std::alloc::Global;
 use std::io::{BufWriter, Write};
 
-/// Draws the passes from `from` on, no more than so many, of an input of a table and a history.
-/// Answers the exit status: 0, or 2 where there is no such pass. The faults are those of
-/// `draw_picture`.
+/// Draws what is to be shown of an input of a table and a history. Answers the exit status: 0, or 2
+/// where there is no such pass or task. The faults are those of `draw_picture`.
 pub fn answer_picture<W: Write, E: Write>(
     alloc: Global,
     input: &[u8],
-    from: Option<usize>,
-    passes: Option<usize>,
+    shown: Shown,
     output: &mut W,
     errors: &mut E,
 ) -> Result<u8, RunFault> {
@@ -21,8 +19,12 @@ pub fn answer_picture<W: Write, E: Write>(
         Ok(buffer) => buffer,
         Err(_) => return Err(RunFault::Memory),
     };
-    if let Drawn::NoPass { passes } = draw_picture(alloc, input, from, passes, &mut buffer)? {
-        return Ok(end_without_pass(from.unwrap_or(0), passes, errors));
+    match draw_picture(alloc, input, shown, &mut buffer)? {
+        Drawn::Done => {}
+        Drawn::NoPass { passes } => {
+            return Ok(end_without_pass(shown.from.unwrap_or(0), passes, errors));
+        }
+        Drawn::NoTask { tasks } => return Ok(end_without_task(tasks, errors)),
     }
     match buffer.flush() {
         Ok(()) => Ok(0),

@@ -1,6 +1,6 @@
 //! A pass of an input explained.
 
-use crate::fault::end_without_pass;
+use crate::fault::{end_without_pass, end_without_task};
 use cal_engine::{RunFault, decided_run, read_parts};
 use cal_explain::{ExplainFault, Explained, Scope, explain_pass, explain_verdict};
 use cal_machine::Config;
@@ -74,12 +74,7 @@ pub fn answer_explain<W: Write, E: Write>(
 fn refuse<E: Write>(reason: Unexplained, errors: &mut E) -> u8 {
     let _ = match reason {
         Unexplained::NoPass { pass, passes } => return end_without_pass(pass, passes, errors),
-        Unexplained::NoTask { tasks } => {
-            writeln!(
-                errors,
-                "caladan_view: no such task: there are {tasks}, from 0"
-            )
-        }
+        Unexplained::NoTask { tasks } => return end_without_task(tasks, errors),
         Unexplained::NoCore { cores } => {
             writeln!(
                 errors,

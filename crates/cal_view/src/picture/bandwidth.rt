@@ -31,9 +31,11 @@ fn height(figure: u64, most: u64) -> u64 {
     }
 }
 
-/// Writes a bar for each pass, black above the limit.
+/// Writes a bar for each pass, black above the limit, where there is a lane for them.
 pub fn draw_bandwidth(sheet: &Sheet<'_>, page: &mut Page) {
-    let y = sheet.layout.bandwidth;
+    let Some(y) = sheet.layout.bandwidth else {
+        return;
+    };
     let limit = sheet.config.bandwidth_limit();
     let most = highest(sheet);
     let whole = most.max(limit).max(1);

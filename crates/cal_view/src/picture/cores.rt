@@ -78,10 +78,14 @@ fn draw_idle(sheet: &Sheet<'_>, from: u8, to: u8, top: u64, page: &mut Page) {
         &[y, from as u64, last as u64],
     );
     page.fill(
-        "<text class='q' x='{}' y='{}'>{} cores, free in all passes shown",
+        "<text class='q' x='{}' y='{}'>{} cores, ",
         &[x, y, count as u64],
     );
-    page.put("</text>\n");
+    match sheet.only {
+        Some(task) => page.fill("without task {}", &[task as u64]),
+        None => page.put("free"),
+    }
+    page.put(" in all passes shown</text>\n");
 }
 
 fn draw_pair(sheet: &Sheet<'_>, core: u8, top: u64, page: &mut Page) {

@@ -86,6 +86,9 @@ pub fn tell_window(sheet: &Sheet<'_>, page: &mut Page) {
     let from = sheet.clock(first);
     let to = sheet.clock(last);
     page.fill(", clock {} to {}.", &[from, to]);
+    if let Some(task) = sheet.only {
+        page.fill(" Drawn of task {} alone.", &[task as u64]);
+    }
     if window.count < window.all {
         tell_cut(first as u64, window.after() as u64, page);
     }

@@ -72,7 +72,8 @@ pub struct Layout {
     pub axis: u64,
     pub tasks: Vec<TaskLane>,
     pub tasks_top: u64,
-    pub bandwidth: u64,
+    /// The lane of the bandwidth figure, which is not there where that is always 0.
+    pub bandwidth: Option<u64>,
     pub cores_top: u64,
     pub grounds: Vec<Ground>,
     /// The top of each core's lane.
@@ -117,11 +118,13 @@ fn sizes_of(cores: u8, width: u64, count: usize) -> Sizes {
     }
 }
 
-/// The lanes of the tasks, from this height down, and where they end.
+/// The lanes of the tasks, from this height down, and where they end. A task that is not drawn takes
+/// no room.
 fn task_lanes(
     alloc: Global,
     config: &Config,
     few: bool,
+    only: Option<usize>,
     top: u64,
 ) -> Result<(Vec<TaskLane>, u64), AllocError> {
     let (most, least, gap) = if few { (36, 24, 16) } else { (24, 16, 12) };
@@ -138,7 +141,9 @@ fn task_lanes(
             base,
             unit,
         })?;
-        y = base.saturating_add(gap);
+        if only.is_none() || only == Some(task) {
+            y = base.saturating_add(gap);
+        }
     }
     Ok((lanes, y))
 }
@@ -242,6 +247,18 @@ fn first_tops(window: Window) -> (Option<u64>, u64) {
     }
 }
 
+/// The lane of the bandwidth figure, where it is above 0 in a pass that is shown, and where the cores
+/// begin below it, from this height down.
+fn bandwidth_top(story: &Story, window: Window, top: u64) -> (Option<u64>, u64) {
+    let shown = story.shown.iter().take(window.count);
+    let most = shown.map(|entry| entry.input.bandwidth).max().unwrap_or(0);
+    if most > 0 {
+        (Some(top), top.saturating_add(BAND + 12))
+    } else {
+        (None, top.saturating_add(4))
+    }
+}
+
 /// Where the axis stands a second time: below lanes that end far from the first.
 fn second_axis_of(axis: u64, bottom: u64) -> Option<u64> {
     if bottom.saturating_sub(axis) > 700 {
@@ -273,15 +290,16 @@ impl Layout {
         story: &Story,
         window: Window,
         columns: &Columns,
+        only: Option<usize>,
     ) -> Result<Layout, AllocError> {
         let cores = config.machine().cores();
         let sizes = sizes_of(cores, columns.width(), window.count);
-        let few = config.tasks() <= 6;
+        let few = config.tasks() <= 6 || only.is_some();
         let (overview, axis) = first_tops(window);
         let tasks_top = axis.saturating_add(28);
-        let (tasks, tasks_end) = task_lanes(alloc, config, few, tasks_top.saturating_add(18))?;
-        let bandwidth = tasks_end.saturating_add(4);
-        let cores_top = bandwidth.saturating_add(BAND + 12);
+        let first = tasks_top.saturating_add(18);
+        let (tasks, tasks_end) = task_lanes(alloc, config, few, only, first)?;
+        let (bandwidth, cores_top) = bandwidth_top(story, window, tasks_end.saturating_add(4));
         let used = used_pairs(story.spans.as_slice(), story.bans.as_slice());
         let first = cores_top.saturating_add(18);
         let (grounds, bottom) = grounds_of(alloc, &used, cores, sizes, first)?;

@@ -13,7 +13,7 @@ pub fn draw_legend(sheet: &Sheet<'_>, page: &mut Page) {
     let step = (sheet.layout.canvas.saturating_sub(40) / 3).min(340);
     draw_span_signs(sheet, 16, y, page);
     draw_marks(sheet, step.saturating_add(16), y, page);
-    draw_line_signs(step.saturating_mul(2).saturating_add(16), y, page);
+    draw_line_signs(sheet, step.saturating_mul(2).saturating_add(16), y, page);
     let foot = y.saturating_add(99);
     page.fill(
         "<text class='q hint' x='16' y='{}'>Point at a span for its story, at a column \
@@ -85,15 +85,23 @@ fn draw_marks(sheet: &Sheet<'_>, x: u64, y: u64, page: &mut Page) {
     );
 }
 
-fn draw_line_signs(x: u64, y: u64, page: &mut Page) {
+fn draw_line_signs(sheet: &Sheet<'_>, x: u64, y: u64, page: &mut Page) {
     let limit = "<path class='lim' d='M0 0h30'/>";
     let guarantee = "<path class='gu' d='M0 0h30'/>";
     let cap = "<path class='cap' d='M0 4h15v-7h15'/>";
     let delay = "<path class='wt' d='M0-1h30v3h-30z'/>";
     let over = "<path class='o2' d='M0 0h30v6h-30z'/><path class='i' d='M0-6h30v6h-30z'/>";
     draw_item(x, y, 0, limit, "limit", page);
-    draw_item(x, y, 1, guarantee, "guaranteed; the bandwidth limit", page);
+    let is_drawn = sheet.layout.bandwidth.is_some();
+    let guaranteed = if is_drawn {
+        "guaranteed; the bandwidth limit"
+    } else {
+        "guaranteed"
+    };
+    draw_item(x, y, 1, guarantee, guaranteed, page);
     draw_item(x, y, 2, cap, "cap of a best-effort task", page);
     draw_item(x, y, 3, delay, "delay over the threshold", page);
-    draw_item(x, y, 4, over, "bandwidth over its limit", page)
+    if is_drawn {
+        draw_item(x, y, 4, over, "bandwidth over its limit", page)
+    }
 }

@@ -11,12 +11,19 @@ use cal_policy::PassEntry;
 pub struct Sheet<'a> {
     pub config: &'a Config,
     pub window: Window,
+    /// The task that is drawn, where it is not all of them.
+    pub only: Option<usize>,
     pub story: &'a Story,
     pub columns: &'a Columns,
     pub layout: &'a Layout,
 }
 
 impl<'a> Sheet<'a> {
+    /// Whether a task is drawn.
+    pub fn draws(&self, task: usize) -> bool {
+        self.only.is_none() || self.only == Some(task)
+    }
+
     /// A pass that is shown.
     pub fn entry(&self, pass: usize) -> Option<&'a PassEntry> {
         let place = pass.checked_sub(self.window.first)?;

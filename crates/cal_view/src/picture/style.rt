@@ -66,7 +66,7 @@ fn draw_tones(config: &Config, scheme: Scheme, page: &mut Page) {
 /// All that has the colours of the paper.
 fn draw_paper(tone: &Paper, page: &mut Page) {
     page.join(
-        "svg{background:{};fill:{};color-scheme:{}}\
+        "svg{background:{};fill:{};color-scheme:{}}.pa{fill:{}}\
 .i,.ban path,.v,use,.win,.col path:hover{fill:{}}\
 .q,.o1,.o2,.wt,.dd,.x1{fill:{}}\
 .xt,.hp{fill:{}}.hs.hs,.v,use{stroke:{}}",
@@ -74,6 +74,7 @@ fn draw_paper(tone: &Paper, page: &mut Page) {
             tone.paper,
             tone.ink,
             tone.name,
+            tone.paper,
             tone.ink,
             tone.second,
             tone.paper,

@@ -75,21 +75,27 @@ pub fn draw_tasks(sheet: &Sheet<'_>, page: &mut Page) {
 fn draw_names(sheet: &Sheet<'_>, page: &mut Page) {
     let lanes = sheet.layout.tasks.as_slice();
     for task in 0..lanes.len() {
-        draw_name(sheet, task, &lanes[task], page);
+        if sheet.draws(task) {
+            draw_name(sheet, task, &lanes[task], page);
+        }
     }
 }
 
 fn draw_all_steps(sheet: &Sheet<'_>, page: &mut Page) {
     let lanes = sheet.layout.tasks.as_slice();
     for task in 0..lanes.len() {
-        draw_steps(sheet, task, &lanes[task], page);
+        if sheet.draws(task) {
+            draw_steps(sheet, task, &lanes[task], page);
+        }
     }
 }
 
 fn draw_all_lines(sheet: &Sheet<'_>, page: &mut Page) {
     let lanes = sheet.layout.tasks.as_slice();
     for task in 0..lanes.len() {
-        draw_lines(sheet, task, &lanes[task], page);
+        if sheet.draws(task) {
+            draw_lines(sheet, task, &lanes[task], page);
+        }
     }
 }
 
