@@ -13,9 +13,10 @@ use crate::jobs::checking::answer_check;
 use crate::jobs::comparing::answer_compare;
 use crate::jobs::drawing::{answer_picture, write_read_timeline};
 use crate::jobs::explaining::answer_explain;
+use crate::jobs::naming::{names_of, refuse_count, refuse_words_of_labels};
 use crate::jobs::recording::record;
-use cal_engine::{RunFault, refuse_words, words_after_first};
-use cal_tables::measure;
+use cal_engine::{RunFault, read_input, refuse_words, words_after_first};
+use cal_tables::{Labels, measure};
 use std::alloc::Global;
 use std::io::{BufWriter, Read, Write};
 use std::rt::Files;
@@ -117,6 +118,9 @@ fn answer_request<'a, H: Files, R: Read + Drop, W: Write, E: Write>(
     output: &mut Noted<W>,
     errors: &mut E,
 ) -> Result<u8, Failure<'a>> {
+    if let Some(status) = refuse_words_of_labels(request.labels, errors) {
+        return Ok(status);
+    }
     let tables = read_tables(rt, alloc, request.tables.as_slice())?;
     let front = tables.as_slice();
     let Some(name) = request.input else {
@@ -138,7 +142,7 @@ fn answer_input<'a, H: Files, R: Read, W: Write, E: Write>(
 ) -> Result<u8, Failure<'a>> {
     let answer = match request.output {
         Some(name) => return answer_into(rt, alloc, request, name, input, errors),
-        None => answer_job(alloc, &request.job, &mut *input, output, errors),
+        None => answer_job(alloc, request, &mut *input, output, errors),
     };
     match answer {
         Ok(status) => Ok(status),
@@ -161,7 +165,7 @@ fn answer_into<'a, H: Files, R: Read, E: Write>(
         Err(said) => return Err(Failure::of_file(RunFault::Write, name, said)),
     };
     let mut file = Noted::new(file);
-    match answer_job(alloc, &request.job, &mut *input, &mut file, errors) {
+    match answer_job(alloc, request, &mut *input, &mut file, errors) {
         Ok(2) => {
             file.inner().remove(rt);
             Ok(2)
@@ -200,10 +204,42 @@ fn failure_of<'a, R: Read, W: Write>(
     }
 }
 
-/// Does a job on an input, and answers the exit status where there is no fault.
+/// Does what the words ask for on an input, and answers the exit status where there is no fault: 2
+/// where there are more or fewer names than tasks, for which the whole input is read first.
 fn answer_job<R: Read + Drop, W: Write, E: Write>(
     alloc: Global,
+    request: &Request<'_>,
+    mut reader: R,
+    output: &mut W,
+    errors: &mut E,
+) -> Result<u8, RunFault> {
+    let names = names_of(alloc, request.labels)?;
+    let labels = Labels {
+        names: names.as_slice(),
+        tick: request.labels.tick,
+    };
+    if names.is_empty() {
+        return answer_labelled(alloc, &request.job, labels, reader, output, errors);
+    }
+    let input = read_input(alloc, &mut reader)?;
+    if let Some(status) = refuse_count(alloc, labels, input.as_slice(), errors)? {
+        return Ok(status);
+    }
+    answer_labelled(
+        alloc,
+        &request.job,
+        labels,
+        input.as_slice(),
+        output,
+        errors,
+    )
+}
+
+/// Does a job on an input under these labels, and answers the exit status where there is no fault.
+fn answer_labelled<R: Read + Drop, W: Write, E: Write>(
+    alloc: Global,
     job: &Job<'_>,
+    labels: Labels<'_>,
     reader: R,
     output: &mut W,
     errors: &mut E,
@@ -212,10 +248,12 @@ fn answer_job<R: Read + Drop, W: Write, E: Write>(
         Job::Check => answer_check(alloc, reader, output, errors),
         Job::Arrivals { asked } => answer_arrivals(alloc, reader, asked, output, errors),
         Job::Explain { asked } => answer_explain(alloc, reader, *asked, output, errors),
-        Job::Compare { vary, form } => answer_compare(alloc, reader, *vary, *form, output, errors),
-        Job::Picture { shown } => answer_picture(alloc, reader, *shown, output, errors),
+        Job::Compare { vary, form } => {
+            answer_compare(alloc, reader, *vary, labels, *form, output, errors)
+        }
+        Job::Picture { shown } => answer_picture(alloc, reader, *shown, labels, output, errors),
         job => {
-            do_job(alloc, job, reader, output)?;
+            do_job(alloc, job, labels, reader, output)?;
             Ok(0)
         }
     }
@@ -225,6 +263,7 @@ fn answer_job<R: Read + Drop, W: Write, E: Write>(
 fn do_job<R: Read + Drop, W: Write>(
     alloc: Global,
     job: &Job<'_>,
+    labels: Labels<'_>,
     reader: R,
     output: &mut W,
 ) -> Result<(), RunFault> {
@@ -234,9 +273,9 @@ fn do_job<R: Read + Drop, W: Write>(
     };
     match job {
         Job::History { front } => record(alloc, reader, *front, &mut buffer)?,
-        Job::Timeline => write_read_timeline(alloc, reader, &mut buffer)?,
-        Job::Measure { form } => measure(alloc, reader, *form, &mut buffer)?,
-        // (answer_job does these)
+        Job::Timeline => write_read_timeline(alloc, reader, labels, &mut buffer)?,
+        Job::Measure { form } => measure(alloc, reader, labels, *form, &mut buffer)?,
+        // (answer_labelled does these)
         Job::Arrivals { .. } | Job::Check | Job::Compare { .. } | Job::Explain { .. } => {}
         Job::Picture { .. } | Job::Help => {}
     }

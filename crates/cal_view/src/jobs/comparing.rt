@@ -5,7 +5,7 @@ use crate::command_words::variation::{key_of, values_of};
 use crate::fault::end_comparison;
 use cal_engine::RunFault;
 use cal_picture::draw_comparison;
-use cal_tables::{ComparisonFault, Variation, compare};
+use cal_tables::{ComparisonFault, Labels, Variation, compare};
 use std::alloc::Global;
 use std::io::{BufWriter, Read, Write};
 
@@ -15,12 +15,13 @@ pub fn answer_compare<R: Read + Drop, W: Write, E: Write>(
     alloc: Global,
     reader: R,
     vary: Option<&str>,
+    labels: Labels<'_>,
     form: Form,
     output: &mut W,
     errors: &mut E,
 ) -> Result<u8, RunFault> {
     let Some(vary) = vary else {
-        return answer_comparison(alloc, reader, None, form, output, errors);
+        return answer_comparison(alloc, reader, None, labels, form, output, errors);
     };
     let values = values_of(alloc, vary)?;
     let key = key_of(vary);
@@ -28,7 +29,7 @@ pub fn answer_compare<R: Read + Drop, W: Write, E: Write>(
         key,
         values: values.as_slice(),
     };
-    answer_comparison(alloc, reader, Some(variation), form, output, errors)
+    answer_comparison(alloc, reader, Some(variation), labels, form, output, errors)
 }
 
 /// Compares the runs of an input, and answers the exit status: its faults name the table or the
@@ -37,11 +38,12 @@ fn answer_comparison<R: Read + Drop, W: Write, E: Write>(
     alloc: Global,
     reader: R,
     variation: Option<Variation<'_>>,
+    labels: Labels<'_>,
     form: Form,
     output: &mut W,
     errors: &mut E,
 ) -> Result<u8, RunFault> {
-    match write_comparison(alloc, reader, variation, form, output) {
+    match write_comparison(alloc, reader, variation, labels, form, output) {
         Ok(()) => Ok(0),
         Err(fault) => end_comparison(&fault, variation, errors),
     }
@@ -52,6 +54,7 @@ fn write_comparison<R: Read + Drop, W: Write>(
     alloc: Global,
     reader: R,
     variation: Option<Variation<'_>>,
+    labels: Labels<'_>,
     form: Form,
     output: &mut W,
 ) -> Result<(), ComparisonFault> {
@@ -60,8 +63,8 @@ fn write_comparison<R: Read + Drop, W: Write>(
         Err(_) => return Err(ComparisonFault::from(RunFault::Memory)),
     };
     match form {
-        Form::Numbers(form) => compare(alloc, reader, variation, form, &mut buffer)?,
-        Form::Picture => draw_comparison(alloc, reader, variation, &mut buffer)?,
+        Form::Numbers(form) => compare(alloc, reader, variation, labels, form, &mut buffer)?,
+        Form::Picture => draw_comparison(alloc, reader, variation, labels, &mut buffer)?,
     }
     match buffer.flush() {
         Ok(()) => Ok(()),

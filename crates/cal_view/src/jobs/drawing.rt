@@ -4,6 +4,7 @@ use crate::fault::{end_without_pass, end_without_task};
 use crate::picture::{Drawn, Shown, draw_picture};
 use crate::timeline::write_timeline;
 use cal_engine::{RunFault, read_input};
+use cal_tables::Labels;
 use std::alloc::Global;
 use std::io::{BufWriter, Read, Write};
 
@@ -14,6 +15,7 @@ pub fn answer_picture<R: Read + Drop, W: Write, E: Write>(
     alloc: Global,
     reader: R,
     shown: Shown,
+    labels: Labels<'_>,
     output: &mut W,
     errors: &mut E,
 ) -> Result<u8, RunFault> {
@@ -21,7 +23,7 @@ pub fn answer_picture<R: Read + Drop, W: Write, E: Write>(
         Ok(buffer) => buffer,
         Err(_) => return Err(RunFault::Memory),
     };
-    match draw_read(alloc, reader, shown, &mut buffer)? {
+    match draw_read(alloc, reader, shown, labels, &mut buffer)? {
         Drawn::Done => {}
         Drawn::NoPass { passes } => {
             return Ok(end_without_pass(shown.from.unwrap_or(0), passes, errors));
@@ -40,10 +42,11 @@ fn draw_read<R: Read + Drop, W: Write>(
     alloc: Global,
     mut reader: R,
     shown: Shown,
+    labels: Labels<'_>,
     writer: &mut W,
 ) -> Result<Drawn, RunFault> {
     let input = read_input(alloc, &mut reader)?;
-    draw_picture(alloc, input.as_slice(), shown, writer)
+    draw_picture(alloc, input.as_slice(), shown, labels, writer)
 }
 
 /// Reads an input of a table and a history, and writes it as trace events. The faults are those of
@@ -51,8 +54,9 @@ fn draw_read<R: Read + Drop, W: Write>(
 pub fn write_read_timeline<R: Read + Drop, W: Write>(
     alloc: Global,
     mut reader: R,
+    labels: Labels<'_>,
     writer: &mut W,
 ) -> Result<(), RunFault> {
     let input = read_input(alloc, &mut reader)?;
-    write_timeline(alloc, input.as_slice(), writer)
+    write_timeline(alloc, input.as_slice(), labels, writer)
 }
