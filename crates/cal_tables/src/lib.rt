@@ -8,15 +8,18 @@ mod core_rows;
 mod courses;
 mod figures;
 mod joining;
+mod labels;
 mod laws;
 mod measuring;
 mod sheet;
 mod writing;
 
 pub use comparing::fault::ComparisonFault;
+pub use comparing::tables::read_tables;
 pub use comparing::{Comparison, Variation, compare, compared, compared_values};
 pub use courses::{Courses, RunCourse, TaskCourse, courses_of, courses_of_values, run_course};
 pub use joining::front_of_table;
+pub use labels::{Labels, letters};
 pub use laws::{own_value_gives_the_table, text_is_read_back, varied_differs_at_its_key};
 pub use measuring::{RunNumbers, measure, measured_run};
 pub use sheet::NumberForm;

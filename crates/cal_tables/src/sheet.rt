@@ -1,5 +1,6 @@
 //! A table of words, as text whose columns line up or as CSV.
 
+use crate::labels::letters;
 use std::alloc::{AllocError, Global};
 
 /// As what numbers are written.
@@ -23,7 +24,7 @@ fn width(rows: &[Vec<String>], column: usize) -> usize {
     let mut width = 0usize;
     for row in rows {
         if let Some(cell) = row.as_slice().get(column) {
-            width = width.max(cell.len());
+            width = width.max(letters(cell.as_str()));
         }
     }
     width
@@ -44,7 +45,7 @@ fn put_cell(
     column: usize,
     cell: &str,
 ) -> Result<(), AllocError> {
-    let blanks = width(rows, column).saturating_sub(cell.len());
+    let blanks = width(rows, column).saturating_sub(letters(cell));
     if column == 0 {
         text.push_str(cell)?;
         return put_blanks(text, blanks);
