@@ -105,15 +105,20 @@ impl TimeScale {
         power_of(exponent).saturating_mul(times)
     }
 
-    /// Where a time stands.
-    pub fn at(&self, time: u64) -> u64 {
+    /// How far from the edge a time stands, on an axis of this length.
+    pub fn along(&self, length: u64, time: u64) -> u64 {
         if time == 0 {
-            return LEFT;
+            return 0;
         }
+        let room = length.saturating_sub(NOTHING);
         let far = log(time).saturating_sub(self.first.saturating_mul(1000));
         let whole = self.decades().saturating_mul(1000);
-        let room = scaled(PLOT - NOTHING, far, whole).min(PLOT - NOTHING);
-        (LEFT + NOTHING).saturating_add(room)
+        NOTHING.saturating_add(scaled(room, far, whole).min(room))
+    }
+
+    /// Where a time stands.
+    pub fn at(&self, time: u64) -> u64 {
+        LEFT.saturating_add(self.along(PLOT, time))
     }
 }
 

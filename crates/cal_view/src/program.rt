@@ -14,6 +14,7 @@ use crate::jobs::comparing::answer_compare;
 use crate::jobs::drawing::{answer_picture, write_read_timeline};
 use crate::jobs::explaining::answer_explain;
 use crate::jobs::recording::record;
+use crate::jobs::sweeping::answer_swept;
 use cal_engine::{RunFault, refuse_words, words_after_first};
 use cal_tables::measure;
 use std::alloc::Global;
@@ -21,8 +22,8 @@ use std::io::{BufWriter, Read, Write};
 use std::rt::Files;
 
 /// Runs the program on its name and the words after it and on an input, and answers its exit
-/// status: 0 is done (help too), 1 is an illegal history explained, 2 is bad arguments or rejected
-/// input, 3 is memory or the writer. The words are read before the input.
+/// status: 0 is done (help too), 1 is an illegal history explained or an objective missed, 2 is bad
+/// arguments or rejected input, 3 is memory or the writer. The words are read before the input.
 ///
 /// The input is what the reader gives, or the files that the words name. The answer goes to
 /// `output`, or to a file where the words name one, and help to `output`; what is wrong with the
@@ -211,6 +212,7 @@ fn answer_job<R: Read + Drop, W: Write, E: Write>(
     match job {
         Job::Check => answer_check(alloc, reader, output, errors),
         Job::Arrivals { asked } => answer_arrivals(alloc, reader, asked, output, errors),
+        Job::Sweep { asked } => answer_swept(alloc, reader, asked, output, errors),
         Job::Explain { asked } => answer_explain(alloc, reader, *asked, output, errors),
         Job::Compare { vary, form } => answer_compare(alloc, reader, *vary, *form, output, errors),
         Job::Picture { from, passes } => {
@@ -240,7 +242,7 @@ fn do_job<R: Read + Drop, W: Write>(
         Job::Measure { form } => measure(alloc, reader, *form, &mut buffer)?,
         // (answer_job does these)
         Job::Arrivals { .. } | Job::Check | Job::Compare { .. } | Job::Explain { .. } => {}
-        Job::Picture { .. } | Job::Help => {}
+        Job::Picture { .. } | Job::Sweep { .. } | Job::Help => {}
     }
     match buffer.flush() {
         Ok(()) => Ok(()),

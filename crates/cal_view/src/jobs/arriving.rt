@@ -1,16 +1,15 @@
 //! Arrivals made for a task table.
 
-mod loads;
 mod summary;
 
 ghost use Rattle.std.specs.Prelude.{◌≡◌, ◌≢◌, IfErr, IfOk};
 
 use crate::command_words::arrival_words::{ArrivalForm, ArrivalWords};
-use crate::jobs::arriving::loads::{are_known, asked_loads, word_at};
 use crate::jobs::arriving::summary::summary_of;
-use cal_engine::{INPUT_LIMIT, RunFault, read_input, split_input};
-use cal_load::{LoadFault, Made, Timing, WordFault, made_arrivals};
+use cal_engine::{INPUT_LIMIT, RunFault, read_input};
+use cal_load::{LoadFault, Made, WordFault, are_known, asked_loads, made_arrivals, word_at};
 use cal_machine::{Config, ConfigFault};
+use cal_tables::table_part;
 use std::alloc::{AllocError, Global};
 use std::io::{Read, Write};
 
@@ -104,26 +103,16 @@ fn made_answer<'a, R: Read + Drop>(
     mut reader: R,
     asked: &ArrivalWords<'a>,
 ) -> Result<Answer, Unmade<'a>> {
-    let loads = asked_loads(alloc, asked)?;
+    let words = &asked.load;
+    let loads = asked_loads(alloc, words)?;
     let input = read_input(alloc, &mut reader)?;
-    let table = table_of(input.as_slice());
+    let table = table_part(input.as_slice());
     let config = Config::read(alloc, table)?;
-    are_known(&config, loads.as_slice(), asked.tasks.as_slice())?;
-    let timing = Timing {
-        turns: asked.turns,
-        ticks: asked.ticks,
-    };
-    let word = word_at(asked.loads.as_slice(), 0);
-    let made = made_arrivals(alloc, &config, loads.as_slice(), timing, asked.seed, word)?;
+    are_known(&config, loads.as_slice(), words.tasks.as_slice())?;
+    let word = word_at(words.loads.as_slice(), 0);
+    let loads = loads.as_slice();
+    let made = made_arrivals(alloc, &config, loads, words.timing, words.seed, word)?;
     answer_of(alloc, &config, asked, table, made)
-}
-
-/// The table of an input: what comes before the first separator line, or all.
-fn table_of(input: &[u8]) -> &[u8] {
-    match split_input(input) {
-        Some((table, _)) => table,
-        None => input,
-    }
 }
 
 /// What was made, as it is written.
@@ -141,7 +130,14 @@ fn answer_of<'a>(
             put_table(table, &mut front)?;
             made.text
         }
-        ArrivalForm::Summary => summary_of(alloc, config, made.counts.as_slice(), asked.turns)?,
+        ArrivalForm::Summary => {
+            summary_of(
+                alloc,
+                config,
+                made.counts.as_slice(),
+                asked.load.timing.turns,
+            )?
+        }
     };
     // An input is read up to this length.
     if front.len().saturating_add(text.len()) > INPUT_LIMIT {
