@@ -24,17 +24,17 @@ pub record IsColumn (table : Table) (trace : List ℕ) (column : RunNumbers) : T
   pub given : arrivals_of (threads_in table.tasks) (rows_of trace) ≡ Ok arrivals
   pub measured : IsMeasuredRun table arrivals column
 
--- as many of these as tables, each of the table at its place
-pub record AreOfTables {C : Type 0} (Is : Table → C → Type 0) (tables : List Table)
+-- as many of these as things, each of the thing at its place
+pub record AreEachOf {X C : Type 0} (Is : X → C → Type 0) (things : List X)
     (items : List C) : Type 0 where
-  pub many : length items ≡ length tables
-  pub each : (i : ℕ) (table : Table) (item : C) →
-      slice_get tables i ≡ Some table → slice_get items i ≡ Some item → Is table item
+  pub many : length items ≡ length things
+  pub each : (i : ℕ) (thing : X) (item : C) →
+      slice_get things i ≡ Some thing → slice_get items i ≡ Some item → Is thing item
 
 -- as many columns as tables, each with the numbers of the table at its place
 abbrev pub AreColumns : List Table → List ℕ → List RunNumbers → Type 0
 AreColumns tables trace columns =
-    AreOfTables (λ table column. IsColumn table trace column) tables columns
+    AreEachOf (λ table column. IsColumn table trace column) tables columns
 
 -- the tables of an input, and the numbers of each one's run on its arrivals
 pub record IsComparison (input : List ℕ) (tables : List Table)

@@ -8,7 +8,7 @@ use Rattle.cal_measure.specs.Cores.{IsHeldCourse}
 use Rattle.cal_measure.specs.Requests.{AreRequestsOf, response_of, services_of_task}
 use Rattle.cal_run.specs.Outcome.{IsRun}
 use Rattle.cal_run.specs.declared.outcome.Outcome.{Outcome}
-use Rattle.cal_tables.specs.Compared.{AreOfTables, AreTables}
+use Rattle.cal_tables.specs.Compared.{AreEachOf, AreTables}
 use Rattle.cal_tables.specs.declared.courses.RunCourse.{RunCourse}
 use Rattle.cal_tables.specs.declared.courses.TaskCourse.{TaskCourse}
 use Rattle.cal_trace.specs.Arrivals.{arrivals_of}
@@ -48,7 +48,7 @@ pub record IsCourse (table : Table) (trace : List ℕ) (course : RunCourse) : Ty
 
 -- as many runs as tables, each of the table at its place
 abbrev pub AreCourses : List Table → List ℕ → List RunCourse → Type 0
-AreCourses tables trace runs = AreOfTables (λ table run. IsCourse table trace run) tables runs
+AreCourses tables trace runs = AreEachOf (λ table run. IsCourse table trace run) tables runs
 
 -- the tables of an input, and what each one's run on its arrivals went through
 pub record AreCoursesOf (input : List ℕ) (tables : List Table)

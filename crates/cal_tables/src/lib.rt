@@ -13,10 +13,15 @@ mod measuring;
 mod sheet;
 mod writing;
 
+pub use comparing::columns::{placed_column, table_at};
 pub use comparing::fault::ComparisonFault;
+pub use comparing::varying::varied_tables;
 pub use comparing::{Comparison, Variation, compare, compared, compared_values};
+pub use core_rows::{CoreLine, core_figure};
 pub use courses::{Courses, RunCourse, TaskCourse, courses_of, courses_of_values, run_course};
-pub use joining::front_of_table;
+pub use figures::{Figure, Rank, Unit, count, number, put_figure, put_heading, share, time_in};
+pub use joining::{front_of_table, table_part};
 pub use laws::{own_value_gives_the_table, text_is_read_back, varied_differs_at_its_key};
 pub use measuring::{RunNumbers, measure, measured_run};
-pub use sheet::NumberForm;
+pub use sheet::{NumberForm, Sheet};
+pub use writing::{Line, request_figure};

@@ -153,7 +153,7 @@ fn figure_of(requests: &TaskRequests, had: u128, turns: u64, line: Line) -> Opti
 }
 
 /// What a row says of a task, which a run may not have, where there is something.
-pub fn figure(numbers: &RunNumbers, task: usize, line: Line) -> Option<Figure> {
+pub fn request_figure(numbers: &RunNumbers, task: usize, line: Line) -> Option<Figure> {
     let requests = numbers.requests.as_slice().get(task)?;
     let cores = numbers.cores.as_slice().get(task)?;
     let had = cores.held.saturating_add(cores.leaving);
@@ -185,7 +185,7 @@ fn line_row(
     let mut row = Vec::new(alloc);
     row.push(label(alloc, line)?)?;
     for task in 0..numbers.requests.len() {
-        let figure = figure(numbers, task, line);
+        let figure = request_figure(numbers, task, line);
         put_figure(alloc, &mut row, figure, unit(line), form)?;
     }
     Ok(row)

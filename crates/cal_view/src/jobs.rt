@@ -7,3 +7,4 @@ pub mod counting;
 pub mod drawing;
 pub mod explaining;
 pub mod recording;
+pub mod sweeping;

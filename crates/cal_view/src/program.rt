@@ -14,6 +14,7 @@ use crate::jobs::comparing::answer_compare;
 use crate::jobs::drawing::answer_picture;
 use crate::jobs::explaining::answer_explain;
 use crate::jobs::recording::record;
+use crate::jobs::sweeping::answer_swept;
 use crate::refusing::{end_refusal, refused_input};
 use crate::timeline::write_timeline;
 use cal_engine::{RunFault, read_input, refuse_words, words_after_first};
@@ -24,8 +25,8 @@ use std::io::{BufWriter, Read, Write};
 use std::rt::Files;
 
 /// Runs the program on its name and the words after it and on an input, and answers its exit
-/// status: 0 is done (help too), 1 is an illegal history explained, 2 is bad arguments or rejected
-/// input, 3 is memory or the writer. The words are read before the input.
+/// status: 0 is done (help too), 1 is an illegal history explained or an objective missed, 2 is bad
+/// arguments or rejected input, 3 is memory or the writer. The words are read before the input.
 ///
 /// The input is what the reader gives, or the files that the words name. The answer goes to
 /// `output`, or to a file where the words name one, and help to `output`; what is wrong with the
@@ -212,8 +213,11 @@ fn answer_job<R: Read + Drop, W: Write, E: Write>(
     output: &mut W,
     errors: &mut E,
 ) -> Result<u8, RunFault> {
-    if let Job::Arrivals { asked } = &request.job {
-        return answer_arrivals(alloc, reader, asked, output, errors);
+    // These two refuse their words before they read.
+    match &request.job {
+        Job::Arrivals { asked } => return answer_arrivals(alloc, reader, asked, output, errors),
+        Job::Sweep { asked } => return answer_swept(alloc, reader, asked, output, errors),
+        _ => {}
     }
     let input = read_input(alloc, &mut reader)?;
     let refused = refused_input(request, input.as_slice());
@@ -261,7 +265,7 @@ fn do_job<W: Write>(
         Job::Measure { form } => measure(alloc, input, *form, &mut buffer)?,
         // (answer_job and answer_read do these)
         Job::Arrivals { .. } | Job::Check | Job::Compare { .. } | Job::Explain { .. } => {}
-        Job::Picture { .. } | Job::Help => {}
+        Job::Picture { .. } | Job::Sweep { .. } | Job::Help => {}
     }
     match buffer.flush() {
         Ok(()) => Ok(()),

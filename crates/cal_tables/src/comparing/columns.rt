@@ -19,15 +19,16 @@ fn column_of(alloc: Global, table: &Config, trace: &[u8]) -> Result<RunNumbers, 
 }
 
 /// The table at a place.
-pub(crate) fn table_at(tables: &[Config], place: usize) -> &Config
+pub fn table_at(tables: &[Config], place: usize) -> &Config
     requires { place < length tables.now }
     ensures { slice_get tables.now place ≡ Some result.now }
 {
     &tables[place]
 }
 
-/// The numbers of a table's run; a fault is that of the table at this place.
-fn placed_column(
+/// The numbers of a table's run on the arrivals that a text tells; a fault is that of the table at
+/// this place. `Memory` may come at any place.
+pub fn placed_column(
     alloc: Global,
     table: &Config,
     place: usize,

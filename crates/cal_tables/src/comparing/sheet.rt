@@ -9,7 +9,7 @@ use crate::core_rows::{
 };
 use crate::figures::{Figure, Unit, number, put_figure, put_heading};
 use crate::sheet::{NumberForm, Sheet};
-use crate::writing::{LINES, Line, figure, label, unit};
+use crate::writing::{LINES, Line, label, request_figure, unit};
 use std::alloc::{AllocError, Global};
 
 /// What a row says of each run.
@@ -49,7 +49,7 @@ impl Row {
     fn figure_in(self, runs: &Comparison, column: usize) -> Option<Figure> {
         let numbers = runs.columns.as_slice().get(column)?;
         match self {
-            Row::Requests(task, line) => figure(numbers, task, line),
+            Row::Requests(task, line) => request_figure(numbers, task, line),
             Row::Cores(task, line) => core_figure(numbers, task, line),
             Row::Machine(line) => {
                 let table = runs.tables.as_slice().get(column)?;

@@ -2,10 +2,12 @@
 
 use crate::command_words::arrival_words::{ArrivalWords, arrival_word, arrival_words};
 use crate::command_words::help_texts;
+use crate::command_words::sweep_words::{sweep_word, sweep_words};
 use crate::jobs::explaining::Asked;
 use crate::jobs::recording::Front;
 use crate::picture::Shown;
 use cal_engine::VERSION;
+use cal_sweep::SweepWords;
 use cal_tables::NumberForm;
 use clap::error::ErrorKind;
 use clap::{Arg, ArgAction, ArgMatches, Command, Error};
@@ -47,6 +49,11 @@ pub enum Job<'a> {
     Arrivals {
         /// Which arrivals.
         asked: ArrivalWords<'a>,
+    },
+    /// Make runs at one load after the other.
+    Sweep {
+        /// Which runs.
+        asked: SweepWords<'a>,
     },
     /// Say what an input is, or why it is refused.
     Check,
@@ -162,7 +169,8 @@ fn program<'a>(alloc: Global) -> Result<Command<'a>, AllocError> {
     let program = program.subcommand(compare_word(alloc)?)?;
     let program = program.subcommand(explain_word(alloc)?)?;
     let program = program.subcommand(check_word(alloc)?)?;
-    program.subcommand(arrival_word(alloc)?)
+    let program = program.subcommand(arrival_word(alloc)?)?;
+    program.subcommand(sweep_word(alloc)?)
 }
 
 /// The program before it has its words.
@@ -307,21 +315,24 @@ pub fn table_word<'a>(alloc: Global) -> Arg<'a> {
         .help("Put the task table and the line --- in front")
 }
 
-fn csv_word<'a>(alloc: Global) -> Arg<'a> {
+/// Whether numbers are written as CSV.
+pub fn csv_word<'a>(alloc: Global) -> Arg<'a> {
     Arg::new(alloc, "csv")
         .long("csv")
         .action(ArgAction::SetTrue)
         .help("Write the numbers as CSV")
 }
 
-fn picture_word<'a>(alloc: Global) -> Arg<'a> {
+/// Whether a picture is drawn.
+pub fn picture_word<'a>(alloc: Global) -> Arg<'a> {
     Arg::new(alloc, "picture")
         .long("picture")
         .action(ArgAction::SetTrue)
         .help("Draw the runs as one SVG, in place of their numbers")
 }
 
-fn vary_word<'a>(alloc: Global) -> Arg<'a> {
+/// A key of the table, and its values.
+pub fn vary_word<'a>(alloc: Global) -> Arg<'a> {
     Arg::new(alloc, "vary")
         .long("vary")
         .action(ArgAction::Set)
@@ -356,6 +367,10 @@ fn asked_job<'a>(
         Some((name, own)) if name == "arrivals" => {
             let asked = arrival_words(alloc, own)?;
             Ok(Ok(Job::Arrivals { asked }))
+        }
+        Some((name, own)) if name == "sweep" => {
+            let asked = sweep_words(alloc, own)?;
+            Ok(Ok(Job::Sweep { asked }))
         }
         _ => Ok(job_of(matches)),
     }
@@ -504,7 +519,7 @@ fn front_of(table: bool) -> Front {
 }
 
 /// What the flag `--csv` asks for.
-fn number_form_of(csv: bool) -> NumberForm {
+pub fn number_form_of(csv: bool) -> NumberForm {
     if csv {
         NumberForm::Csv
     } else {

@@ -11,9 +11,9 @@ answer goes to a file, which is there only once the answer is whole.
 `caladan_view SUBCOMMAND --help` says what is read and written, with a whole
 input to copy; `man caladan-formats` has all of it.
 
-Exit status: 0 done, 1 an illegal history explained, 2 bad arguments or rejected
-input, 3 memory or output was refused. A fault has one line on the standard
-error, and of a rejected input the lines below it say why.";
+Exit status: 0 done, 1 an illegal history explained or an objective missed, 2
+bad arguments or rejected input, 3 memory or output was refused. A fault has one
+line on the standard error, and of a rejected input the lines below it say why.";
 
 /// Of the subcommand `history`.
 pub const HISTORY: &str = help_with_a_run!(
@@ -369,6 +369,37 @@ turn,35
 turn,45
 request,0,2,1,1,0
 end,9"
+);
+
+/// Of the subcommand `sweep`.
+pub const SWEEP: &str = help_with_a_run!(
+    "\
+Input: a task table (TOML); what follows a line --- is not read.
+Output: for each load a row: at which ranks of all requests of the task how many
+clock ticks went by from arrival to answer, their mean, how many came, were
+later or left out, as `arrivals --summary` has them, and were served; its mean
+cores held; and which part of the machine best-effort tasks held. Each run is on
+the arrivals that `arrivals` makes with these words, and its numbers are those
+of `measure`. One task has the loads; each other --task has one.
+With --vary a row for each value, as in `compare`, on arrivals made for the
+table that it gives. With --picture one SVG: ranks over load.
+--slo is an objective for a task: p50, p90, p99, p99.9 or max, in ticks.
+Exit status: 0 done, 1 a run of the last load misses the objective, or nothing
+is answered at its rank, 2 rejected input or a word that it refuses, which is
+named, 3 memory or output was refused.",
+    "caladan_view sweep --load 0.3,0.6 --pattern even --turns 20",
+    "\
+END
+
+It writes, with its last two columns below the others:
+
+load   p50  p90      p99    p99.9     mean  came  later  left out  served
+0.300   30   >0   >0 (6)   >0 (6)  >18.333     6      0         0       5
+0.600   20   30  >0 (12)  >0 (12)  >18.333    12      0         0      11
+
+       mean cores  best-effort share
+            0.421              0.000
+            0.632              0.000"
 );
 
 /// Of the subcommand `check`.
