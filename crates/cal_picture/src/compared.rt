@@ -16,12 +16,12 @@ use crate::compared::style::{dash_of, draw_style};
 use crate::compared::words::{tell_runs, tell_tasks};
 use crate::page::Page;
 use cal_engine::{RunFault, read_input};
-use cal_tables::{ComparisonFault, Courses, Variation, courses_of, courses_of_values};
+use cal_tables::{ComparisonFault, Courses, Labels, Variation, courses_of, courses_of_values};
 use std::alloc::Global;
 use std::io::{Read, Write};
 
 /// Reads an input of tables and arrivals to its end, makes a whole run of each table on one thread,
-/// and draws what came of each task as one SVG that stands alone. With a variation the input has
+/// and draws what came of each task as one SVG that stands alone, under these labels. With a variation the input has
 /// one table, and the runs are those of the tables that it gives. Nothing is written before the
 /// runs were made and the picture is in memory.
 ///
@@ -30,6 +30,7 @@ pub fn draw_comparison<R: Read + Drop, W: Write>(
     alloc: Global,
     mut reader: R,
     variation: Option<Variation<'_>>,
+    labels: Labels<'_>,
     writer: &mut W,
 ) -> Result<(), ComparisonFault>
     // Nothing is written before the runs were made.
@@ -37,7 +38,7 @@ pub fn draw_comparison<R: Read + Drop, W: Write>(
         fault.fault ≢ RunFault.Write → writer.new ≡ writer.old) }
 {
     let input = read_input(alloc, &mut reader)?;
-    let page = drawn(alloc, input.as_slice(), variation)?;
+    let page = drawn(alloc, input.as_slice(), variation, labels)?;
     let text = page.whole()?;
     match writer.write_all(text.as_bytes()) {
         Ok(()) => Ok(()),
@@ -62,9 +63,10 @@ fn drawn(
     alloc: Global,
     input: &[u8],
     variation: Option<Variation<'_>>,
+    labels: Labels<'_>,
 ) -> Result<Page, ComparisonFault> {
     let courses = courses(alloc, input, variation)?;
-    let graphs = Graphs::new(&courses, variation);
+    let graphs = Graphs::new(&courses, variation, labels);
     let mut page = Page::new(alloc);
     draw_frame(&graphs, &mut page);
     draw_style(&graphs, &mut page);
@@ -95,7 +97,11 @@ fn draw_heading(graphs: &Graphs<'_>, page: &mut Page) {
     tell_runs(graphs, page);
     page.put(
         "</text>\n<text x='16' y='50'>Steps: which share of the requests that came to a task was \
-answered within so many clock ticks. What is missing at the right was left.</text>\n\
+answered within so many ",
+    );
+    page.put_escaped(graphs.labels.tick.unwrap_or("clock ticks"));
+    page.put(
+        ". What is missing at the right was left.</text>\n\
 <text class='q' x='16' y='68'>Strips: how many cores its threads held. \
 <tspan class='hint'>Point at steps or at a strip for its numbers.</tspan></text>\n",
     );

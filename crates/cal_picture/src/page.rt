@@ -1,6 +1,7 @@
 //! The text of a picture or of a tooltip, while it is written.
 
 use cal_engine::RunFault;
+use cal_tables::Labels;
 use std::alloc::{AllocError, Global};
 use std::fmt::Write;
 use std::io;
@@ -11,14 +12,26 @@ use std::io;
 pub struct Page {
     text: String,
     refused: bool,
+    /// Whether words that may have any letters in them stand as they are.
+    is_plain: bool,
 }
 
 impl Page {
-    /// An empty page.
+    /// An empty page of a picture.
     pub fn new(alloc: Global) -> Page {
         Page {
             text: String::new(alloc),
             refused: false,
+            is_plain: false,
+        }
+    }
+
+    /// An empty page of words for something else than a picture.
+    pub fn plain(alloc: Global) -> Page {
+        Page {
+            text: String::new(alloc),
+            refused: false,
+            is_plain: true,
         }
     }
 
@@ -29,17 +42,53 @@ impl Page {
         }
     }
 
-    /// Puts words that may have any letters in them, so that they stay words: `&` and `<` have
-    /// their names, and what has no place in a picture is a blank.
+    /// Puts words that may have any letters in them, so that in a picture they stay words: `&` and
+    /// `<` have their names, and what has no place there is a blank.
     pub fn put_escaped(&mut self, words: &str) {
         for letter in words.chars() {
-            match letter {
-                '&' => self.put("&amp;"),
-                '<' => self.put("&lt;"),
-                '>' => self.put("&gt;"),
-                letter if letter < ' ' => self.put(" "),
-                letter => self.put_letter(letter),
+            self.put_any(letter);
+        }
+    }
+
+    /// Puts a letter that may be any.
+    fn put_any(&mut self, letter: char) {
+        match letter {
+            letter if self.is_plain => self.put_letter(letter),
+            '&' => self.put("&amp;"),
+            '<' => self.put("&lt;"),
+            '>' => self.put("&gt;"),
+            letter if letter < ' ' => self.put(" "),
+            letter => self.put_letter(letter),
+        }
+    }
+
+    /// Puts what a task is called.
+    pub fn put_task(&mut self, labels: Labels<'_>, task: usize) {
+        match labels.name(task) {
+            Some(name) => self.put_escaped(name),
+            None => self.fill("task {}", &[task as u64]),
+        }
+    }
+
+    /// Puts the unit of clocks after a number, where it is said.
+    pub fn put_unit(&mut self, labels: Labels<'_>) {
+        if let Some(tick) = labels.tick {
+            self.put(" ");
+            self.put_escaped(tick);
+        }
+    }
+
+    /// Puts what a task is called, in so many letters at most: of a longer name the last three are
+    /// points.
+    pub fn put_task_within(&mut self, labels: Labels<'_>, task: usize, room: usize) {
+        match labels.name(task) {
+            Some(name) if name.chars().count() > room => {
+                for letter in name.chars().take(room.saturating_sub(3)) {
+                    self.put_any(letter);
+                }
+                self.put("...");
             }
+            _ => self.put_task(labels, task),
         }
     }
 

@@ -16,6 +16,7 @@ use crate::comparing::fault::ComparisonFault;
 use crate::comparing::sheet::comparison_sheet;
 use crate::comparing::tables::read_tables;
 use crate::comparing::varying::varied_tables;
+use crate::labels::Labels;
 use crate::measuring::RunNumbers;
 use crate::sheet::NumberForm;
 use cal_engine::{RunFault, read_input, read_parts};
@@ -93,21 +94,23 @@ fn compared_text(
     alloc: Global,
     input: &[u8],
     variation: Option<Variation<'_>>,
+    labels: Labels<'_>,
     form: NumberForm,
 ) -> Result<String, ComparisonFault> {
     let comparison = comparison_of(alloc, input, variation)?;
-    let sheet = comparison_sheet(alloc, variation, &comparison, form)?;
+    let sheet = comparison_sheet(alloc, variation, &comparison, labels, form)?;
     Ok(sheet.written(alloc, form)?)
 }
 
 /// Reads an input of tables and arrivals to its end, makes a whole run of each table on one thread,
-/// and writes the numbers side by side: in columns that line up, or as CSV. With a variation the
-/// input has one table, and the runs are those of the tables that it gives. Nothing is written
+/// and writes the numbers side by side under these labels: in columns that line up, or as CSV. With a
+/// variation the input has one table, and the runs are those of the tables that it gives. Nothing is written
 /// before the runs were made and the text is in memory.
 pub fn compare<R: Read + Drop, W: Write>(
     alloc: Global,
     mut reader: R,
     variation: Option<Variation<'_>>,
+    labels: Labels<'_>,
     form: NumberForm,
     writer: &mut W,
 ) -> Result<(), ComparisonFault>
@@ -116,7 +119,7 @@ pub fn compare<R: Read + Drop, W: Write>(
         fault.fault ≢ RunFault.Write → writer.new ≡ writer.old) }
 {
     let input = read_input(alloc, &mut reader)?;
-    let text = compared_text(alloc, input.as_slice(), variation, form)?;
+    let text = compared_text(alloc, input.as_slice(), variation, labels, form)?;
     match writer.write_all(text.as_bytes()) {
         Ok(()) => Ok(()),
         Err(_) => Err(ComparisonFault::from(RunFault::Write)),

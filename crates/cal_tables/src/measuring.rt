@@ -8,6 +8,7 @@ ghost use Rattle.cal_run.specs.Outcome.{outcome_of};
 ghost use Rattle.cal_trace.specs.Arrivals.FitsTable.{FitsTable};
 ghost use Rattle.cal_tables.specs.Measured.{AreCoresOfTasks, AreNumbersOf, IsMeasuredRun};
 
+use crate::labels::Labels;
 use crate::sheet::NumberForm;
 use crate::writing::sheet_of;
 use cal_engine::{RunFault, read_input, run_input};
@@ -101,21 +102,27 @@ pub fn measured_run(
 }
 
 /// What is written of the run on an input, in memory.
-fn measured_text(alloc: Global, input: &[u8], form: NumberForm) -> Result<String, RunFault> {
+fn measured_text(
+    alloc: Global,
+    input: &[u8],
+    labels: Labels<'_>,
+    form: NumberForm,
+) -> Result<String, RunFault> {
     let (config, arrivals) = run_input(alloc, input)?;
     let numbers = measured_run(alloc, &config, &arrivals)?;
-    let sheet = sheet_of(alloc, &config, &numbers, form)?;
+    let sheet = sheet_of(alloc, &config, &numbers, labels, form)?;
     Ok(sheet.written(alloc, form)?)
 }
 
 /// Reads an input of a task table and arrivals to its end, makes a whole run of them on one thread,
-/// and writes its numbers: in columns that line up, or as CSV. Nothing is written before the run
-/// was made and its text is in memory.
+/// and writes its numbers under these labels: in columns that line up, or as CSV. Nothing is written
+/// before the run was made and its text is in memory.
 ///
 /// The faults are those of the word `lockstep`, in its order.
 pub fn measure<R: Read + Drop, W: Write>(
     alloc: Global,
     mut reader: R,
+    labels: Labels<'_>,
     form: NumberForm,
     writer: &mut W,
 ) -> Result<(), RunFault>
@@ -123,7 +130,7 @@ pub fn measure<R: Read + Drop, W: Write>(
     ensures untouched { IfErr result (λ fault. fault ≢ RunFault.Write → writer.new ≡ writer.old) }
 {
     let input = read_input(alloc, &mut reader)?;
-    let text = measured_text(alloc, input.as_slice(), form)?;
+    let text = measured_text(alloc, input.as_slice(), labels, form)?;
     match writer.write_all(text.as_bytes()) {
         Ok(()) => Ok(()),
         Err(_) => Err(RunFault::Write),

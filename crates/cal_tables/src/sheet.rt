@@ -18,12 +18,17 @@ pub struct Sheet {
     rows: Vec<Vec<String>>,
 }
 
+/// How many letters a cell has.
+fn letters(cell: &str) -> usize {
+    cell.chars().count()
+}
+
 /// The greatest length of a cell in a column.
 fn width(rows: &[Vec<String>], column: usize) -> usize {
     let mut width = 0usize;
     for row in rows {
         if let Some(cell) = row.as_slice().get(column) {
-            width = width.max(cell.len());
+            width = width.max(letters(cell.as_str()));
         }
     }
     width
@@ -44,7 +49,7 @@ fn put_cell(
     column: usize,
     cell: &str,
 ) -> Result<(), AllocError> {
-    let blanks = width(rows, column).saturating_sub(cell.len());
+    let blanks = width(rows, column).saturating_sub(letters(cell));
     if column == 0 {
         text.push_str(cell)?;
         return put_blanks(text, blanks);

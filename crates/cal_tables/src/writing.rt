@@ -10,6 +10,7 @@ use crate::core_rows::{
 use crate::figures::{
     Figure, Rank, Unit, count, put_figure, put_heading, rank_name, ranked, share,
 };
+use crate::labels::Labels;
 use crate::measuring::RunNumbers;
 use crate::sheet::{NumberForm, Sheet};
 use cal_machine::{Config, Kind};
@@ -72,7 +73,7 @@ pub const LINES: [Line; 33] = [
 ];
 
 /// What stands in front of a row.
-pub fn label(alloc: Global, line: Line) -> Result<String, AllocError> {
+pub fn label(alloc: Global, labels: Labels<'_>, line: Line) -> Result<String, AllocError> {
     let name = match line {
         Line::Response(rank) => return format!(in alloc; "response {}", rank_name(rank)),
         Line::Wait(rank) => return format!(in alloc; "wait {}", rank_name(rank)),
@@ -81,7 +82,7 @@ pub fn label(alloc: Global, line: Line) -> Result<String, AllocError> {
         Line::Given => "requests given",
         Line::Served => "requests served",
         Line::Left => "requests left",
-        Line::ServedInATick => "served in a tick",
+        Line::ServedInATick => return format!(in alloc; "served in a {}", labels.tick()),
         Line::MeanResponse => "response mean",
         Line::OldestPending => "oldest pending",
         Line::Thefts => "thefts",
@@ -160,8 +161,21 @@ pub fn request_figure(numbers: &RunNumbers, task: usize, line: Line) -> Option<F
     figure_of(requests, had, numbers.turns, line)
 }
 
+/// What a task is called.
+pub fn task_name(alloc: Global, labels: Labels<'_>, task: usize) -> Result<String, AllocError> {
+    match labels.name(task) {
+        Some(name) => String::from_str(alloc, name),
+        None => format!(in alloc; "task {task}"),
+    }
+}
+
 /// The first row: the tasks, each with its kind.
-fn heading(alloc: Global, config: &Config, form: NumberForm) -> Result<Vec<String>, AllocError> {
+fn heading(
+    alloc: Global,
+    config: &Config,
+    labels: Labels<'_>,
+    form: NumberForm,
+) -> Result<Vec<String>, AllocError> {
     let mut row = Vec::new(alloc);
     row.push(String::from_str(alloc, "measure")?)?;
     for task in 0..config.tasks() {
@@ -169,7 +183,8 @@ fn heading(alloc: Global, config: &Config, form: NumberForm) -> Result<Vec<Strin
             Kind::LatencyCritical => "lc",
             Kind::BestEffort => "be",
         };
-        let name = format!(in alloc; "task {task} {kind}")?;
+        let name = task_name(alloc, labels, task)?;
+        let name = format!(in alloc; "{} {kind}", name.as_str())?;
         put_heading(alloc, &mut row, name, form)?;
     }
     Ok(row)
@@ -179,11 +194,12 @@ fn heading(alloc: Global, config: &Config, form: NumberForm) -> Result<Vec<Strin
 fn line_row(
     alloc: Global,
     numbers: &RunNumbers,
+    labels: Labels<'_>,
     line: Line,
     form: NumberForm,
 ) -> Result<Vec<String>, AllocError> {
     let mut row = Vec::new(alloc);
-    row.push(label(alloc, line)?)?;
+    row.push(label(alloc, labels, line)?)?;
     for task in 0..numbers.requests.len() {
         let figure = request_figure(numbers, task, line);
         put_figure(alloc, &mut row, figure, unit(line), form)?;
@@ -244,12 +260,13 @@ pub fn sheet_of(
     alloc: Global,
     config: &Config,
     numbers: &RunNumbers,
+    labels: Labels<'_>,
     form: NumberForm,
 ) -> Result<Sheet, AllocError> {
     let mut sheet = Sheet::new(alloc);
-    sheet.put(heading(alloc, config, form)?)?;
+    sheet.put(heading(alloc, config, labels, form)?)?;
     for line in LINES {
-        sheet.put(line_row(alloc, numbers, line, form)?)?;
+        sheet.put(line_row(alloc, numbers, labels, line, form)?)?;
     }
     put_core_rows(alloc, &mut sheet, numbers, config.machine().cores(), form)?;
     Ok(sheet)

@@ -31,6 +31,7 @@ use crate::story::window::{Columns, Window};
 use cal_engine::{RunFault, recorded_passes};
 use cal_machine::Config;
 use cal_picture::Page;
+use cal_tables::Labels;
 use std::alloc::Global;
 use std::io::Write;
 
@@ -62,8 +63,8 @@ pub struct Shown {
     pub task: Option<usize>,
 }
 
-/// Draws what is to be shown of the history of an input as one SVG that stands alone. It takes any
-/// history; of one that is not orderly it draws what fits and passes over the rest. It keeps only
+/// Draws what is to be shown of the history of an input as one SVG that stands alone, under these
+/// labels. It takes any history; of one that is not orderly it draws what fits and passes over the rest. It keeps only
 /// what shows, and writes nothing of an input that is refused. Of a history without passes it says
 /// that, where `from` is 0.
 ///
@@ -73,6 +74,7 @@ pub fn draw_picture<W: Write>(
     alloc: Global,
     input: &[u8],
     shown: Shown,
+    labels: Labels<'_>,
     writer: &mut W,
 ) -> Result<Drawn, RunFault> {
     let count = count_passes(alloc, input)?;
@@ -93,6 +95,7 @@ pub fn draw_picture<W: Write>(
         config: &config,
         window,
         only: shown.task,
+        labels,
         story: &story,
         columns: &columns,
         layout: &layout,

@@ -13,13 +13,14 @@ use crate::jobs::checking::answer_check;
 use crate::jobs::comparing::answer_compare;
 use crate::jobs::drawing::answer_picture;
 use crate::jobs::explaining::answer_explain;
+use crate::jobs::naming::{names_of, refuse_count, refuse_words_of_labels};
 use crate::jobs::recording::record;
 use crate::jobs::sweeping::answer_swept;
 use crate::refusing::{end_refusal, refused_input};
 use crate::timeline::write_timeline;
 use cal_engine::{RunFault, read_input, refuse_words, words_after_first};
 use cal_refusals::RefusedInput;
-use cal_tables::measure;
+use cal_tables::{Labels, measure};
 use std::alloc::Global;
 use std::io::{BufWriter, Read, Write};
 use std::rt::Files;
@@ -121,6 +122,9 @@ fn answer_request<'a, H: Files, R: Read + Drop, W: Write, E: Write>(
     output: &mut Noted<W>,
     errors: &mut E,
 ) -> Result<u8, Failure<'a>> {
+    if let Some(status) = refuse_words_of_labels(request.labels, errors) {
+        return Ok(status);
+    }
     let tables = read_tables(rt, alloc, request.tables.as_slice())?;
     let front = tables.as_slice();
     let Some(name) = request.input else {
@@ -219,30 +223,42 @@ fn answer_job<R: Read + Drop, W: Write, E: Write>(
         Job::Sweep { asked } => return answer_swept(alloc, reader, asked, output, errors),
         _ => {}
     }
+    let names = names_of(alloc, request.labels)?;
+    let labels = Labels {
+        names: names.as_slice(),
+        tick: request.labels.tick,
+    };
     let input = read_input(alloc, &mut reader)?;
     let refused = refused_input(request, input.as_slice());
-    match answer_read(alloc, &request.job, refused, output, errors) {
+    match answer_read(alloc, &request.job, labels, refused, output, errors) {
         Ok(status) => Ok(status),
         Err(fault) => end_refusal(alloc, refused, fault, errors),
     }
 }
 
-/// Does a job on an input that was read, and answers the exit status where there is no fault.
+/// Does a job on an input that was read, and answers the exit status where there is no fault: 2
+/// where there are more or fewer names than tasks.
 fn answer_read<W: Write, E: Write>(
     alloc: Global,
     job: &Job<'_>,
+    labels: Labels<'_>,
     read: RefusedInput<'_>,
     output: &mut W,
     errors: &mut E,
 ) -> Result<u8, RunFault> {
     let input = read.input;
+    if let Some(status) = refuse_count(alloc, labels, input, errors)? {
+        return Ok(status);
+    }
     match job {
         Job::Check => answer_check(alloc, input, output),
         Job::Explain { asked } => answer_explain(alloc, input, *asked, output, errors),
-        Job::Compare { vary, form } => answer_compare(alloc, read, *vary, *form, output, errors),
-        Job::Picture { shown } => answer_picture(alloc, input, *shown, output, errors),
+        Job::Compare { vary, form } => {
+            answer_compare(alloc, read, *vary, labels, *form, output, errors)
+        }
+        Job::Picture { shown } => answer_picture(alloc, input, *shown, labels, output, errors),
         job => {
-            do_job(alloc, job, input, output)?;
+            do_job(alloc, job, labels, input, output)?;
             Ok(0)
         }
     }
@@ -252,6 +268,7 @@ fn answer_read<W: Write, E: Write>(
 fn do_job<W: Write>(
     alloc: Global,
     job: &Job<'_>,
+    labels: Labels<'_>,
     input: &[u8],
     output: &mut W,
 ) -> Result<(), RunFault> {
@@ -261,8 +278,8 @@ fn do_job<W: Write>(
     };
     match job {
         Job::History { front } => record(alloc, input, *front, &mut buffer)?,
-        Job::Timeline => write_timeline(alloc, input, &mut buffer)?,
-        Job::Measure { form } => measure(alloc, input, *form, &mut buffer)?,
+        Job::Timeline => write_timeline(alloc, input, labels, &mut buffer)?,
+        Job::Measure { form } => measure(alloc, input, labels, *form, &mut buffer)?,
         // (answer_job and answer_read do these)
         Job::Arrivals { .. } | Job::Check | Job::Compare { .. } | Job::Explain { .. } => {}
         Job::Picture { .. } | Job::Sweep { .. } | Job::Help => {}

@@ -21,11 +21,12 @@ use cal_engine::{RunFault, recorded_passes};
 use cal_machine::Config;
 use cal_picture::Page;
 use cal_policy::{Action, PassEntry};
+use cal_tables::Labels;
 use cal_trace::HistoryRows;
 use std::alloc::Global;
 use std::io::Write;
 
-/// Writes the history of an input as trace events. It takes any history. It keeps no pass, and
+/// Writes the history of an input as trace events, under these labels. It takes any history. It keeps no pass, and
 /// writes nothing of an input that is refused.
 ///
 /// The faults come in this order: `Separator`, `Config`, `Trace`, `Write`; `Memory` may come at any
@@ -33,12 +34,13 @@ use std::io::Write;
 pub fn write_timeline<W: Write>(
     alloc: Global,
     input: &[u8],
+    labels: Labels<'_>,
     writer: &mut W,
 ) -> Result<(), RunFault> {
     // To its end, so that a fault of the input comes before anything is written.
     count_passes(alloc, input)?;
     let (config, history) = recorded_passes(alloc, input)?;
-    let mut events = Events::new(alloc);
+    let mut events = Events::new(alloc, labels);
     let opening = "{\"displayTimeUnit\":\"ns\",\"traceEvents\":[";
     events.page.put(opening);
     put_names(&config, &mut events);
@@ -48,7 +50,7 @@ pub fn write_timeline<W: Write>(
 }
 
 /// The names of the groups and of the tracks of cores.
-fn put_names(config: &Config, events: &mut Events) {
+fn put_names(config: &Config, events: &mut Events<'_>) {
     put_name("process_name", CORES, 0, "cores", events);
     put_name("process_name", BANS, 0, "banned cores", events);
     put_name("process_name", COUNTERS, 0, "tasks and bandwidth", events);
@@ -58,8 +60,8 @@ fn put_names(config: &Config, events: &mut Events) {
 }
 
 /// The name of a core's two tracks.
-fn put_core_name(core: u64, events: &mut Events) {
-    let mut page = Page::new(events.alloc);
+fn put_core_name(core: u64, events: &mut Events<'_>) {
+    let mut page = Page::plain(events.alloc);
     page.fill("core {}", &[core]);
     match page.whole() {
         Ok(name) => {
@@ -70,7 +72,7 @@ fn put_core_name(core: u64, events: &mut Events) {
     }
 }
 
-fn put_name(kind: &str, pid: u64, tid: u64, name: &str, events: &mut Events) {
+fn put_name(kind: &str, pid: u64, tid: u64, name: &str, events: &mut Events<'_>) {
     events.put(&Named {
         name: kind,
         ph: "M",
@@ -85,7 +87,7 @@ fn put_name(kind: &str, pid: u64, tid: u64, name: &str, events: &mut Events) {
 fn put_passes<W: Write>(
     config: &Config,
     mut history: HistoryRows<'_>,
-    events: &mut Events,
+    events: &mut Events<'_>,
     writer: &mut W,
 ) -> Result<(), RunFault>
     requires { IsOpen history }
@@ -124,7 +126,7 @@ impl Told {
     }
 
     /// Goes on by one pass, and puts what it changes and ends.
-    fn pass(&mut self, config: &Config, entry: &PassEntry, events: &mut Events)
+    fn pass(&mut self, config: &Config, entry: &PassEntry, events: &mut Events<'_>)
         requires ready { IsWalkOf config.now self.old.walk }
         ensures ready { IsWalkOf config.now self.new.walk }
     {
@@ -139,7 +141,7 @@ impl Told {
     }
 
     /// What the actions of a pass end.
-    fn note(&mut self, config: &Config, actions: &[Action], events: &mut Events)
+    fn note(&mut self, config: &Config, actions: &[Action], events: &mut Events<'_>)
         requires ready { IsWalkOf config.now self.old.walk }
         ensures ready { IsWalkOf config.now self.new.walk }
     {
@@ -150,7 +152,7 @@ impl Told {
     }
 
     /// What goes on after the last pass.
-    fn rest(&self, config: &Config, events: &mut Events) {
+    fn rest(&self, config: &Config, events: &mut Events<'_>) {
         for core in 0..config.machine().cores() {
             put_ended(config, self.now, self.walk.open(core), events);
         }

@@ -3,7 +3,7 @@
 use crate::page::Page;
 use crate::scale::{ClockScale, ShareScale, TimeScale};
 use cal_machine::Kind;
-use cal_tables::{Courses, RunCourse, TaskCourse, Variation};
+use cal_tables::{Courses, Labels, RunCourse, TaskCourse, Variation};
 
 /// Where the plots begin; names stand at their left.
 pub const LEFT: u64 = 176;
@@ -39,6 +39,7 @@ const LEGEND: u64 = 96;
 pub struct Graphs<'a> {
     pub courses: &'a Courses,
     pub variation: Option<Variation<'a>>,
+    pub labels: Labels<'a>,
     pub times: TimeScale,
     pub shares: ShareScale,
     pub clocks: ClockScale,
@@ -132,11 +133,16 @@ fn most_tasks(runs: &[RunCourse]) -> usize {
 
 impl<'a> Graphs<'a> {
     /// All that is drawn of some runs.
-    pub fn new(courses: &'a Courses, variation: Option<Variation<'a>>) -> Graphs<'a> {
+    pub fn new(
+        courses: &'a Courses,
+        variation: Option<Variation<'a>>,
+        labels: Labels<'a>,
+    ) -> Graphs<'a> {
         let runs = courses.runs.as_slice();
         Graphs {
             courses,
             variation,
+            labels,
             times: times_of(runs),
             shares: shares_of(runs),
             clocks: clocks_of(runs),

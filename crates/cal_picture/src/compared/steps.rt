@@ -6,6 +6,9 @@ use crate::compared::words::tell_task;
 use crate::page::Page;
 use cal_tables::TaskCourse;
 
+/// How many letters of a task's name there is room for.
+const NAME: usize = 13;
+
 /// Writes the name of a task, and its plot where requests came to it.
 pub fn draw_plot(graphs: &Graphs<'_>, task: usize, page: &mut Page) {
     draw_name(graphs, task, page);
@@ -23,15 +26,12 @@ pub fn draw_plot(graphs: &Graphs<'_>, task: usize, page: &mut Page) {
 fn draw_name(graphs: &Graphs<'_>, task: usize, page: &mut Page) {
     let top = graphs.top(task);
     let first = top.saturating_add(10);
-    page.fill(
-        "<text class='b' x='16' y='{}'>task {} ",
-        &[first, task as u64],
-    );
-    page.put(graphs.kind_word(task));
-    page.put("</text>");
+    page.fill("<text class='b' x='16' y='{}'>", &[first]);
+    page.put_task_within(graphs.labels, task, NAME);
+    page.join(" {}</text>", &[graphs.kind_word(task)]);
     if graphs.has_requests(task) {
         draw_line(top.saturating_add(26), "requests answered", page);
-        draw_line(top.saturating_add(39), "within so many ticks;", page);
+        draw_within(graphs, top.saturating_add(39), page);
         draw_line(top.saturating_add(52), "pending ones by", page);
         draw_line(top.saturating_add(65), "powers of ten", page);
     } else {
@@ -44,6 +44,13 @@ fn draw_name(graphs: &Graphs<'_>, task: usize, page: &mut Page) {
 fn draw_line(y: u64, words: &str, page: &mut Page) {
     page.fill("<text class='q' x='16' y='{}'>", &[y]);
     page.join("{}</text>", &[words]);
+}
+
+/// The line of what the times of a plot are.
+fn draw_within(graphs: &Graphs<'_>, y: u64, page: &mut Page) {
+    page.fill("<text class='q' x='16' y='{}'>within so many ", &[y]);
+    page.put_escaped(graphs.labels.ticks());
+    page.put(";</text>");
 }
 
 /// The lines of the shares.
@@ -85,7 +92,9 @@ fn draw_ticks(graphs: &Graphs<'_>, task: usize, page: &mut Page) {
         draw_decade(graphs, base, exponent, page);
     }
     let (x, y) = (RIGHT + 40, base.saturating_add(14));
-    page.fill("</g><text class='q' x='{}' y='{}'>ticks</text>\n", &[x, y]);
+    page.fill("</g><text class='q' x='{}' y='{}'>", &[x, y]);
+    page.put_escaped(graphs.labels.ticks());
+    page.put("</text>\n");
 }
 
 /// The ticks of a power of ten. All have numbers where there is room for them.

@@ -36,10 +36,16 @@ fn most_in_all(graphs: &Graphs<'_>, task: usize) -> u64 {
 fn draw_clocks(graphs: &Graphs<'_>, task: usize, page: &mut Page) {
     let y = graphs.strip(task, graphs.runs()).saturating_add(9);
     page.fill(
-        "<text class='q' x='{}' y='{}'>clock {}</text>\
-<text class='q e' x='{}' y='{}'>{}</text>\n",
-        &[LEFT, y, graphs.clocks.from, RIGHT, y, graphs.clocks.to],
+        "<text class='q' x='{}' y='{}'>clock {}",
+        &[LEFT, y, graphs.clocks.from],
     );
+    page.put_unit(graphs.labels);
+    page.fill(
+        "</text><text class='q e' x='{}' y='{}'>{}",
+        &[RIGHT, y, graphs.clocks.to],
+    );
+    page.put_unit(graphs.labels);
+    page.put("</text>\n");
 }
 
 /// The strip of a run: its name, its ground, and where the run has the task what it held.

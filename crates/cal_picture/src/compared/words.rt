@@ -23,11 +23,14 @@ pub fn tell_runs(graphs: &Graphs<'_>, page: &mut Page) {
 }
 
 /// How soon a task's requests were answered.
-fn tell_requests(requests: &TaskRequests, page: &mut Page) {
+fn tell_requests(graphs: &Graphs<'_>, requests: &TaskRequests, page: &mut Page) {
     let (served, given) = (requests.served as u64, requests.given as u64);
     page.fill("{} of {} requests answered", &[served, given]);
     match requests.response.median {
-        Some(Time::Known(median)) => page.fill(", half of all within {} ticks", &[median]),
+        Some(Time::Known(median)) => {
+            page.fill(", half of all within {} ", &[median]);
+            page.put_escaped(graphs.labels.ticks());
+        }
         _ => {}
     }
     match requests.response.greatest {
@@ -47,12 +50,13 @@ fn tell_pending(requests: &TaskRequests, page: &mut Page) {
 
 /// What came of a task in a run.
 pub fn tell_task(graphs: &Graphs<'_>, task: usize, run: usize, page: &mut Page) {
-    page.fill("task {}, ", &[task as u64]);
+    page.put_task(graphs.labels, task);
+    page.put(", ");
     graphs.tell_name(run, page);
     page.put(": ");
     match graphs.course(run, task) {
         Some(course) => {
-            tell_requests(&course.requests, page);
+            tell_requests(graphs, &course.requests, page);
             let most = most_held(course);
             page.fill("; at most {} core", &[most]);
             page.put(if most == 1 { " held" } else { "s held" });

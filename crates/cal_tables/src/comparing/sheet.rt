@@ -8,8 +8,9 @@ use crate::core_rows::{
     machine_figure, machine_label, machine_unit,
 };
 use crate::figures::{Figure, Unit, number, put_figure, put_heading};
+use crate::labels::Labels;
 use crate::sheet::{NumberForm, Sheet};
-use crate::writing::{LINES, Line, label, request_figure, unit};
+use crate::writing::{LINES, Line, label, request_figure, task_name, unit};
 use std::alloc::{AllocError, Global};
 
 /// What a row says of each run.
@@ -25,13 +26,13 @@ enum Row {
 
 impl Row {
     /// What stands in front of it.
-    fn label(self, alloc: Global) -> Result<String, AllocError> {
+    fn label(self, alloc: Global, labels: Labels<'_>) -> Result<String, AllocError> {
         match self {
             Row::Requests(task, line) => {
-                let of_task = label(alloc, line)?;
-                format!(in alloc; "task {task} {}", of_task.as_str())
+                let of_task = label(alloc, labels, line)?;
+                label_of_task(alloc, labels, task, of_task.as_str())
             }
-            Row::Cores(task, line) => format!(in alloc; "task {task} {}", core_label(line)),
+            Row::Cores(task, line) => label_of_task(alloc, labels, task, core_label(line)),
             Row::Machine(line) => String::from_str(alloc, machine_label(line)),
         }
     }
@@ -57,6 +58,17 @@ impl Row {
             }
         }
     }
+}
+
+/// What stands in front of a row of a task.
+fn label_of_task(
+    alloc: Global,
+    labels: Labels<'_>,
+    task: usize,
+    line: &str,
+) -> Result<String, AllocError> {
+    let name = task_name(alloc, labels, task)?;
+    format!(in alloc; "{} {line}", name.as_str())
 }
 
 /// What stands over the rows' names.
@@ -132,13 +144,14 @@ fn known_in(alloc: Global, runs: &Comparison, row: Row) -> Result<Vec<Option<u64
 fn cells_of(
     alloc: Global,
     runs: &Comparison,
+    labels: Labels<'_>,
     row: Row,
     form: NumberForm,
 ) -> Result<Vec<String>, AllocError> {
     let known = known_in(alloc, runs, row)?;
     let changes = changes_of(alloc, known.as_slice())?;
     let mut cells = Vec::new(alloc);
-    cells.push(row.label(alloc)?)?;
+    cells.push(row.label(alloc, labels)?)?;
     for column in 0..changes.len() {
         let figure = row.figure_in(runs, column);
         put_figure(alloc, &mut cells, figure, row.unit(), form)?;
@@ -163,11 +176,12 @@ fn put_requests(
     alloc: Global,
     sheet: &mut Sheet,
     runs: &Comparison,
+    labels: Labels<'_>,
     task: usize,
     form: NumberForm,
 ) -> Result<(), AllocError> {
     for line in LINES {
-        sheet.put(cells_of(alloc, runs, Row::Requests(task, line), form)?)?;
+        sheet.put(cells_of(alloc, runs, labels, Row::Requests(task, line), form)?)?;
     }
     Ok(())
 }
@@ -177,11 +191,12 @@ fn put_cores(
     alloc: Global,
     sheet: &mut Sheet,
     runs: &Comparison,
+    labels: Labels<'_>,
     task: usize,
     form: NumberForm,
 ) -> Result<(), AllocError> {
     for line in CORE_LINES {
-        sheet.put(cells_of(alloc, runs, Row::Cores(task, line), form)?)?;
+        sheet.put(cells_of(alloc, runs, labels, Row::Cores(task, line), form)?)?;
     }
     Ok(())
 }
@@ -191,10 +206,11 @@ fn put_machine(
     alloc: Global,
     sheet: &mut Sheet,
     runs: &Comparison,
+    labels: Labels<'_>,
     form: NumberForm,
 ) -> Result<(), AllocError> {
     for line in MACHINE_LINES {
-        sheet.put(cells_of(alloc, runs, Row::Machine(line), form)?)?;
+        sheet.put(cells_of(alloc, runs, labels, Row::Machine(line), form)?)?;
     }
     Ok(())
 }
@@ -205,14 +221,15 @@ pub fn comparison_sheet(
     alloc: Global,
     variation: Option<Variation<'_>>,
     runs: &Comparison,
+    labels: Labels<'_>,
     form: NumberForm,
 ) -> Result<Sheet, AllocError> {
     let mut sheet = Sheet::new(alloc);
     sheet.put(heading_row(alloc, variation, runs.columns.len(), form)?)?;
     for task in 0..most_tasks(runs) {
-        put_requests(alloc, &mut sheet, runs, task, form)?;
-        put_cores(alloc, &mut sheet, runs, task, form)?;
+        put_requests(alloc, &mut sheet, runs, labels, task, form)?;
+        put_cores(alloc, &mut sheet, runs, labels, task, form)?;
     }
-    put_machine(alloc, &mut sheet, runs, form)?;
+    put_machine(alloc, &mut sheet, runs, labels, form)?;
     Ok(sheet)
 }

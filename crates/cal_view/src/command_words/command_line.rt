@@ -4,6 +4,7 @@ use crate::command_words::arrival_words::{ArrivalWords, arrival_word, arrival_wo
 use crate::command_words::help_texts;
 use crate::command_words::sweep_words::{sweep_word, sweep_words};
 use crate::jobs::explaining::Asked;
+use crate::jobs::naming::LabelWords;
 use crate::jobs::recording::Front;
 use crate::picture::Shown;
 use cal_engine::VERSION;
@@ -75,6 +76,8 @@ pub enum Form {
 pub struct Request<'a> {
     /// The job.
     pub job: Job<'a>,
+    /// What tasks and clock ticks are to be called.
+    pub labels: LabelWords<'a>,
     /// The files of task tables that stand in front of the input.
     pub tables: Vec<&'a str>,
     /// The file of the input, or of what comes after the tables; without it the standard input.
@@ -104,6 +107,7 @@ pub fn words<'a>(alloc: Global, words: &'a [&'a str]) -> Result<Request<'a>, Err
     let tables = tables_of(alloc, &matches, places.has_tables)?;
     Ok(Request {
         job,
+        labels: labels_of(&matches),
         tables,
         input: places.input,
         output: places.output,
@@ -208,6 +212,8 @@ fn drawn_word<'a>(alloc: Global) -> Result<Command<'a>, AllocError> {
         .arg(from_word(alloc))?
         .arg(passes_word(alloc))?
         .arg(number_word(alloc, "task", "TASK", "Draw this task alone"))?
+        .arg(names_word(alloc))?
+        .arg(tick_word(alloc))?
         .arg(output_word(alloc))
 }
 
@@ -216,6 +222,8 @@ fn timeline_word<'a>(alloc: Global) -> Result<Command<'a>, AllocError> {
         .about("Write a history as trace events, for Perfetto and chrome://tracing")
         .after_long_help(help_texts::TIMELINE)
         .arg(input_word(alloc))?
+        .arg(names_word(alloc))?
+        .arg(tick_word(alloc))?
         .arg(output_word(alloc))
 }
 
@@ -225,6 +233,8 @@ fn measure_word<'a>(alloc: Global) -> Result<Command<'a>, AllocError> {
         .after_long_help(help_texts::MEASURE)
         .arg(input_word(alloc))?
         .arg(csv_word(alloc))?
+        .arg(names_word(alloc))?
+        .arg(tick_word(alloc))?
         .arg(output_word(alloc))
 }
 
@@ -270,7 +280,25 @@ fn compare_word<'a>(alloc: Global) -> Result<Command<'a>, AllocError> {
         .arg(vary_word(alloc))?
         .arg(csv_word(alloc))?
         .arg(picture_word(alloc))?
+        .arg(names_word(alloc))?
+        .arg(tick_word(alloc))?
         .arg(output_word(alloc))
+}
+
+fn names_word<'a>(alloc: Global) -> Arg<'a> {
+    Arg::new(alloc, "names")
+        .long("names")
+        .action(ArgAction::Set)
+        .value_name("NAME,..")
+        .help("What the tasks are called, in their order")
+}
+
+fn tick_word<'a>(alloc: Global) -> Arg<'a> {
+    Arg::new(alloc, "tick")
+        .long("tick")
+        .action(ArgAction::Set)
+        .value_name("UNIT")
+        .help("What a clock tick is, as ns")
 }
 
 /// The file of the input.
@@ -448,6 +476,20 @@ fn compared_places<'a>(own: &ArgMatches<'a>) -> Result<Places<'a>, Mistake> {
         input,
         output: own.get_str("output"),
     })
+}
+
+/// What a parsed command line calls tasks and clock ticks.
+fn labels_of<'a>(matches: &ArgMatches<'a>) -> LabelWords<'a> {
+    match matches.subcommand() {
+        Some((_, own)) => LabelWords {
+            names: own.get_str("names"),
+            tick: own.get_str("tick"),
+        },
+        None => LabelWords {
+            names: None,
+            tick: None,
+        },
+    }
 }
 
 /// How many files stand after `compare` without an option.

@@ -6,7 +6,7 @@ use crate::fault::{end_comparison, explain_comparison};
 use cal_engine::RunFault;
 use cal_picture::draw_comparison;
 use cal_refusals::RefusedInput;
-use cal_tables::{ComparisonFault, Variation, compare};
+use cal_tables::{ComparisonFault, Labels, Variation, compare};
 use std::alloc::Global;
 use std::io::{BufWriter, Write};
 
@@ -16,12 +16,13 @@ pub fn answer_compare<W: Write, E: Write>(
     alloc: Global,
     read: RefusedInput<'_>,
     vary: Option<&str>,
+    labels: Labels<'_>,
     form: Form,
     output: &mut W,
     errors: &mut E,
 ) -> Result<u8, RunFault> {
     let Some(vary) = vary else {
-        return answer_comparison(alloc, read, None, form, output, errors);
+        return answer_comparison(alloc, read, None, labels, form, output, errors);
     };
     let values = values_of(alloc, vary)?;
     let key = key_of(vary);
@@ -29,7 +30,7 @@ pub fn answer_compare<W: Write, E: Write>(
         key,
         values: values.as_slice(),
     };
-    answer_comparison(alloc, read, Some(variation), form, output, errors)
+    answer_comparison(alloc, read, Some(variation), labels, form, output, errors)
 }
 
 /// Compares the runs of an input, and answers the exit status: its faults name the table or the
@@ -38,11 +39,12 @@ fn answer_comparison<W: Write, E: Write>(
     alloc: Global,
     read: RefusedInput<'_>,
     variation: Option<Variation<'_>>,
+    labels: Labels<'_>,
     form: Form,
     output: &mut W,
     errors: &mut E,
 ) -> Result<u8, RunFault> {
-    match write_comparison(alloc, read.input, variation, form, output) {
+    match write_comparison(alloc, read.input, variation, labels, form, output) {
         Ok(()) => Ok(0),
         Err(fault) => {
             let status = end_comparison(&fault, variation, errors)?;
@@ -57,6 +59,7 @@ fn write_comparison<W: Write>(
     alloc: Global,
     input: &[u8],
     variation: Option<Variation<'_>>,
+    labels: Labels<'_>,
     form: Form,
     output: &mut W,
 ) -> Result<(), ComparisonFault> {
@@ -65,8 +68,8 @@ fn write_comparison<W: Write>(
         Err(_) => return Err(ComparisonFault::from(RunFault::Memory)),
     };
     match form {
-        Form::Numbers(form) => compare(alloc, input, variation, form, &mut buffer)?,
-        Form::Picture => draw_comparison(alloc, input, variation, &mut buffer)?,
+        Form::Numbers(form) => compare(alloc, input, variation, labels, form, &mut buffer)?,
+        Form::Picture => draw_comparison(alloc, input, variation, labels, &mut buffer)?,
     }
     match buffer.flush() {
         Ok(()) => Ok(()),

@@ -3,6 +3,7 @@
 use crate::fault::{end_without_pass, end_without_task};
 use crate::picture::{Drawn, Shown, draw_picture};
 use cal_engine::RunFault;
+use cal_tables::Labels;
 use std::alloc::Global;
 use std::io::{BufWriter, Write};
 
@@ -12,6 +13,7 @@ pub fn answer_picture<W: Write, E: Write>(
     alloc: Global,
     input: &[u8],
     shown: Shown,
+    labels: Labels<'_>,
     output: &mut W,
     errors: &mut E,
 ) -> Result<u8, RunFault> {
@@ -19,7 +21,7 @@ pub fn answer_picture<W: Write, E: Write>(
         Ok(buffer) => buffer,
         Err(_) => return Err(RunFault::Memory),
     };
-    match draw_picture(alloc, input, shown, &mut buffer)? {
+    match draw_picture(alloc, input, shown, labels, &mut buffer)? {
         Drawn::Done => {}
         Drawn::NoPass { passes } => {
             return Ok(end_without_pass(shown.from.unwrap_or(0), passes, errors));

@@ -62,16 +62,13 @@ fn scale_of(sheet: &Sheet<'_>) -> Scale {
 /// first one shown.
 pub fn draw_axis(sheet: &Sheet<'_>, y: u64, page: &mut Page) {
     let scale = scale_of(sheet);
-    let words = if scale.far {
-        "clock, from the first"
-    } else {
-        "clock"
-    };
+    let words = if scale.far { ", from the first" } else { "" };
     let below = y.saturating_add(14);
     page.fill(
-        "<text class='b' x='16' y='{}'>pass</text><text class='q' x='16' y='{}'>",
+        "<text class='b' x='16' y='{}'>pass</text><text class='q' x='16' y='{}'>clock",
         &[y, below],
     );
+    page.put_unit(sheet.labels);
     page.join("{}</text><g class='m'>\n", &[words]);
     draw_pass_numbers(sheet, y, scale, page);
     page.put("</g>\n");

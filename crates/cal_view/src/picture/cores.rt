@@ -82,7 +82,10 @@ fn draw_idle(sheet: &Sheet<'_>, from: u8, to: u8, top: u64, page: &mut Page) {
         &[x, y, count as u64],
     );
     match sheet.only {
-        Some(task) => page.fill("without task {}", &[task as u64]),
+        Some(task) => {
+            page.put("without ");
+            page.put_task(sheet.labels, task);
+        }
         None => page.put("free"),
     }
     page.put(" in all passes shown</text>\n");
@@ -172,7 +175,7 @@ fn draw_span(sheet: &Sheet<'_>, clocked: &ClockedSpan, page: &mut Page) {
         Some(task) => page.fill("<g class='t{}'><title>", &[task as u64]),
         None => page.put("<g><title>"),
     }
-    tell_span(sheet.config, clocked, page);
+    tell_span(sheet.config, sheet.labels, clocked, page);
     page.put("</title>");
     draw_bars(sheet, span, x, middle, end, page);
     draw_thread(sheet, span, x, middle, page);
@@ -246,21 +249,27 @@ fn draw_revocation(sheet: &Sheet<'_>, left: Left, x: u64, end: u64, top: u64, pa
                 );
             }
         }
-        Cause::Preempt { task } => draw_preemption(task as u64, x, y, word, foot, room, page),
+        Cause::Preempt { task } => {
+            let task = task as usize;
+            page.fill(
+                "<use href='#q{}' x='{}' y='{}'/>",
+                &[task as u64, x.saturating_add(2), y],
+            );
+            draw_taker(sheet, task, word, foot, room, page)
+        }
     }
 }
 
-/// The diamond of the task that a core is left for, and its number if there is room.
-fn draw_preemption(task: u64, x: u64, y: u64, word: u64, foot: u64, room: u64, page: &mut Page) {
-    page.fill(
-        "<use href='#q{}' x='{}' y='{}'/>",
-        &[task, x.saturating_add(2), y],
-    );
-    if room >= 48 {
-        page.fill(
-            "<text class='v' x='{}' y='{}'>task {}</text>",
-            &[word, foot, task],
-        );
+/// What the task that a core is left for is called, if there is room.
+fn draw_taker(sheet: &Sheet<'_>, task: usize, x: u64, foot: u64, room: u64, page: &mut Page) {
+    let letters = match sheet.labels.name(task) {
+        Some(name) => name.chars().count() as u64,
+        None => 6,
+    };
+    if room >= letters.saturating_mul(8) {
+        page.fill("<text class='v' x='{}' y='{}'>", &[x, foot]);
+        page.put_task(sheet.labels, task);
+        page.put("</text>");
     }
 }
 
@@ -272,7 +281,7 @@ fn draw_ban(sheet: &Sheet<'_>, clocked: &ClockedBan, page: &mut Page) {
     let wide = sheet.columns.end_of(ban.to).saturating_sub(x);
     let top = sheet.layout.top(ban.core);
     page.put("<g class='ban'><title>");
-    tell_ban(sheet.config, clocked, page);
+    tell_ban(sheet.config, sheet.labels, clocked, page);
     page.put("</title><path class='d' d='");
     draw_box(x, top, wide, sizes.tall, page);
     page.put("'/><path d='");

@@ -85,9 +85,13 @@ pub fn tell_window(sheet: &Sheet<'_>, page: &mut Page) {
     }
     let from = sheet.clock(first);
     let to = sheet.clock(last);
-    page.fill(", clock {} to {}.", &[from, to]);
+    page.fill(", clock {} to {}", &[from, to]);
+    page.put_unit(sheet.labels);
+    page.put(".");
     if let Some(task) = sheet.only {
-        page.fill(" Drawn of task {} alone.", &[task as u64]);
+        page.put(" Drawn of ");
+        page.put_task(sheet.labels, task);
+        page.put(" alone.");
     }
     if window.count < window.all {
         tell_cut(first as u64, window.after() as u64, page);
@@ -126,8 +130,9 @@ fn tell_held_at_end(sheet: &Sheet<'_>, task: usize, page: &mut Page) {
     let figures = sheet.story.last.of(task);
     let held = u64::from(figures.held);
     let booked = u64::from(figures.booked);
-    page.fill(" task {} ", &[task as u64]);
-    page.put(kind_word(sheet.config, task));
+    page.put(" ");
+    page.put_task(sheet.labels, task);
+    page.join(" {}", &[kind_word(sheet.config, task)]);
     page.fill(" held {} leaving {}", &[held, booked.saturating_sub(held)]);
 }
 

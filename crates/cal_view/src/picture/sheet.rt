@@ -5,6 +5,7 @@ use crate::story::Story;
 use crate::story::window::{Columns, Window};
 use cal_machine::Config;
 use cal_policy::PassEntry;
+use cal_tables::Labels;
 
 /// A table, what a history tells through a window, and where everything stands.
 #[derive(Clone, Copy)]
@@ -13,6 +14,8 @@ pub struct Sheet<'a> {
     pub window: Window,
     /// The task that is drawn, where it is not all of them.
     pub only: Option<usize>,
+    /// What tasks and clock ticks are called.
+    pub labels: Labels<'a>,
     pub story: &'a Story,
     pub columns: &'a Columns,
     pub layout: &'a Layout,

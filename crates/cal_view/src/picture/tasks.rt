@@ -122,9 +122,9 @@ fn draw_name(sheet: &Sheet<'_>, task: usize, lane: &TaskLane, page: &mut Page) {
         return;
     }
     let number = task as u64;
-    page.fill("<g class='k t{}'><title>task {} (", &[number, number]);
-    page.put(kind_word(sheet.config, task));
-    page.put("), ");
+    page.fill("<g class='k t{}'><title>", &[number]);
+    page.put_task(sheet.labels, task);
+    page.join(" ({}), ", &[kind_word(sheet.config, task)]);
     tell_table_row(sheet, task, page);
     page.put("</title><path d='");
     draw_task_name(sheet, task, lane, page);
@@ -162,11 +162,9 @@ fn draw_task_name(sheet: &Sheet<'_>, task: usize, lane: &TaskLane, page: &mut Pa
     let foot = square.saturating_add(if few { 9 } else { 10 });
     let (first, count) = sheet.config.threads_of(task);
     draw_box(16, square, 11, 11, page);
-    page.fill(
-        "'/><text class='b' x='34' y='{}'>task {} ",
-        &[foot, task as u64],
-    );
-    page.join("{}</text>", &[kind_word(sheet.config, task)]);
+    page.fill("'/><text class='b' x='34' y='{}'>", &[foot]);
+    page.put_task_within(sheet.labels, task, if few { 14 } else { 9 });
+    page.join(" {}</text>", &[kind_word(sheet.config, task)]);
     if few {
         page.fill(
             "<text class='q' x='34' y='{}'>",
@@ -211,8 +209,9 @@ fn draw_step(
     }
     let first = sheet.window.first.saturating_add(from);
     let last = sheet.window.first.saturating_add(to).saturating_sub(1);
-    page.fill("<g><title>task {} (", &[task as u64]);
-    page.put(kind_word(sheet.config, task));
+    page.put("<g><title>");
+    page.put_task(sheet.labels, task);
+    page.join(" ({}", &[kind_word(sheet.config, task)]);
     page.fill(
         "), passes {} to {}: held {}, leaving {}</title>",
         &[first as u64, last as u64, held, leaving],
@@ -330,8 +329,9 @@ fn draw_delay(sheet: &Sheet<'_>, task: usize, lane: &TaskLane, delay: u64, page:
             draw_box(x, y, x_of(sheet, to).saturating_sub(x), 3, page);
         }
     }
-    page.fill(
-        "'><title>task {}: delay over {}</title></path>\n",
-        &[task as u64, delay],
-    );
+    page.put("'><title>");
+    page.put_task(sheet.labels, task);
+    page.fill(": delay over {}", &[delay]);
+    page.put_unit(sheet.labels);
+    page.put("</title></path>\n");
 }

@@ -6,6 +6,7 @@ use crate::story::numbers::{is_critical, task_of};
 use cal_machine::Config;
 use cal_picture::Page;
 use cal_policy::{Action, Cause, Seen};
+use cal_tables::Labels;
 
 /// `lc` or `be`.
 pub fn kind_word(config: &Config, task: usize) -> &'static str {
@@ -27,31 +28,34 @@ pub fn draw_box(x: u64, y: u64, wide: u64, high: u64, page: &mut Page) {
 }
 
 /// A thread with its task and kind.
-fn tell_thread(config: &Config, thread: u8, page: &mut Page) {
+fn tell_thread(config: &Config, labels: Labels<'_>, thread: u8, page: &mut Page) {
     match task_of(config, thread) {
         Some(task) => {
             let kind = kind_word(config, task);
-            page.fill("thread {} of task {} (", &[thread as u64, task as u64]);
-            page.put(kind);
-            page.put(")");
+            page.fill("thread {} of ", &[thread as u64]);
+            page.put_task(labels, task);
+            page.join(" ({})", &[kind]);
         }
         None => page.fill("thread {}", &[thread as u64]),
     }
 }
 
-fn tell_cause(cause: Cause, page: &mut Page) {
+fn tell_cause(labels: Labels<'_>, cause: Cause, page: &mut Page) {
     match cause {
         Cause::Ban { by } => page.fill("for ban by core {}", &[by as u64]),
         Cause::Bandwidth => page.put("for bandwidth"),
-        Cause::Preempt { task } => page.fill("for task {}", &[task as u64]),
+        Cause::Preempt { task } => {
+            page.put("for ");
+            page.put_task(labels, task as usize)
+        }
     }
 }
 
 /// What the report says of a span.
-pub fn tell_span(config: &Config, clocked: &ClockedSpan, page: &mut Page) {
+pub fn tell_span(config: &Config, labels: Labels<'_>, clocked: &ClockedSpan, page: &mut Page) {
     let span = clocked.span;
     page.fill("core {}, ", &[u64::from(span.core)]);
-    tell_thread(config, span.thread, page);
+    tell_thread(config, labels, span.thread, page);
     page.fill(
         ": granted in pass {} at {}, class {}",
         &[span.from as u64, clocked.granted, u64::from(span.class)],
@@ -61,7 +65,7 @@ pub fn tell_span(config: &Config, clocked: &ClockedSpan, page: &mut Page) {
             "; revoked in pass {} at {} ",
             &[left.pass as u64, clocked.revoked],
         );
-        tell_cause(left.cause, page);
+        tell_cause(labels, left.cause, page);
     }
     match span.to {
         Some(pass) => page.fill("; freed in pass {}", &[pass as u64]),
@@ -71,10 +75,10 @@ pub fn tell_span(config: &Config, clocked: &ClockedSpan, page: &mut Page) {
 }
 
 /// What the report says of a ban.
-pub fn tell_ban(config: &Config, clocked: &ClockedBan, page: &mut Page) {
+pub fn tell_ban(config: &Config, labels: Labels<'_>, clocked: &ClockedBan, page: &mut Page) {
     let ban = clocked.ban;
     page.fill("core {}: banned for ", &[u64::from(ban.core)]);
-    tell_thread(config, ban.thread, page);
+    tell_thread(config, labels, ban.thread, page);
     page.fill(
         " in pass {} at {}, started {}",
         &[ban.from as u64, clocked.banned, ban.started],
@@ -97,7 +101,7 @@ pub fn tell_pass(sheet: &Sheet<'_>, pass: usize, page: &mut Page) {
         &[pass as u64, now, bandwidth],
     );
     tell_looks(entry.input.seen.as_slice(), page);
-    tell_actions(entry.actions.as_slice(), page)
+    tell_actions(sheet.labels, entry.actions.as_slice(), page)
 }
 
 fn tell_looks(looks: &[Seen], page: &mut Page) {
@@ -111,14 +115,14 @@ fn tell_looks(looks: &[Seen], page: &mut Page) {
     }
 }
 
-fn tell_actions(actions: &[Action], page: &mut Page) {
+fn tell_actions(labels: Labels<'_>, actions: &[Action], page: &mut Page) {
     for action in actions {
-        tell_action(*action, page);
+        tell_action(labels, *action, page);
     }
 }
 
 /// The line of the report of an action, after a line feed.
-fn tell_action(action: Action, page: &mut Page) {
+fn tell_action(labels: Labels<'_>, action: Action, page: &mut Page) {
     match action {
         Action::Free { core } => page.fill("\nfree core {}", &[core as u64]),
         Action::Unban { core } => page.fill("\nunban core {}", &[core as u64]),
@@ -132,9 +136,13 @@ fn tell_action(action: Action, page: &mut Page) {
         ),
         Action::Revoke { core, cause } => {
             page.fill("\nrevoke core {} ", &[core as u64]);
-            tell_cause(cause, page)
+            tell_cause(labels, cause, page)
         }
-        Action::Cap { task, cap } => page.fill("\ncap task {} at {}", &[task as u64, cap as u64]),
+        Action::Cap { task, cap } => {
+            page.put("\ncap ");
+            page.put_task(labels, task as usize);
+            page.fill(" at {}", &[cap as u64])
+        }
         Action::Grant {
             core,
             thread,

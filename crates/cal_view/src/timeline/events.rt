@@ -1,6 +1,7 @@
 //! The events of the Trace Event Format, and their text.
 
 use cal_picture::Page;
+use cal_tables::Labels;
 use serde::Serialize;
 use std::alloc::Global;
 
@@ -86,18 +87,21 @@ pub struct Figure {
 
 /// Events one after the other, with commas between, on a page.
 #[derive(Drop)]
-pub struct Events {
+pub struct Events<'a> {
     pub alloc: Global,
+    /// What tasks and clock ticks are called.
+    pub labels: Labels<'a>,
     pub page: Page,
     first: bool,
 }
 
-impl Events {
+impl<'a> Events<'a> {
     /// Before the first event.
-    pub fn new(alloc: Global) -> Events {
+    pub fn new(alloc: Global, labels: Labels<'a>) -> Events<'a> {
         Events {
             alloc,
-            page: Page::new(alloc),
+            labels,
+            page: Page::plain(alloc),
             first: true,
         }
     }

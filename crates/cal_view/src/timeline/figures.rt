@@ -8,7 +8,7 @@ use cal_machine::Config;
 use cal_picture::Page;
 
 /// The figures of the tasks that are others than before.
-pub fn put_row(config: &Config, now: u64, row: &Row, last: Option<Row>, events: &mut Events) {
+pub fn put_row(config: &Config, now: u64, row: &Row, last: Option<Row>, events: &mut Events<'_>) {
     for task in 0..config.tasks() {
         if changes(row, last, task) {
             put_task(config, now, row, task, events);
@@ -26,7 +26,7 @@ fn changes(row: &Row, last: Option<Row>, task: usize) -> bool {
 }
 
 /// What a task holds and leaves, and the cap of a best-effort one.
-fn put_task(config: &Config, now: u64, row: &Row, task: usize, events: &mut Events) {
+fn put_task(config: &Config, now: u64, row: &Row, task: usize, events: &mut Events<'_>) {
     let Figures {
         held,
         booked,
@@ -43,11 +43,16 @@ fn put_task(config: &Config, now: u64, row: &Row, task: usize, events: &mut Even
     }
 }
 
-fn put_task_figures(kind: &str, now: u64, task: usize, figures: TaskFigures, events: &mut Events) {
-    let mut page = Page::new(events.alloc);
-    page.fill("task {} (", &[task as u64]);
-    page.put(kind);
-    page.put(")");
+fn put_task_figures(
+    kind: &str,
+    now: u64,
+    task: usize,
+    figures: TaskFigures,
+    events: &mut Events<'_>,
+) {
+    let mut page = Page::plain(events.alloc);
+    page.put_task(events.labels, task);
+    page.join(" ({})", &[kind]);
     match page.whole() {
         Ok(name) => events.put(&TaskCounter {
             name,
@@ -60,9 +65,10 @@ fn put_task_figures(kind: &str, now: u64, task: usize, figures: TaskFigures, eve
     }
 }
 
-fn put_cap(now: u64, task: usize, cap: u8, events: &mut Events) {
-    let mut page = Page::new(events.alloc);
-    page.fill("cap of task {}", &[task as u64]);
+fn put_cap(now: u64, task: usize, cap: u8, events: &mut Events<'_>) {
+    let mut page = Page::plain(events.alloc);
+    page.put("cap of ");
+    page.put_task(events.labels, task);
     match page.whole() {
         Ok(name) => put_figure(name, now, u64::from(cap), events),
         Err(_) => events.page.refuse(),
@@ -70,7 +76,7 @@ fn put_cap(now: u64, task: usize, cap: u8, events: &mut Events) {
 }
 
 /// A figure of this name.
-pub fn put_figure(name: &str, ts: u64, value: u64, events: &mut Events) {
+pub fn put_figure(name: &str, ts: u64, value: u64, events: &mut Events<'_>) {
     events.put(&Counter {
         name,
         ph: "C",

@@ -8,9 +8,10 @@ use crate::timeline::events::{BANS, CORES, Events, Slice, Story};
 use cal_machine::Config;
 use cal_picture::Page;
 use cal_policy::Cause;
+use cal_tables::Labels;
 
 /// A span and a ban that end by this clock, where there are such.
-pub fn put_ended(config: &Config, end: u64, ended: SpanAndBan, events: &mut Events) {
+pub fn put_ended(config: &Config, end: u64, ended: SpanAndBan, events: &mut Events<'_>) {
     if let Some(clocked) = ended.span {
         put_span(config, end, &clocked, events);
         put_leaving(end, &clocked, events);
@@ -35,7 +36,7 @@ struct Place {
 }
 
 /// Puts a slice, under a name and with what is told of it.
-fn put_slice<'a>(place: Place, name: &'a Page, told: &'a Page, events: &mut Events) {
+fn put_slice<'a>(place: Place, name: &'a Page, told: &'a Page, events: &mut Events<'_>) {
     match (name.whole(), told.whole()) {
         (Ok(name), Ok(told)) => events.put(&Slice {
             name,
@@ -57,14 +58,15 @@ fn put_slice<'a>(place: Place, name: &'a Page, told: &'a Page, events: &mut Even
 }
 
 /// A span: a slice of its core.
-fn put_span(config: &Config, end: u64, clocked: &ClockedSpan, events: &mut Events) {
+fn put_span(config: &Config, end: u64, clocked: &ClockedSpan, events: &mut Events<'_>) {
     let span = clocked.span;
-    let mut told = Page::new(events.alloc);
-    tell_span(config, clocked, &mut told);
-    let mut name = Page::new(events.alloc);
+    let mut told = Page::plain(events.alloc);
+    tell_span(config, events.labels, clocked, &mut told);
+    let mut name = Page::plain(events.alloc);
     name.fill("thread {}", &[u64::from(span.thread)]);
     if let Some(task) = task_of(config, span.thread) {
-        name.fill(" of task {}", &[task as u64]);
+        name.put(" of ");
+        name.put_task(events.labels, task);
     }
     let place = Place {
         cat: "span",
@@ -80,13 +82,13 @@ fn put_span(config: &Config, end: u64, clocked: &ClockedSpan, events: &mut Event
 }
 
 /// The time in which a span's core is being left, by its cause: a slice within that of the span.
-fn put_leaving(end: u64, clocked: &ClockedSpan, events: &mut Events) {
+fn put_leaving(end: u64, clocked: &ClockedSpan, events: &mut Events<'_>) {
     let span = clocked.span;
     let Some(left) = span.left else {
         return;
     };
-    let mut name = Page::new(events.alloc);
-    name_cause(left.cause, &mut name);
+    let mut name = Page::plain(events.alloc);
+    name_cause(events.labels, left.cause, &mut name);
     let place = Place {
         cat: "leaving",
         pid: CORES,
@@ -100,20 +102,23 @@ fn put_leaving(end: u64, clocked: &ClockedSpan, events: &mut Events) {
     put_slice(place, &name, &name, events);
 }
 
-fn name_cause(cause: Cause, page: &mut Page) {
+fn name_cause(labels: Labels<'_>, cause: Cause, page: &mut Page) {
     match cause {
         Cause::Ban { by } => page.fill("leaving: ban by core {}", &[by as u64]),
         Cause::Bandwidth => page.put("leaving: bandwidth"),
-        Cause::Preempt { task } => page.fill("leaving: for task {}", &[task as u64]),
+        Cause::Preempt { task } => {
+            page.put("leaving: for ");
+            page.put_task(labels, task as usize)
+        }
     }
 }
 
 /// A ban: a slice of its core, in the group of bans.
-fn put_ban(config: &Config, end: u64, clocked: &ClockedBan, events: &mut Events) {
+fn put_ban(config: &Config, end: u64, clocked: &ClockedBan, events: &mut Events<'_>) {
     let ban = clocked.ban;
-    let mut told = Page::new(events.alloc);
-    tell_ban(config, clocked, &mut told);
-    let mut name = Page::new(events.alloc);
+    let mut told = Page::plain(events.alloc);
+    tell_ban(config, events.labels, clocked, &mut told);
+    let mut name = Page::plain(events.alloc);
     name.fill("banned for thread {}", &[u64::from(ban.thread)]);
     let place = Place {
         cat: "ban",

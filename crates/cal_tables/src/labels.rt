@@ -1,0 +1,35 @@
+//! What tasks and clock ticks are called.
+
+/// What tasks and clock ticks are called where they are shown.
+#[derive(Clone, Copy)]
+pub struct Labels<'a> {
+    /// The names of the tasks, in task order. A task without one is called by its number.
+    pub names: &'a [&'a str],
+    /// What a clock tick is, as `ns`; none where that is not said.
+    pub tick: Option<&'a str>,
+}
+
+impl<'a> Labels<'a> {
+    /// Tasks are called by their numbers, and ticks are ticks.
+    pub fn plain() -> Labels<'a> {
+        Labels {
+            names: &[],
+            tick: None,
+        }
+    }
+
+    /// The name of a task, if it has one.
+    pub fn name(&self, task: usize) -> Option<&'a str> {
+        self.names.get(task).copied()
+    }
+
+    /// What one clock tick is called.
+    pub fn tick(&self) -> &'a str {
+        self.tick.unwrap_or("tick")
+    }
+
+    /// What several clock ticks are called.
+    pub fn ticks(&self) -> &'a str {
+        self.tick.unwrap_or("ticks")
+    }
+}
