@@ -4,7 +4,7 @@ use crate::attempt::{Fault, answer, begin, wrong};
 use crate::given::Given;
 use crate::runs::write_verdict;
 use cal_engine::{RunAnswer, decide, run_audit, run_lockstep, run_sim};
-use cal_tables::{NumberForm, compare, measure};
+use cal_tables::{Labels, NumberForm, compare, measure};
 use cal_trace::read_history;
 use std::alloc::Global;
 use std::io;
@@ -80,7 +80,13 @@ pub fn in_threads<H: Threads + Wait + Sync>(
 pub fn measured(rt: &HostRuntime, given: &Given) -> io::Result<bool> {
     let mut text = writer(rt.alloc())?;
     begin(rt)?;
-    let made = measure(rt.alloc(), given.text, NumberForm::Columns, &mut text);
+    let made = measure(
+        rt.alloc(),
+        given.text,
+        Labels::plain(),
+        NumberForm::Columns,
+        &mut text,
+    );
     write_text(rt, made, text.as_slice())
 }
 
@@ -88,6 +94,13 @@ pub fn measured(rt: &HostRuntime, given: &Given) -> io::Result<bool> {
 pub fn compared(rt: &HostRuntime, given: &Given) -> io::Result<bool> {
     let mut text = writer(rt.alloc())?;
     begin(rt)?;
-    let made = compare(rt.alloc(), given.text, None, NumberForm::Columns, &mut text);
+    let made = compare(
+        rt.alloc(),
+        given.text,
+        None,
+        Labels::plain(),
+        NumberForm::Columns,
+        &mut text,
+    );
     write_text(rt, made, text.as_slice())
 }
