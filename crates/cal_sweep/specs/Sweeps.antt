@@ -1,11 +1,13 @@
 -- The runs of a sweep.
 use Rattle.std.specs.Prelude.{◌≡◌, ℕ, List, [], ◌∷◌, map, Option, Some, None, Ok}
+use Rattle.cal_engine.specs.declared.fault.RunFault.TheVariants.{Write}
 use Rattle.cal_machine.specs.Reading.{table_in}
 use Rattle.cal_machine.specs.Table.{Table}
 use Rattle.cal_tables.specs.Compared.{AreEachOf, IsColumn}
 use Rattle.cal_tables.specs.Joining.{table_part}
 use Rattle.cal_tables.specs.Varied.{AreVaried}
 use Rattle.cal_tables.specs.declared.comparing.Variation.{Variation}
+use Rattle.cal_tables.specs.declared.comparing.fault.ComparisonFault.{ComparisonFault}
 use Rattle.cal_sweep.specs.declared.runs.SweptLoad.{SweptLoad}
 use Rattle.cal_sweep.specs.declared.runs.SweptRun.{SweptRun}
 
@@ -52,3 +54,7 @@ pub record IsSweep (input : List ℕ) (varying : Option Varying) (loads : List �
   pub given : table_in (table_part input) ≡ Ok table
   pub varied : AreTablesOf varying table tables
   pub are : AreSweptLoads tables loads swept
+
+-- the fault of a writer
+abbrev pub of_writer : ComparisonFault
+of_writer = record { table = None; fault = Write }

@@ -1,9 +1,8 @@
 //! A sweep from its words to what is written of it.
 
-ghost use Rattle.std.specs.Prelude.{◌≡◌, ◌≢◌, IfErr, IfOk, ℕ, List, None};
-ghost use Rattle.cal_engine.specs.declared.fault.RunFault.TheVariants.{Write};
+ghost use Rattle.std.specs.Prelude.{◌≡◌, ◌≢◌, IfErr, IfOk};
 ghost use Rattle.cal_sweep.specs.Objectives.{status_of};
-ghost use Rattle.cal_sweep.specs.Sweeps.{IsSweep};
+ghost use Rattle.cal_sweep.specs.Sweeps.{of_writer};
 
 use crate::fault::SweepFault;
 use crate::picture::picture_of;
@@ -12,7 +11,7 @@ use crate::table::sheet_of;
 use crate::verdict::{say_misses, status_of};
 use crate::words::{Asked, SweepForm, SweepWords, asked_of};
 use cal_engine::{RunFault, read_input};
-use cal_tables::Variation;
+use cal_tables::{ComparisonFault, Variation};
 use std::alloc::{AllocError, Global};
 use std::io::{Read, Write};
 
@@ -47,14 +46,12 @@ pub fn end_sweep<'a, W: Write, E: Write>(
 ) -> Result<u8, SweepFault<'a>>
     ensures status { IfOk result (λ status.
         status ≡ status_of asked.now.objective sweep.now.loads.items) }
-    ensures untouched { IfErr result (λ fault. fault ≢ SweepFault.Run (record {
-      table = None;
-      fault = Write;
-    }) → output.new ≡ output.old) }
+    ensures untouched { IfErr result (λ fault.
+        fault ≢ SweepFault.Run of_writer → output.new ≡ output.old) }
 {
     let text = text_of(alloc, sweep, asked, variation, form)?;
     if output.write_all(text.as_bytes()).is_err() {
-        return Err(SweepFault::from(RunFault::Write));
+        return Err(SweepFault::Run(ComparisonFault::from(RunFault::Write)));
     }
     let status = status_of(asked.objective, sweep.loads.as_slice());
     if let Some(objective) = asked.objective {
@@ -78,10 +75,8 @@ pub fn answer_sweep<'a, R: Read + Drop, W: Write, E: Write>(
     errors: &mut E,
 ) -> Result<u8, SweepFault<'a>>
     // Nothing is written before the runs were made.
-    ensures untouched { IfErr result (λ fault. fault ≢ SweepFault.Run (record {
-      table = None;
-      fault = Write;
-    }) → output.new ≡ output.old) }
+    ensures untouched { IfErr result (λ fault.
+        fault ≢ SweepFault.Run of_writer → output.new ≡ output.old) }
 {
     let asked = asked_of(alloc, words)?;
     let input = read_input(alloc, &mut reader)?;

@@ -1,6 +1,6 @@
 //! The runs of a sweep, measured.
 
-ghost use Rattle.std.specs.Prelude.{◌≡◌, ◌∷◌, [], IfOk, string_bytes};
+ghost use Rattle.std.specs.Prelude.{◌≡◌, ◌<◌, ◌∷◌, [], IfOk, length, slice_get, string_bytes};
 ghost use Rattle.cal_tables.specs.Compared.{IsColumn};
 ghost use Rattle.cal_sweep.specs.Sweeps.{AreSweptLoads, AreSweptRuns, AreTablesOf, IsSweep};
 ghost use Rattle.cal_sweep.specs.Sweeps.{IsSweptLoad, IsSweptRun, varying_of};
@@ -105,18 +105,26 @@ fn swept_load<'a>(
     Ok(SweptLoad { load, runs })
 }
 
-/// For each load in turn, a run of each table.
+/// The load at a place.
+fn load_at(loads: &[u64], place: usize) -> u64
+    requires { place < length loads.now }
+    ensures { slice_get loads.now place ≡ Some result }
+{
+    loads[place]
+}
+
+/// For each of these loads in turn, a run of each table.
 fn swept_loads<'a>(
     alloc: Global,
     tables: &[Config],
     asked: &Asked<'a>,
+    loads: &[u64],
 ) -> Result<Vec<SweptLoad>, SweepFault<'a>>
-    ensures { IfOk result (λ swept. AreSweptLoads tables.now asked.now.loads.items swept.items) }
+    ensures { IfOk result (λ swept. AreSweptLoads tables.now loads.now swept.items) }
 {
-    let loads = asked.loads.as_slice();
     let mut swept = Vec::new(alloc);
     for place in 0..loads.len() {
-        let of_load = swept_load(alloc, tables, asked, loads[place])?;
+        let of_load = swept_load(alloc, tables, asked, load_at(loads, place))?;
         swept.push(of_load)?;
     }
     Ok(swept)
@@ -163,6 +171,6 @@ pub fn swept<'a>(
     let table = Config::read(alloc, table_part(input))?;
     are_known(&table, asked.tasks.as_slice(), asked.named.as_slice())?;
     let tables = tables_of(alloc, table, variation)?;
-    let loads = swept_loads(alloc, tables.as_slice(), asked)?;
+    let loads = swept_loads(alloc, tables.as_slice(), asked, asked.loads.as_slice())?;
     Ok(Sweep { tables, loads })
 }
