@@ -1,7 +1,7 @@
 //! What the program says of the fault of several tables, and of a pass that is not there.
 
 use cal_engine::{RunFault, status};
-use cal_tables::{ComparisonFault, Variation};
+use cal_tables::{ComparisonFault, Reason, Variation};
 use std::io::Write;
 
 /// Writes the one line that the program says of a fault that a table or a value has, which stands
@@ -12,14 +12,15 @@ pub fn end_comparison<W: Write>(
     variation: Option<Variation<'_>>,
     errors: &mut W,
 ) -> Result<u8, RunFault> {
-    let reason = fault.fault;
-    let Some(table) = fault.table else {
-        return Err(reason);
+    let (table, reason) = match *fault {
+        // What memory, the writer or a thread refused is no table's.
+        ComparisonFault::OfTable {
+            table: _,
+            reason: Reason::Run(fault),
+        } if status(&fault) != 2 => return Err(fault),
+        ComparisonFault::OfTable { table, reason } => (table, reason),
+        ComparisonFault::Run(fault) => return Err(fault),
     };
-    // What memory, the writer or a thread refused is no table's.
-    if status(&reason) != 2 {
-        return Err(reason);
-    }
     let _ = match value_of(variation, table) {
         Some((key, value)) => writeln!(errors, "caladan_view: {key}={value} {reason}"),
         None => writeln!(errors, "caladan_view: table {table} {reason}"),

@@ -6,4 +6,5 @@ pub mod comparing;
 pub mod counting;
 pub mod drawing;
 pub mod explaining;
+pub mod measuring;
 pub mod recording;

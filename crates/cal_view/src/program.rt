@@ -13,9 +13,9 @@ use crate::jobs::checking::answer_check;
 use crate::jobs::comparing::answer_compare;
 use crate::jobs::drawing::{answer_picture, write_read_timeline};
 use crate::jobs::explaining::answer_explain;
+use crate::jobs::measuring::answer_measure;
 use crate::jobs::recording::record;
 use cal_engine::{RunFault, refuse_words, words_after_first};
-use cal_tables::measure;
 use std::alloc::Global;
 use std::io::{BufWriter, Read, Write};
 use std::rt::Files;
@@ -213,6 +213,7 @@ fn answer_job<R: Read + Drop, W: Write, E: Write>(
         Job::Arrivals { asked } => answer_arrivals(alloc, reader, asked, output, errors),
         Job::Explain { asked } => answer_explain(alloc, reader, *asked, output, errors),
         Job::Compare { vary, form } => answer_compare(alloc, reader, *vary, *form, output, errors),
+        Job::Measure { form } => answer_measure(alloc, reader, *form, output, errors),
         Job::Picture { from, passes } => {
             answer_picture(alloc, reader, *from, *passes, output, errors)
         }
@@ -237,10 +238,9 @@ fn do_job<R: Read + Drop, W: Write>(
     match job {
         Job::History { front } => record(alloc, reader, *front, &mut buffer)?,
         Job::Timeline => write_read_timeline(alloc, reader, &mut buffer)?,
-        Job::Measure { form } => measure(alloc, reader, *form, &mut buffer)?,
         // (answer_job does these)
         Job::Arrivals { .. } | Job::Check | Job::Compare { .. } | Job::Explain { .. } => {}
-        Job::Picture { .. } | Job::Help => {}
+        Job::Measure { .. } | Job::Picture { .. } | Job::Help => {}
     }
     match buffer.flush() {
         Ok(()) => Ok(()),

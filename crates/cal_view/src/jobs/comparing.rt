@@ -5,7 +5,7 @@ use crate::command_words::variation::{key_of, values_of};
 use crate::fault::end_comparison;
 use cal_engine::RunFault;
 use cal_picture::draw_comparison;
-use cal_tables::{ComparisonFault, Variation, compare};
+use cal_tables::{ComparisonFault, Variation, compare, write_input};
 use std::alloc::Global;
 use std::io::{BufWriter, Read, Write};
 
@@ -62,6 +62,7 @@ fn write_comparison<R: Read + Drop, W: Write>(
     match form {
         Form::Numbers(form) => compare(alloc, reader, variation, form, &mut buffer)?,
         Form::Picture => draw_comparison(alloc, reader, variation, &mut buffer)?,
+        Form::Input(table) => write_input(alloc, reader, variation, table, &mut buffer)?,
     }
     match buffer.flush() {
         Ok(()) => Ok(()),
