@@ -3,18 +3,28 @@ use Rattle.std.specs.Prelude.{◌≡◌, ℕ, List, [], ◌∷◌, map, Option, 
 use Rattle.cal_engine.specs.declared.fault.RunFault.TheVariants.{Write}
 use Rattle.cal_machine.specs.Reading.{table_in}
 use Rattle.cal_machine.specs.Table.{Table}
-use Rattle.cal_tables.specs.Compared.{AreEachOf, IsColumn}
+use Rattle.cal_tables.specs.Compared.{AreEachOf, AreToldFor}
 use Rattle.cal_tables.specs.Joining.{table_part}
+use Rattle.cal_tables.specs.Measured.{IsMeasuredRun}
 use Rattle.cal_tables.specs.Varied.{AreVaried}
 use Rattle.cal_tables.specs.declared.comparing.Variation.{Variation}
 use Rattle.cal_tables.specs.declared.comparing.fault.ComparisonFault.{ComparisonFault}
+use Rattle.cal_tables.specs.declared.comparing.fault.ComparisonFault.TheVariants as faults
+use Rattle.cal_tables.specs.declared.measuring.RunNumbers.{RunNumbers}
+use Rattle.cal_trace.specs.declared.arrivals.Arrivals.{Arrivals}
 use Rattle.cal_sweep.specs.declared.runs.SweptLoad.{SweptLoad}
 use Rattle.cal_sweep.specs.declared.runs.SweptRun.{SweptRun}
+
+-- the numbers of a run of this table on the arrivals that a text tells
+pub record IsRunOn (table : Table) (trace : List ℕ) (numbers : RunNumbers) : Type 0 where
+  pub arrivals : Arrivals
+  pub told : AreToldFor table trace arrivals
+  pub measured : IsMeasuredRun table arrivals numbers
 
 -- the numbers of a run are those of a run of this table on the arrivals that some text tells
 pub record IsSweptRun (table : Table) (run : SweptRun) : Type 0 where
   pub trace : List ℕ
-  pub measured : IsColumn table trace run.numbers
+  pub ran : IsRunOn table trace run.numbers
 
 -- as many runs as tables, each of the table at its place
 abbrev pub AreSweptRuns : List Table → List SweptRun → Type 0
@@ -57,4 +67,4 @@ pub record IsSweep (input : List ℕ) (varying : Option Varying) (loads : List �
 
 -- the fault of a writer
 abbrev pub of_writer : ComparisonFault
-of_writer = record { table = None; fault = Write }
+of_writer = faults.Run Write

@@ -1,17 +1,19 @@
 //! The runs of a sweep, measured.
 
 ghost use Rattle.std.specs.Prelude.{◌≡◌, ◌<◌, ◌∷◌, [], IfOk, length, slice_get, string_bytes};
-ghost use Rattle.cal_tables.specs.Compared.{IsColumn};
 ghost use Rattle.cal_sweep.specs.Sweeps.{AreSweptLoads, AreSweptRuns, AreTablesOf, IsSweep};
-ghost use Rattle.cal_sweep.specs.Sweeps.{IsSweptLoad, IsSweptRun, varying_of};
+ghost use Rattle.cal_sweep.specs.Sweeps.{IsRunOn, IsSweptLoad, IsSweptRun, varying_of};
 
 use crate::fault::SweepFault;
 use crate::words::Asked;
+use cal_engine::RunFault;
 use cal_load::{Count, Made, are_known, made_arrivals};
 use cal_machine::Config;
 use cal_tables::{
-    ComparisonFault, RunNumbers, Variation, placed_column, table_at, table_part, varied_tables,
+    ComparisonFault, Reason, RunNumbers, Variation, measured_run, table_at, table_part,
+    varied_tables,
 };
+use cal_trace::read_arrivals;
 use std::alloc::{AllocError, Global};
 
 /// A run of a sweep.
@@ -41,6 +43,14 @@ pub struct Sweep {
     pub loads: Vec<SweptLoad>,
 }
 
+/// The numbers of a table's run on the arrivals that a text tells.
+fn numbers_on(alloc: Global, table: &Config, trace: &[u8]) -> Result<RunNumbers, RunFault>
+    ensures { IfOk result (IsRunOn table.now trace.now) }
+{
+    let arrivals = read_arrivals(alloc, table, trace)?;
+    measured_run(alloc, table, &arrivals)
+}
+
 /// The run of a table on arrivals that were made, measured: on exactly those that their text tells.
 /// A fault is that of the table at this place.
 fn run_on(
@@ -49,13 +59,18 @@ fn run_on(
     place: usize,
     made: Made,
 ) -> Result<SweptRun, ComparisonFault>
-    ensures { IfOk result (λ run. IsColumn table.now (string_bytes made.text) run.numbers) }
+    ensures { IfOk result (λ run. IsRunOn table.now (string_bytes made.text) run.numbers) }
 {
-    let numbers = placed_column(alloc, table, place, made.text.as_bytes())?;
-    Ok(SweptRun {
-        counts: made.counts,
-        numbers,
-    })
+    match numbers_on(alloc, table, made.text.as_bytes()) {
+        Ok(numbers) => Ok(SweptRun {
+            counts: made.counts,
+            numbers,
+        }),
+        Err(fault) => Err(ComparisonFault::OfTable {
+            table: place,
+            reason: Reason::Run(fault),
+        }),
+    }
 }
 
 /// The run of a table on the arrivals that are made for it with this load.

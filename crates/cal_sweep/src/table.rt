@@ -97,7 +97,12 @@ fn figure_of(table: &Config, run: &SweptRun, task: usize, column: Column) -> Opt
         Column::Later => Some(Figure::of(count_of(run, task)?.later)),
         Column::LeftOut => Some(Figure::of(count_of(run, task)?.left_out)),
         Column::Served => request_figure(numbers, task, Line::Served),
-        Column::MeanCores => core_figure(numbers, task, CoreLine::Mean),
+        Column::MeanCores => core_figure(
+            numbers.cores.as_slice(),
+            numbers.machine.lasted,
+            task,
+            CoreLine::Mean,
+        ),
         Column::BestEffort => best_effort_share(table, numbers),
     }
 }

@@ -1,4 +1,6 @@
 pub mod Passes
+pub mod Moving
+pub mod FewPasses
 pub mod Joined
 pub mod Shorter
 pub mod Tables

@@ -13,6 +13,7 @@ use crate::jobs::checking::answer_check;
 use crate::jobs::comparing::answer_compare;
 use crate::jobs::drawing::answer_picture;
 use crate::jobs::explaining::answer_explain;
+use crate::jobs::measuring::answer_measure;
 use crate::jobs::naming::{names_of, refuse_count, refuse_words_of_labels};
 use crate::jobs::recording::record;
 use crate::jobs::sweeping::answer_swept;
@@ -20,7 +21,7 @@ use crate::refusing::{end_refusal, refused_input};
 use crate::timeline::write_timeline;
 use cal_engine::{RunFault, read_input, refuse_words, words_after_first};
 use cal_refusals::RefusedInput;
-use cal_tables::{Labels, measure};
+use cal_tables::Labels;
 use std::alloc::Global;
 use std::io::{BufWriter, Read, Write};
 use std::rt::Files;
@@ -256,6 +257,7 @@ fn answer_read<W: Write, E: Write>(
         Job::Compare { vary, form } => {
             answer_compare(alloc, read, *vary, labels, *form, output, errors)
         }
+        Job::Measure { form } => answer_measure(alloc, input, labels, *form, output, errors),
         Job::Picture { shown } => answer_picture(alloc, input, *shown, labels, output, errors),
         job => {
             do_job(alloc, job, labels, input, output)?;
@@ -279,10 +281,9 @@ fn do_job<W: Write>(
     match job {
         Job::History { front } => record(alloc, input, *front, &mut buffer)?,
         Job::Timeline => write_timeline(alloc, input, labels, &mut buffer)?,
-        Job::Measure { form } => measure(alloc, input, labels, *form, &mut buffer)?,
         // (answer_job and answer_read do these)
         Job::Arrivals { .. } | Job::Check | Job::Compare { .. } | Job::Explain { .. } => {}
-        Job::Picture { .. } | Job::Sweep { .. } | Job::Help => {}
+        Job::Measure { .. } | Job::Picture { .. } | Job::Sweep { .. } | Job::Help => {}
     }
     match buffer.flush() {
         Ok(()) => Ok(()),

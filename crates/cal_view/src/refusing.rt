@@ -71,7 +71,8 @@ fn traces_of(job: &Job<'_>) -> &'static [TraceKind] {
     match job {
         Job::History { .. } => &[TraceKind::Signals],
         Job::Picture { .. } | Job::Timeline => &[TraceKind::History],
-        Job::Measure { .. } | Job::Compare { .. } => &[TraceKind::Arrivals],
+        Job::Measure { .. } => &[TraceKind::Arrivals, TraceKind::History],
+        Job::Compare { .. } => &[TraceKind::Arrivals],
         Job::Explain { .. } => &[TraceKind::Signals, TraceKind::History],
         Job::Check => &[TraceKind::Signals, TraceKind::Arrivals, TraceKind::History],
         Job::Arrivals { .. } | Job::Sweep { .. } | Job::Help => &[],

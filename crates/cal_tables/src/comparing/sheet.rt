@@ -51,10 +51,14 @@ impl Row {
         let numbers = runs.columns.as_slice().get(column)?;
         match self {
             Row::Requests(task, line) => request_figure(numbers, task, line),
-            Row::Cores(task, line) => core_figure(numbers, task, line),
+            Row::Cores(task, line) => {
+                let lasted = numbers.machine.lasted;
+                core_figure(numbers.cores.as_slice(), lasted, task, line)
+            }
             Row::Machine(line) => {
                 let table = runs.tables.as_slice().get(column)?;
-                machine_figure(numbers, line, table.machine().cores())
+                let cores = table.machine().cores();
+                machine_figure(&numbers.machine, numbers.turns, line, cores)
             }
         }
     }

@@ -29,7 +29,7 @@ pub enum Job<'a> {
     },
     /// Write a history as trace events.
     Timeline,
-    /// Make a run on arrivals, and write its numbers.
+    /// Make a run on arrivals, and write its numbers, or those of a history.
     Measure {
         /// As what they are written.
         form: NumberForm,
@@ -69,6 +69,8 @@ pub enum Form {
     Numbers(NumberForm),
     /// A picture.
     Picture,
+    /// In place of the runs the input of the one of this table, from 0.
+    Input(usize),
 }
 
 /// What the words ask for: a job, what its input is, and where its answer goes.
@@ -229,7 +231,7 @@ fn timeline_word<'a>(alloc: Global) -> Result<Command<'a>, AllocError> {
 
 fn measure_word<'a>(alloc: Global) -> Result<Command<'a>, AllocError> {
     Command::new(alloc, "measure")
-        .about("Make a run on arrivals, and write its numbers")
+        .about("Write the numbers of a run on arrivals, or of a history")
         .after_long_help(help_texts::MEASURE)
         .arg(input_word(alloc))?
         .arg(csv_word(alloc))?
@@ -282,6 +284,7 @@ fn compare_word<'a>(alloc: Global) -> Result<Command<'a>, AllocError> {
         .arg(picture_word(alloc))?
         .arg(names_word(alloc))?
         .arg(tick_word(alloc))?
+        .arg(write_input_word(alloc)?)?
         .arg(output_word(alloc))
 }
 
@@ -299,6 +302,13 @@ fn tick_word<'a>(alloc: Global) -> Arg<'a> {
         .action(ArgAction::Set)
         .value_name("UNIT")
         .help("What a clock tick is, as ns")
+}
+
+fn write_input_word<'a>(alloc: Global) -> Result<Arg<'a>, AllocError> {
+    let help = "Write the input of table N's run instead, from 0";
+    number_word(alloc, "write-input", "N", help)
+        .conflicts_with("csv")?
+        .conflicts_with("picture")
 }
 
 /// The file of the input.
@@ -530,7 +540,10 @@ fn tables_of<'a>(
 /// What the options of `compare` ask for.
 fn comparison_of<'a>(matches: &ArgMatches<'a>) -> Result<Job<'a>, Mistake> {
     let vary = matches.get_str("vary");
-    let form = form_of(matches.get_flag("csv"), matches.get_flag("picture"))?;
+    let form = match number(matches, "write-input") {
+        Some(table) => Form::Input(table),
+        None => form_of(matches.get_flag("csv"), matches.get_flag("picture"))?,
+    };
     match vary {
         Some(vary) if !vary.contains('=') => Err(Mistake::NoValues),
         _ => Ok(Job::Compare { vary, form }),

@@ -82,9 +82,10 @@ END"
 pub const MEASURE: &str = help_with_a_run!(
     "\
 Input: a task table (TOML), the line ---, and arrivals (CSV), as
-`caladan_sim lockstep` reads.
+`caladan_sim lockstep` reads; or a history (CSV), as `caladan_sim audit` does.
 Output: the numbers of each task's requests and cores, in the run that
-`caladan_sim lockstep` makes, in clock ticks; with --csv as CSV. A turn takes
+`caladan_sim lockstep` makes, in clock ticks; with --csv as CSV. Of a history
+they are those of its cores, and one that is not legal has none. A turn takes
 its time: it ends at the clock of its thread's next turn, and the last one at
 the run's last clock. A request arrives at the clock of its turn, is begun with
 the first turn that works at it, and answered at the end of the one that serves
@@ -202,9 +203,13 @@ cores, bandwidth_limit, and of task 1 task.1.kind, task.1.guaranteed,
 task.1.limit, task.1.delay and task.1.request. A value is written as in a table.
 To have the table as it is among the columns, name its own value, best as the
 first.
+The arrivals are given for the first table, or for the one that is varied. In
+each other table a request stays with its task, on the same one of its threads,
+or, where the task has fewer, on that one modulo its limit. --write-input N
+writes table N and the arrivals that it gets, which `measure` reads.
 Exit status: 0 done, 2 rejected input, 3 memory or output was refused. A table
-that is refused, or has too few threads for the arrivals, is named by its
-number, from 0, or by its value.",
+that is refused, or that the arrivals do not fit, is named by its number, from
+0, or by its value.",
     "caladan_view compare",
     "\
 cores = 2

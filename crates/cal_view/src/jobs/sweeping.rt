@@ -67,7 +67,7 @@ fn refuse<E: Write>(
 ) -> Result<u8, RunFault> {
     match fault {
         SweepFault::Word(fault) => Ok(refuse_word(&fault, errors)),
-        SweepFault::Run(ComparisonFault { table: None, fault }) => {
+        SweepFault::Run(ComparisonFault::Run(fault)) => {
             end_refusal(alloc, table_alone(input), fault, errors)
         }
         SweepFault::Run(fault) => {
