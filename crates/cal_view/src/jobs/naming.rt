@@ -1,7 +1,7 @@
 //! The names of tasks and the unit of clock ticks that words give.
 
 use cal_engine::RunFault;
-use cal_tables::{Labels, read_tables};
+use cal_tables::{ComparisonFault, Labels, read_tables};
 use std::alloc::{AllocError, Global};
 use std::io::Write;
 
@@ -121,7 +121,7 @@ pub fn refuse_count<E: Write>(
     }
     let tables = match read_tables(alloc, input) {
         Ok((tables, _)) => tables,
-        Err(refused) if refused.fault == RunFault::Memory => return Err(RunFault::Memory),
+        Err(ComparisonFault::Run(RunFault::Memory)) => return Err(RunFault::Memory),
         Err(_) => return Ok(None),
     };
     let tasks = tables.iter().map(|table| table.tasks()).max().unwrap_or(0);
