@@ -176,11 +176,11 @@ pub fn measure<R: Read + Drop, W: Write>(
 {
     let input = read_input(alloc, &mut reader)?;
     let (verdict, text) = measured_text(alloc, input.as_slice(), labels, form)?;
-    if verdict != Verdict::Legal {
-        return Ok(verdict);
-    }
-    match writer.write_all(text.as_bytes()) {
-        Ok(()) => Ok(verdict),
-        Err(_) => Err(RunFault::Write),
+    match verdict {
+        Verdict::Illegal { .. } => Ok(verdict),
+        Verdict::Legal => match writer.write_all(text.as_bytes()) {
+            Ok(()) => Ok(verdict),
+            Err(_) => Err(RunFault::Write),
+        },
     }
 }

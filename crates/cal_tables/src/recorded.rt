@@ -1,6 +1,6 @@
 //! A recorded history, measured.
 
-ghost use Rattle.std.specs.Prelude.{◌≤◌, ◌<◌, ◌^◌, IfOk, length};
+ghost use Rattle.std.specs.Prelude.{◌≤◌, IfOk, length};
 ghost use Rattle.cal_policy.specs.Pass.{IsLegal};
 ghost use Rattle.cal_policy.specs.Verdict.{IsVerdict};
 ghost use Rattle.cal_policy.specs.declared.history.entry.TheConstants.{MOST_PASSES};
@@ -56,7 +56,7 @@ pub fn history_numbers(
 
 /// What an audit says of a history. Fails only when out of memory.
 fn verdict_on(alloc: Global, config: &Config, history: &[PassEntry]) -> Result<Verdict, AllocError>
-    requires { length history.now < 2 ^ 64 }
+    requires { length history.now ≤ MOST_PASSES }
     ensures { IfOk result (IsVerdict config.now history.now) }
 {
     let mut auditor = Auditor::open(alloc, config)?;

@@ -103,9 +103,9 @@ impl<T: Drop> From<AllocFailed<T>> for Reason {
 }
 
 impl From<Misfit> for Reason {
-    ghost use Rattle.cal_tables.specs.declared.comparing.fault.Reason.TheVariants as reasons;
+    ghost use Rattle.cal_tables.specs.declared.comparing.fault.Reason.TheVariants.{Misfit};
 
-    ghost from_gives = { λ misfit e. e ≡ reasons.Misfit misfit };
+    ghost from_gives = { λ misfit e. e ≡ Misfit misfit };
 
     fn from(misfit: Misfit) -> Reason {
         Reason::Misfit(misfit)

@@ -8,5 +8,5 @@ use Rattle.cal_tables.proofs.recorded.measured_recording.Goals as goal
 
 pub measured-requires : goal.measured-requires
 measured-requires c =
-    subst (λ (h : List PassEntry). length h ≤ MOST_PASSES) (sym c.as_slice.ensures)
+    subst (λ (h : List PassEntry). length h ≤ MOST_PASSES) (sym c.as_slice.ensures.value)
     (few_recorded (extent_of c.args.config.now) (rows_of c.args.trace.now) c.in_ok-history.history.items c.in_ok-history.ensures)
