@@ -1,7 +1,7 @@
 //! The text of a picture or of a tooltip, while it is written.
 
 use cal_engine::RunFault;
-use cal_tables::Labels;
+use cal_tables::{Labels, letters};
 use std::alloc::{AllocError, Global};
 use std::fmt::Write;
 use std::io;
@@ -62,6 +62,18 @@ impl Page {
         }
     }
 
+    /// Puts the first so many letters of words that may have any.
+    fn put_first(&mut self, words: &str, count: usize) {
+        let mut left = count;
+        for letter in words.chars() {
+            if left == 0 {
+                break;
+            }
+            self.put_any(letter);
+            left = left.saturating_sub(1);
+        }
+    }
+
     /// Puts what a task is called.
     pub fn put_task(&mut self, labels: Labels<'_>, task: usize) {
         match labels.name(task) {
@@ -82,10 +94,8 @@ impl Page {
     /// points.
     pub fn put_task_within(&mut self, labels: Labels<'_>, task: usize, room: usize) {
         match labels.name(task) {
-            Some(name) if name.chars().count() > room => {
-                for letter in name.chars().take(room.saturating_sub(3)) {
-                    self.put_any(letter);
-                }
+            Some(name) if letters(name) > room => {
+                self.put_first(name, room.saturating_sub(3));
                 self.put("...");
             }
             _ => self.put_task(labels, task),

@@ -33,3 +33,12 @@ impl<'a> Labels<'a> {
         self.tick.unwrap_or("ticks")
     }
 }
+
+/// How many letters a word has.
+pub fn letters(word: &str) -> usize {
+    let mut count = 0usize;
+    for _ in word.chars() {
+        count = count.saturating_add(1);
+    }
+    count
+}

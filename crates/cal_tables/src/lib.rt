@@ -26,7 +26,7 @@ pub use core_rows::{CoreLine, core_figure};
 pub use courses::{Courses, RunCourse, TaskCourse, courses_of, courses_of_values, run_course};
 pub use figures::{Figure, Rank, Unit, count, number, put_figure, put_heading, share, time_in};
 pub use joining::{front_of_table, table_part};
-pub use labels::Labels;
+pub use labels::{Labels, letters};
 pub use laws::{
     own_value_gives_the_table, same_limits_move_nothing, text_is_read_back,
     varied_differs_at_its_key,

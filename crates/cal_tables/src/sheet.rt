@@ -1,5 +1,6 @@
 //! A table of words, as text whose columns line up or as CSV.
 
+use crate::labels::letters;
 use std::alloc::{AllocError, Global};
 
 /// As what numbers are written.
@@ -16,11 +17,6 @@ pub enum NumberForm {
 #[derive(Drop)]
 pub struct Sheet {
     rows: Vec<Vec<String>>,
-}
-
-/// How many letters a cell has.
-fn letters(cell: &str) -> usize {
-    cell.chars().count()
 }
 
 /// The greatest length of a cell in a column.

@@ -1,7 +1,8 @@
 //! The names of tasks and the unit of clock ticks that words give.
 
 use cal_engine::RunFault;
-use cal_tables::{ComparisonFault, Labels, read_tables};
+use cal_machine::Config;
+use cal_tables::{ComparisonFault, Labels, letters, read_tables};
 use std::alloc::{AllocError, Global};
 use std::io::Write;
 
@@ -33,14 +34,12 @@ enum LabelFault<'a> {
 
 /// Whether a word has a letter, at most so many, and none that is not shown.
 fn is_label(word: &str, most: usize) -> bool {
-    let mut letters = 0usize;
     for letter in word.chars() {
         if letter.is_control() {
             return false;
         }
-        letters = letters.saturating_add(1);
     }
-    letters > 0 && letters <= most
+    !word.is_empty() && letters(word) <= most
 }
 
 /// The first thing that is wrong with the words, whatever the input is.
@@ -107,6 +106,15 @@ pub fn names_of<'a>(alloc: Global, words: LabelWords<'a>) -> Result<Vec<&'a str>
     Ok(names)
 }
 
+/// The most tasks that a table has.
+fn most_tasks(tables: &[Config]) -> usize {
+    let mut most = 0usize;
+    for table in tables {
+        most = most.max(table.tasks());
+    }
+    most
+}
+
 /// Says that there are more or fewer names than the tables of an input have tasks at most, and
 /// answers the exit status, where that is so. The fault is `Memory`; of tables that are refused
 /// nothing is said.
@@ -124,7 +132,7 @@ pub fn refuse_count<E: Write>(
         Err(ComparisonFault::Run(RunFault::Memory)) => return Err(RunFault::Memory),
         Err(_) => return Ok(None),
     };
-    let tasks = tables.iter().map(|table| table.tasks()).max().unwrap_or(0);
+    let tasks = most_tasks(tables.as_slice());
     let names = labels.names.len();
     if names == tasks {
         return Ok(None);

@@ -9,6 +9,7 @@ use crate::story::window::LEFT;
 use cal_picture::Page;
 use cal_policy::Cause;
 use cal_spans::{BanSpan, Left, Span};
+use cal_tables::letters;
 
 /// Writes the lanes of all cores.
 pub fn draw_cores(sheet: &Sheet<'_>, page: &mut Page) {
@@ -262,11 +263,11 @@ fn draw_revocation(sheet: &Sheet<'_>, left: Left, x: u64, end: u64, top: u64, pa
 
 /// What the task that a core is left for is called, if there is room.
 fn draw_taker(sheet: &Sheet<'_>, task: usize, x: u64, foot: u64, room: u64, page: &mut Page) {
-    let letters = match sheet.labels.name(task) {
-        Some(name) => name.chars().count() as u64,
+    let long = match sheet.labels.name(task) {
+        Some(name) => letters(name) as u64,
         None => 6,
     };
-    if room >= letters.saturating_mul(8) {
+    if room >= long.saturating_mul(8) {
         page.fill("<text class='v' x='{}' y='{}'>", &[x, foot]);
         page.put_task(sheet.labels, task);
         page.put("</text>");

@@ -247,12 +247,21 @@ fn first_tops(window: Window) -> (Option<u64>, u64) {
     }
 }
 
+/// Whether the bandwidth figure is above 0 in a pass that is shown.
+fn has_bandwidth(story: &Story, window: Window) -> bool {
+    for place in 0..window.count {
+        match story.shown.as_slice().get(place) {
+            Some(entry) if entry.input.bandwidth > 0 => return true,
+            _ => {}
+        }
+    }
+    false
+}
+
 /// The lane of the bandwidth figure, where it is above 0 in a pass that is shown, and where the cores
 /// begin below it, from this height down.
 fn bandwidth_top(story: &Story, window: Window, top: u64) -> (Option<u64>, u64) {
-    let shown = story.shown.iter().take(window.count);
-    let most = shown.map(|entry| entry.input.bandwidth).max().unwrap_or(0);
-    if most > 0 {
+    if has_bandwidth(story, window) {
         (Some(top), top.saturating_add(BAND + 12))
     } else {
         (None, top.saturating_add(4))
