@@ -11,7 +11,7 @@ use crate::measuring::cores_of_tasks;
 use cal_engine::RunFault;
 use cal_machine::Config;
 use cal_measure::{MachineCores, TaskCores, machine_of};
-use cal_policy::{Auditor, PassEntry, Verdict};
+use cal_policy::{Auditor, MOST_PASSES, PassEntry, Verdict};
 use cal_trace::read_history;
 use std::alloc::{AllocError, Global};
 
@@ -92,5 +92,10 @@ pub fn measured_recording(
     ensures { IfOk result (IsRecorded config.now trace.now) }
 {
     let history = read_history(alloc, config, trace)?;
-    Ok(measured(alloc, config, history.as_slice())?)
+    let history = history.as_slice();
+    // (no file has more)
+    if history.len() > MOST_PASSES {
+        return Err(RunFault::Length);
+    }
+    Ok(measured(alloc, config, history)?)
 }

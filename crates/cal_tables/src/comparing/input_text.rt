@@ -1,5 +1,8 @@
 //! The input of one table's run, with the arrivals that it gets.
 
+ghost use Rattle.std.specs.Prelude.{IfOk};
+ghost use Rattle.cal_trace.specs.Arrivals.FitsTable.{FitsTable};
+
 use crate::comparing::Variation;
 use crate::comparing::fault::{ComparisonFault, Reason, fault_of};
 use crate::comparing::moving::moved_arrivals;
@@ -68,7 +71,9 @@ fn from_input(
     alloc: Global,
     input: &[u8],
     variation: Option<Variation<'_>>,
-) -> Result<GivenTables, ComparisonFault> {
+) -> Result<GivenTables, ComparisonFault>
+    ensures fits { IfOk result (λ from. FitsTable from.given from.arrivals) }
+{
     match variation {
         Some(variation) => varied_given(alloc, input, variation),
         None => given_tables(alloc, input),

@@ -109,6 +109,14 @@ fn meeting(first: &Arrival, second: &Arrival) -> Misfit
     }
 }
 
+/// The request at a place.
+fn request_at(requests: &[Arrival], place: usize) -> &Arrival
+    requires { place < length requests.now }
+    ensures { slice_get requests.now place ≡ Some result.now }
+{
+    &requests[place]
+}
+
 /// The first two of these requests that come to one thread before the same turn, if there are such.
 fn first_meeting(requests: &[Arrival]) -> Option<Misfit>
     requires up { IsNonDecreasingBy order_of requests.now }
@@ -118,8 +126,8 @@ fn first_meeting(requests: &[Arrival]) -> Option<Misfit>
     ensures why { IfSome result (IsMeeting requests.now) }
 {
     for place in 1..requests.len() {
-        let first = &requests[place - 1];
-        let second = &requests[place];
+        let first = request_at(requests, place - 1);
+        let second = request_at(requests, place);
         if !comes_before(first, second) {
             return Some(meeting(first, second));
         }

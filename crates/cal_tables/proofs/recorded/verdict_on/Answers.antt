@@ -1,4 +1,4 @@
-use Rattle.std.proofs.Common.{◌<◌, ◌≤◌, ◌^◌, List, length, length-take-le, take, take_all, arith, subst}
+use Rattle.std.proofs.Common.{◌<◌, ◌≤◌, ◌^◌, ◌++◌, ◌∷◌, [], List, length, length-take-le, take, take_all, arith, subst}
 use Rattle.cal_measure.proofs.Steps.{grown}
 use Rattle.cal_policy.specs.Auditor.{IsAuditOf}
 use Rattle.cal_policy.specs.Verdict.{IsVerdict}
@@ -13,7 +13,9 @@ loop-entry-preserved c =
     let few = c.requires in
     let short : length (take i xs) < 2 ^ 64 = omega (arith, within, few, length-take-le i xs (omega (arith, within))) in
     record {
-      audits = grown (λ (l : List PassEntry). IsAuditOf c.args.config.now l c.next.new.self) xs i _ within (c.next.ensures.audits (take i xs) short c.loop-entry.invariant.audits);
+      audits = grown (λ (l : List PassEntry). IsAuditOf c.args.config.now l c.next.new.self) xs i _ within
+          (subst (λ (e : PassEntry). IsAuditOf c.args.config.now (take i xs ++ e ∷ []) c.next.new.self) c.entry-item.is
+          (c.next.ensures.audits (take i xs) short c.loop-entry.invariant.audits));
       of = c.next.ensures.of;
     }
 

@@ -12,8 +12,8 @@ returns-clause-none c = λ none. rising c.args.requests.now (λ i x y lt e f. le
 pub returns-then-not-comes_before-clause-why : goal.returns-then-not-comes_before-clause-why
 returns-then-not-comes_before-clause-why c =
     let place = c.loop-place.place in
-    let one : slice_get c.args.requests.now (place - 1) ≡ Some c.index.result.now = search rules in
-    let other : slice_get c.args.requests.now place ≡ Some c.index-2.result.now = search rules in
-    let apart : ComesBefore c.index.result.now c.index-2.result.now → ⊥ = search rules in
+    let one : slice_get c.args.requests.now (place - 1) ≡ Some c.request_at-first.result.now = c.request_at-first.ensures in
+    let other : slice_get c.args.requests.now place ≡ Some c.request_at-second.result.now = c.request_at-second.ensures in
+    let apart : ComesBefore c.request_at-first.result.now c.request_at-second.result.now → ⊥ = search rules in
     subst (λ (m : Misfit). IsMeeting c.args.requests.now m) (sym c.meeting.ensures)
-    (come_at_once c.args.requests.now place c.index.result.now c.index-2.result.now c.requires.up c.requires.once c.requires.turns c.loop-place.invariant.0 one other apart)
+    (come_at_once c.args.requests.now place c.request_at-first.result.now c.request_at-second.result.now c.requires.up c.requires.once c.requires.turns c.loop-place.invariant.0 one other apart)
