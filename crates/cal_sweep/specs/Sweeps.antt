@@ -32,7 +32,7 @@ AreSweptRuns tables runs = AreEachOf IsSweptRun tables runs
 
 -- the runs of this load: one of each table
 pub record IsSweptLoad (tables : List Table) (load : ℕ) (of_load : SweptLoad) : Type 0 where
-  pub load : of_load.load ≡ load
+  pub at : of_load.load ≡ load
   pub runs : AreSweptRuns tables of_load.runs.items
 
 -- for each of these loads in turn, a run of each table

@@ -11,7 +11,7 @@ use cal_tables::{Figure, RunNumbers, share};
 
 /// For how long a task of this kind held cores, if it is best-effort.
 fn held_as(kind: Kind, cores: Option<&TaskCores>) -> u128
-    ensures { result ≡ held_as kind (option_map (λ cores. cores.now) cores) }
+    ensures { result ≡ held_as kind (option_map (λ cores. cores.now) cores.entry) }
 {
     match kind {
         Kind::LatencyCritical => 0,
