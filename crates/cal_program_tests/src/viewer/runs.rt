@@ -102,7 +102,7 @@ fn faults_have_the_program_in_front(rt: HostRuntime) -> Result<(), Fail> {
   wanted: a task table, a line ---, and a trace that begins with
     `caladan-history,2` or `caladan-history,1`
 "
-        .as_slice()
+            .as_slice()
     );
     assert_eq!(rt; ran.output.len(), 0);
     let ran = run(&rt, &["picture", "--passes", "0"], TABLE)?;
