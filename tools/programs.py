@@ -79,7 +79,7 @@ def words_of(program):
 
 def shown_run(text, name, word):
     """The run to copy that the help of a program's word shows; None where it shows none."""
-    shown = rf"^{name} {word}((?: [-\w.]+)*)(?: > \S+)? <<'END'\n(.*?\n)END\n(?:\nIt (may write|writes):\n\n(.*))?"
+    shown = rf"^{name} {word}((?: [-\w.,=]+)*)(?: > \S+)? <<'END'\n(.*?\n)END\n(?:\nIt (may write|writes):\n\n(.*))?"
     found = re.search(shown, text, re.S | re.M)
     return found and Shown(found[2].encode(), found[3] == "may write", found[4] and found[4].encode(), found[1].split())
 

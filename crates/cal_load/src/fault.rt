@@ -28,6 +28,10 @@ pub enum Why {
     TooMany(u64),
     /// It is no objective of the form `task.0.p99=65`.
     NotAnObjective,
+    /// No requests come to the task of the objective.
+    NothingComes,
+    /// It is no key of a table with values.
+    NotAVariation,
 }
 
 /// The reason in words.
@@ -64,6 +68,10 @@ shares, as 90%:1,10%:20",
             Why::TooMany(most) => write!(f, "more than {most} requests would come"),
             Why::NotAnObjective => f.write_str(
                 "an objective is as task.0.p99=65: a task, p50, p90, p99, p99.9 or max, and ticks",
+            ),
+            Why::NothingComes => f.write_str("the objective is of a task that has no load"),
+            Why::NotAVariation => f.write_str(
+                "a key is varied as task.0.delay=10,20: the key, =, and its values",
             ),
         }
     }
@@ -110,6 +118,6 @@ impl<'a, T: Drop> From<AllocFailed<T>> for LoadFault<'a> {
 }
 
 /// The fault of a word.
-pub(crate) fn refused<'a>(flag: &'a str, word: &'a str, why: Why) -> LoadFault<'a> {
+pub fn refused<'a>(flag: &'a str, word: &'a str, why: Why) -> LoadFault<'a> {
     LoadFault::Word(WordFault { flag, word, why })
 }

@@ -4,6 +4,7 @@
 //! That making them ends and stays within its limits is proved; what is made is only tested.
 #![tactic(auto)]
 
+mod asked;
 mod decimal;
 mod fault;
 mod loads;
@@ -12,7 +13,9 @@ mod service;
 mod variate;
 mod writing;
 
-pub use fault::{LoadFault, Why, WordFault};
+pub use asked::{LoadWords, SteppedLoads, are_known, asked_loads, stepped_loads, word_at};
+pub use decimal::number_of;
+pub use fault::{LoadFault, Why, WordFault, refused};
 pub use loads::{MOST_LOAD, loads_of};
 pub use making::{Pattern, TaskLoad, Timing, pattern_of};
 pub use service::{ServicePart, service_of};

@@ -7,7 +7,8 @@ use std::alloc::Global;
 /// The greatest load, in thousandths: ten times what all threads of a task can do.
 pub const MOST_LOAD: u64 = 10_000;
 
-const FLAG: &str = "--load";
+/// The flag before a load.
+pub const FLAG: &str = "--load";
 
 /// One load, in thousandths.
 fn load_of<'a>(word: &'a str, piece: &str) -> Result<u64, LoadFault<'a>> {

@@ -1,6 +1,7 @@
 //! Arrivals as a file.
 
 use crate::fault::{LoadFault, Why, refused};
+use crate::loads::FLAG;
 use crate::making::{Coming, Queue, TaskLoad, Timing, come};
 use cal_machine::Config;
 use rand_core::SeedableRng;
@@ -193,7 +194,7 @@ pub fn made_arrivals<'a>(
     word: &'a str,
 ) -> Result<Made, LoadFault<'a>> {
     let Some(all) = all_that_come(alloc, config, loads, timing.turns, seed)? else {
-        return Err(refused("--load", word, Why::TooMany(MOST_REQUESTS)));
+        return Err(refused(FLAG, word, Why::TooMany(MOST_REQUESTS)));
     };
     let mut rows = Rows::new(alloc)?;
     let mut counts = Vec::new(alloc);

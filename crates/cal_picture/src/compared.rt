@@ -35,7 +35,7 @@ pub fn draw_comparison<R: Read + Drop, W: Write>(
 ) -> Result<(), ComparisonFault>
     // Nothing is written before the runs were made.
     ensures untouched { IfErr result (λ fault.
-        fault.fault ≢ RunFault.Write → writer.new ≡ writer.old) }
+        fault ≢ ComparisonFault.Run RunFault.Write → writer.new ≡ writer.old) }
 {
     let input = read_input(alloc, &mut reader)?;
     let page = drawn(alloc, input.as_slice(), variation, labels)?;

@@ -12,4 +12,4 @@ mod scale;
 pub use colours::{Paper, Scheme, Shade, paper_of, shade_of};
 pub use compared::draw_comparison;
 pub use page::Page;
-pub use scale::scaled;
+pub use scale::{TimeScale, scaled};

@@ -108,14 +108,19 @@ impl TimeScale {
         power_of(exponent).saturating_mul(times)
     }
 
+    /// How far from the edge a time stands, on an axis of this length.
+    pub fn along(&self, length: u64, time: u64) -> u64 {
+        if time == 0 {
+            return 0;
+        }
+        let room = length.saturating_sub(NOTHING);
+        let far = log(time).saturating_sub(self.first.saturating_mul(1000));
+        NOTHING.saturating_add(scaled(room, far, self.whole).min(room))
+    }
+
     /// Where a time stands.
     pub fn at(&self, time: u64) -> u64 {
-        if time == 0 {
-            return LEFT;
-        }
-        let far = log(time).saturating_sub(self.first.saturating_mul(1000));
-        let room = scaled(PLOT - NOTHING, far, self.whole).min(PLOT - NOTHING);
-        (LEFT + NOTHING).saturating_add(room)
+        LEFT.saturating_add(self.along(PLOT, time))
     }
 }
 

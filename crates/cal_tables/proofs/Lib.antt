@@ -1,4 +1,5 @@
 pub mod Passes
+pub mod Moving
 pub mod Joined
 pub mod Shorter
 pub mod Tables

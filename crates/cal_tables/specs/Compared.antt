@@ -8,6 +8,7 @@ use Rattle.cal_trace.specs.Arrivals.{arrivals_of}
 use Rattle.cal_trace.specs.Rows.{rows_of}
 use Rattle.cal_trace.specs.declared.arrivals.Arrivals.{Arrivals}
 use Rattle.cal_tables.specs.Measured.{IsMeasuredRun}
+use Rattle.cal_tables.specs.Moved.{AreMoved}
 use Rattle.cal_tables.specs.declared.measuring.RunNumbers.{RunNumbers}
 
 -- the tables of an input, each ended by a separator line, and what stands after the last of these
@@ -18,27 +19,42 @@ AreTables input (table ∷ tables) trace = (front : List ℕ) × (back : List �
     × (input_parts input ≡ Some (front, back)) × (table_in front ≡ Ok table)
     × AreTables back tables trace
 
--- the numbers of a run of this table on the arrivals that a text tells
-pub record IsColumn (table : Table) (trace : List ℕ) (column : RunNumbers) : Type 0 where
-  pub arrivals : Arrivals
-  pub given : arrivals_of (threads_in table.tasks) (rows_of trace) ≡ Ok arrivals
-  pub measured : IsMeasuredRun table arrivals column
+-- the arrivals that a text tells, for the threads of a table
+abbrev pub AreToldFor : Table → List ℕ → Arrivals → Type 0
+AreToldFor table trace arrivals =
+    arrivals_of (threads_in table.tasks) (rows_of trace) ≡ Ok arrivals
 
--- as many of these as tables, each of the table at its place
-pub record AreOfTables {C : Type 0} (Is : Table → C → Type 0) (tables : List Table)
+-- the tables of an input, and its arrivals, which are given for the first of them
+pub record AreTablesWith (input : List ℕ) (tables : List Table) (given : Table)
+    (arrivals : Arrivals) : Type 0 where
+  pub trace : List ℕ
+  pub are : AreTables input tables trace
+  pub first : slice_get tables 0 ≡ Some given
+  pub told : AreToldFor given trace arrivals
+
+-- the numbers of a run of this table on arrivals that were given for another, as it gets them
+pub record IsColumn (given : Table) (arrivals : Arrivals) (table : Table)
+    (column : RunNumbers) : Type 0 where
+  pub moved : Arrivals
+  pub gets : AreMoved given table arrivals moved
+  pub measured : IsMeasuredRun table moved column
+
+-- as many of these as things, each of the thing at its place
+pub record AreEachOf {X C : Type 0} (Is : X → C → Type 0) (things : List X)
     (items : List C) : Type 0 where
-  pub many : length items ≡ length tables
-  pub each : (i : ℕ) (table : Table) (item : C) →
-      slice_get tables i ≡ Some table → slice_get items i ≡ Some item → Is table item
+  pub many : length items ≡ length things
+  pub each : (i : ℕ) (thing : X) (item : C) →
+      slice_get things i ≡ Some thing → slice_get items i ≡ Some item → Is thing item
 
 -- as many columns as tables, each with the numbers of the table at its place
-abbrev pub AreColumns : List Table → List ℕ → List RunNumbers → Type 0
-AreColumns tables trace columns =
-    AreOfTables (λ table column. IsColumn table trace column) tables columns
+abbrev pub AreColumns : Table → Arrivals → List Table → List RunNumbers → Type 0
+AreColumns given arrivals tables columns =
+    AreEachOf (λ table column. IsColumn given arrivals table column) tables columns
 
--- the tables of an input, and the numbers of each one's run on its arrivals
+-- the tables of an input, and the numbers of each one's run on its arrivals, as the table gets them
 pub record IsComparison (input : List ℕ) (tables : List Table)
     (columns : List RunNumbers) : Type 0 where
-  pub trace : List ℕ
-  pub given : AreTables input tables trace
-  pub are : AreColumns tables trace columns
+  pub given : Table
+  pub arrivals : Arrivals
+  pub with : AreTablesWith input tables given arrivals
+  pub are : AreColumns given arrivals tables columns

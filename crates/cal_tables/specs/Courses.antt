@@ -1,18 +1,16 @@
 -- What a picture of a run is drawn from.
-use Rattle.std.specs.Prelude.{◌≡◌, ℕ, List, length, map, Some, Ok, slice_get}
+use Rattle.std.specs.Prelude.{◌≡◌, ℕ, List, length, map, Some, slice_get}
 use Rattle.std.specs.List.Sorted.{IsNonDecreasing, IsPermutation}
 use Rattle.cal_machine.specs.Table.{Table}
-use Rattle.cal_machine.specs.Tasks.{threads_in}
 use Rattle.cal_measure.specs.Clocks.{run_end}
 use Rattle.cal_measure.specs.Cores.{IsHeldCourse}
 use Rattle.cal_measure.specs.Requests.{AreRequestsOf, response_of, services_of_task}
 use Rattle.cal_run.specs.Outcome.{IsRun}
 use Rattle.cal_run.specs.declared.outcome.Outcome.{Outcome}
-use Rattle.cal_tables.specs.Compared.{AreOfTables, AreTables}
+use Rattle.cal_tables.specs.Compared.{AreEachOf, AreTablesWith}
+use Rattle.cal_tables.specs.Moved.{AreMoved}
 use Rattle.cal_tables.specs.declared.courses.RunCourse.{RunCourse}
 use Rattle.cal_tables.specs.declared.courses.TaskCourse.{TaskCourse}
-use Rattle.cal_trace.specs.Arrivals.{arrivals_of}
-use Rattle.cal_trace.specs.Rows.{rows_of}
 use Rattle.cal_trace.specs.declared.arrivals.Arrivals.{Arrivals}
 
 -- what came of task t in this run: the numbers of its requests, how long each took that was served,
@@ -40,19 +38,23 @@ pub record IsRunCourse (table : Table) (arrivals : Arrivals) (course : RunCourse
   pub clocks : course.clocks.items ≡ map (λ entry. entry.input.now) outcome.history
   pub tasks : AreTaskCourses table arrivals outcome course.tasks.items
 
--- what a run of this table on the arrivals that a text tells went through
-pub record IsCourse (table : Table) (trace : List ℕ) (course : RunCourse) : Type 0 where
-  pub arrivals : Arrivals
-  pub given : arrivals_of (threads_in table.tasks) (rows_of trace) ≡ Ok arrivals
-  pub gone : IsRunCourse table arrivals course
+-- what a run of this table on arrivals that were given for another, as it gets them, went through
+pub record IsCourse (given : Table) (arrivals : Arrivals) (table : Table)
+    (course : RunCourse) : Type 0 where
+  pub moved : Arrivals
+  pub gets : AreMoved given table arrivals moved
+  pub gone : IsRunCourse table moved course
 
 -- as many runs as tables, each of the table at its place
-abbrev pub AreCourses : List Table → List ℕ → List RunCourse → Type 0
-AreCourses tables trace runs = AreOfTables (λ table run. IsCourse table trace run) tables runs
+abbrev pub AreCourses : Table → Arrivals → List Table → List RunCourse → Type 0
+AreCourses given arrivals tables runs =
+    AreEachOf (λ table run. IsCourse given arrivals table run) tables runs
 
--- the tables of an input, and what each one's run on its arrivals went through
+-- the tables of an input, and what each one's run on its arrivals, as the table gets them, went
+-- through
 pub record AreCoursesOf (input : List ℕ) (tables : List Table)
     (runs : List RunCourse) : Type 0 where
-  pub trace : List ℕ
-  pub given : AreTables input tables trace
-  pub are : AreCourses tables trace runs
+  pub given : Table
+  pub arrivals : Arrivals
+  pub with : AreTablesWith input tables given arrivals
+  pub are : AreCourses given arrivals tables runs

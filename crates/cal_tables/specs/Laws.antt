@@ -1,10 +1,14 @@
 -- What a variation is, in words of its own.
-use Rattle.std.specs.Prelude.{◌≡◌, ℕ, true, List, Ok}
+use Rattle.std.specs.Prelude.{◌≡◌, ℕ, true, List, map, Ok}
 use Rattle.std.specs.List.{Contains}
 use Rattle.cal_machine.specs.Reading.{table_in}
 use Rattle.cal_machine.specs.Table.{Table, IsTable}
+use Rattle.cal_machine.specs.declared.task.Task.{Task}
+use Rattle.cal_tables.specs.Moved.{AreMoved}
 use Rattle.cal_tables.specs.TableText.{Line, lines_of, text_of_lines}
 use Rattle.cal_tables.specs.Varied.{has_key, varied, varied_lines}
+use Rattle.cal_trace.specs.Arrivals.FitsTable.{FitsTable}
+use Rattle.cal_trace.specs.declared.arrivals.Arrivals.{Arrivals}
 
 -- a table's text is read as that table
 abbrev pub TextIsReadBack : Type 0
@@ -28,3 +32,14 @@ abbrev pub VariedDiffersAtItsKey : Type 0
 VariedDiffersAtItsKey = (table other : Table) (key value : List ℕ) → IsTable other →
     has_key key table ≡ true → lines_of other ≡ varied_lines key value table →
     varied table key value ≡ Ok other
+
+-- the limits of some tasks
+abbrev pub limits_of : List Task → List ℕ
+limits_of tasks = map (λ task. task.limit) tasks
+
+-- a table whose tasks have the limits of those that the arrivals were given for gets them as they
+-- are
+abbrev pub SameLimitsMoveNothing : Type 0
+SameLimitsMoveNothing = (given table : Table) (arrivals moved : Arrivals) →
+    limits_of given.tasks ≡ limits_of table.tasks → FitsTable given arrivals →
+    AreMoved given table arrivals moved → moved ≡ arrivals

@@ -1,4 +1,6 @@
 pub mod Measured
+pub mod Recording
+pub mod Moved
 pub mod Compared
 pub mod Courses
 pub mod TableText

@@ -10,6 +10,7 @@ use Rattle.cal_policy.specs.declared.history.entry.PassEntry.{PassEntry}
 use Rattle.cal_run.specs.Outcome.{IsRun}
 use Rattle.cal_run.specs.declared.outcome.Outcome.{Outcome}
 use Rattle.cal_tables.specs.declared.measuring.RunNumbers.{RunNumbers}
+use Rattle.cal_tables.specs.declared.recorded.HistoryNumbers.{HistoryNumbers}
 use Rattle.cal_trace.specs.declared.arrivals.Arrivals.{Arrivals}
 
 -- for each task, in task order, the numbers of its requests in this run
@@ -25,6 +26,14 @@ pub record AreCoresOfTasks (table : Table) (history : List PassEntry)
   pub many : length numbers ≡ length table.tasks
   pub each : (t : ℕ) (of_task : TaskCores) → slice_get numbers t ≡ Some of_task →
       AreCoresOf table history t of_task
+
+-- the numbers of the cores in this history: of the tasks', and of the machine's, whose parts make
+-- the whole
+pub record AreHistoryNumbers (table : Table) (history : List PassEntry)
+    (numbers : HistoryNumbers) : Type 0 where
+  pub cores : AreCoresOfTasks table history numbers.cores.items
+  pub machine : AreMachineCores table history numbers.machine
+  pub whole : MakeTheWhole table numbers.machine
 
 -- a run on these arrivals came to some outcome, and these are its numbers: of requests, of the
 -- tasks' cores, of the machine's, whose parts make the whole, and how long its turns last

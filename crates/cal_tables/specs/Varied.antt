@@ -2,7 +2,7 @@
 use Rattle.std.specs.Prelude.{◌≡◌, bytes_eq, ℕ, Bool, List, map, Result, Ok, Err}
 use Rattle.std.specs.Prelude.{if◌then◌else◌}
 use Rattle.std.specs.List.{list_any}
-use Rattle.cal_engine.specs.Runs.{parts_of}
+use Rattle.cal_engine.specs.Running.{run_input_of}
 use Rattle.cal_machine.specs.Reading.{table_in}
 use Rattle.cal_machine.specs.Table.{Table}
 use Rattle.cal_machine.specs.declared.fault.ConfigFault.{ConfigFault}
@@ -12,6 +12,7 @@ use Rattle.cal_tables.specs.Compared.{AreColumns}
 use Rattle.cal_tables.specs.Courses.{AreCourses}
 use Rattle.cal_tables.specs.declared.courses.RunCourse.{RunCourse}
 use Rattle.cal_tables.specs.declared.measuring.RunNumbers.{RunNumbers}
+use Rattle.cal_trace.specs.declared.arrivals.Arrivals.{Arrivals}
 
 -- the line; if its place is the key, with this value
 abbrev pub with_value : List ℕ → List ℕ → Line → Line
@@ -37,21 +38,26 @@ abbrev pub AreVaried : Table → List ℕ → List (List ℕ) → List Table →
 AreVaried table key values tables = map (varied table key) values ≡ map Ok tables
 
 -- the tables that the table of an input gives with each of these values at this key, and the
--- numbers of each one's run on the input's arrivals
+-- input's arrivals, which are given for its table
+pub record AreVariedWith (input key : List ℕ) (values : List (List ℕ)) (tables : List Table)
+    (given : Table) (arrivals : Arrivals) : Type 0 where
+  pub has : run_input_of input ≡ Ok (record { table = given; arrivals = arrivals })
+  pub varied : AreVaried given key values tables
+
+-- the tables that the table of an input gives with each of these values at this key, and the
+-- numbers of each one's run on the input's arrivals, as it gets them
 pub record IsVariation (input key : List ℕ) (values : List (List ℕ)) (tables : List Table)
     (columns : List RunNumbers) : Type 0 where
-  pub table : Table
-  pub trace : List ℕ
-  pub given : parts_of input ≡ Ok (record { table = table; trace = trace })
-  pub varied : AreVaried table key values tables
-  pub are : AreColumns tables trace columns
+  pub given : Table
+  pub arrivals : Arrivals
+  pub with : AreVariedWith input key values tables given arrivals
+  pub are : AreColumns given arrivals tables columns
 
 -- the tables that the one of an input gives with these values at this key, and what each one's run
--- on the input's arrivals went through
+-- on the input's arrivals, as it gets them, went through
 pub record AreCoursesOfValues (input key : List ℕ) (values : List (List ℕ)) (tables : List Table)
     (runs : List RunCourse) : Type 0 where
-  pub table : Table
-  pub trace : List ℕ
-  pub given : parts_of input ≡ Ok (record { table = table; trace = trace })
-  pub varied : AreVaried table key values tables
-  pub are : AreCourses tables trace runs
+  pub given : Table
+  pub arrivals : Arrivals
+  pub with : AreVariedWith input key values tables given arrivals
+  pub are : AreCourses given arrivals tables runs

@@ -3,6 +3,8 @@
 pub mod changes;
 pub mod columns;
 pub mod fault;
+pub mod input_text;
+pub mod moving;
 pub mod sheet;
 pub mod tables;
 pub mod varying;
@@ -13,13 +15,14 @@ ghost use Rattle.cal_tables.specs.Varied.{IsVariation};
 
 use crate::comparing::columns::columns_of;
 use crate::comparing::fault::ComparisonFault;
+use crate::comparing::input_text::input_text;
 use crate::comparing::sheet::comparison_sheet;
-use crate::comparing::tables::read_tables;
-use crate::comparing::varying::varied_tables;
+use crate::comparing::tables::{GivenTables, given_tables};
+use crate::comparing::varying::varied_given;
 use crate::labels::Labels;
 use crate::measuring::RunNumbers;
 use crate::sheet::NumberForm;
-use cal_engine::{RunFault, read_input, read_parts};
+use cal_engine::{RunFault, read_input};
 use cal_machine::Config;
 use std::alloc::Global;
 use std::io::{Read, Write};
@@ -34,16 +37,22 @@ pub struct Comparison {
 }
 
 /// The tables of an input, each ended by a separator line, and the numbers of each one's run on the
-/// arrivals that stand after the last of these lines, in the order of the tables.
+/// arrivals that stand after the last of these lines, in the order of the tables. The arrivals are
+/// given for the first table; each gets them as `moved_arrivals` says.
 ///
 /// The fault is the input's `Separator`, else the first table's that has one, else that of the
-/// first table which the arrivals do not fit. `Memory` may come at any place.
+/// arrivals, which is the first table's, else that of the first table which they do not fit.
+/// `Memory` may come at any place.
 pub fn compared(alloc: Global, input: &[u8]) -> Result<Comparison, ComparisonFault>
     ensures { IfOk result (λ comparison.
         IsComparison input.now comparison.tables.items comparison.columns.items) }
 {
-    let (tables, trace) = read_tables(alloc, input)?;
-    let columns = columns_of(alloc, tables.as_slice(), trace)?;
+    let GivenTables {
+        tables,
+        given,
+        arrivals,
+    } = given_tables(alloc, input)?;
+    let columns = columns_of(alloc, &given, &arrivals, tables.as_slice())?;
     Ok(Comparison { tables, columns })
 }
 
@@ -57,7 +66,8 @@ pub struct Variation<'a> {
 }
 
 /// The tables that the one of an input gives with each of these values at this key, and the numbers
-/// of each one's run on the input's arrivals, in the order of the values.
+/// of each one's run on the input's arrivals, in the order of the values. The arrivals are given for
+/// the input's table; each gets them as `moved_arrivals` says.
 ///
 /// The faults are those of the word `lockstep`, in its order; then that of the first value that
 /// makes the table faulty (a key that it has not is unknown), then that of the first value which
@@ -71,9 +81,12 @@ pub fn compared_values(
         (map (λ value. value.now) variation.entry.values.now)
         comparison.tables.items comparison.columns.items) }
 {
-    let (table, trace) = read_parts(alloc, input)?;
-    let tables = varied_tables(alloc, &table, variation.key, variation.values)?;
-    let columns = columns_of(alloc, tables.as_slice(), trace)?;
+    let GivenTables {
+        tables,
+        given,
+        arrivals,
+    } = varied_given(alloc, input, variation)?;
+    let columns = columns_of(alloc, &given, &arrivals, tables.as_slice())?;
     Ok(Comparison { tables, columns })
 }
 
@@ -116,10 +129,35 @@ pub fn compare<R: Read + Drop, W: Write>(
 ) -> Result<(), ComparisonFault>
     // Nothing is written before the runs were made.
     ensures untouched { IfErr result (λ fault.
-        fault.fault ≢ RunFault.Write → writer.new ≡ writer.old) }
+        fault ≢ ComparisonFault.Run RunFault.Write → writer.new ≡ writer.old) }
 {
     let input = read_input(alloc, &mut reader)?;
     let text = compared_text(alloc, input.as_slice(), variation, labels, form)?;
+    match writer.write_all(text.as_bytes()) {
+        Ok(()) => Ok(()),
+        Err(_) => Err(ComparisonFault::from(RunFault::Write)),
+    }
+}
+
+/// Reads an input of `compare` to its end, and writes that of `measure` for one of its tables, the
+/// first being 0: the table and the arrivals that it gets. With a variation it is one of those that
+/// the input's table gives. Nothing is written before the whole text is in memory.
+///
+/// The faults are those of `compare` up to the arrivals, then `NoTable`, then that of the table
+/// which the arrivals do not fit.
+pub fn write_input<R: Read + Drop, W: Write>(
+    alloc: Global,
+    mut reader: R,
+    variation: Option<Variation<'_>>,
+    place: usize,
+    writer: &mut W,
+) -> Result<(), ComparisonFault>
+    // Nothing is written before the text was made.
+    ensures untouched { IfErr result (λ fault.
+        fault ≢ ComparisonFault.Run RunFault.Write → writer.new ≡ writer.old) }
+{
+    let input = read_input(alloc, &mut reader)?;
+    let text = input_text(alloc, input.as_slice(), variation, place)?;
     match writer.write_all(text.as_bytes()) {
         Ok(()) => Ok(()),
         Err(_) => Err(ComparisonFault::from(RunFault::Write)),

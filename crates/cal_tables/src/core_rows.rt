@@ -4,7 +4,6 @@ ghost use Rattle.std.specs.Prelude.{◌≡◌, ◌≤◌, ◌-◌, ◌^◌, min,
 ghost use Rattle.cal_tables.specs.Rows.{core_figure_of, exact, machine_figure_of};
 
 use crate::figures::{Figure, Unit, count, share};
-use crate::measuring::RunNumbers;
 use cal_measure::{MachineCores, TaskCores};
 
 /// What a row says of the cores of each task.
@@ -141,10 +140,16 @@ fn core_figure_of(cores: &TaskCores, lasted: u128, line: CoreLine) -> Option<Fig
     }
 }
 
-/// What a row says of a task's cores, which a run may not have, where there is something.
-pub fn core_figure(numbers: &RunNumbers, task: usize, line: CoreLine) -> Option<Figure> {
-    let cores = numbers.cores.as_slice().get(task)?;
-    core_figure_of(cores, numbers.machine.lasted, line)
+/// What a row says of a task's cores, which a run that lasted so long may not have, where there is
+/// something.
+pub fn core_figure(
+    cores: &[TaskCores],
+    lasted: u128,
+    task: usize,
+    line: CoreLine,
+) -> Option<Figure> {
+    let cores = cores.get(task)?;
+    core_figure_of(cores, lasted, line)
 }
 
 /// Some clock ticks, up to the greatest number, as a figure.
@@ -178,8 +183,22 @@ fn machine_figure_of(
     }
 }
 
-/// What a row says of the machine's cores, of which there are so many, where there is something.
-pub fn machine_figure(numbers: &RunNumbers, line: MachineLine, cores: u8) -> Option<Figure> {
-    let whole = numbers.machine.lasted.saturating_mul(cores as u128);
-    machine_figure_of(&numbers.machine, whole, numbers.turns, line)
+/// What a row says of the machine's cores, of which there are so many, in a run whose turns last so
+/// long, where there is something.
+pub fn machine_figure(
+    machine: &MachineCores,
+    turns: u64,
+    line: MachineLine,
+    cores: u8,
+) -> Option<Figure> {
+    let whole = machine.lasted.saturating_mul(cores as u128);
+    machine_figure_of(machine, whole, turns, line)
+}
+
+/// Whether a row is there without turns: one of a history alone.
+pub fn is_of_passes(line: MachineLine) -> bool {
+    match line {
+        MachineLine::ClockOfRequests => false,
+        _ => true,
+    }
 }

@@ -12,15 +12,16 @@ ghost use Rattle.cal_tables.specs.Varied.{AreCoursesOfValues};
 
 use crate::comparing::Variation;
 use crate::comparing::columns::table_at;
-use crate::comparing::fault::{ComparisonFault, fault_of};
-use crate::comparing::tables::read_tables;
-use crate::comparing::varying::varied_tables;
-use cal_engine::{RunFault, read_parts};
+use crate::comparing::fault::{ComparisonFault, Reason, fault_of};
+use crate::comparing::moving::moved_arrivals;
+use crate::comparing::tables::{GivenTables, given_tables};
+use crate::comparing::varying::varied_given;
+use cal_engine::RunFault;
 use cal_machine::Config;
 use cal_measure::{ArrivalClocks, TaskRequests, held_course, requests_of, responses_of};
 use cal_policy::PassEntry;
 use cal_run::{RunEnd, lockstep_end};
-use cal_trace::{Arrivals, read_arrivals};
+use cal_trace::Arrivals;
 use std::alloc::{AllocError, Global};
 
 /// What came of a task in a run.
@@ -133,62 +134,77 @@ pub fn run_course(
     Ok(RunCourse { clocks, tasks })
 }
 
-/// What the run of a table on the arrivals that a text tells goes through.
-fn course_of(alloc: Global, table: &Config, trace: &[u8]) -> Result<RunCourse, RunFault>
-    ensures { IfOk result (IsCourse table.now trace.now) }
+/// What the run of a table on arrivals that were given for another, as the table gets them, goes
+/// through.
+fn course_of(
+    alloc: Global,
+    given: &Config,
+    arrivals: &Arrivals,
+    table: &Config,
+) -> Result<RunCourse, Reason>
+    requires { FitsTable given.now arrivals.now }
+    ensures { IfOk result (IsCourse given.now arrivals.now table.now) }
 {
-    let arrivals = read_arrivals(alloc, table, trace)?;
-    run_course(alloc, table, &arrivals)
+    let moved = moved_arrivals(alloc, given, table, arrivals)?;
+    Ok(run_course(alloc, table, &moved)?)
 }
 
 /// What the run of a table goes through; a fault is that of the table at this place.
 fn placed_course(
     alloc: Global,
+    given: &Config,
+    arrivals: &Arrivals,
     table: &Config,
     place: usize,
-    trace: &[u8],
 ) -> Result<RunCourse, ComparisonFault>
-    ensures { IfOk result (IsCourse table.now trace.now) }
+    requires { FitsTable given.now arrivals.now }
+    ensures { IfOk result (IsCourse given.now arrivals.now table.now) }
 {
-    match course_of(alloc, table, trace) {
+    match course_of(alloc, given, arrivals, table) {
         Ok(course) => Ok(course),
-        Err(fault) => Err(fault_of(place, fault)),
+        Err(reason) => Err(fault_of(place, reason)),
     }
 }
 
-/// What each table's run on the arrivals that a text tells goes through, in the order of the
+/// What each table's run on the arrivals, as the table gets them, goes through, in the order of the
 /// tables.
 fn courses_on(
     alloc: Global,
+    given: &Config,
+    arrivals: &Arrivals,
     tables: &[Config],
-    trace: &[u8],
 ) -> Result<Vec<RunCourse>, ComparisonFault>
+    requires { FitsTable given.now arrivals.now }
     ensures { IfOk result (λ courses.
-        AreCourses tables.now trace.now courses.items) }
+        AreCourses given.now arrivals.now tables.now courses.items) }
 {
     let mut courses = Vec::new(alloc);
     for place in 0..tables.len() {
-        let course = placed_course(alloc, table_at(tables, place), place, trace)?;
+        let course = placed_course(alloc, given, arrivals, table_at(tables, place), place)?;
         courses.push(course)?;
     }
     Ok(courses)
 }
 
 /// The tables of an input, each ended by a separator line, and what each one's run on the arrivals
-/// after the last of these lines goes through, in the order of the tables. The faults are those of
-/// `compared`.
+/// after the last of these lines, as it gets them, goes through, in the order of the tables. The
+/// faults are those of `compared`.
 pub fn courses_of(alloc: Global, input: &[u8]) -> Result<Courses, ComparisonFault>
     ensures { IfOk result (λ courses.
         AreCoursesOf input.now courses.tables.items courses.runs.items) }
 {
-    let (tables, trace) = read_tables(alloc, input)?;
-    let runs = courses_on(alloc, tables.as_slice(), trace)?;
+    let GivenTables {
+        tables,
+        given,
+        arrivals,
+    } = given_tables(alloc, input)?;
+    let runs = courses_on(alloc, &given, &arrivals, tables.as_slice())?;
     Ok(Courses { tables, runs })
 }
 
 /// The tables that the one of an input gives with each of these values at this key, and what each
-/// one's run on the input's arrivals goes through, in the order of the values. The faults are those
-/// of `compared_values`.
+/// one's run on the input's arrivals, as it gets them, goes through, in the order of the values. The
+/// faults are those of `compared_values`.
 pub fn courses_of_values(
     alloc: Global,
     input: &[u8],
@@ -198,8 +214,11 @@ pub fn courses_of_values(
         (map (λ value. value.now) variation.entry.values.now)
         courses.tables.items courses.runs.items) }
 {
-    let (table, trace) = read_parts(alloc, input)?;
-    let tables = varied_tables(alloc, &table, variation.key, variation.values)?;
-    let runs = courses_on(alloc, tables.as_slice(), trace)?;
+    let GivenTables {
+        tables,
+        given,
+        arrivals,
+    } = varied_given(alloc, input, variation)?;
+    let runs = courses_on(alloc, &given, &arrivals, tables.as_slice())?;
     Ok(Courses { tables, runs })
 }

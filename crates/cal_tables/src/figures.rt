@@ -8,7 +8,7 @@ use cal_measure::{Spread, Time, thousandths};
 use std::alloc::{AllocError, Global};
 
 /// What a number counts.
-#[derive(Clone, Copy)]
+#[derive(Clone, Copy, Debug, PartialEq, Eq)]
 pub enum Unit {
     /// Whole ones.
     One,
@@ -27,14 +27,20 @@ pub struct Figure {
     pub few: Option<usize>,
 }
 
-/// Which of some times.
-#[derive(Clone, Copy)]
+/// Which of some times, by nearest rank.
+#[derive(Clone, Copy, Debug, PartialEq, Eq)]
 pub enum Rank {
+    /// The least.
     Least,
+    /// 50 of 100.
     Median,
+    /// 90 of 100.
     Ninety,
+    /// 99 of 100.
     NinetyNine,
+    /// 99.9 of 100.
     MostOfThousand,
+    /// The greatest.
     Greatest,
 }
 
@@ -89,8 +95,8 @@ pub fn rank_name(rank: Rank) -> &'static str {
     }
 }
 
-/// One of some times.
-fn time_in(times: &Spread, rank: Rank) -> Option<Time>
+/// One of some times; of none there is none.
+pub fn time_in(times: &Spread, rank: Rank) -> Option<Time>
     ensures { result ≡ time_in times.now rank }
 {
     match rank {

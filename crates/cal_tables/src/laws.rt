@@ -1,7 +1,8 @@
-//! Laws of variations, each the contract of a function that does nothing.
+//! Laws of variations and of the arrivals that tables get, each the contract of a function that
+//! does nothing.
 
-ghost use Rattle.cal_tables.specs.Laws.{OwnValueGivesTheTable, TextIsReadBack};
-ghost use Rattle.cal_tables.specs.Laws.{VariedDiffersAtItsKey};
+ghost use Rattle.cal_tables.specs.Laws.{OwnValueGivesTheTable, SameLimitsMoveNothing};
+ghost use Rattle.cal_tables.specs.Laws.{TextIsReadBack, VariedDiffersAtItsKey};
 
 /// The text of a table, line by line as it is varied, is read as that table.
 pub fn text_is_read_back()
@@ -18,4 +19,9 @@ pub fn own_value_gives_the_table()
 /// a kind between quotes, the varied table differs from the table at the key alone.
 pub fn varied_differs_at_its_key()
     ensures { VariedDiffersAtItsKey }
+{}
+
+/// A table whose tasks have the limits of those that arrivals were given for gets them as they are.
+pub fn same_limits_move_nothing()
+    ensures { SameLimitsMoveNothing }
 {}

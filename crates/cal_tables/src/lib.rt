@@ -1,4 +1,5 @@
-//! What a task table makes of arrivals, in numbers: a run on one thread, measured.
+//! What a task table makes of arrivals, in numbers: a run on one thread, measured; and what a
+//! recorded history comes to.
 //!
 //! Which numbers these are is proved (`measured_run`); how they are written is only tested.
 #![tactic(auto)]
@@ -11,15 +12,26 @@ mod joining;
 mod labels;
 mod laws;
 mod measuring;
+mod recorded;
 mod sheet;
 mod writing;
 
-pub use comparing::fault::ComparisonFault;
+pub use comparing::columns::table_at;
+pub use comparing::fault::{ComparisonFault, Misfit, Reason};
+pub use comparing::moving::moved_arrivals;
 pub use comparing::tables::read_tables;
-pub use comparing::{Comparison, Variation, compare, compared, compared_values};
+pub use comparing::varying::varied_tables;
+pub use comparing::{Comparison, Variation, compare, compared, compared_values, write_input};
+pub use core_rows::{CoreLine, core_figure};
 pub use courses::{Courses, RunCourse, TaskCourse, courses_of, courses_of_values, run_course};
-pub use joining::front_of_table;
+pub use figures::{Figure, Rank, Unit, count, number, put_figure, put_heading, share, time_in};
+pub use joining::{front_of_table, table_part};
 pub use labels::{Labels, letters};
-pub use laws::{own_value_gives_the_table, text_is_read_back, varied_differs_at_its_key};
+pub use laws::{
+    own_value_gives_the_table, same_limits_move_nothing, text_is_read_back,
+    varied_differs_at_its_key,
+};
 pub use measuring::{RunNumbers, measure, measured_run};
-pub use sheet::NumberForm;
+pub use recorded::{HistoryNumbers, Recorded, history_numbers, measured_recording};
+pub use sheet::{NumberForm, Sheet};
+pub use writing::{Line, request_figure};

@@ -1,4 +1,4 @@
-//! A run on one thread, measured.
+//! A run on one thread or a recorded history, measured.
 
 ghost use Rattle.std.specs.Prelude.{◌≡◌, ◌≢◌, ◌≤◌, IfErr, IfOk, length};
 ghost use Rattle.cal_measure.specs.Clocks.{AreClocksOf};
@@ -9,17 +9,18 @@ ghost use Rattle.cal_trace.specs.Arrivals.FitsTable.{FitsTable};
 ghost use Rattle.cal_tables.specs.Measured.{AreCoresOfTasks, AreNumbersOf, IsMeasuredRun};
 
 use crate::labels::Labels;
+use crate::recorded::{Recorded, measured_recording};
 use crate::sheet::NumberForm;
-use crate::writing::sheet_of;
-use cal_engine::{RunFault, read_input, run_input};
+use crate::writing::{history_sheet, sheet_of};
+use cal_engine::{RunFault, read_input, read_parts};
 use cal_machine::Config;
 use cal_measure::{
     ArrivalClocks, MachineCores, TaskCores, TaskRequests, cores_of, machine_of, requests_of,
     turns_last,
 };
-use cal_policy::PassEntry;
+use cal_policy::{PassEntry, Verdict};
 use cal_run::{RunEnd, lockstep_end};
-use cal_trace::Arrivals;
+use cal_trace::{Arrivals, FaultKind, read_arrivals};
 use std::alloc::{AllocError, Global};
 use std::io::{Read, Write};
 
@@ -60,7 +61,7 @@ fn numbers_of(
 }
 
 /// The numbers of each task's cores, in task order. Fails only when out of memory.
-fn cores_of_tasks(
+pub(crate) fn cores_of_tasks(
     alloc: Global,
     config: &Config,
     history: &[PassEntry],
@@ -101,38 +102,85 @@ pub fn measured_run(
     })
 }
 
-/// What is written of the run on an input, in memory.
+/// What is written of a run on these arrivals, in memory.
+fn run_text(
+    alloc: Global,
+    config: &Config,
+    arrivals: &Arrivals,
+    labels: Labels<'_>,
+    form: NumberForm,
+) -> Result<String, RunFault>
+    requires { FitsTable config.now arrivals.now }
+{
+    let numbers = measured_run(alloc, config, arrivals)?;
+    let sheet = sheet_of(alloc, config, &numbers, labels, form)?;
+    Ok(sheet.written(alloc, form)?)
+}
+
+/// What an audit says of a recorded history, and what is written of it, in memory: of one that is
+/// not legal nothing.
+fn recorded_text(
+    alloc: Global,
+    config: &Config,
+    trace: &[u8],
+    labels: Labels<'_>,
+    form: NumberForm,
+) -> Result<(Verdict, String), RunFault> {
+    match measured_recording(alloc, config, trace)? {
+        Recorded::Legal { numbers } => {
+            let sheet = history_sheet(alloc, config, &numbers, labels, form)?;
+            Ok((Verdict::Legal, sheet.written(alloc, form)?))
+        }
+        Recorded::Illegal { pass } => Ok((Verdict::Illegal { pass }, String::new(alloc))),
+    }
+}
+
+/// What is written of an input, in memory: of the run on its arrivals or, where what follows the
+/// table has not their header, of the history that it records.
 fn measured_text(
     alloc: Global,
     input: &[u8],
     labels: Labels<'_>,
     form: NumberForm,
-) -> Result<String, RunFault> {
-    let (config, arrivals) = run_input(alloc, input)?;
-    let numbers = measured_run(alloc, &config, &arrivals)?;
-    let sheet = sheet_of(alloc, &config, &numbers, labels, form)?;
-    Ok(sheet.written(alloc, form)?)
+) -> Result<(Verdict, String), RunFault> {
+    let (config, trace) = read_parts(alloc, input)?;
+    match read_arrivals(alloc, &config, trace) {
+        Ok(arrivals) => Ok((
+            Verdict::Legal,
+            run_text(alloc, &config, &arrivals, labels, form)?,
+        )),
+        Err(fault) if fault.kind == FaultKind::Header => {
+            recorded_text(alloc, &config, trace, labels, form)
+        }
+        Err(fault) => Err(RunFault::from(fault)),
+    }
 }
 
-/// Reads an input of a task table and arrivals to its end, makes a whole run of them on one thread,
-/// and writes its numbers under these labels: in columns that line up, or as CSV. Nothing is written
-/// before the run was made and its text is in memory.
+/// Reads an input to its end and writes numbers under these labels: in columns that line up, or as CSV. Where it is a
+/// task table and arrivals they are those of a whole run on one thread; where it is a table and a
+/// history, those of the history's cores, if it is legal. What is answered is the audit's verdict;
+/// a run is legal. Nothing is written before the whole text is in memory.
 ///
-/// The faults are those of the word `lockstep`, in its order.
+/// The faults are those of the word `lockstep`, in its order; of a history those of `audit`.
 pub fn measure<R: Read + Drop, W: Write>(
     alloc: Global,
     mut reader: R,
     labels: Labels<'_>,
     form: NumberForm,
     writer: &mut W,
-) -> Result<(), RunFault>
-    // Nothing is written before the run was made.
+) -> Result<Verdict, RunFault>
+    // Nothing is written before the run was made, and nothing of a history that is not legal.
     ensures untouched { IfErr result (λ fault. fault ≢ RunFault.Write → writer.new ≡ writer.old) }
+    ensures illegal { IfOk result (λ verdict.
+        verdict ≢ Verdict.Legal → writer.new ≡ writer.old) }
 {
     let input = read_input(alloc, &mut reader)?;
-    let text = measured_text(alloc, input.as_slice(), labels, form)?;
-    match writer.write_all(text.as_bytes()) {
-        Ok(()) => Ok(()),
-        Err(_) => Err(RunFault::Write),
+    let (verdict, text) = measured_text(alloc, input.as_slice(), labels, form)?;
+    match verdict {
+        Verdict::Illegal { .. } => Ok(verdict),
+        Verdict::Legal => match writer.write_all(text.as_bytes()) {
+            Ok(()) => Ok(verdict),
+            Err(_) => Err(RunFault::Write),
+        },
     }
 }

@@ -5,16 +5,17 @@ ghost use Rattle.cal_tables.specs.Rows.{bound_if, figure_of, oldest_in};
 
 use crate::core_rows::{
     CORE_LINES, CoreLine, MACHINE_LINES, MachineLine, core_figure, core_label, core_unit,
-    machine_figure, machine_label, machine_unit,
+    is_of_passes, machine_figure, machine_label, machine_unit,
 };
 use crate::figures::{
     Figure, Rank, Unit, count, put_figure, put_heading, rank_name, ranked, share,
 };
 use crate::labels::Labels;
 use crate::measuring::RunNumbers;
+use crate::recorded::HistoryNumbers;
 use crate::sheet::{NumberForm, Sheet};
 use cal_machine::{Config, Kind};
-use cal_measure::{TaskRequests, Time};
+use cal_measure::{MachineCores, TaskCores, TaskRequests, Time};
 use std::alloc::{AllocError, Global};
 
 /// What a row says of each task's requests and threads.
@@ -154,7 +155,7 @@ fn figure_of(requests: &TaskRequests, had: u128, turns: u64, line: Line) -> Opti
 }
 
 /// What a row says of a task, which a run may not have, where there is something.
-pub fn figure(numbers: &RunNumbers, task: usize, line: Line) -> Option<Figure> {
+pub fn request_figure(numbers: &RunNumbers, task: usize, line: Line) -> Option<Figure> {
     let requests = numbers.requests.as_slice().get(task)?;
     let cores = numbers.cores.as_slice().get(task)?;
     let had = cores.held.saturating_add(cores.leaving);
@@ -201,58 +202,84 @@ fn line_row(
     let mut row = Vec::new(alloc);
     row.push(label(alloc, labels, line)?)?;
     for task in 0..numbers.requests.len() {
-        let figure = figure(numbers, task, line);
+        let figure = request_figure(numbers, task, line);
         put_figure(alloc, &mut row, figure, unit(line), form)?;
     }
     Ok(row)
 }
 
-/// A row of each task's cores.
-fn core_row(
-    alloc: Global,
-    numbers: &RunNumbers,
-    line: CoreLine,
-    form: NumberForm,
-) -> Result<Vec<String>, AllocError> {
-    let mut row = Vec::new(alloc);
-    row.push(String::from_str(alloc, core_label(line))?)?;
-    for task in 0..numbers.cores.len() {
-        let figure = core_figure(numbers, task, line);
-        put_figure(alloc, &mut row, figure, core_unit(line), form)?;
-    }
-    Ok(row)
+/// The numbers of cores that are told.
+#[derive(Clone, Copy)]
+struct ToldCores<'a> {
+    /// Of each task.
+    tasks: &'a [TaskCores],
+    /// Of the machine.
+    machine: &'a MachineCores,
+    /// How long the run's turns last; of a history alone nothing.
+    turns: Option<u64>,
+    /// How many cores the machine has.
+    cores: u8,
 }
 
-/// A row of a machine of so many cores: one number after the label.
-fn machine_row(
-    alloc: Global,
-    numbers: &RunNumbers,
-    line: MachineLine,
-    cores: u8,
-    form: NumberForm,
-) -> Result<Vec<String>, AllocError> {
-    let mut row = Vec::new(alloc);
-    row.push(String::from_str(alloc, machine_label(line))?)?;
-    let figure = machine_figure(numbers, line, cores);
-    put_figure(alloc, &mut row, figure, machine_unit(line), form)?;
-    Ok(row)
-}
+impl ToldCores<'_> {
+    /// A row of each task's cores.
+    fn core_row(
+        self,
+        alloc: Global,
+        line: CoreLine,
+        form: NumberForm,
+    ) -> Result<Vec<String>, AllocError> {
+        let mut row = Vec::new(alloc);
+        row.push(String::from_str(alloc, core_label(line))?)?;
+        for task in 0..self.tasks.len() {
+            let figure = core_figure(self.tasks, self.machine.lasted, task, line);
+            put_figure(alloc, &mut row, figure, core_unit(line), form)?;
+        }
+        Ok(row)
+    }
 
-/// Puts the rows of the tasks' cores and of the machine, of so many cores.
-fn put_core_rows(
-    alloc: Global,
-    sheet: &mut Sheet,
-    numbers: &RunNumbers,
-    cores: u8,
-    form: NumberForm,
-) -> Result<(), AllocError> {
-    for line in CORE_LINES {
-        sheet.put(core_row(alloc, numbers, line, form)?)?;
+    /// A row of the machine: one number after the label.
+    fn machine_row(
+        self,
+        alloc: Global,
+        line: MachineLine,
+        form: NumberForm,
+    ) -> Result<Vec<String>, AllocError> {
+        let mut row = Vec::new(alloc);
+        row.push(String::from_str(alloc, machine_label(line))?)?;
+        let turns = self.turns.unwrap_or(0);
+        let figure = machine_figure(self.machine, turns, line, self.cores);
+        put_figure(alloc, &mut row, figure, machine_unit(line), form)?;
+        Ok(row)
     }
-    for line in MACHINE_LINES {
-        sheet.put(machine_row(alloc, numbers, line, cores, form)?)?;
+
+    /// Puts the rows of the tasks' cores.
+    fn put_tasks(
+        self,
+        alloc: Global,
+        sheet: &mut Sheet,
+        form: NumberForm,
+    ) -> Result<(), AllocError> {
+        for line in CORE_LINES {
+            sheet.put(self.core_row(alloc, line, form)?)?;
+        }
+        Ok(())
     }
-    Ok(())
+
+    /// Puts the rows of the machine.
+    fn put_machine(
+        self,
+        alloc: Global,
+        sheet: &mut Sheet,
+        form: NumberForm,
+    ) -> Result<(), AllocError> {
+        for line in MACHINE_LINES {
+            if self.turns.is_some() || is_of_passes(line) {
+                sheet.put(self.machine_row(alloc, line, form)?)?;
+            }
+        }
+        Ok(())
+    }
 }
 
 /// The numbers of a run of this table, row by row. Fails only when out of memory.
@@ -268,6 +295,34 @@ pub fn sheet_of(
     for line in LINES {
         sheet.put(line_row(alloc, numbers, labels, line, form)?)?;
     }
-    put_core_rows(alloc, &mut sheet, numbers, config.machine().cores(), form)?;
+    let told = ToldCores {
+        tasks: numbers.cores.as_slice(),
+        machine: &numbers.machine,
+        turns: Some(numbers.turns),
+        cores: config.machine().cores(),
+    };
+    told.put_tasks(alloc, &mut sheet, form)?;
+    told.put_machine(alloc, &mut sheet, form)?;
+    Ok(sheet)
+}
+
+/// The numbers of the cores in a history of this table, row by row. Fails only when out of memory.
+pub fn history_sheet(
+    alloc: Global,
+    config: &Config,
+    numbers: &HistoryNumbers,
+    labels: Labels<'_>,
+    form: NumberForm,
+) -> Result<Sheet, AllocError> {
+    let mut sheet = Sheet::new(alloc);
+    sheet.put(heading(alloc, config, labels, form)?)?;
+    let told = ToldCores {
+        tasks: numbers.cores.as_slice(),
+        machine: &numbers.machine,
+        turns: None,
+        cores: config.machine().cores(),
+    };
+    told.put_tasks(alloc, &mut sheet, form)?;
+    told.put_machine(alloc, &mut sheet, form)?;
     Ok(sheet)
 }

@@ -3,4 +3,5 @@
 pub mod arrival_words;
 pub mod command_line;
 pub mod help_texts;
+pub mod sweep_words;
 pub mod variation;

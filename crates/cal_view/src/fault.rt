@@ -4,7 +4,7 @@ use cal_engine::{RunFault, status};
 use cal_faults::value_wanted;
 use cal_machine::ConfigFault;
 use cal_refusals::{RefusedInput, explain_fault};
-use cal_tables::{ComparisonFault, Variation};
+use cal_tables::{ComparisonFault, Reason, Variation};
 use std::alloc::Global;
 use std::io::Write;
 
@@ -16,14 +16,15 @@ pub fn end_comparison<W: Write>(
     variation: Option<Variation<'_>>,
     errors: &mut W,
 ) -> Result<u8, RunFault> {
-    let reason = fault.fault;
-    let Some(table) = fault.table else {
-        return Err(reason);
+    let (table, reason) = match *fault {
+        // What memory, the writer or a thread refused is no table's.
+        ComparisonFault::OfTable {
+            table: _,
+            reason: Reason::Run(fault),
+        } if status(&fault) != 2 => return Err(fault),
+        ComparisonFault::OfTable { table, reason } => (table, reason),
+        ComparisonFault::Run(fault) => return Err(fault),
     };
-    // What memory, the writer or a thread refused is no table's.
-    if status(&reason) != 2 {
-        return Err(reason);
-    }
     let _ = match value_of(variation, table) {
         Some((key, value)) => writeln!(errors, "caladan_view: {key}={value} {reason}"),
         None => writeln!(errors, "caladan_view: table {table} {reason}"),
@@ -40,9 +41,14 @@ pub fn explain_comparison<W: Write>(
     variation: Option<Variation<'_>>,
     errors: &mut W,
 ) {
-    let table = fault.table.unwrap_or(0);
-    match (variation, fault.fault) {
-        (None, fault) => explain_fault(alloc, read, table, &fault, errors),
+    let ComparisonFault::OfTable {
+        table,
+        reason: Reason::Run(fault),
+    } = *fault
+    else {
+        return;
+    };
+    match (variation, fault) {
         (Some(variation), RunFault::Config(fault)) => {
             // Of a key that the table has not, which keys there are.
             let key = match fault {
@@ -53,7 +59,7 @@ pub fn explain_comparison<W: Write>(
                 let _ = errors.write_all(wanted.as_bytes());
             }
         }
-        (Some(_), _) => {}
+        (_, fault) => explain_fault(alloc, read, table, &fault, errors),
     }
 }
 

@@ -6,5 +6,7 @@ pub mod comparing;
 pub mod counting;
 pub mod drawing;
 pub mod explaining;
+pub mod measuring;
 pub mod naming;
 pub mod recording;
+pub mod sweeping;

@@ -13,20 +13,22 @@ use crate::jobs::checking::answer_check;
 use crate::jobs::comparing::answer_compare;
 use crate::jobs::drawing::answer_picture;
 use crate::jobs::explaining::answer_explain;
+use crate::jobs::measuring::answer_measure;
 use crate::jobs::naming::{names_of, refuse_count, refuse_words_of_labels};
 use crate::jobs::recording::record;
+use crate::jobs::sweeping::answer_swept;
 use crate::refusing::{end_refusal, refused_input};
 use crate::timeline::write_timeline;
 use cal_engine::{RunFault, read_input, refuse_words, words_after_first};
 use cal_refusals::RefusedInput;
-use cal_tables::{Labels, measure};
+use cal_tables::Labels;
 use std::alloc::Global;
 use std::io::{BufWriter, Read, Write};
 use std::rt::Files;
 
 /// Runs the program on its name and the words after it and on an input, and answers its exit
-/// status: 0 is done (help too), 1 is an illegal history explained, 2 is bad arguments or rejected
-/// input, 3 is memory or the writer. The words are read before the input.
+/// status: 0 is done (help too), 1 is an illegal history explained or an objective missed, 2 is bad
+/// arguments or rejected input, 3 is memory or the writer. The words are read before the input.
 ///
 /// The input is what the reader gives, or the files that the words name. The answer goes to
 /// `output`, or to a file where the words name one, and help to `output`; what is wrong with the
@@ -216,8 +218,11 @@ fn answer_job<R: Read + Drop, W: Write, E: Write>(
     output: &mut W,
     errors: &mut E,
 ) -> Result<u8, RunFault> {
-    if let Job::Arrivals { asked } = &request.job {
-        return answer_arrivals(alloc, reader, asked, output, errors);
+    // These two refuse their words before they read.
+    match &request.job {
+        Job::Arrivals { asked } => return answer_arrivals(alloc, reader, asked, output, errors),
+        Job::Sweep { asked } => return answer_swept(alloc, reader, asked, output, errors),
+        _ => {}
     }
     let names = names_of(alloc, request.labels)?;
     let labels = Labels {
@@ -252,6 +257,7 @@ fn answer_read<W: Write, E: Write>(
         Job::Compare { vary, form } => {
             answer_compare(alloc, read, *vary, labels, *form, output, errors)
         }
+        Job::Measure { form } => answer_measure(alloc, input, labels, *form, output, errors),
         Job::Picture { shown } => answer_picture(alloc, input, *shown, labels, output, errors),
         job => {
             do_job(alloc, job, labels, input, output)?;
@@ -275,10 +281,9 @@ fn do_job<W: Write>(
     match job {
         Job::History { front } => record(alloc, input, *front, &mut buffer)?,
         Job::Timeline => write_timeline(alloc, input, labels, &mut buffer)?,
-        Job::Measure { form } => measure(alloc, input, labels, *form, &mut buffer)?,
         // (answer_job and answer_read do these)
         Job::Arrivals { .. } | Job::Check | Job::Compare { .. } | Job::Explain { .. } => {}
-        Job::Picture { .. } | Job::Help => {}
+        Job::Measure { .. } | Job::Picture { .. } | Job::Sweep { .. } | Job::Help => {}
     }
     match buffer.flush() {
         Ok(()) => Ok(()),

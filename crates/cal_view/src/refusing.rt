@@ -1,10 +1,11 @@
-//! The input of a job that is refused, explained.
+//! The input of a job that is refused, explained, and a word that is.
 
 ghost use Rattle.std.specs.Prelude.{◌≡◌, IfErr, IfOk};
 
 use crate::command_words::command_line::{Job, Request};
 use cal_engine::RunFault;
 use cal_faults::TraceKind;
+use cal_load::WordFault;
 use cal_refusals::{PartFiles, RefusedInput, end_explained};
 use std::alloc::Global;
 use std::io::Write;
@@ -47,15 +48,34 @@ pub fn refused_input<'a>(request: &'a Request<'a>, input: &'a [u8]) -> RefusedIn
     }
 }
 
+/// An input of which the table alone is read, for where it is refused.
+pub fn table_alone(input: &[u8]) -> RefusedInput<'_> {
+    RefusedInput {
+        input,
+        wanted: &[],
+        tables: 1,
+        files: None,
+    }
+}
+
+/// Says what is wrong with a word, and answers the exit status, 2.
+pub fn refuse_word<E: Write>(fault: &WordFault<'_>, errors: &mut E) -> u8
+    ensures { result ≡ 2 }
+{
+    let _ = writeln!(errors, "caladan_view: {fault}");
+    2
+}
+
 /// The traces that a job reads.
 fn traces_of(job: &Job<'_>) -> &'static [TraceKind] {
     match job {
         Job::History { .. } => &[TraceKind::Signals],
         Job::Picture { .. } | Job::Timeline => &[TraceKind::History],
-        Job::Measure { .. } | Job::Compare { .. } => &[TraceKind::Arrivals],
+        Job::Measure { .. } => &[TraceKind::Arrivals, TraceKind::History],
+        Job::Compare { .. } => &[TraceKind::Arrivals],
         Job::Explain { .. } => &[TraceKind::Signals, TraceKind::History],
         Job::Check => &[TraceKind::Signals, TraceKind::Arrivals, TraceKind::History],
-        Job::Arrivals { .. } | Job::Help => &[],
+        Job::Arrivals { .. } | Job::Sweep { .. } | Job::Help => &[],
     }
 }
 

@@ -5,7 +5,7 @@ use cal_kthread::TurnFault;
 use cal_machine::ConfigFault;
 use cal_run::SimFault;
 use cal_sched::PassFault;
-use cal_tables::ComparisonFault;
+use cal_tables::{ComparisonFault, Reason};
 use cal_trace::{FaultKind, TraceFault, WriteFault};
 use cal_world::{Illegal, Stopped};
 use std::alloc::{AllocError, AllocFailed};
@@ -121,7 +121,14 @@ impl From<RunFault> for Fault {
 
 impl From<ComparisonFault> for Fault {
     fn from(why: ComparisonFault) -> Fault {
-        Fault::from(why.fault)
+        match why {
+            ComparisonFault::Run(fault) => Fault::from(fault),
+            ComparisonFault::OfTable {
+                table: _,
+                reason: Reason::Run(fault),
+            } => Fault::from(fault),
+            ComparisonFault::OfTable { .. } => Fault::Other,
+        }
     }
 }
 

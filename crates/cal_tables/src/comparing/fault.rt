@@ -4,61 +4,163 @@ ghost use Rattle.std.specs.Prelude.{◌≡◌};
 
 use cal_engine::RunFault;
 use std::alloc::{AllocError, AllocFailed};
+use std::error::Error;
+use std::fmt;
+
+/// Why a table does not get the arrivals that were given for another.
+#[derive(Clone, Copy, Debug, PartialEq, Eq)]
+pub enum Misfit {
+    /// A request is for a task that the table has not.
+    NoTask {
+        /// The number of the task.
+        task: usize,
+        /// The id of the request.
+        request: u64,
+    },
+    /// Two requests would come to one thread before the same turn.
+    TwoAtOnce {
+        /// The number of the thread in the table.
+        thread: u8,
+        /// The number of the turn.
+        turn: u64,
+        /// The id of one request.
+        first: u64,
+        /// The id of the other.
+        second: u64,
+    },
+}
+
+/// What is wrong with the tables of a comparison.
+#[derive(Clone, Copy, Debug, PartialEq, Eq)]
+pub enum Reason {
+    /// A fault of the word `lockstep`.
+    Run(RunFault),
+    /// A table does not get the arrivals.
+    Misfit(Misfit),
+    /// A table was asked for that is not there.
+    NoTable {
+        /// How many tables there are.
+        tables: usize,
+    },
+}
+
+/// What the program says after the table: of a fault of a run the reason as it is.
+impl fmt::Display for Reason {
+    fn fmt<W: fmt::Write>(&self, f: &mut fmt::Formatter<W>) -> fmt::Result {
+        match *self {
+            Reason::Run(fault) => write!(f, "{fault}"),
+            Reason::Misfit(Misfit::NoTask { task, request }) => {
+                write!(f, "has no task {task} for request {request}")
+            }
+            Reason::Misfit(
+                Misfit::TwoAtOnce {
+                    thread,
+                    turn,
+                    first,
+                    second,
+                },
+            ) => write!(
+                f,
+                "gives thread {thread} requests {first} and {second} before turn {turn}"
+            ),
+            Reason::NoTable { tables } => write!(f, "is not there: there are {tables}, from 0"),
+        }
+    }
+}
+
+impl Error for Reason {}
+
+impl From<RunFault> for Reason {
+    ghost use Rattle.cal_tables.specs.declared.comparing.fault.Reason.TheVariants.{Run};
+
+    ghost from_gives = { λ fault e. e ≡ Run fault };
+
+    fn from(fault: RunFault) -> Reason {
+        Reason::Run(fault)
+    }
+}
+
+impl From<AllocError> for Reason {
+    ghost use Rattle.cal_engine.specs.declared.fault.RunFault.TheVariants.{Memory};
+    ghost use Rattle.cal_tables.specs.declared.comparing.fault.Reason.TheVariants.{Run};
+
+    ghost from_gives = { λ _ e. e ≡ Run Memory };
+
+    fn from(_e: AllocError) -> Reason {
+        Reason::Run(RunFault::Memory)
+    }
+}
+
+impl<T: Drop> From<AllocFailed<T>> for Reason {
+    ghost use Rattle.cal_engine.specs.declared.fault.RunFault.TheVariants.{Memory};
+    ghost use Rattle.cal_tables.specs.declared.comparing.fault.Reason.TheVariants.{Run};
+
+    ghost from_gives = { λ _ e. e ≡ Run Memory };
+
+    fn from(_e: AllocFailed<T>) -> Reason {
+        Reason::Run(RunFault::Memory)
+    }
+}
+
+impl From<Misfit> for Reason {
+    ghost use Rattle.cal_tables.specs.declared.comparing.fault.Reason.TheVariants.{Misfit};
+
+    ghost from_gives = { λ misfit e. e ≡ Misfit misfit };
+
+    fn from(misfit: Misfit) -> Reason {
+        Reason::Misfit(misfit)
+    }
+}
 
 /// Why tables were not compared.
 #[derive(Clone, Copy, Debug, PartialEq, Eq)]
-pub struct ComparisonFault {
-    /// The table with the fault, counted from 0. None where it is the input's as a whole, or
-    /// memory's, or the writer's.
-    pub table: Option<usize>,
-    /// What is wrong.
-    pub fault: RunFault,
+pub enum ComparisonFault {
+    /// A fault of the input as a whole, or of memory, or of the writer.
+    Run(RunFault),
+    /// A fault of a table.
+    OfTable {
+        /// The table, counted from 0.
+        table: usize,
+        /// What is wrong.
+        reason: Reason,
+    },
 }
 
 impl From<AllocError> for ComparisonFault {
-    ghost use Rattle.std.specs.Prelude.{None};
     ghost use Rattle.cal_engine.specs.declared.fault.RunFault.TheVariants.{Memory};
+    ghost use Rattle.cal_tables.specs.declared.comparing.fault.ComparisonFault.TheVariants.{Run};
 
-    ghost from_gives = { λ _ e. e ≡ record { table = None; fault = Memory } };
+    ghost from_gives = { λ _ e. e ≡ Run Memory };
 
     fn from(_e: AllocError) -> ComparisonFault {
-        ComparisonFault {
-            table: None,
-            fault: RunFault::Memory,
-        }
+        ComparisonFault::Run(RunFault::Memory)
     }
 }
 
 impl<T: Drop> From<AllocFailed<T>> for ComparisonFault {
-    ghost use Rattle.std.specs.Prelude.{None};
     ghost use Rattle.cal_engine.specs.declared.fault.RunFault.TheVariants.{Memory};
+    ghost use Rattle.cal_tables.specs.declared.comparing.fault.ComparisonFault.TheVariants.{Run};
 
-    ghost from_gives = { λ _ e. e ≡ record { table = None; fault = Memory } };
+    ghost from_gives = { λ _ e. e ≡ Run Memory };
 
     fn from(_e: AllocFailed<T>) -> ComparisonFault {
-        ComparisonFault {
-            table: None,
-            fault: RunFault::Memory,
-        }
+        ComparisonFault::Run(RunFault::Memory)
     }
 }
 
 impl From<RunFault> for ComparisonFault {
-    ghost use Rattle.std.specs.Prelude.{None};
+    ghost use Rattle.cal_tables.specs.declared.comparing.fault.ComparisonFault.TheVariants.{Run};
 
-    ghost from_gives = { λ fault e. e ≡ record { table = None; fault = fault } };
+    ghost from_gives = { λ fault e. e ≡ Run fault };
 
     fn from(fault: RunFault) -> ComparisonFault {
-        ComparisonFault { table: None, fault }
+        ComparisonFault::Run(fault)
     }
 }
 
 /// A fault of a table.
-pub(crate) fn fault_of(table: usize, fault: RunFault) -> ComparisonFault
-    ensures { result ≡ record { table = Some table; fault = fault } }
+pub(crate) fn fault_of(table: usize, reason: Reason) -> ComparisonFault
+    ensures { result ≡ ComparisonFault.OfTable table reason }
 {
-    ComparisonFault {
-        table: Some(table),
-        fault,
-    }
+    ComparisonFault::OfTable { table, reason }
 }

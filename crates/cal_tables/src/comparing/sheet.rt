@@ -10,7 +10,7 @@ use crate::core_rows::{
 use crate::figures::{Figure, Unit, number, put_figure, put_heading};
 use crate::labels::Labels;
 use crate::sheet::{NumberForm, Sheet};
-use crate::writing::{LINES, Line, figure, label, task_name, unit};
+use crate::writing::{LINES, Line, label, request_figure, task_name, unit};
 use std::alloc::{AllocError, Global};
 
 /// What a row says of each run.
@@ -50,11 +50,15 @@ impl Row {
     fn figure_in(self, runs: &Comparison, column: usize) -> Option<Figure> {
         let numbers = runs.columns.as_slice().get(column)?;
         match self {
-            Row::Requests(task, line) => figure(numbers, task, line),
-            Row::Cores(task, line) => core_figure(numbers, task, line),
+            Row::Requests(task, line) => request_figure(numbers, task, line),
+            Row::Cores(task, line) => {
+                let lasted = numbers.machine.lasted;
+                core_figure(numbers.cores.as_slice(), lasted, task, line)
+            }
             Row::Machine(line) => {
                 let table = runs.tables.as_slice().get(column)?;
-                machine_figure(numbers, line, table.machine().cores())
+                let cores = table.machine().cores();
+                machine_figure(&numbers.machine, numbers.turns, line, cores)
             }
         }
     }

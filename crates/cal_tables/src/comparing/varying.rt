@@ -6,12 +6,16 @@ ghost use Rattle.std.specs.List.{concat};
 ghost use Rattle.cal_engine.specs.Outcome.{ConfigDecided};
 ghost use Rattle.cal_trace.specs.Rows.Text.{numbered};
 ghost use Rattle.cal_tables.specs.TableText.{field_key, kind_text, text_of_lines};
-ghost use Rattle.cal_tables.specs.Varied.{AreVaried, has_key, varied, varied_lines};
+ghost use Rattle.cal_tables.specs.Varied.{AreVaried, AreVariedWith, has_key, varied};
+ghost use Rattle.cal_tables.specs.Varied.{varied_lines};
 ghost use Rattle.cal_tables.specs.Writing.{any_below, field_line, is_field, is_place, key_line};
 ghost use Rattle.cal_tables.specs.Writing.{task_text};
+ghost use Rattle.cal_trace.specs.Arrivals.FitsTable.{FitsTable};
 
-use crate::comparing::fault::{ComparisonFault, fault_of};
-use cal_engine::RunFault;
+use crate::comparing::Variation;
+use crate::comparing::fault::{ComparisonFault, Reason, fault_of};
+use crate::comparing::tables::GivenTables;
+use cal_engine::{RunFault, run_input};
 use cal_machine::{Config, ConfigFault, Kind, Task};
 use std::alloc::{AllocError, Global};
 use std::fmt::Write;
@@ -167,6 +171,12 @@ fn varied_text(alloc: Global, table: &Config, setting: Setting<'_>) -> Result<St
     Ok(text)
 }
 
+/// The table as a text. Fails only when out of memory.
+pub fn table_text(alloc: Global, table: &Config) -> Result<String, AllocError> {
+    // No place is empty, so each has its own value.
+    varied_text(alloc, table, Setting { key: "", value: "" })
+}
+
 /// Whether a key is that of a field of this name of a task.
 fn is_key_of(alloc: Global, key: &str, task: usize, name: &str) -> Result<bool, AllocError>
     ensures { IfOk result (λ is_so. is_so ≡ bytes_eq (field_key task name.now) key.now) }
@@ -250,7 +260,7 @@ fn placed_table(
 {
     match varied(alloc, table, setting) {
         Ok(made) => Ok(made),
-        Err(fault) => Err(fault_of(place, RunFault::Config(fault))),
+        Err(fault) => Err(fault_of(place, Reason::Run(RunFault::Config(fault)))),
     }
 }
 
@@ -272,4 +282,28 @@ pub fn varied_tables(
         tables.push(made)?;
     }
     Ok(tables)
+}
+
+/// The tables that the one of an input gives with each of these values at this key, in the order of
+/// the values, and the input's arrivals, which are given for its table.
+///
+/// The faults are those of the word `lockstep`, in its order; then that of the first value that
+/// makes the table faulty. `Memory` may come at any place.
+pub fn varied_given(
+    alloc: Global,
+    input: &[u8],
+    variation: Variation<'_>,
+) -> Result<GivenTables, ComparisonFault>
+    ensures with { IfOk result (λ from. AreVariedWith input.now variation.entry.key.now
+        (map (λ value. value.now) variation.entry.values.now)
+        from.tables.items from.given from.arrivals) }
+    ensures fits { IfOk result (λ from. FitsTable from.given from.arrivals) }
+{
+    let (given, arrivals) = run_input(alloc, input)?;
+    let tables = varied_tables(alloc, &given, variation.key, variation.values)?;
+    Ok(GivenTables {
+        tables,
+        given,
+        arrivals,
+    })
 }

@@ -2,6 +2,7 @@
 
 use crate::command_words::command_line::{all_words, input_word, output_word, table_word};
 use crate::command_words::help_texts;
+use cal_load::{LoadWords, Timing};
 use clap::{Arg, ArgAction, ArgMatches, Command};
 use std::alloc::{AllocError, Global};
 
@@ -16,43 +17,37 @@ pub enum ArrivalForm {
     Summary,
 }
 
-/// What the words ask for, each word of a task as it was given.
+/// What the words ask for.
 #[derive(Debug, Drop)]
 pub struct ArrivalWords<'a> {
-    /// The tasks to which requests come.
-    pub tasks: Vec<&'a str>,
-    /// One load for all of them, or one for each. The next two are given in the same way.
-    pub loads: Vec<&'a str>,
-    /// The turns that requests take.
-    pub services: Vec<&'a str>,
-    /// How they come.
-    pub patterns: Vec<&'a str>,
-    /// How many passes there are, and as many turns.
-    pub turns: u64,
-    /// How many ticks a turn takes.
-    pub ticks: u64,
-    /// The seed.
-    pub seed: u64,
+    /// What comes to which tasks.
+    pub load: LoadWords<'a>,
     /// As what it is written.
     pub form: ArrivalForm,
 }
 
 /// The subcommand with its options.
 pub fn arrival_word<'a>(alloc: Global) -> Result<Command<'a>, AllocError> {
-    Command::new(alloc, "arrivals")
+    let command = Command::new(alloc, "arrivals")
         .about("Make arrivals of a load, at random by a seed")
         .after_long_help(help_texts::ARRIVALS)
         .arg(input_word(alloc))?
-        .arg(task_word(alloc))?
-        .arg(load_word(alloc))?
+        .arg(task_word(alloc).required(true))?
+        .arg(load_word(alloc).help("The work that comes, as a part of its turns, as 0.7"))?;
+    with_run_words(alloc, command)?
+        .arg(table_word(alloc))?
+        .arg(summary_word(alloc)?)?
+        .arg(output_word(alloc))
+}
+
+/// The options of requests and of a run, after those of tasks and loads.
+pub fn with_run_words<'a>(alloc: Global, command: Command<'a>) -> Result<Command<'a>, AllocError> {
+    command
         .arg(service_word(alloc))?
         .arg(pattern_word(alloc))?
         .arg(turns_word(alloc))?
         .arg(ticks_word(alloc))?
-        .arg(seed_word(alloc))?
-        .arg(table_word(alloc))?
-        .arg(summary_word(alloc)?)?
-        .arg(output_word(alloc))
+        .arg(seed_word(alloc))
 }
 
 /// What may be given more than once.
@@ -63,17 +58,16 @@ fn some_words<'a>(alloc: Global, name: &'a str, value: &'a str) -> Arg<'a> {
         .value_name(value)
 }
 
-fn task_word<'a>(alloc: Global) -> Arg<'a> {
+/// The tasks to which requests come.
+pub fn task_word<'a>(alloc: Global) -> Arg<'a> {
     some_words(alloc, "task", "TASK")
-        .required(true)
         .value_parser(clap::value_parser!(u64))
         .help("A task that requests come to")
 }
 
-fn load_word<'a>(alloc: Global) -> Arg<'a> {
-    some_words(alloc, "load", "LOAD")
-        .required(true)
-        .help("The work that comes, as a part of its turns, as 0.7")
+/// Their loads.
+pub fn load_word<'a>(alloc: Global) -> Arg<'a> {
+    some_words(alloc, "load", "LOAD").required(true)
 }
 
 fn service_word<'a>(alloc: Global) -> Arg<'a> {
@@ -130,14 +124,26 @@ pub fn arrival_words<'a>(
     matches: &ArgMatches<'a>,
 ) -> Result<ArrivalWords<'a>, AllocError> {
     Ok(ArrivalWords {
+        load: load_words(alloc, matches)?,
+        form: form_of(matches.get_flag("table"), matches.get_flag("summary")),
+    })
+}
+
+/// What the words that say what comes ask for. Fails only when out of memory.
+pub fn load_words<'a>(
+    alloc: Global,
+    matches: &ArgMatches<'a>,
+) -> Result<LoadWords<'a>, AllocError> {
+    Ok(LoadWords {
         tasks: all_words(alloc, matches, "task")?,
         loads: all_words(alloc, matches, "load")?,
         services: all_words(alloc, matches, "service")?,
         patterns: all_words(alloc, matches, "pattern")?,
-        turns: number_of(matches, "turns"),
-        ticks: number_of(matches, "ticks"),
+        timing: Timing {
+            turns: number_of(matches, "turns"),
+            ticks: number_of(matches, "ticks"),
+        },
         seed: number_of(matches, "seed"),
-        form: form_of(matches.get_flag("table"), matches.get_flag("summary")),
     })
 }
 

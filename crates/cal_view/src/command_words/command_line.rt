@@ -2,11 +2,13 @@
 
 use crate::command_words::arrival_words::{ArrivalWords, arrival_word, arrival_words};
 use crate::command_words::help_texts;
+use crate::command_words::sweep_words::{sweep_word, sweep_words};
 use crate::jobs::explaining::Asked;
 use crate::jobs::naming::LabelWords;
 use crate::jobs::recording::Front;
 use crate::picture::Shown;
 use cal_engine::VERSION;
+use cal_sweep::SweepWords;
 use cal_tables::NumberForm;
 use clap::error::ErrorKind;
 use clap::{Arg, ArgAction, ArgMatches, Command, Error};
@@ -27,7 +29,7 @@ pub enum Job<'a> {
     },
     /// Write a history as trace events.
     Timeline,
-    /// Make a run on arrivals, and write its numbers.
+    /// Make a run on arrivals, and write its numbers, or those of a history.
     Measure {
         /// As what they are written.
         form: NumberForm,
@@ -49,6 +51,11 @@ pub enum Job<'a> {
         /// Which arrivals.
         asked: ArrivalWords<'a>,
     },
+    /// Make runs at one load after the other.
+    Sweep {
+        /// Which runs.
+        asked: SweepWords<'a>,
+    },
     /// Say what an input is, or why it is refused.
     Check,
     /// Say how the program is used.
@@ -62,6 +69,8 @@ pub enum Form {
     Numbers(NumberForm),
     /// A picture.
     Picture,
+    /// In place of the runs the input of the one of this table, from 0.
+    Input(usize),
 }
 
 /// What the words ask for: a job, what its input is, and where its answer goes.
@@ -166,7 +175,8 @@ fn program<'a>(alloc: Global) -> Result<Command<'a>, AllocError> {
     let program = program.subcommand(compare_word(alloc)?)?;
     let program = program.subcommand(explain_word(alloc)?)?;
     let program = program.subcommand(check_word(alloc)?)?;
-    program.subcommand(arrival_word(alloc)?)
+    let program = program.subcommand(arrival_word(alloc)?)?;
+    program.subcommand(sweep_word(alloc)?)
 }
 
 /// The program before it has its words.
@@ -221,7 +231,7 @@ fn timeline_word<'a>(alloc: Global) -> Result<Command<'a>, AllocError> {
 
 fn measure_word<'a>(alloc: Global) -> Result<Command<'a>, AllocError> {
     Command::new(alloc, "measure")
-        .about("Make a run on arrivals, and write its numbers")
+        .about("Write the numbers of a run on arrivals, or of a history")
         .after_long_help(help_texts::MEASURE)
         .arg(input_word(alloc))?
         .arg(csv_word(alloc))?
@@ -274,6 +284,7 @@ fn compare_word<'a>(alloc: Global) -> Result<Command<'a>, AllocError> {
         .arg(picture_word(alloc))?
         .arg(names_word(alloc))?
         .arg(tick_word(alloc))?
+        .arg(write_input_word(alloc)?)?
         .arg(output_word(alloc))
 }
 
@@ -291,6 +302,13 @@ fn tick_word<'a>(alloc: Global) -> Arg<'a> {
         .action(ArgAction::Set)
         .value_name("UNIT")
         .help("What a clock tick is, as ns")
+}
+
+fn write_input_word<'a>(alloc: Global) -> Result<Arg<'a>, AllocError> {
+    let help = "Write the input of table N's run instead, from 0";
+    number_word(alloc, "write-input", "N", help)
+        .conflicts_with("csv")?
+        .conflicts_with("picture")
 }
 
 /// The file of the input.
@@ -335,21 +353,24 @@ pub fn table_word<'a>(alloc: Global) -> Arg<'a> {
         .help("Put the task table and the line --- in front")
 }
 
-fn csv_word<'a>(alloc: Global) -> Arg<'a> {
+/// Whether numbers are written as CSV.
+pub fn csv_word<'a>(alloc: Global) -> Arg<'a> {
     Arg::new(alloc, "csv")
         .long("csv")
         .action(ArgAction::SetTrue)
         .help("Write the numbers as CSV")
 }
 
-fn picture_word<'a>(alloc: Global) -> Arg<'a> {
+/// Whether a picture is drawn.
+pub fn picture_word<'a>(alloc: Global) -> Arg<'a> {
     Arg::new(alloc, "picture")
         .long("picture")
         .action(ArgAction::SetTrue)
         .help("Draw the runs as one SVG, in place of their numbers")
 }
 
-fn vary_word<'a>(alloc: Global) -> Arg<'a> {
+/// A key of the table, and its values.
+pub fn vary_word<'a>(alloc: Global) -> Arg<'a> {
     Arg::new(alloc, "vary")
         .long("vary")
         .action(ArgAction::Set)
@@ -384,6 +405,10 @@ fn asked_job<'a>(
         Some((name, own)) if name == "arrivals" => {
             let asked = arrival_words(alloc, own)?;
             Ok(Ok(Job::Arrivals { asked }))
+        }
+        Some((name, own)) if name == "sweep" => {
+            let asked = sweep_words(alloc, own)?;
+            Ok(Ok(Job::Sweep { asked }))
         }
         _ => Ok(job_of(matches)),
     }
@@ -515,7 +540,10 @@ fn tables_of<'a>(
 /// What the options of `compare` ask for.
 fn comparison_of<'a>(matches: &ArgMatches<'a>) -> Result<Job<'a>, Mistake> {
     let vary = matches.get_str("vary");
-    let form = form_of(matches.get_flag("csv"), matches.get_flag("picture"))?;
+    let form = match number(matches, "write-input") {
+        Some(table) => Form::Input(table),
+        None => form_of(matches.get_flag("csv"), matches.get_flag("picture"))?,
+    };
     match vary {
         Some(vary) if !vary.contains('=') => Err(Mistake::NoValues),
         _ => Ok(Job::Compare { vary, form }),
@@ -546,7 +574,7 @@ fn front_of(table: bool) -> Front {
 }
 
 /// What the flag `--csv` asks for.
-fn number_form_of(csv: bool) -> NumberForm {
+pub fn number_form_of(csv: bool) -> NumberForm {
     if csv {
         NumberForm::Csv
     } else {

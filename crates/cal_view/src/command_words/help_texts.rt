@@ -11,9 +11,9 @@ answer goes to a file, which is there only once the answer is whole.
 `caladan_view SUBCOMMAND --help` says what is read and written, with a whole
 input to copy; `man caladan-formats` has all of it.
 
-Exit status: 0 done, 1 an illegal history explained, 2 bad arguments or rejected
-input, 3 memory or output was refused. A fault has one line on the standard
-error, and of a rejected input the lines below it say why.";
+Exit status: 0 done, 1 an illegal history explained or an objective missed, 2
+bad arguments or rejected input, 3 memory or output was refused. A fault has one
+line on the standard error, and of a rejected input the lines below it say why.";
 
 /// Of the subcommand `history`.
 pub const HISTORY: &str = help_with_a_run!(
@@ -82,9 +82,10 @@ END"
 pub const MEASURE: &str = help_with_a_run!(
     "\
 Input: a task table (TOML), the line ---, and arrivals (CSV), as
-`caladan_sim lockstep` reads.
+`caladan_sim lockstep` reads; or a history (CSV), as `caladan_sim audit` does.
 Output: the numbers of each task's requests and cores, in the run that
-`caladan_sim lockstep` makes, in clock ticks; with --csv as CSV. A turn takes
+`caladan_sim lockstep` makes, in clock ticks; with --csv as CSV. Of a history
+they are those of its cores, and one that is not legal has none. A turn takes
 its time: it ends at the clock of its thread's next turn, and the last one at
 the run's last clock. A request arrives at the clock of its turn, is begun with
 the first turn that works at it, and answered at the end of the one that serves
@@ -202,9 +203,13 @@ cores, bandwidth_limit, and of task 1 task.1.kind, task.1.guaranteed,
 task.1.limit, task.1.delay and task.1.request. A value is written as in a table.
 To have the table as it is among the columns, name its own value, best as the
 first.
+The arrivals are given for the first table, or for the one that is varied. In
+each other table a request stays with its task, on the same one of its threads,
+or, where the task has fewer, on that one modulo its limit. --write-input N
+writes table N and the arrivals that it gets, which `measure` reads.
 Exit status: 0 done, 2 rejected input, 3 memory or output was refused. A table
-that is refused, or has too few threads for the arrivals, is named by its
-number, from 0, or by its value.",
+that is refused, or that the arrivals do not fit, is named by its number, from
+0, or by its value.",
     "caladan_view compare",
     "\
 cores = 2
@@ -369,6 +374,37 @@ turn,35
 turn,45
 request,0,2,1,1,0
 end,9"
+);
+
+/// Of the subcommand `sweep`.
+pub const SWEEP: &str = help_with_a_run!(
+    "\
+Input: a task table (TOML); what follows a line --- is not read.
+Output: for each load a row: at which ranks of all requests of the task how many
+clock ticks went by from arrival to answer, their mean, how many came, were
+later or left out, as `arrivals --summary` has them, and were served; its mean
+cores held; and which part of the machine best-effort tasks held. Each run is on
+the arrivals that `arrivals` makes with these words, and its numbers are those
+of `measure`. One task has the loads; each other --task has one.
+With --vary a row for each value, as in `compare`, on arrivals made for the
+table that it gives. With --picture one SVG: ranks over load.
+--slo is an objective for a task: p50, p90, p99, p99.9 or max, in ticks.
+Exit status: 0 done, 1 a run of the last load misses the objective, or nothing
+is answered at its rank, 2 rejected input or a word that it refuses, which is
+named, 3 memory or output was refused.",
+    "caladan_view sweep --load 0.3,0.6 --pattern even --turns 20",
+    "\
+END
+
+It writes, with its last two columns below the others:
+
+load   p50  p90      p99    p99.9     mean  came  later  left out  served
+0.300   30   >0   >0 (6)   >0 (6)  >18.333     6      0         0       5
+0.600   20   30  >0 (12)  >0 (12)  >18.333    12      0         0      11
+
+       mean cores  best-effort share
+            0.421              0.000
+            0.632              0.000"
 );
 
 /// Of the subcommand `check`.

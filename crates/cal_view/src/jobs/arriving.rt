@@ -1,18 +1,18 @@
 //! Arrivals made for a task table.
 
-mod loads;
 mod summary;
 
 ghost use Rattle.std.specs.Prelude.{◌≡◌, ◌≢◌, IfErr, IfOk};
 
 use crate::command_words::arrival_words::{ArrivalForm, ArrivalWords};
-use crate::jobs::arriving::loads::{are_known, asked_loads, word_at};
 use crate::jobs::arriving::summary::summary_of;
-use crate::refusing::end_refusal;
-use cal_engine::{INPUT_LIMIT, RunFault, read_input, split_input};
-use cal_load::{LoadFault, Made, TaskLoad, Timing, WordFault, made_arrivals};
+use crate::refusing::{end_refusal, refuse_word, table_alone};
+use cal_engine::{INPUT_LIMIT, RunFault, read_input};
+use cal_load::{
+    LoadFault, Made, TaskLoad, WordFault, are_known, asked_loads, made_arrivals, word_at,
+};
 use cal_machine::{Config, ConfigFault};
-use cal_refusals::RefusedInput;
+use cal_tables::table_part;
 use std::alloc::{AllocError, Global};
 use std::io::{Read, Write};
 
@@ -76,7 +76,7 @@ pub fn answer_arrivals<R: Read + Drop, W: Write, E: Write>(
     ensures refused { IfOk result (λ status. status ≢ 0 → output.new ≡ output.old) }
     ensures untouched { IfErr result (λ fault. fault ≢ RunFault.Write → output.new ≡ output.old) }
 {
-    let loads = match asked_loads(alloc, asked) {
+    let loads = match asked_loads(alloc, &asked.load) {
         Ok(loads) => loads,
         Err(LoadFault::Memory) => return Err(RunFault::Memory),
         Err(LoadFault::Word(fault)) => return Ok(refuse_word(&fault, errors)),
@@ -86,24 +86,6 @@ pub fn answer_arrivals<R: Read + Drop, W: Write, E: Write>(
         Ok(answer) => write_answer(&answer, output),
         Err(Unmade::Run(fault)) => end_refusal(alloc, table_alone(input.as_slice()), fault, errors),
         Err(Unmade::Word(fault)) => Ok(refuse_word(&fault, errors)),
-    }
-}
-
-/// Says what is wrong with a word, and answers the exit status, 2.
-fn refuse_word<E: Write>(fault: &WordFault<'_>, errors: &mut E) -> u8
-    ensures { result ≡ 2 }
-{
-    let _ = writeln!(errors, "caladan_view: {fault}");
-    2
-}
-
-/// An input of which the table alone is read, for where it is refused.
-fn table_alone(input: &[u8]) -> RefusedInput<'_> {
-    RefusedInput {
-        input,
-        wanted: &[],
-        tables: 1,
-        files: None,
     }
 }
 
@@ -128,24 +110,13 @@ fn made_answer<'a>(
     asked: &ArrivalWords<'a>,
     loads: &[TaskLoad],
 ) -> Result<Answer, Unmade<'a>> {
-    let table = table_of(input);
+    let words = &asked.load;
+    let table = table_part(input);
     let config = Config::read(alloc, table)?;
-    are_known(&config, loads, asked.tasks.as_slice())?;
-    let timing = Timing {
-        turns: asked.turns,
-        ticks: asked.ticks,
-    };
-    let word = word_at(asked.loads.as_slice(), 0);
-    let made = made_arrivals(alloc, &config, loads, timing, asked.seed, word)?;
+    are_known(&config, loads, words.tasks.as_slice())?;
+    let word = word_at(words.loads.as_slice(), 0);
+    let made = made_arrivals(alloc, &config, loads, words.timing, words.seed, word)?;
     answer_of(alloc, &config, asked, table, made)
-}
-
-/// The table of an input: what comes before the first separator line, or all.
-fn table_of(input: &[u8]) -> &[u8] {
-    match split_input(input) {
-        Some((table, _)) => table,
-        None => input,
-    }
 }
 
 /// What was made, as it is written.
@@ -163,7 +134,14 @@ fn answer_of<'a>(
             put_table(table, &mut front)?;
             made.text
         }
-        ArrivalForm::Summary => summary_of(alloc, config, made.counts.as_slice(), asked.turns)?,
+        ArrivalForm::Summary => {
+            summary_of(
+                alloc,
+                config,
+                made.counts.as_slice(),
+                asked.load.timing.turns,
+            )?
+        }
     };
     // An input is read up to this length.
     if front.len().saturating_add(text.len()) > INPUT_LIMIT {

@@ -6,7 +6,7 @@ use crate::fault::{end_comparison, explain_comparison};
 use cal_engine::RunFault;
 use cal_picture::draw_comparison;
 use cal_refusals::RefusedInput;
-use cal_tables::{ComparisonFault, Labels, Variation, compare};
+use cal_tables::{ComparisonFault, Labels, Variation, compare, write_input};
 use std::alloc::Global;
 use std::io::{BufWriter, Write};
 
@@ -70,6 +70,7 @@ fn write_comparison<W: Write>(
     match form {
         Form::Numbers(form) => compare(alloc, input, variation, labels, form, &mut buffer)?,
         Form::Picture => draw_comparison(alloc, input, variation, labels, &mut buffer)?,
+        Form::Input(table) => write_input(alloc, input, variation, table, &mut buffer)?,
     }
     match buffer.flush() {
         Ok(()) => Ok(()),

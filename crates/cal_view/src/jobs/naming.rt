@@ -2,7 +2,7 @@
 
 use cal_engine::RunFault;
 use cal_machine::Config;
-use cal_tables::{Labels, letters, read_tables};
+use cal_tables::{ComparisonFault, Labels, letters, read_tables};
 use std::alloc::{AllocError, Global};
 use std::io::Write;
 
@@ -129,7 +129,7 @@ pub fn refuse_count<E: Write>(
     }
     let tables = match read_tables(alloc, input) {
         Ok((tables, _)) => tables,
-        Err(refused) if refused.fault == RunFault::Memory => return Err(RunFault::Memory),
+        Err(ComparisonFault::Run(RunFault::Memory)) => return Err(RunFault::Memory),
         Err(_) => return Ok(None),
     };
     let tasks = most_tasks(tables.as_slice());

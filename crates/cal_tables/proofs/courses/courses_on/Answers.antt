@@ -7,7 +7,7 @@ use Rattle.cal_tables.proofs.courses.courses_on.Goals as goal
 
 pub loop-place-preserved : goal.loop-place-preserved
 loop-place-preserved c =
-    let Is : Table → RunCourse → Type 0 = λ table course. IsCourse table c.args.trace.now course in
+    let Is : Table → RunCourse → Type 0 = λ table course. IsCourse c.args.given.now c.args.arrivals.now table course in
     let before : List RunCourse = c.loop-place.courses.items in
     let now : RunCourse = c.in_ok-course.course in
     let more : c.push.new.self.items ≡ before ++ now ∷ [] = c.in_ok-push.ensures.items in

@@ -6,5 +6,5 @@ use Rattle.cal_tables.proofs.courses.courses_on.Given as goal
 abbrev pub invariant-loop-place : goal.invariant-loop-place
 invariant-loop-place l = record {
   many : length l.courses.items ≡ l.place;
-  each : EachIsOf (λ table course. IsCourse table l.trace course) l.tables l.courses.items;
+  each : EachIsOf (λ table course. IsCourse l.given l.arrivals table course) l.tables l.courses.items;
 }

@@ -7,7 +7,7 @@ use Rattle.cal_tables.proofs.comparing.columns.columns_of.Goals as goal
 
 pub loop-place-preserved : goal.loop-place-preserved
 loop-place-preserved c =
-    let Is : Table → RunNumbers → Type 0 = λ table column. IsColumn table c.args.trace.now column in
+    let Is : Table → RunNumbers → Type 0 = λ table column. IsColumn c.args.given.now c.args.arrivals.now table column in
     let before : List RunNumbers = c.loop-place.columns.items in
     let now : RunNumbers = c.in_ok-column.column in
     let more : c.push.new.self.items ≡ before ++ now ∷ [] = c.in_ok-push.ensures.items in

@@ -6,5 +6,5 @@ use Rattle.cal_tables.proofs.comparing.columns.columns_of.Given as goal
 abbrev pub invariant-loop-place : goal.invariant-loop-place
 invariant-loop-place l = record {
   many : length l.columns.items ≡ l.place;
-  each : EachIsOf (λ table column. IsColumn table l.trace column) l.tables l.columns.items;
+  each : EachIsOf (λ table column. IsColumn l.given l.arrivals table column) l.tables l.columns.items;
 }

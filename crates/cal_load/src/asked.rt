@@ -1,0 +1,178 @@
+//! What comes to tasks, as the words of a command line say it.
+
+use crate::fault::{LoadFault, Why, refused};
+use crate::loads::{FLAG, loads_of};
+use crate::making::{TaskLoad, Timing, pattern_of};
+use crate::service::service_of;
+use cal_machine::Config;
+use std::alloc::Global;
+
+const TASK: &str = "--task";
+
+/// What words ask for, each word of a task as it was given.
+#[derive(Debug, Drop)]
+pub struct LoadWords<'a> {
+    /// The tasks to which requests come.
+    pub tasks: Vec<&'a str>,
+    /// One load for all of them, or one for each. The next two are given in the same way.
+    pub loads: Vec<&'a str>,
+    /// The turns that requests take.
+    pub services: Vec<&'a str>,
+    /// How they come.
+    pub patterns: Vec<&'a str>,
+    /// How long the run is.
+    pub timing: Timing,
+    /// The seed.
+    pub seed: u64,
+}
+
+/// What comes to tasks, where the load of one of them may take several values in turn.
+#[derive(Drop)]
+pub struct SteppedLoads<'a> {
+    /// What comes to each task, with the first of its loads.
+    pub tasks: Vec<TaskLoad>,
+    /// Which of them has several loads; the first, where none has.
+    pub place: usize,
+    /// The loads of that one, in thousandths, rising.
+    pub loads: Vec<u64>,
+    /// The word of these loads.
+    pub word: &'a str,
+}
+
+/// What words ask of a task.
+#[derive(Drop)]
+struct AskedTask<'a> {
+    of_task: TaskLoad,
+    loads: Vec<u64>,
+    word: &'a str,
+}
+
+/// The word at a place, or an empty one.
+pub fn word_at<'a>(words: &[&'a str], place: usize) -> &'a str {
+    match words.get(place) {
+        Some(word) => *word,
+        None => "",
+    }
+}
+
+/// The word that an option has for the task at a place: its only one, or, of as many as there are
+/// tasks, that at this place.
+fn word_for<'a>(
+    flag: &'a str,
+    words: &[&'a str],
+    tasks: usize,
+    place: usize,
+) -> Result<&'a str, LoadFault<'a>> {
+    let times = words.len();
+    if times == 1 {
+        return Ok(word_at(words, 0));
+    }
+    if times == tasks {
+        return Ok(word_at(words, place));
+    }
+    let last = word_at(words, times.saturating_sub(1));
+    Err(refused(flag, last, Why::NotOneEach(times as u64, tasks as u64)))
+}
+
+/// The task that a number names; of none that no table has.
+fn task_of(word: &str) -> usize {
+    word.parse::<usize>().unwrap_or(usize::MAX)
+}
+
+/// What words ask of the task that is named at this place.
+fn asked_task<'a>(
+    alloc: Global,
+    words: &LoadWords<'a>,
+    place: usize,
+) -> Result<AskedTask<'a>, LoadFault<'a>> {
+    let tasks = words.tasks.len();
+    let word = word_for(FLAG, words.loads.as_slice(), tasks, place)?;
+    let service = word_for("--service", words.services.as_slice(), tasks, place)?;
+    let pattern = word_for("--pattern", words.patterns.as_slice(), tasks, place)?;
+    let loads = loads_of(alloc, word)?;
+    let load = loads.as_slice().get(0).copied().unwrap_or(0);
+    let of_task = TaskLoad {
+        task: task_of(word_at(words.tasks.as_slice(), place)),
+        load,
+        service: service_of(alloc, service)?,
+        pattern: pattern_of(pattern)?,
+    };
+    Ok(AskedTask {
+        of_task,
+        loads,
+        word,
+    })
+}
+
+impl<'a> SteppedLoads<'a> {
+    /// Takes what words ask of one task more: none twice, and several loads of one alone.
+    fn take(&mut self, asked: AskedTask<'a>, task: &'a str) -> Result<(), LoadFault<'a>> {
+        let AskedTask {
+            of_task,
+            loads,
+            word,
+        } = asked;
+        if self.tasks.iter().any(|other| other.task == of_task.task) {
+            return Err(refused(TASK, task, Why::Twice));
+        }
+        if loads.len() > 1 && self.loads.len() > 1 {
+            return Err(refused(FLAG, word, Why::Several));
+        }
+        if loads.len() > 1 || self.tasks.is_empty() {
+            self.place = self.tasks.len();
+            self.loads = loads;
+            self.word = word;
+        }
+        self.tasks.push(of_task)?;
+        Ok(())
+    }
+}
+
+/// What comes to each task that the words name, in their order: no task twice, and several loads of
+/// one of them at most. Which tasks the table has is not asked.
+pub fn stepped_loads<'a>(
+    alloc: Global,
+    words: &LoadWords<'a>,
+) -> Result<SteppedLoads<'a>, LoadFault<'a>> {
+    let mut stepped = SteppedLoads {
+        tasks: Vec::new(alloc),
+        place: 0,
+        loads: Vec::new(alloc),
+        word: "",
+    };
+    for place in 0..words.tasks.len() {
+        let asked = asked_task(alloc, words, place)?;
+        stepped.take(asked, word_at(words.tasks.as_slice(), place))?;
+    }
+    Ok(stepped)
+}
+
+/// What comes to each task that the words name, in their order, each with one load: no task twice.
+/// Which tasks the table has is not asked.
+pub fn asked_loads<'a>(
+    alloc: Global,
+    words: &LoadWords<'a>,
+) -> Result<Vec<TaskLoad>, LoadFault<'a>> {
+    let stepped = stepped_loads(alloc, words)?;
+    if stepped.loads.len() > 1 {
+        return Err(refused(FLAG, stepped.word, Why::Several));
+    }
+    Ok(stepped.tasks)
+}
+
+/// Whether the table has each of these tasks; the fault is that of the first word that names none.
+pub fn are_known<'a>(
+    config: &Config,
+    loads: &[TaskLoad],
+    words: &[&'a str],
+) -> Result<(), LoadFault<'a>> {
+    let tasks = config.tasks();
+    let mut place = 0usize;
+    for load in loads {
+        if load.task >= tasks {
+            return Err(refused(TASK, word_at(words, place), Why::NotATask(tasks as u64)));
+        }
+        place = place.saturating_add(1);
+    }
+    Ok(())
+}

@@ -1,0 +1,3 @@
+pub mod Objectives
+pub mod Shares
+pub mod Sweeps

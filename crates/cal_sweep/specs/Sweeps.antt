@@ -1,0 +1,70 @@
+-- The runs of a sweep.
+use Rattle.std.specs.Prelude.{◌≡◌, ℕ, List, [], ◌∷◌, map, Option, Some, None, Ok}
+use Rattle.cal_engine.specs.declared.fault.RunFault.TheVariants.{Write}
+use Rattle.cal_machine.specs.Reading.{table_in}
+use Rattle.cal_machine.specs.Table.{Table}
+use Rattle.cal_tables.specs.Compared.{AreEachOf, AreToldFor}
+use Rattle.cal_tables.specs.Joining.{table_part}
+use Rattle.cal_tables.specs.Measured.{IsMeasuredRun}
+use Rattle.cal_tables.specs.Varied.{AreVaried}
+use Rattle.cal_tables.specs.declared.comparing.Variation.{Variation}
+use Rattle.cal_tables.specs.declared.comparing.fault.ComparisonFault.{ComparisonFault}
+use Rattle.cal_tables.specs.declared.comparing.fault.ComparisonFault.TheVariants as faults
+use Rattle.cal_tables.specs.declared.measuring.RunNumbers.{RunNumbers}
+use Rattle.cal_trace.specs.declared.arrivals.Arrivals.{Arrivals}
+use Rattle.cal_sweep.specs.declared.runs.SweptLoad.{SweptLoad}
+use Rattle.cal_sweep.specs.declared.runs.SweptRun.{SweptRun}
+
+-- the numbers of a run of this table on the arrivals that a text tells
+pub record IsRunOn (table : Table) (trace : List ℕ) (numbers : RunNumbers) : Type 0 where
+  pub arrivals : Arrivals
+  pub told : AreToldFor table trace arrivals
+  pub measured : IsMeasuredRun table arrivals numbers
+
+-- the numbers of a run are those of a run of this table on the arrivals that some text tells
+pub record IsSweptRun (table : Table) (run : SweptRun) : Type 0 where
+  pub trace : List ℕ
+  pub ran : IsRunOn table trace run.numbers
+
+-- as many runs as tables, each of the table at its place
+abbrev pub AreSweptRuns : List Table → List SweptRun → Type 0
+AreSweptRuns tables runs = AreEachOf IsSweptRun tables runs
+
+-- the runs of this load: one of each table
+pub record IsSweptLoad (tables : List Table) (load : ℕ) (of_load : SweptLoad) : Type 0 where
+  pub at : of_load.load ≡ load
+  pub runs : AreSweptRuns tables of_load.runs.items
+
+-- for each of these loads in turn, a run of each table
+abbrev pub AreSweptLoads : List Table → List ℕ → List SweptLoad → Type 0
+AreSweptLoads tables loads swept = AreEachOf (IsSweptLoad tables) loads swept
+
+-- a key and its values
+pub record Varying : Type 0 where
+  pub key : List ℕ
+  pub values : List (List ℕ)
+
+-- those of a variation, where there is one
+abbrev pub varying_of : Option Variation → Option Varying
+varying_of None = None
+varying_of (Some variation) = Some (record {
+  key = variation.key.now;
+  values = map (λ value. value.now) variation.values.now;
+})
+
+-- the table alone; or those that it gives with each of these values at this key
+abbrev pub AreTablesOf : Option Varying → Table → List Table → Type 0
+AreTablesOf None table tables = tables ≡ table ∷ []
+AreTablesOf (Some varying) table tables = AreVaried table varying.key varying.values tables
+
+-- a sweep of the table of an input, or of those that it gives, over these loads
+pub record IsSweep (input : List ℕ) (varying : Option Varying) (loads : List ℕ)
+    (tables : List Table) (swept : List SweptLoad) : Type 0 where
+  pub table : Table
+  pub given : table_in (table_part input) ≡ Ok table
+  pub varied : AreTablesOf varying table tables
+  pub are : AreSweptLoads tables loads swept
+
+-- the fault of a writer
+abbrev pub of_writer : ComparisonFault
+of_writer = faults.Run Write

@@ -1,0 +1,85 @@
+//! A sweep from its words to what is written of it.
+
+ghost use Rattle.std.specs.Prelude.{◌≡◌, ◌≢◌, IfErr, IfOk};
+ghost use Rattle.cal_sweep.specs.Objectives.{status_of};
+ghost use Rattle.cal_sweep.specs.Sweeps.{of_writer};
+
+use crate::fault::SweepFault;
+use crate::picture::picture_of;
+use crate::runs::{Sweep, swept};
+use crate::table::sheet_of;
+use crate::verdict::{say_misses, status_of};
+use crate::words::{Asked, SweepForm, SweepWords, asked_of};
+use cal_engine::{RunFault, read_input};
+use cal_tables::{ComparisonFault, Variation};
+use std::alloc::{AllocError, Global};
+use std::io::{Read, Write};
+
+/// What is written of a sweep, in memory.
+fn text_of(
+    alloc: Global,
+    sweep: &Sweep,
+    asked: &Asked<'_>,
+    variation: Option<Variation<'_>>,
+    form: SweepForm,
+) -> Result<String, AllocError> {
+    match form {
+        SweepForm::Numbers(form) => {
+            sheet_of(alloc, sweep, asked.task(), variation, form)?.written(alloc, form)
+        }
+        SweepForm::Picture => picture_of(alloc, sweep, asked, variation),
+    }
+}
+
+/// Writes a sweep, and answers the exit status: 1 where one of the runs of its last load misses the
+/// objective, and 0 else. Of a miss a line is written to `errors`, with its numbers.
+///
+/// The fault is `Write`, or `Memory` before anything is written.
+pub fn end_sweep<'a, W: Write, E: Write>(
+    alloc: Global,
+    sweep: &Sweep,
+    asked: &Asked<'a>,
+    variation: Option<Variation<'_>>,
+    form: SweepForm,
+    output: &mut W,
+    errors: &mut E,
+) -> Result<u8, SweepFault<'a>>
+    ensures status { IfOk result (λ status.
+        status ≡ status_of asked.now.objective sweep.now.loads.items) }
+    ensures untouched { IfErr result (λ fault.
+        fault ≢ SweepFault.Run of_writer → output.new ≡ output.old) }
+{
+    let text = text_of(alloc, sweep, asked, variation, form)?;
+    if output.write_all(text.as_bytes()).is_err() {
+        return Err(SweepFault::Run(ComparisonFault::from(RunFault::Write)));
+    }
+    let status = status_of(asked.objective, sweep.loads.as_slice());
+    if let Some(objective) = asked.objective {
+        say_misses(sweep, &objective, variation, errors);
+    }
+    Ok(status)
+}
+
+/// Reads a task table, makes the runs that words ask for, writes what came of them, and answers the
+/// exit status: 1 where one of the runs of the last load misses the objective, and 0 else. What
+/// follows a separator line in the input is not read. The variation is that of the words.
+///
+/// The faults of words that need no table come first, then those of the input, then those of
+/// `swept`. Nothing is written before all runs were made and the text is in memory.
+pub fn answer_sweep<'a, R: Read + Drop, W: Write, E: Write>(
+    alloc: Global,
+    mut reader: R,
+    words: &SweepWords<'a>,
+    variation: Option<Variation<'_>>,
+    output: &mut W,
+    errors: &mut E,
+) -> Result<u8, SweepFault<'a>>
+    // Nothing is written before the runs were made.
+    ensures untouched { IfErr result (λ fault.
+        fault ≢ SweepFault.Run of_writer → output.new ≡ output.old) }
+{
+    let asked = asked_of(alloc, words)?;
+    let input = read_input(alloc, &mut reader)?;
+    let sweep = swept(alloc, input.as_slice(), &asked, variation)?;
+    end_sweep(alloc, &sweep, &asked, variation, words.form, output, errors)
+}

@@ -1,0 +1,25 @@
+//! How far may the load rise? Runs of a task table, or of each that it gives with some values at a
+//! key, on arrivals that are made for one load after the other, with what came of a task in each,
+//! and an objective that its requests may keep or miss: as a table, as CSV or as a picture.
+//!
+//! That each run is one of its table, and by which numbers the objective is missed, is proved
+//! (`swept`, `end_sweep`). Which arrivals are made, and how all is written and drawn, is only
+//! tested.
+#![tactic(auto)]
+
+mod answer;
+mod fault;
+mod objective;
+mod picture;
+mod runs;
+mod shares;
+mod table;
+mod verdict;
+mod words;
+
+pub use answer::{answer_sweep, end_sweep};
+pub use fault::SweepFault;
+pub use objective::{Objective, objective_of};
+pub use runs::{Sweep, SweptLoad, SweptRun, swept};
+pub use verdict::{is_missed, status_of};
+pub use words::{Asked, SweepForm, SweepWords, asked_of};

@@ -1,0 +1,99 @@
+//! The curves of a table: a time at each load, rank by rank.
+
+use crate::objective::{rank_word, response_at};
+use crate::picture::chart::{Chart, RANKS, tell_load};
+use crate::picture::style::dash_of;
+use crate::runs::SweptRun;
+use cal_measure::Time;
+use cal_picture::Page;
+use cal_tables::Rank;
+
+/// Draws the curves of a table.
+pub fn draw_curves(chart: &Chart<'_>, table: usize, page: &mut Page) {
+    for place in 0..RANKS.len() {
+        draw_curve(chart, table, place, RANKS[place], page);
+        draw_points(chart, table, RANKS[place], page);
+    }
+}
+
+/// Draws the line of a rank. It is broken where no requests came, or that at the rank is pending.
+fn draw_curve(chart: &Chart<'_>, table: usize, place: usize, rank: Rank, page: &mut Page) {
+    page.fill("<path class='r r{}", &[table as u64]);
+    page.put(dash_of(place));
+    page.put("' d='");
+    let mut joins = false;
+    for place in 0..chart.sweep.loads.len() {
+        match point_at(chart, table, place, rank) {
+            Some((x, y)) => {
+                page.put(if joins { "L" } else { "M" });
+                page.fill("{} {}", &[x, y]);
+                joins = true;
+            }
+            None => joins = false,
+        }
+    }
+    page.put("'/>\n");
+}
+
+/// Where the time at a rank stands, of a table and the load at a place, if it is known.
+fn point_at(chart: &Chart<'_>, table: usize, place: usize, rank: Rank) -> Option<(u64, u64)> {
+    let (load, run) = chart.run(table, place)?;
+    match response_at(&run.numbers, chart.task, rank) {
+        Some(Time::Known(ticks)) => Some((chart.x(load), chart.y(ticks))),
+        _ => None,
+    }
+}
+
+/// Draws the points of a rank.
+fn draw_points(chart: &Chart<'_>, table: usize, rank: Rank, page: &mut Page) {
+    for place in 0..chart.sweep.loads.len() {
+        if let Some((load, run)) = chart.run(table, place) {
+            draw_point(chart, table, load, run, rank, page);
+        }
+    }
+}
+
+/// Draws the time at a rank of a run, with its numbers: a dot, or an arrow at the top where it is
+/// pending.
+fn draw_point(
+    chart: &Chart<'_>,
+    table: usize,
+    load: u64,
+    run: &SweptRun,
+    rank: Rank,
+    page: &mut Page,
+) {
+    let Some(time) = response_at(&run.numbers, chart.task, rank) else {
+        return;
+    };
+    let x = chart.x(load);
+    page.fill("<path class='f{}' d='", &[table as u64]);
+    match time {
+        Time::Known(ticks) => {
+            page.fill(
+                "M{} {}m-3 0a3 3 0 1 0 6 0a3 3 0 1 0-6 0z",
+                &[x, chart.y(ticks)],
+            );
+        }
+        Time::More(_) => page.fill("M{} {}l-5 8h10z", &[x, chart.arrow(table)]),
+    }
+    page.put("'><title>");
+    tell_point(chart, table, load, time, rank, page);
+    page.put("</title></path>\n");
+}
+
+/// Says of which table and load a time is, and how long.
+fn tell_point(chart: &Chart<'_>, table: usize, load: u64, time: Time, rank: Rank, page: &mut Page) {
+    if table < chart.names() {
+        chart.tell_table(table, page);
+        page.put(", ");
+    }
+    page.put("load ");
+    tell_load(load, page);
+    page.put(": ");
+    page.put(rank_word(rank));
+    match time {
+        Time::Known(ticks) => page.fill(" {} ticks", &[ticks]),
+        Time::More(ticks) => page.fill(" pending for {} ticks", &[ticks]),
+    }
+}

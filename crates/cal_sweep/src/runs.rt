@@ -1,0 +1,191 @@
+//! The runs of a sweep, measured.
+
+ghost use Rattle.std.specs.Prelude.{◌≡◌, ◌<◌, ◌∷◌, [], IfOk, length, slice_get, string_bytes};
+ghost use Rattle.cal_sweep.specs.Sweeps.{AreSweptLoads, AreSweptRuns, AreTablesOf, IsSweep};
+ghost use Rattle.cal_sweep.specs.Sweeps.{IsRunOn, IsSweptLoad, IsSweptRun, varying_of};
+
+use crate::fault::SweepFault;
+use crate::words::Asked;
+use cal_engine::RunFault;
+use cal_load::{Count, Made, are_known, made_arrivals};
+use cal_machine::Config;
+use cal_tables::{
+    ComparisonFault, Reason, RunNumbers, Variation, measured_run, table_at, table_part,
+    varied_tables,
+};
+use cal_trace::read_arrivals;
+use std::alloc::{AllocError, Global};
+
+/// A run of a sweep.
+#[derive(Drop)]
+pub struct SweptRun {
+    /// What came to each task that has a load.
+    pub counts: Vec<Count>,
+    /// The numbers of the run.
+    pub numbers: RunNumbers,
+}
+
+/// The runs of a load.
+#[derive(Drop)]
+pub struct SweptLoad {
+    /// The load, in thousandths.
+    pub load: u64,
+    /// A run of each table, in the order of the tables.
+    pub runs: Vec<SweptRun>,
+}
+
+/// A sweep.
+#[derive(Drop)]
+pub struct Sweep {
+    /// The tables.
+    pub tables: Vec<Config>,
+    /// The runs of each load, in the order of the loads.
+    pub loads: Vec<SweptLoad>,
+}
+
+/// The numbers of a table's run on the arrivals that a text tells.
+fn numbers_on(alloc: Global, table: &Config, trace: &[u8]) -> Result<RunNumbers, RunFault>
+    ensures { IfOk result (IsRunOn table.now trace.now) }
+{
+    let arrivals = read_arrivals(alloc, table, trace)?;
+    measured_run(alloc, table, &arrivals)
+}
+
+/// The run of a table on arrivals that were made, measured: on exactly those that their text tells.
+/// A fault is that of the table at this place.
+fn run_on(
+    alloc: Global,
+    table: &Config,
+    place: usize,
+    made: Made,
+) -> Result<SweptRun, ComparisonFault>
+    ensures { IfOk result (λ run. IsRunOn table.now (string_bytes made.text) run.numbers) }
+{
+    match numbers_on(alloc, table, made.text.as_bytes()) {
+        Ok(numbers) => Ok(SweptRun {
+            counts: made.counts,
+            numbers,
+        }),
+        Err(fault) => Err(ComparisonFault::OfTable {
+            table: place,
+            reason: Reason::Run(fault),
+        }),
+    }
+}
+
+/// The run of a table on the arrivals that are made for it with this load.
+fn swept_run<'a>(
+    alloc: Global,
+    table: &Config,
+    place: usize,
+    asked: &Asked<'a>,
+    load: u64,
+) -> Result<SweptRun, SweepFault<'a>>
+    ensures { IfOk result (IsSweptRun table.now) }
+{
+    let tasks = asked.at(alloc, load)?;
+    let tasks = tasks.as_slice();
+    let made = made_arrivals(alloc, table, tasks, asked.timing, asked.seed, asked.word)?;
+    let run = run_on(alloc, table, place, made)?;
+    Ok(run)
+}
+
+/// A run of each table with this load, in the order of the tables.
+fn swept_runs<'a>(
+    alloc: Global,
+    tables: &[Config],
+    asked: &Asked<'a>,
+    load: u64,
+) -> Result<Vec<SweptRun>, SweepFault<'a>>
+    ensures { IfOk result (λ runs. AreSweptRuns tables.now runs.items) }
+{
+    let mut runs = Vec::new(alloc);
+    for place in 0..tables.len() {
+        let run = swept_run(alloc, table_at(tables, place), place, asked, load)?;
+        runs.push(run)?;
+    }
+    Ok(runs)
+}
+
+/// The runs of a load: one of each table.
+fn swept_load<'a>(
+    alloc: Global,
+    tables: &[Config],
+    asked: &Asked<'a>,
+    load: u64,
+) -> Result<SweptLoad, SweepFault<'a>>
+    ensures { IfOk result (IsSweptLoad tables.now load) }
+{
+    let runs = swept_runs(alloc, tables, asked, load)?;
+    Ok(SweptLoad { load, runs })
+}
+
+/// The load at a place.
+fn load_at(loads: &[u64], place: usize) -> u64
+    requires { place < length loads.now }
+    ensures { slice_get loads.now place ≡ Some result }
+{
+    loads[place]
+}
+
+/// For each of these loads in turn, a run of each table.
+fn swept_loads<'a>(
+    alloc: Global,
+    tables: &[Config],
+    asked: &Asked<'a>,
+    loads: &[u64],
+) -> Result<Vec<SweptLoad>, SweepFault<'a>>
+    ensures { IfOk result (λ swept. AreSweptLoads tables.now loads.now swept.items) }
+{
+    let mut swept = Vec::new(alloc);
+    for place in 0..loads.len() {
+        let of_load = swept_load(alloc, tables, asked, load_at(loads, place))?;
+        swept.push(of_load)?;
+    }
+    Ok(swept)
+}
+
+/// One table alone. Fails only when out of memory.
+fn one_table(alloc: Global, table: Config) -> Result<Vec<Config>, AllocError>
+    ensures { IfOk result (λ tables. tables.items ≡ table ∷ []) }
+{
+    let mut tables = Vec::new(alloc);
+    tables.push(table)?;
+    Ok(tables)
+}
+
+/// The table alone, or those that it gives with each value of a variation.
+fn tables_of(
+    alloc: Global,
+    table: Config,
+    variation: Option<Variation<'_>>,
+) -> Result<Vec<Config>, ComparisonFault>
+    ensures { IfOk result (λ tables. AreTablesOf (varying_of variation.entry) table tables.items) }
+{
+    match variation {
+        None => Ok(one_table(alloc, table)?),
+        Some(variation) => varied_tables(alloc, &table, variation.key, variation.values),
+    }
+}
+
+/// The table of an input, or those that it gives with each value of a variation, and for each load
+/// in turn a run of each of these tables on arrivals that are made for it with this load.
+///
+/// The fault is that of the table, then that of the first word that names a task which it has not,
+/// then that of the first value that makes the table faulty; then that of the first run that has
+/// one. `Memory` may come at any place.
+pub fn swept<'a>(
+    alloc: Global,
+    input: &[u8],
+    asked: &Asked<'a>,
+    variation: Option<Variation<'_>>,
+) -> Result<Sweep, SweepFault<'a>>
+    ensures { IfOk result (λ sweep. IsSweep input.now (varying_of variation.entry)
+        asked.now.loads.items sweep.tables.items sweep.loads.items) }
+{
+    let table = Config::read(alloc, table_part(input))?;
+    are_known(&table, asked.tasks.as_slice(), asked.named.as_slice())?;
+    let tables = tables_of(alloc, table, variation)?;
+    let loads = swept_loads(alloc, tables.as_slice(), asked, asked.loads.as_slice())?;
+    Ok(Sweep { tables, loads })
+}

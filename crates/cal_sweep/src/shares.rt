@@ -1,0 +1,55 @@
+//! Which part of a machine the best-effort tasks have.
+
+ghost use Rattle.std.specs.Prelude.{◌≡◌, ◌<◌, ◌≤◌, ◌*◌, ◌^◌, length, option_map};
+ghost use Rattle.cal_machine.specs.Tasks.{task_at};
+ghost use Rattle.cal_sweep.specs.Shares.{best_effort_held, held_as, held_by};
+ghost use Rattle.cal_tables.specs.Rows.{share_of};
+
+use cal_machine::{Config, Kind};
+use cal_measure::TaskCores;
+use cal_tables::{Figure, RunNumbers, share};
+
+/// For how long a task of this kind held cores, if it is best-effort.
+fn held_as(kind: Kind, cores: Option<&TaskCores>) -> u128
+    ensures { result ≡ held_as kind (option_map (λ cores. cores.now) cores.entry) }
+{
+    match kind {
+        Kind::LatencyCritical => 0,
+        Kind::BestEffort => match cores {
+            None => 0,
+            Some(cores) => cores.held,
+        },
+    }
+}
+
+/// The same of a task of a table.
+fn held_by(table: &Config, cores: &[TaskCores], task: usize) -> u128
+    requires { task < length table.now.tasks }
+    ensures { result ≡ held_by cores.now task (task_at table.now.tasks task) }
+{
+    held_as(table.task(task).kind, cores.get(task))
+}
+
+/// For how long the best-effort tasks of a table held cores, all of them together.
+fn best_effort_held(table: &Config, cores: &[TaskCores]) -> u128
+    ensures { best_effort_held table.now cores.now ≤ 2 ^ 100 →
+        result ≡ best_effort_held table.now cores.now }
+{
+    let mut held = 0u128;
+    for task in 0..table.tasks() {
+        held = held.saturating_add(held_by(table, cores, task));
+    }
+    held
+}
+
+/// Which part of the core time of a run of a table its best-effort tasks held, in thousandths; of
+/// no time there is none.
+pub fn best_effort_share(table: &Config, numbers: &RunNumbers) -> Option<Figure>
+    ensures { let whole = numbers.now.machine.lasted * table.now.cores in
+        best_effort_held table.now numbers.now.cores.items ≤ 2 ^ 100 → whole ≤ 2 ^ 100 →
+        result ≡ share_of (best_effort_held table.now numbers.now.cores.items) whole }
+{
+    let cores = u128::from(table.machine().cores());
+    let whole = numbers.machine.lasted.saturating_mul(cores);
+    share(best_effort_held(table, numbers.cores.as_slice()), whole)
+}

@@ -1,0 +1,112 @@
+//! Whether a sweep keeps an objective.
+
+ghost use Rattle.std.specs.Prelude.{◌≡◌};
+ghost use Rattle.std.specs.List.{list_any};
+ghost use Rattle.cal_sweep.specs.Objectives.{is_missed, is_missed_at, is_missed_by, status_of};
+
+use crate::objective::{Objective, is_kept, rank_word, response_at};
+use crate::runs::{Sweep, SweptLoad, SweptRun};
+use cal_measure::Time;
+use cal_tables::Variation;
+use std::io::Write;
+
+/// Whether one of some runs misses an objective.
+fn is_missed_by_any(objective: &Objective, runs: &[SweptRun]) -> bool
+    ensures { result ≡ list_any (is_missed_by objective.now) runs.now }
+{
+    let mut missed = false;
+    for run in runs {
+        let kept = is_kept(objective, &run.numbers);
+        missed = missed || !kept;
+    }
+    missed
+}
+
+/// Whether one of the runs of the last load misses an objective.
+pub fn is_missed(objective: Option<Objective>, loads: &[SweptLoad]) -> bool
+    ensures { result ≡ is_missed objective loads.now }
+{
+    let Some(objective) = objective else {
+        return false;
+    };
+    match loads.get(loads.len().saturating_sub(1)) {
+        None => false,
+        Some(load) => is_missed_by_any(&objective, load.runs.as_slice()),
+    }
+}
+
+/// The exit status after a sweep: 1 where one of the runs of its last load misses the objective,
+/// and 0 else.
+pub fn status_of(objective: Option<Objective>, loads: &[SweptLoad]) -> u8
+    ensures { result ≡ status_of objective loads.now }
+{
+    if is_missed(objective, loads) { 1 } else { 0 }
+}
+
+/// Writes a line for each table whose run of the last load misses the objective: the objective, the
+/// load, what stands at the rank there, and up to which load the objective was kept.
+pub fn say_misses<E: Write>(
+    sweep: &Sweep,
+    objective: &Objective,
+    variation: Option<Variation<'_>>,
+    errors: &mut E,
+) {
+    let loads = sweep.loads.as_slice();
+    let Some(last) = loads.last() else {
+        return;
+    };
+    for table in 0..last.runs.len() {
+        let run = &last.runs[table];
+        if !is_kept(objective, &run.numbers) {
+            say_name(variation, table, errors);
+            say_missed(objective, last.load, run, errors);
+            say_kept(kept_up_to(objective, loads, table), errors);
+        }
+    }
+}
+
+/// Writes the name of the program, and the value that makes the table.
+fn say_name<E: Write>(variation: Option<Variation<'_>>, table: usize, errors: &mut E) {
+    let _ = write!(errors, "caladan_view: ");
+    if let Some(variation) = variation {
+        if let Some(value) = variation.values.get(table) {
+            let _ = write!(errors, "{}={value}: ", variation.key);
+        }
+    }
+}
+
+/// Writes the objective that a run misses, and what stands at its rank.
+fn say_missed<E: Write>(objective: &Objective, load: u64, run: &SweptRun, errors: &mut E) {
+    let (ones, rest) = (load / 1000, load % 1000);
+    let _ = write!(errors, "{objective} is missed at load {ones}.{rest:03}: ");
+    let rank = rank_word(objective.rank);
+    let _ = match response_at(&run.numbers, objective.task, objective.rank) {
+        None => write!(errors, "no requests came"),
+        Some(Time::Known(ticks)) => write!(errors, "{rank} is {ticks} ticks"),
+        Some(Time::More(ticks)) => write!(errors, "{rank} is pending for {ticks} ticks"),
+    };
+}
+
+/// Writes up to which load the objective was kept, and ends the line.
+fn say_kept<E: Write>(kept: Option<u64>, errors: &mut E) {
+    let _ = match kept {
+        None => writeln!(errors, "; kept at no load"),
+        Some(load) => {
+            let (ones, rest) = (load / 1000, load % 1000);
+            writeln!(errors, "; kept up to load {ones}.{rest:03}")
+        }
+    };
+}
+
+/// The last load up to which each run of a table keeps the objective.
+fn kept_up_to(objective: &Objective, loads: &[SweptLoad], table: usize) -> Option<u64> {
+    let mut kept = None;
+    for load in loads {
+        let run = load.runs.as_slice().get(table)?;
+        if !is_kept(objective, &run.numbers) {
+            break;
+        }
+        kept = Some(load.load);
+    }
+    kept
+}

@@ -1,0 +1,126 @@
+//! What a sweep is of, as words say it.
+
+use crate::fault::SweepFault;
+use crate::objective::{FLAG, Objective, objective_of};
+use cal_load::{LoadFault, LoadWords, TaskLoad, Timing, Why, refused, stepped_loads};
+use cal_tables::NumberForm;
+use std::alloc::{AllocError, Global};
+
+/// As what a sweep is shown.
+#[derive(Clone, Copy, Debug, PartialEq, Eq)]
+pub enum SweepForm {
+    /// As numbers, a row for each run.
+    Numbers(NumberForm),
+    /// As one SVG.
+    Picture,
+}
+
+/// What words ask for, each as it was given.
+#[derive(Debug, Drop)]
+pub struct SweepWords<'a> {
+    /// What comes to tasks. One of them may have several loads.
+    pub load: LoadWords<'a>,
+    /// A key of the table and its values, as `KEY=V1,V2`.
+    pub vary: Option<&'a str>,
+    /// The objective.
+    pub slo: Option<&'a str>,
+    /// As what it is shown.
+    pub form: SweepForm,
+}
+
+/// What a sweep is of.
+#[derive(Drop)]
+pub struct Asked<'a> {
+    /// The loads, in thousandths, rising.
+    pub loads: Vec<u64>,
+    /// The objective.
+    pub objective: Option<Objective>,
+    /// What comes to each task; of the one at `place` each of the loads in turn.
+    pub tasks: Vec<TaskLoad>,
+    /// Which of these tasks is swept.
+    pub place: usize,
+    /// How long each run is.
+    pub timing: Timing,
+    /// The seed of all runs.
+    pub seed: u64,
+    /// The word of the loads.
+    pub word: &'a str,
+    /// The words of the tasks.
+    pub named: Vec<&'a str>,
+}
+
+/// The objective of a word, of one of the tasks to which requests come.
+fn objective_among<'a>(word: &'a str, tasks: &[TaskLoad]) -> Result<Objective, LoadFault<'a>> {
+    let objective = objective_of(word)?;
+    if tasks.iter().any(|of_task| of_task.task == objective.task) {
+        Ok(objective)
+    } else {
+        Err(refused(FLAG, word, Why::NothingComes))
+    }
+}
+
+/// The objective that words say, if they do.
+fn asked_objective<'a>(
+    slo: Option<&'a str>,
+    tasks: &[TaskLoad],
+) -> Result<Option<Objective>, LoadFault<'a>> {
+    match slo {
+        None => Ok(None),
+        Some(word) => Ok(Some(objective_among(word, tasks)?)),
+    }
+}
+
+/// Whether the values of a key are such; no word says nothing of them.
+fn are_values<'a>(vary: Option<&'a str>) -> Result<(), LoadFault<'a>> {
+    match vary {
+        Some(word) if !word.contains('=') => Err(refused("--vary", word, Why::NotAVariation)),
+        _ => Ok(()),
+    }
+}
+
+/// What words ask for, where they need no table: loads, of one task at most several; an objective
+/// of a task to which requests come; a key with values. The fault is that of the first word.
+pub fn asked_of<'a>(alloc: Global, words: &SweepWords<'a>) -> Result<Asked<'a>, SweepFault<'a>> {
+    let stepped = stepped_loads(alloc, &words.load)?;
+    let objective = asked_objective(words.slo, stepped.tasks.as_slice())?;
+    are_values(words.vary)?;
+    Ok(Asked {
+        loads: stepped.loads,
+        objective,
+        tasks: stepped.tasks,
+        place: stepped.place,
+        timing: words.load.timing,
+        seed: words.load.seed,
+        word: stepped.word,
+        named: words.load.tasks.clone()?,
+    })
+}
+
+impl<'a> Asked<'a> {
+    /// The task that is swept.
+    pub fn task(&self) -> usize {
+        match self.tasks.as_slice().get(self.place) {
+            Some(of_task) => of_task.task,
+            None => 0,
+        }
+    }
+
+    /// What comes to each task where the swept one has this load.
+    pub fn at(&self, alloc: Global, load: u64) -> Result<Vec<TaskLoad>, AllocError> {
+        let mut tasks = Vec::new(alloc);
+        for place in 0..self.tasks.len() {
+            let of_task = &self.tasks[place];
+            tasks.push(TaskLoad {
+                task: of_task.task,
+                load: if place == self.place {
+                    load
+                } else {
+                    of_task.load
+                },
+                service: of_task.service.clone()?,
+                pattern: of_task.pattern,
+            })?;
+        }
+        Ok(tasks)
+    }
+}

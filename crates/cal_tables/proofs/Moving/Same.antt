@@ -1,0 +1,101 @@
+-- A table with the same limits gets what was given.
+use Rattle.std.proofs.Common.{◌≡◌, ◌<◌, ◌≤◌, ◌+◌, ◌-◌, ◌%◌, ◌∙◌, ◌⊎◌, inl, inr, ℕ, zero, suc, List, [], ◌∷◌, length, map, take, Some, slice_get, get_or, refl, sym, ap, arith, subst}
+use Rattle.std.proofs.Math.ListN.{get_or-map}
+use Rattle.std.proofs.Math.Nat.{mod-eq_of_lt}
+use Rattle.std.proofs.lemmas.List.Sorted.{Contains-permutation, IsPermutation-sym}
+use Rattle.std.proofs.lemmas.List.Sums.{sum-map}
+use Rattle.std.proofs.lemmas.Option.{slice_get_within, slice_get-get_or, get_or_from_slice_get}
+use Rattle.std.specs.List.{Contains, sum, take-map}
+use Rattle.std.specs.List.Sorted.{IsPermutation}
+use Rattle.cal_machine.proofs.Last.{some_same}
+use Rattle.cal_machine.proofs.ThreadNumbers.{task_in}
+use Rattle.cal_machine.specs.Table.{Table}
+use Rattle.cal_machine.specs.Tasks.{first_thread, no_task, task_at, task_of, threads_in}
+use Rattle.cal_machine.specs.declared.task.Task.{Task}
+use Rattle.cal_trace.proofs.ListLemmas.EachOne.{each_first, each_other}
+use Rattle.cal_trace.specs.Arrivals.FitsTable.{ComesBefore, EachLater, FitsTable, IsArrival}
+use Rattle.cal_trace.specs.History.Ranges.{Each}
+use Rattle.cal_trace.specs.declared.arrivals.Arrival.{Arrival}
+use Rattle.cal_trace.specs.declared.arrivals.Arrivals.{Arrivals}
+use Rattle.cal_tables.specs.Laws.{SameLimitsMoveNothing, limits_of}
+use Rattle.cal_tables.specs.Moved.{AreMoved, each_moved, moved_to, thread_for}
+use Rattle.cal_tables.proofs.Moving.Order.{before_before}
+
+never_itself : (a : Arrival) → ComesBefore a a → ⊥
+never_itself a (inl lt) = omega (arith, lt)
+never_itself a (inr same) = let lt = same.1 in omega (arith, lt)
+
+-- a list has this member
+abbrev In : List Arrival → Arrival → Type 0
+In xs x = (k : ℕ) × (slice_get xs k ≡ Some x)
+
+in_contains : (xs : List Arrival) (x : Arrival) → In xs x → Contains xs x
+in_contains xs x h = (h.0, slice_get_within xs h.0 x h.1, get_or_from_slice_get xs h.0 x x h.1)
+
+contains_in : (xs : List Arrival) (x : Arrival) → Contains xs x → In xs x
+contains_in xs x h = (h.0, slice_get-get_or xs h.0 x h.1 ∙ ap Some h.2)
+
+-- the first of two lists with the same members is the same
+first_same : (x y : Arrival) (xs ys : List Arrival) → EachLater ComesBefore (x ∷ xs) → EachLater ComesBefore (y ∷ ys) → In (y ∷ ys) x → In (x ∷ xs) y → x ≡ y
+first_same x y xs ys up also (zero, e) there = sym (some_same y x e)
+first_same x y xs ys up also (suc k, e) (zero, f) = some_same x y f
+first_same x y xs ys up also (suc k, e) (suc j, f) =
+    absurd (never_itself x (before_before x y x (up.at 0 (suc j) x y (omega arith) refl f) (also.at 0 (suc k) y x (omega arith) refl e)))
+
+-- what is after the first of one is after that of the other
+after_first : (x y z : Arrival) (xs ys : List Arrival) → x ≡ y → EachLater ComesBefore (x ∷ xs) → (k : ℕ) → slice_get xs k ≡ Some z → In (y ∷ ys) z → In ys z
+after_first x y z xs ys same up k e (zero, f) =
+    absurd (never_itself x (subst (λ (w : Arrival). ComesBefore x w) (sym (same ∙ some_same y z f)) (up.at 0 (suc k) x z (omega arith) refl e)))
+after_first x y z xs ys same up k e (suc j, f) = (j, f)
+
+others : (x : Arrival) (xs : List Arrival) → EachLater ComesBefore (x ∷ xs) → EachLater ComesBefore xs
+others x xs h = record { at = λ i j y z lt e f. h.at (suc i) (suc j) y z (omega (arith, lt)) e f }
+
+same_order : (xs ys : List Arrival) → EachLater ComesBefore xs → EachLater ComesBefore ys
+    → ((x : Arrival) → In xs x → In ys x) → ((y : Arrival) → In ys y → In xs y) → xs ≡ ys
+same_order [] [] up also to back = refl
+same_order [] (y ∷ ys) up also to back = absurd (let h = back y (0, refl) in let e = h.1 in cc)
+same_order (x ∷ xs) [] up also to back = absurd (let h = to x (0, refl) in let e = h.1 in cc)
+same_order (x ∷ xs) (y ∷ ys) up also to back =
+    let first : x ≡ y = first_same x y xs ys up also (to x (0, refl)) (back y (0, refl)) in
+    let rest : xs ≡ ys = same_order xs ys (others x xs up) (others y ys also)
+    (λ z h. after_first x y z xs ys first up h.0 h.1 (to z (suc h.0, h.1)))
+    (λ z h. after_first y x z ys xs (sym first) also h.0 h.1 (back z (suc h.0, h.1))) in
+    ap (λ (w : Arrival). w ∷ xs) first ∙ ap (λ l. y ∷ l) rest
+
+-- limits and first threads
+first_of : (tasks : List Task) (t : ℕ) → first_thread tasks t ≡ sum (take t (limits_of tasks))
+first_of tasks t = sym (sum-map (λ (task : Task). task.limit) (take t tasks)) ∙ ap (λ l. sum l) (sym (take-map (λ (task : Task). task.limit) t tasks))
+
+limit_of : (tasks : List Task) (t : ℕ) → (task_at tasks t).limit ≡ get_or (limits_of tasks) t 0
+limit_of tasks t = sym (get_or-map (λ (task : Task). task.limit) tasks t no_task)
+
+stays : (given tasks : List Task) (k : ℕ) → limits_of given ≡ limits_of tasks → k < threads_in given → thread_for given tasks k ≡ k
+stays given tasks k same below =
+    let t = task_of given k in
+    let is = task_in given k below in
+    let from : first_thread given t ≤ k = is.1 in
+    let within : k < first_thread given t + (task_at given t).limit = is.2 in
+    let first : first_thread tasks t ≡ first_thread given t = first_of tasks t ∙ ap (λ l. sum (take t l)) (sym same) ∙ sym (first_of given t) in
+    let limit : (task_at tasks t).limit ≡ (task_at given t).limit = limit_of tasks t ∙ ap (λ l. get_or l t 0) (sym same) ∙ sym (limit_of given t) in
+    let rest : (k - first_thread given t) % (task_at tasks t).limit ≡ k - first_thread given t = mod-eq_of_lt (omega (arith, from, within, limit)) in
+    omega (arith, first, rest, from)
+
+none_moved : (given table : Table) (turns : ℕ) (xs : List Arrival) → limits_of given.tasks ≡ limits_of table.tasks
+    → Each (IsArrival (threads_in given.tasks) turns) xs → map (moved_to given table) xs ≡ xs
+none_moved given table turns [] same fit = refl
+none_moved given table turns (x ∷ xs) same fit =
+    let first : moved_to given table x ≡ x = ap (λ k. record x { thread = k }) (stays given.tasks table.tasks x.thread same (each_first (IsArrival (threads_in given.tasks) turns) x xs fit).thread) in
+    ap (λ y. y ∷ map (moved_to given table) xs) first
+    ∙ ap (λ l. x ∷ l) (none_moved given table turns xs same (each_other (IsArrival (threads_in given.tasks) turns) x xs fit))
+
+pub moves_nothing : SameLimitsMoveNothing
+moves_nothing given table arrivals moved same fits are =
+    let order : IsPermutation arrivals.requests moved.requests =
+    subst (λ l. IsPermutation l moved.requests) (none_moved given table (length arrivals.turns) arrivals.requests same fits.each) are.requests in
+    let requests : moved.requests ≡ arrivals.requests = same_order moved.requests arrivals.requests are.rising fits.rising
+    (λ x h. contains_in arrivals.requests x (Contains-permutation moved.requests arrivals.requests x (IsPermutation-sym arrivals.requests moved.requests order) (in_contains moved.requests x h)))
+    (λ x h. contains_in moved.requests x (Contains-permutation arrivals.requests moved.requests x order (in_contains arrivals.requests x h))) in
+    ap (λ ps. record moved { passes = ps }) are.passes
+    ∙ ap (λ ts. record { passes = arrivals.passes; turns = ts; requests = moved.requests }) are.turns
+    ∙ ap (λ rs. record arrivals { requests = rs }) requests

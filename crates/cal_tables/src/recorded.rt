@@ -1,0 +1,101 @@
+//! A recorded history, measured.
+
+ghost use Rattle.std.specs.Prelude.{◌≤◌, IfOk, length};
+ghost use Rattle.cal_policy.specs.Pass.{IsLegal};
+ghost use Rattle.cal_policy.specs.Verdict.{IsVerdict};
+ghost use Rattle.cal_policy.specs.declared.history.entry.TheConstants.{MOST_PASSES};
+ghost use Rattle.cal_tables.specs.Measured.{AreHistoryNumbers};
+ghost use Rattle.cal_tables.specs.Recording.{IsMeasured, IsRecorded};
+
+use crate::measuring::cores_of_tasks;
+use cal_engine::RunFault;
+use cal_machine::Config;
+use cal_measure::{MachineCores, TaskCores, machine_of};
+use cal_policy::{Auditor, MOST_PASSES, PassEntry, Verdict};
+use cal_trace::read_history;
+use std::alloc::{AllocError, Global};
+
+/// The numbers of the cores in a history.
+#[derive(Drop)]
+pub struct HistoryNumbers {
+    /// What came of each task's cores, in task order.
+    pub cores: Vec<TaskCores>,
+    /// What came of the machine's cores.
+    pub machine: MachineCores,
+}
+
+/// What is said of a recorded history.
+#[derive(Drop)]
+pub enum Recorded {
+    /// It is legal, and these are its numbers.
+    Legal {
+        /// The numbers.
+        numbers: HistoryNumbers,
+    },
+    /// This pass, counted from 0, is the first that is not the policy's.
+    Illegal {
+        /// The pass.
+        pass: u64,
+    },
+}
+
+/// The numbers of the cores in a legal history. Fails only when out of memory.
+pub fn history_numbers(
+    alloc: Global,
+    config: &Config,
+    history: &[PassEntry],
+) -> Result<HistoryNumbers, AllocError>
+    requires legal { IsLegal config.now history.now }
+    requires few { length history.now ≤ MOST_PASSES }
+    ensures { IfOk result (AreHistoryNumbers config.now history.now) }
+{
+    let cores = cores_of_tasks(alloc, config, history)?;
+    let machine = machine_of(config, history);
+    Ok(HistoryNumbers { cores, machine })
+}
+
+/// What an audit says of a history. Fails only when out of memory.
+fn verdict_on(alloc: Global, config: &Config, history: &[PassEntry]) -> Result<Verdict, AllocError>
+    requires { length history.now ≤ MOST_PASSES }
+    ensures { IfOk result (IsVerdict config.now history.now) }
+{
+    let mut auditor = Auditor::open(alloc, config)?;
+    for entry in history {
+        auditor.next(config, entry);
+    }
+    Ok(auditor.verdict())
+}
+
+/// What is said of a history.
+fn measured(alloc: Global, config: &Config, history: &[PassEntry]) -> Result<Recorded, AllocError>
+    requires { length history.now ≤ MOST_PASSES }
+    ensures { IfOk result (IsMeasured config.now history.now) }
+{
+    match verdict_on(alloc, config, history)? {
+        Verdict::Legal => {
+            let numbers = history_numbers(alloc, config, history)?;
+            Ok(Recorded::Legal { numbers })
+        }
+        Verdict::Illegal { pass } => Ok(Recorded::Illegal { pass }),
+    }
+}
+
+/// Reads a history for a table to its end, audits it, and measures it where it is legal. The whole
+/// history is in memory meanwhile.
+///
+/// The fault is that of the trace. `Memory` may come at any place.
+pub fn measured_recording(
+    alloc: Global,
+    config: &Config,
+    trace: &[u8],
+) -> Result<Recorded, RunFault>
+    ensures { IfOk result (IsRecorded config.now trace.now) }
+{
+    let history = read_history(alloc, config, trace)?;
+    let history = history.as_slice();
+    // (no file has more)
+    if history.len() > MOST_PASSES {
+        return Err(RunFault::Length);
+    }
+    Ok(measured(alloc, config, history)?)
+}

@@ -1,0 +1,52 @@
+//! The words after `sweep`.
+
+use crate::command_words::arrival_words::{load_word, load_words, task_word, with_run_words};
+use crate::command_words::command_line::{
+    csv_word, input_word, number_form_of, output_word, picture_word, vary_word,
+};
+use crate::command_words::help_texts;
+use cal_sweep::{SweepForm, SweepWords};
+use clap::{Arg, ArgAction, ArgMatches, Command};
+use std::alloc::{AllocError, Global};
+
+/// The subcommand with its options.
+pub fn sweep_word<'a>(alloc: Global) -> Result<Command<'a>, AllocError> {
+    let command = Command::new(alloc, "sweep")
+        .about("Run a table at one load after the other")
+        .after_long_help(help_texts::SWEEP)
+        .arg(input_word(alloc))?
+        .arg(task_word(alloc).default_value("0"))?
+        .arg(load_word(alloc).help("Loads that rise, as 0.1,0.3,..,0.9"))?;
+    with_run_words(alloc, command)?
+        .arg(vary_word(alloc))?
+        .arg(slo_word(alloc))?
+        .arg(csv_word(alloc))?
+        .arg(picture_word(alloc).conflicts_with("csv")?)?
+        .arg(output_word(alloc))
+}
+
+fn slo_word<'a>(alloc: Global) -> Arg<'a> {
+    Arg::new(alloc, "slo")
+        .long("slo")
+        .action(ArgAction::Set)
+        .value_name("OBJECTIVE")
+        .help("What the last load is to keep, as task.0.p99=65")
+}
+
+/// What the words of a parsed command line ask for. Fails only when out of memory.
+pub fn sweep_words<'a>(
+    alloc: Global,
+    matches: &ArgMatches<'a>,
+) -> Result<SweepWords<'a>, AllocError> {
+    let form = if matches.get_flag("picture") {
+        SweepForm::Picture
+    } else {
+        SweepForm::Numbers(number_form_of(matches.get_flag("csv")))
+    };
+    Ok(SweepWords {
+        load: load_words(alloc, matches)?,
+        vary: matches.get_str("vary"),
+        slo: matches.get_str("slo"),
+        form,
+    })
+}

@@ -1,0 +1,79 @@
+//! The runs of a table at one load after the other, as numbers or as a picture.
+
+use crate::command_words::variation::{key_of, values_of};
+use crate::fault::{end_comparison, explain_comparison};
+use crate::refusing::{end_refusal, refuse_word, table_alone};
+use cal_engine::{RunFault, read_input};
+use cal_sweep::{SweepFault, SweepWords, answer_sweep, asked_of};
+use cal_tables::{ComparisonFault, Variation};
+use std::alloc::Global;
+use std::io::{Read, Write};
+
+/// Makes the runs that the words ask for, and answers the exit status: 1 where the last load misses
+/// the objective, 2 where a word is refused, of which one line then says why.
+pub fn answer_swept<R: Read + Drop, W: Write, E: Write>(
+    alloc: Global,
+    mut reader: R,
+    words: &SweepWords<'_>,
+    output: &mut W,
+    errors: &mut E,
+) -> Result<u8, RunFault> {
+    // Words that need no table are refused before anything is read.
+    if let Err(fault) = asked_of(alloc, words) {
+        return refuse(alloc, b"", fault, None, errors);
+    }
+    let input = read_input(alloc, &mut reader)?;
+    let Some(vary) = words.vary else {
+        return end_swept(alloc, input.as_slice(), words, None, output, errors);
+    };
+    let values = values_of(alloc, vary)?;
+    let variation = Variation {
+        key: key_of(vary),
+        values: values.as_slice(),
+    };
+    end_swept(
+        alloc,
+        input.as_slice(),
+        words,
+        Some(variation),
+        output,
+        errors,
+    )
+}
+
+/// Makes the runs, and answers the exit status: a fault names the word or the value that has it.
+fn end_swept<W: Write, E: Write>(
+    alloc: Global,
+    input: &[u8],
+    words: &SweepWords<'_>,
+    variation: Option<Variation<'_>>,
+    output: &mut W,
+    errors: &mut E,
+) -> Result<u8, RunFault> {
+    match answer_sweep(alloc, input, words, variation, output, errors) {
+        Ok(status) => Ok(status),
+        Err(fault) => refuse(alloc, input, fault, variation, errors),
+    }
+}
+
+/// Says why there are no runs, and answers the exit status. What is no word's fault and no table's
+/// is the error.
+fn refuse<E: Write>(
+    alloc: Global,
+    input: &[u8],
+    fault: SweepFault<'_>,
+    variation: Option<Variation<'_>>,
+    errors: &mut E,
+) -> Result<u8, RunFault> {
+    match fault {
+        SweepFault::Word(fault) => Ok(refuse_word(&fault, errors)),
+        SweepFault::Run(ComparisonFault::Run(fault)) => {
+            end_refusal(alloc, table_alone(input), fault, errors)
+        }
+        SweepFault::Run(fault) => {
+            let status = end_comparison(&fault, variation, errors)?;
+            explain_comparison(alloc, table_alone(input), &fault, variation, errors);
+            Ok(status)
+        }
+    }
+}
