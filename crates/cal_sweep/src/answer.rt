@@ -14,6 +14,7 @@ use cal_engine::{RunFault, read_input};
 use cal_tables::{ComparisonFault, Variation};
 use std::alloc::{AllocError, Global};
 use std::io::{Read, Write};
+use std::thread::Threads;
 
 /// What is written of a sweep, in memory.
 fn text_of(
@@ -66,7 +67,8 @@ pub fn end_sweep<'a, W: Write, E: Write>(
 ///
 /// The faults of words that need no table come first, then those of the input, then those of
 /// `swept`. Nothing is written before all runs were made and the text is in memory.
-pub fn answer_sweep<'a, R: Read + Drop, W: Write, E: Write>(
+pub fn answer_sweep<'a, H: Threads + Sync, R: Read + Drop, W: Write, E: Write>(
+    rt: &H,
     alloc: Global,
     mut reader: R,
     words: &SweepWords<'a>,
@@ -80,6 +82,6 @@ pub fn answer_sweep<'a, R: Read + Drop, W: Write, E: Write>(
 {
     let asked = asked_of(alloc, words)?;
     let input = read_input(alloc, &mut reader)?;
-    let sweep = swept(alloc, input.as_slice(), &asked, variation)?;
+    let sweep = swept(rt, alloc, input.as_slice(), &asked, variation)?;
     end_sweep(alloc, &sweep, &asked, variation, words.form, output, errors)
 }

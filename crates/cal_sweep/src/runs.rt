@@ -14,7 +14,9 @@ use cal_tables::{
     varied_tables,
 };
 use cal_trace::read_arrivals;
+use rayon::prelude::*;
 use std::alloc::{AllocError, Global};
+use std::thread::Threads;
 
 /// A run of a sweep.
 #[derive(Drop)]
@@ -120,16 +122,11 @@ fn swept_load<'a>(
     Ok(SweptLoad { load, runs })
 }
 
-/// The load at a place.
-fn load_at(loads: &[u64], place: usize) -> u64
-    requires { place < length loads.now }
-    ensures { slice_get loads.now place ≡ Some result }
-{
-    loads[place]
-}
-
-/// For each of these loads in turn, a run of each table.
+/// The runs of each of these loads, as many loads at a time as there are processors; one after the
+/// other where no thread can be started. What they are does not depend on it. The fault is that of
+/// the first load that has one.
 fn swept_loads<'a>(
+    rt: &(impl Threads + Sync),
     alloc: Global,
     tables: &[Config],
     asked: &Asked<'a>,
@@ -137,12 +134,15 @@ fn swept_loads<'a>(
 ) -> Result<Vec<SweptLoad>, SweepFault<'a>>
     ensures { IfOk result (λ swept. AreSweptLoads tables.now loads.now swept.items) }
 {
-    let mut swept = Vec::new(alloc);
-    for place in 0..loads.len() {
-        let of_load = swept_load(alloc, tables, asked, load_at(loads, place))?;
-        swept.push(of_load)?;
-    }
-    Ok(swept)
+    loads
+        .par_iter()
+        .with_min_len(1)
+        .map(
+            |load: &u64| -> Result<SweptLoad, SweepFault>
+                ensures { IfOk result (IsSweptLoad tables.now load.now) }
+            { swept_load(alloc, tables, asked, *load) },
+        )
+        .collect::<Result<Vec<SweptLoad>, SweepFault<'a>>>(rt, alloc)?
 }
 
 /// One table alone. Fails only when out of memory.
@@ -175,6 +175,7 @@ fn tables_of(
 /// then that of the first value that makes the table faulty; then that of the first run that has
 /// one. `Memory` may come at any place.
 pub fn swept<'a>(
+    rt: &(impl Threads + Sync),
     alloc: Global,
     input: &[u8],
     asked: &Asked<'a>,
@@ -186,6 +187,6 @@ pub fn swept<'a>(
     let table = Config::read(alloc, table_part(input))?;
     are_known(&table, asked.tasks.as_slice(), asked.named.as_slice())?;
     let tables = tables_of(alloc, table, variation)?;
-    let loads = swept_loads(alloc, tables.as_slice(), asked, asked.loads.as_slice())?;
+    let loads = swept_loads(rt, alloc, tables.as_slice(), asked, asked.loads.as_slice())?;
     Ok(Sweep { tables, loads })
 }

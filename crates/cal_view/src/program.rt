@@ -25,6 +25,7 @@ use cal_tables::Labels;
 use std::alloc::Global;
 use std::io::{BufWriter, Read, Write};
 use std::rt::Files;
+use std::thread::Threads;
 
 /// Runs the program on its name and the words after it and on an input, and answers its exit
 /// status: 0 is done (help too), 1 is an illegal history explained or an objective missed, 2 is bad
@@ -34,7 +35,7 @@ use std::rt::Files;
 /// `output`, or to a file where the words name one, and help to `output`; what is wrong with the
 /// words (`clap`'s text) or the one line of a fault goes to `errors`. Where whoever reads the answer
 /// has gone there is no line.
-pub fn run_program<H: Files, R: Read + Drop, W: Write, E: Write>(
+pub fn run_program<H: Files + Threads + Sync, R: Read + Drop, W: Write, E: Write>(
     rt: &H,
     alloc: Global,
     named: &[String],
@@ -83,7 +84,7 @@ fn said_of_writing<W: Write>(fault: RunFault, output: &Noted<W>) -> Option<std::
 }
 
 /// Does what the words ask for, and answers the exit status.
-fn end_request<H: Files, R: Read + Drop, W: Write, E: Write>(
+fn end_request<H: Files + Threads + Sync, R: Read + Drop, W: Write, E: Write>(
     rt: &H,
     alloc: Global,
     request: &Request<'_>,
@@ -115,7 +116,7 @@ pub fn say_help<E: Write>(alloc: Global, errors: &mut E) -> Result<u8, RunFault>
 
 /// Does what the words ask for on the reader or on the files that they name, and answers the exit
 /// status where there is no fault.
-fn answer_request<'a, H: Files, R: Read + Drop, W: Write, E: Write>(
+fn answer_request<'a, H: Files + Threads + Sync, R: Read + Drop, W: Write, E: Write>(
     rt: &H,
     alloc: Global,
     request: &Request<'a>,
@@ -137,7 +138,7 @@ fn answer_request<'a, H: Files, R: Read + Drop, W: Write, E: Write>(
 }
 
 /// Does what the words ask for on an input, and answers the exit status where there is no fault.
-fn answer_input<'a, H: Files, R: Read, W: Write, E: Write>(
+fn answer_input<'a, H: Files + Threads + Sync, R: Read, W: Write, E: Write>(
     rt: &H,
     alloc: Global,
     request: &Request<'a>,
@@ -147,7 +148,7 @@ fn answer_input<'a, H: Files, R: Read, W: Write, E: Write>(
 ) -> Result<u8, Failure<'a>> {
     let answer = match request.output {
         Some(name) => return answer_into(rt, alloc, request, name, input, errors),
-        None => answer_job(alloc, request, &mut *input, output, errors),
+        None => answer_job(rt, alloc, request, &mut *input, output, errors),
     };
     match answer {
         Ok(status) => Ok(status),
@@ -157,7 +158,7 @@ fn answer_input<'a, H: Files, R: Read, W: Write, E: Write>(
 
 /// Does what the words ask for on an input, and writes the answer to the file of this name. Nothing
 /// is left of it where there is none.
-fn answer_into<'a, H: Files, R: Read, E: Write>(
+fn answer_into<'a, H: Files + Threads + Sync, R: Read, E: Write>(
     rt: &H,
     alloc: Global,
     request: &Request<'a>,
@@ -170,7 +171,7 @@ fn answer_into<'a, H: Files, R: Read, E: Write>(
         Err(said) => return Err(Failure::of_file(RunFault::Write, name, said)),
     };
     let mut file = Noted::new(file);
-    match answer_job(alloc, request, &mut *input, &mut file, errors) {
+    match answer_job(rt, alloc, request, &mut *input, &mut file, errors) {
         Ok(2) => {
             file.inner().remove(rt);
             Ok(2)
@@ -211,7 +212,8 @@ fn failure_of<'a, R: Read, W: Write>(
 
 /// Does the job of a request on an input, and answers the exit status where there is no fault. Of an
 /// input that is refused it says why.
-fn answer_job<R: Read + Drop, W: Write, E: Write>(
+fn answer_job<H: Threads + Sync, R: Read + Drop, W: Write, E: Write>(
+    rt: &H,
     alloc: Global,
     request: &Request<'_>,
     mut reader: R,
@@ -221,7 +223,7 @@ fn answer_job<R: Read + Drop, W: Write, E: Write>(
     // These two refuse their words before they read.
     match &request.job {
         Job::Arrivals { asked } => return answer_arrivals(alloc, reader, asked, output, errors),
-        Job::Sweep { asked } => return answer_swept(alloc, reader, asked, output, errors),
+        Job::Sweep { asked } => return answer_swept(rt, alloc, reader, asked, output, errors),
         _ => {}
     }
     let names = names_of(alloc, request.labels)?;

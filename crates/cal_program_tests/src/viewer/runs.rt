@@ -6,6 +6,7 @@ use serde_json::Value;
 use std::process::Abort;
 use std::rt::Files;
 use std::test::Fail;
+use std::thread::Threads;
 
 /// What a run wrote on its two outputs, and its exit status.
 #[derive(Drop)]
@@ -16,7 +17,11 @@ struct Ran {
 }
 
 /// The program with these words over this input.
-fn run<R: Abort + AllocGlobal + Files>(rt: &R, words: &[&str], input: &str) -> Result<Ran, Fail> {
+fn run<R: Abort + AllocGlobal + Files + Threads + Sync>(
+    rt: &R,
+    words: &[&str],
+    input: &str,
+) -> Result<Ran, Fail> {
     let mut named = Vec::new(rt.alloc());
     named.push(String::from_str(rt.alloc(), "caladan_view")?)?;
     for word in words {

@@ -8,10 +8,12 @@ use cal_sweep::{SweepFault, SweepWords, answer_sweep, asked_of};
 use cal_tables::{ComparisonFault, Variation};
 use std::alloc::Global;
 use std::io::{Read, Write};
+use std::thread::Threads;
 
 /// Makes the runs that the words ask for, and answers the exit status: 1 where the last load misses
 /// the objective, 2 where a word is refused, of which one line then says why.
-pub fn answer_swept<R: Read + Drop, W: Write, E: Write>(
+pub fn answer_swept<H: Threads + Sync, R: Read + Drop, W: Write, E: Write>(
+    rt: &H,
     alloc: Global,
     mut reader: R,
     words: &SweepWords<'_>,
@@ -24,7 +26,7 @@ pub fn answer_swept<R: Read + Drop, W: Write, E: Write>(
     }
     let input = read_input(alloc, &mut reader)?;
     let Some(vary) = words.vary else {
-        return end_swept(alloc, input.as_slice(), words, None, output, errors);
+        return end_swept(rt, alloc, input.as_slice(), words, None, output, errors);
     };
     let values = values_of(alloc, vary)?;
     let variation = Variation {
@@ -32,6 +34,7 @@ pub fn answer_swept<R: Read + Drop, W: Write, E: Write>(
         values: values.as_slice(),
     };
     end_swept(
+        rt,
         alloc,
         input.as_slice(),
         words,
@@ -42,7 +45,8 @@ pub fn answer_swept<R: Read + Drop, W: Write, E: Write>(
 }
 
 /// Makes the runs, and answers the exit status: a fault names the word or the value that has it.
-fn end_swept<W: Write, E: Write>(
+fn end_swept<H: Threads + Sync, W: Write, E: Write>(
+    rt: &H,
     alloc: Global,
     input: &[u8],
     words: &SweepWords<'_>,
@@ -50,7 +54,7 @@ fn end_swept<W: Write, E: Write>(
     output: &mut W,
     errors: &mut E,
 ) -> Result<u8, RunFault> {
-    match answer_sweep(alloc, input, words, variation, output, errors) {
+    match answer_sweep(rt, alloc, input, words, variation, output, errors) {
         Ok(status) => Ok(status),
         Err(fault) => refuse(alloc, input, fault, variation, errors),
     }
