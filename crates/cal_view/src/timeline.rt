@@ -1,7 +1,8 @@
 //! A history as JSON of the Trace Event Format, which Perfetto and chrome://tracing open.
 //!
-//! Clocks stand as microseconds, since the format knows no ticks. Cores are the tracks of one
-//! group, bans those of a second; the counters of tasks and of bandwidth are a third.
+//! Clocks are told from the first one, by their unit where that is one of time, else as microseconds,
+//! since the format knows no ticks. Cores are the tracks of one group, bans those of a second; the
+//! counters of tasks and of bandwidth are a third.
 
 pub mod events;
 pub mod figures;
@@ -14,7 +15,7 @@ ghost use Rattle.cal_view.specs.Walking.{IsWalkOf};
 use crate::jobs::counting::count_passes;
 use crate::story::standing::Row;
 use crate::story::walk::Walk;
-use crate::timeline::events::{BANS, CORES, COUNTERS, Events, Name, Named};
+use crate::timeline::events::{BANS, CORES, COUNTERS, Events, Name, Named, SortIndex, Sorted};
 use crate::timeline::figures::{put_figure, put_row};
 use crate::timeline::slices::put_ended;
 use cal_engine::{RunFault, recorded_passes};
@@ -54,6 +55,9 @@ fn put_names(config: &Config, events: &mut Events<'_>) {
     put_name("process_name", CORES, 0, "cores", events);
     put_name("process_name", BANS, 0, "banned cores", events);
     put_name("process_name", COUNTERS, 0, "tasks and bandwidth", events);
+    for group in [CORES, BANS, COUNTERS] {
+        put_sort_index("process_sort_index", group, 0, group, events);
+    }
     for core in 0..config.machine().cores() {
         put_core_name(u64::from(core), events);
     }
@@ -67,6 +71,8 @@ fn put_core_name(core: u64, events: &mut Events<'_>) {
         Ok(name) => {
             put_name("thread_name", CORES, core, name, events);
             put_name("thread_name", BANS, core, name, events);
+            put_sort_index("thread_sort_index", CORES, core, core, events);
+            put_sort_index("thread_sort_index", BANS, core, core, events);
         }
         Err(_) => events.page.refuse(),
     }
@@ -79,6 +85,17 @@ fn put_name(kind: &str, pid: u64, tid: u64, name: &str, events: &mut Events<'_>)
         pid,
         tid,
         args: Name { name },
+    });
+}
+
+/// Where a group or a track stands among its like.
+fn put_sort_index(kind: &str, pid: u64, tid: u64, sort_index: u64, events: &mut Events<'_>) {
+    events.put(&Sorted {
+        name: kind,
+        ph: "M",
+        pid,
+        tid,
+        args: SortIndex { sort_index },
     });
 }
 
@@ -131,6 +148,9 @@ impl Told {
         ensures ready { IsWalkOf config.now self.new.walk }
     {
         self.now = entry.input.now;
+        if self.passes == 0 {
+            events.begin_at(self.now);
+        }
         self.walk.take_looks(config, &entry.input);
         self.note(config, entry.actions.as_slice(), events);
         let row = self.walk.row(config, self.now);

@@ -91,7 +91,7 @@ fn a_timeline_is_json(rt: HostRuntime) -> Result<(), Fail> {
     assert_eq!(rt; ran.status, 0);
     assert!(rt; Value::from_slice(rt.alloc(), ran.output.as_slice()).is_ok());
     assert_eq!(rt; count(ran.output.as_slice(), b"\"cat\":\"span\""), 3);
-    let leaving = b"\"cat\":\"leaving\",\"ph\":\"X\",\"ts\":110,\"dur\":10,";
+    let leaving = b"{\"ts\":10,\"dur\":10,\"name\":\"leaving: for task 0\",\"cat\":\"leaving\",";
     assert_eq!(rt; count(ran.output.as_slice(), leaving), 1);
     Ok(())
 }

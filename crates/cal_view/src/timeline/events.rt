@@ -14,6 +14,22 @@ pub const BANS: u64 = 2;
 /// The group of the counters.
 pub const COUNTERS: u64 = 3;
 
+/// Where a group or a track stands among its like.
+#[derive(Drop, Serialize)]
+pub struct Sorted<'a> {
+    pub name: &'a str,
+    pub ph: &'a str,
+    pub pid: u64,
+    pub tid: u64,
+    pub args: SortIndex,
+}
+
+/// A place, as an argument of an event.
+#[derive(Drop, Serialize)]
+pub struct SortIndex {
+    pub sort_index: u64,
+}
+
 /// The name of a group or of a track.
 #[derive(Drop, Serialize)]
 pub struct Named<'a> {
@@ -36,8 +52,8 @@ pub struct Slice<'a> {
     pub name: &'a str,
     pub cat: &'a str,
     pub ph: &'a str,
-    pub ts: u64,
-    pub dur: u64,
+    /// The name of a colour, which chrome://tracing knows.
+    pub cname: Option<&'a str>,
     pub pid: u64,
     pub tid: u64,
     pub args: Story<'a>,
@@ -57,7 +73,6 @@ pub struct Story<'a> {
 pub struct TaskCounter<'a> {
     pub name: &'a str,
     pub ph: &'a str,
-    pub ts: u64,
     pub pid: u64,
     pub args: TaskFigures,
 }
@@ -74,7 +89,6 @@ pub struct TaskFigures {
 pub struct Counter<'a> {
     pub name: &'a str,
     pub ph: &'a str,
-    pub ts: u64,
     pub pid: u64,
     pub args: Figure,
 }
@@ -85,6 +99,17 @@ pub struct Figure {
     pub value: u64,
 }
 
+/// How many microseconds a unit of them or more is; 1 for any other unit.
+fn micros_of(tick: &str) -> u64 {
+    if tick == "ms" {
+        1_000
+    } else if tick == "s" {
+        1_000_000
+    } else {
+        1
+    }
+}
+
 /// Events one after the other, with commas between, on a page.
 #[derive(Drop)]
 pub struct Events<'a> {
@@ -93,6 +118,8 @@ pub struct Events<'a> {
     pub labels: Labels<'a>,
     pub page: Page,
     first: bool,
+    /// The clock from which clocks are told.
+    zero: u64,
 }
 
 impl<'a> Events<'a> {
@@ -103,16 +130,64 @@ impl<'a> Events<'a> {
             labels,
             page: Page::plain(alloc),
             first: true,
+            zero: 0,
         }
+    }
+
+    /// From here on clocks are told from this one.
+    pub fn begin_at(&mut self, clock: u64) {
+        self.zero = clock;
+    }
+
+    /// Puts what stands between two events.
+    fn put_between(&mut self) {
+        self.page.put(if self.first { "\n" } else { ",\n" });
+        self.first = false;
     }
 
     /// Puts one event, as the text that serde_json makes of it.
     pub fn put<T: Serialize>(&mut self, event: &T) {
-        self.page.put(if self.first { "\n" } else { ",\n" });
-        self.first = false;
+        self.put_between();
         match serde_json::to_string(self.alloc, event) {
             Ok(text) => self.page.put(text.as_str()),
             Err(_) => self.page.refuse(),
         }
+    }
+
+    /// Puts one event at a clock, of some ticks where it takes its time.
+    pub fn put_at<T: Serialize>(&mut self, clock: u64, lasts: Option<u64>, event: &T) {
+        self.put_between();
+        self.page.put("{\"ts\":");
+        self.put_time(clock.saturating_sub(self.zero));
+        if let Some(ticks) = lasts {
+            self.page.put(",\"dur\":");
+            self.put_time(ticks);
+        }
+        match serde_json::to_string(self.alloc, event) {
+            Ok(text) => {
+                self.page.put(",");
+                self.page
+                    .put(text.as_str().strip_prefix('{').unwrap_or("}"))
+            }
+            Err(_) => self.page.refuse(),
+        }
+    }
+
+    /// Puts ticks as microseconds, of which the format has its times: by their unit, or as many.
+    fn put_time(&mut self, ticks: u64) {
+        if self.labels.tick == Some("ns") {
+            self.page.fill("{}", &[ticks / 1000]);
+            let rest = ticks % 1000;
+            if rest > 0 {
+                self.page
+                    .fill(".{}{}{}", &[rest / 100, rest / 10 % 10, rest % 10]);
+            }
+            return;
+        }
+        let micros = match self.labels.tick {
+            Some(tick) => micros_of(tick),
+            None => 1,
+        };
+        self.page.fill("{}", &[ticks.saturating_mul(micros)]);
     }
 }

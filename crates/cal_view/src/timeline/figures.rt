@@ -54,13 +54,15 @@ fn put_task_figures(
     page.put_task(events.labels, task);
     page.join(" ({})", &[kind]);
     match page.whole() {
-        Ok(name) => events.put(&TaskCounter {
-            name,
-            ph: "C",
-            ts: now,
-            pid: COUNTERS,
-            args: figures,
-        }),
+        Ok(name) => {
+            let counter = TaskCounter {
+                name,
+                ph: "C",
+                pid: COUNTERS,
+                args: figures,
+            };
+            events.put_at(now, None, &counter)
+        }
         Err(_) => events.page.refuse(),
     }
 }
@@ -76,12 +78,12 @@ fn put_cap(now: u64, task: usize, cap: u8, events: &mut Events<'_>) {
 }
 
 /// A figure of this name.
-pub fn put_figure(name: &str, ts: u64, value: u64, events: &mut Events<'_>) {
-    events.put(&Counter {
+pub fn put_figure(name: &str, now: u64, value: u64, events: &mut Events<'_>) {
+    let counter = Counter {
         name,
         ph: "C",
-        ts,
         pid: COUNTERS,
         args: Figure { value },
-    });
+    };
+    events.put_at(now, None, &counter)
 }

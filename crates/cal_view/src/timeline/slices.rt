@@ -28,6 +28,7 @@ struct Place {
     pid: u64,
     core: u8,
     thread: u8,
+    cname: Option<&'static str>,
     from: usize,
     to: Option<usize>,
     /// The clocks at which it begins and ends.
@@ -38,22 +39,39 @@ struct Place {
 /// Puts a slice, under a name and with what is told of it.
 fn put_slice<'a>(place: Place, name: &'a Page, told: &'a Page, events: &mut Events<'_>) {
     match (name.whole(), told.whole()) {
-        (Ok(name), Ok(told)) => events.put(&Slice {
-            name,
-            cat: place.cat,
-            ph: "X",
-            ts: place.start,
-            dur: place.end.saturating_sub(place.start),
-            pid: place.pid,
-            tid: u64::from(place.core),
-            args: Story {
-                told,
-                thread: place.thread,
-                from_pass: place.from,
-                to_pass: place.to,
-            },
-        }),
+        (Ok(name), Ok(told)) => {
+            let slice = Slice {
+                name,
+                cat: place.cat,
+                ph: "X",
+                cname: place.cname,
+                pid: place.pid,
+                tid: u64::from(place.core),
+                args: Story {
+                    told,
+                    thread: place.thread,
+                    from_pass: place.from,
+                    to_pass: place.to,
+                },
+            };
+            let lasts = place.end.saturating_sub(place.start);
+            events.put_at(place.start, Some(lasts), &slice)
+        }
         _ => events.page.refuse(),
+    }
+}
+
+/// The colour of a task's spans, by its name in chrome://tracing. After eight they begin again.
+fn colour_of(task: usize) -> &'static str {
+    match task % 8 {
+        0 => "rail_response",
+        1 => "rail_idle",
+        2 => "rail_load",
+        3 => "thread_state_uninterruptible",
+        4 => "thread_state_running",
+        5 => "rail_animation",
+        6 => "yellow",
+        _ => "olive",
     }
 }
 
@@ -63,16 +81,19 @@ fn put_span(config: &Config, end: u64, clocked: &ClockedSpan, events: &mut Event
     let mut told = Page::plain(events.alloc);
     tell_span(config, events.labels, clocked, &mut told);
     let mut name = Page::plain(events.alloc);
-    name.fill("thread {}", &[u64::from(span.thread)]);
-    if let Some(task) = task_of(config, span.thread) {
-        name.put(" of ");
+    // The task first: Perfetto colours slices by their names, without the numbers in them.
+    let task = task_of(config, span.thread);
+    if let Some(task) = task {
         name.put_task(events.labels, task);
+        name.put(", ");
     }
+    name.fill("thread {}", &[u64::from(span.thread)]);
     let place = Place {
         cat: "span",
         pid: CORES,
         core: span.core,
         thread: span.thread,
+        cname: task.map(colour_of),
         from: span.from,
         to: span.to,
         start: clocked.granted,
@@ -94,6 +115,7 @@ fn put_leaving(end: u64, clocked: &ClockedSpan, events: &mut Events<'_>) {
         pid: CORES,
         core: span.core,
         thread: span.thread,
+        cname: None,
         from: left.pass,
         to: span.to,
         start: clocked.revoked,
@@ -125,6 +147,7 @@ fn put_ban(config: &Config, end: u64, clocked: &ClockedBan, events: &mut Events<
         pid: BANS,
         core: ban.core,
         thread: ban.thread,
+        cname: None,
         from: ban.from,
         to: ban.to,
         start: clocked.banned,
