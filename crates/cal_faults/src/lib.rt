@@ -19,4 +19,4 @@ mod trace;
 pub use explaining::explanation;
 pub use refusal::{Lines, Refusal, TraceKind};
 pub use separator::is_table_alone;
-pub use table::value_wanted;
+pub use table::{keys_wanted, value_wanted};

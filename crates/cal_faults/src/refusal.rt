@@ -86,7 +86,7 @@ impl TraceKind {
                 "`caladan_sim lockstep` and `sim`, `caladan_view measure` and `compare`"
             }
             TraceKind::History => {
-                "`caladan_sim audit`, `caladan_view picture`, `timeline` and `explain`"
+                "`caladan_sim audit`, `caladan_view measure`, `picture`, `timeline` and `explain`"
             }
         }
     }

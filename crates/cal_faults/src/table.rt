@@ -178,19 +178,25 @@ fn tell_best_effort(told: &mut String, spot: Spot<'_>) -> Result<(), AllocError>
     told.push_str("  wanted: guaranteed = 0, or kind = \"lc\"\n")
 }
 
-/// What is wanted of a value at a key that is named as `cores` or as `task.1.delay`, in a line, or
-/// which keys there are. Fails only when out of memory.
+/// Which keys a table has, in two lines. Fails only when out of memory.
+pub fn keys_wanted(alloc: Global) -> Result<String, AllocError> {
+    let mut told = String::new(alloc);
+    told.push_str("  there are: cores, bandwidth_limit, and of task 0 task.0.kind,\n")?;
+    told.push_str("  task.0.guaranteed, task.0.limit, task.0.delay and task.0.request\n")?;
+    Ok(told)
+}
+
+/// What is wanted of a value at a key that is named as `cores` or as `task.1.delay`, in a line; of a
+/// key that no table has, which keys there are. Fails only when out of memory.
 pub fn value_wanted(alloc: Global, key: &str) -> Result<String, AllocError> {
     let name = match key.rsplit_once('.') {
         Some((_, name)) => name,
         None => key,
     };
-    let mut told = String::new(alloc);
-    if is_among(name, TOP_KEYS) || is_among(name, TASK_KEYS) {
-        tell_want(&mut told, name)?;
-        return Ok(told);
+    if !is_among(name, TOP_KEYS) && !is_among(name, TASK_KEYS) {
+        return keys_wanted(alloc);
     }
-    told.push_str("  there are: cores, bandwidth_limit, and of task 0 task.0.kind,\n")?;
-    told.push_str("  task.0.guaranteed, task.0.limit, task.0.delay and task.0.request\n")?;
+    let mut told = String::new(alloc);
+    tell_want(&mut told, name)?;
     Ok(told)
 }

@@ -21,9 +21,9 @@ use std::alloc::Global;
 use std::io::{Read, Write};
 
 /// Reads an input of tables and arrivals to its end, makes a whole run of each table on one thread,
-/// and draws what came of each task as one SVG that stands alone, under these labels. With a variation the input has
-/// one table, and the runs are those of the tables that it gives. Nothing is written before the
-/// runs were made and the picture is in memory.
+/// and draws what came of each task as one SVG that stands alone, under these labels. With a
+/// variation the input has one table, and the runs are those of the tables that it gives. Nothing
+/// is written before the runs were made and the picture is in memory.
 ///
 /// The faults are those of the word `compare`, in its order.
 pub fn draw_comparison<R: Read + Drop, W: Write>(

@@ -1,7 +1,7 @@
 //! What the program says of the fault of several tables, and of a pass or a task that is not there.
 
 use cal_engine::{RunFault, status};
-use cal_faults::value_wanted;
+use cal_faults::{keys_wanted, value_wanted};
 use cal_machine::ConfigFault;
 use cal_refusals::{RefusedInput, explain_fault};
 use cal_tables::{ComparisonFault, Reason, Variation};
@@ -51,11 +51,11 @@ pub fn explain_comparison<W: Write>(
     match (variation, fault) {
         (Some(variation), RunFault::Config(fault)) => {
             // Of a key that the table has not, which keys there are.
-            let key = match fault {
-                ConfigFault::UnknownKey => "",
-                _ => variation.key,
+            let wanted = match fault {
+                ConfigFault::UnknownKey => keys_wanted(alloc),
+                _ => value_wanted(alloc, variation.key),
             };
-            if let Ok(wanted) = value_wanted(alloc, key) {
+            if let Ok(wanted) = wanted {
                 let _ = errors.write_all(wanted.as_bytes());
             }
         }

@@ -27,8 +27,8 @@ use cal_trace::HistoryRows;
 use std::alloc::Global;
 use std::io::Write;
 
-/// Writes the history of an input as trace events, under these labels. It takes any history. It keeps no pass, and
-/// writes nothing of an input that is refused.
+/// Writes the history of an input as trace events, under these labels. It takes any history. It
+/// keeps no pass, and writes nothing of an input that is refused.
 ///
 /// The faults come in this order: `Separator`, `Config`, `Trace`, `Write`; `Memory` may come at any
 /// place.
