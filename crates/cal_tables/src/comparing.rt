@@ -116,9 +116,9 @@ fn compared_text(
 }
 
 /// Reads an input of tables and arrivals to its end, makes a whole run of each table on one thread,
-/// and writes the numbers side by side under these labels: in columns that line up, or as CSV. With a
-/// variation the input has one table, and the runs are those of the tables that it gives. Nothing is written
-/// before the runs were made and the text is in memory.
+/// and writes the numbers side by side under these labels: in columns that line up, or as CSV. With
+/// a variation the input has one table, and the runs are those of the tables that it gives. Nothing
+/// is written before the runs were made and the text is in memory.
 pub fn compare<R: Read + Drop, W: Write>(
     alloc: Global,
     mut reader: R,

@@ -156,10 +156,10 @@ fn measured_text(
     }
 }
 
-/// Reads an input to its end and writes numbers under these labels: in columns that line up, or as CSV. Where it is a
-/// task table and arrivals they are those of a whole run on one thread; where it is a table and a
-/// history, those of the history's cores, if it is legal. What is answered is the audit's verdict;
-/// a run is legal. Nothing is written before the whole text is in memory.
+/// Reads an input to its end and writes numbers under these labels: in columns that line up, or as
+/// CSV. Where it is a task table and arrivals they are those of a whole run on one thread; where it
+/// is a table and a history, those of the history's cores, if it is legal. What is answered is the
+/// audit's verdict; a run is legal. Nothing is written before the whole text is in memory.
 ///
 /// The faults are those of the word `lockstep`, in its order; of a history those of `audit`.
 pub fn measure<R: Read + Drop, W: Write>(

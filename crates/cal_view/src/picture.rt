@@ -64,9 +64,9 @@ pub struct Shown {
 }
 
 /// Draws what is to be shown of the history of an input as one SVG that stands alone, under these
-/// labels. It takes any history; of one that is not orderly it draws what fits and passes over the rest. It keeps only
-/// what shows, and writes nothing of an input that is refused. Of a history without passes it says
-/// that, where `from` is 0.
+/// labels. It takes any history; of one that is not orderly it draws what fits and passes over the
+/// rest. It keeps only what shows, and writes nothing of an input that is refused. Of a history
+/// without passes it says that, where `from` is 0.
 ///
 /// The faults come in this order: `Separator`, `Config`, `Trace`, `Write`; `Memory` may come at any
 /// place. What is drawn is only tested; the spans in it are `spans_of`.
