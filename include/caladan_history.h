@@ -11,7 +11,7 @@
 #include <inttypes.h>
 #include <stdio.h>
 
-/* False where an earlier write to the stream has failed. So say all of these calls. */
+/* False where an earlier write to the stream has failed. So say all of these calls but caladan_history_number. */
 static inline bool caladan_history_begin(FILE *out) {
     fputs(CALADAN_HISTORY_HEADER "\n", out);
     return !ferror(out);
