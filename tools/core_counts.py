@@ -11,7 +11,7 @@ WORDS = ["taken", "running", "queued", "oldest", "started", "misses", "stamp", "
 
 
 def passes_of(history):
-    """Each pass's clock and figure, its actions, and the delay of each thread in it, by the thread's last whole look."""
+    """Each pass's clock and figure, its actions, and each thread's delay in it, by the thread's last whole look."""
     passes, kept = [], {}
     for row in history.splitlines()[1:]:
         fields = row.split(",")
