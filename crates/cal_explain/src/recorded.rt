@@ -17,7 +17,9 @@ pub enum Explained {
     Done,
     /// The history has no such pass.
     NoPass,
-    /// It may not be given its looks, or the passes before it are not orderly: nothing was written.
+    /// The passes before it are not orderly: nothing was written.
+    NotOrderly,
+    /// It may not be given its looks: nothing was written.
     NoInput,
 }
 
@@ -36,7 +38,10 @@ pub fn explain_pass<W: Write>(
     }
     let entry = &history[pass];
     let before = &history[..pass];
-    if !orderly(config, before) || !is_input(config, before, &entry.input) {
+    if !orderly(config, before) {
+        return Ok(Explained::NotOrderly);
+    }
+    if !is_input(config, before, &entry.input) {
         return Ok(Explained::NoInput);
     }
     let (now, bandwidth) = (entry.input.now, entry.input.bandwidth);

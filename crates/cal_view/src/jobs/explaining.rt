@@ -40,14 +40,17 @@ enum Unexplained {
     NoTask { tasks: usize },
     /// The machine has so many cores.
     NoCore { cores: u8 },
-    /// The pass may not be given its looks, or one before it does what may not be done.
+    /// One of the passes before it does what may not be done.
+    NotOrderly { pass: usize },
+    /// The pass may not be given its looks.
     NoInput { pass: usize },
 }
 
 /// Explains a pass of an input of a task table and a history, or signals, which are decided first;
-/// without one, it writes whether the history is legal, and explains its first
-/// illegal pass. Answers the exit status: 0, 1 where the history is illegal, 2 where there is no
-/// such pass, task or core. Nothing is written before the whole input was read and accepted.
+/// without one, it writes whether the history is legal, and explains its first illegal pass.
+/// Answers the exit status: 0, 1 where the history is illegal, 2 where there is no such pass, task
+/// or core, or the pass cannot be explained. Nothing is written before the whole input was read and
+/// accepted.
 pub fn answer_explain<W: Write, E: Write>(
     alloc: Global,
     input: &[u8],
@@ -79,6 +82,12 @@ fn refuse<E: Write>(reason: Unexplained, errors: &mut E) -> u8 {
             writeln!(
                 errors,
                 "caladan_view: no such core: there are {cores}, from 0"
+            )
+        }
+        Unexplained::NotOrderly { pass } => {
+            writeln!(
+                errors,
+                "caladan_view: a pass before pass {pass} does what may not be done: explain without --pass"
             )
         }
         Unexplained::NoInput { pass } => {
@@ -146,6 +155,7 @@ fn explain_one<W: Write>(
     match explain_pass(alloc, config, history, pass, scope, writer) {
         Ok(Explained::Done) => Ok(Answer::Done),
         Ok(Explained::NoPass) => Ok(Answer::Refused(Unexplained::NoPass { pass, passes })),
+        Ok(Explained::NotOrderly) => Ok(Answer::Refused(Unexplained::NotOrderly { pass })),
         Ok(Explained::NoInput) => Ok(Answer::Refused(Unexplained::NoInput { pass })),
         Err(fault) => Err(run_fault(fault)),
     }
