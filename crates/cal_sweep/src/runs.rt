@@ -1,6 +1,6 @@
 //! The runs of a sweep, measured.
 
-ghost use Rattle.std.specs.Prelude.{◌≡◌, ◌<◌, ◌∷◌, [], IfOk, length, slice_get, string_bytes};
+ghost use Rattle.std.specs.Prelude.{◌≡◌, ◌∷◌, [], IfOk, string_bytes};
 ghost use Rattle.cal_sweep.specs.Sweeps.{AreSweptLoads, AreSweptRuns, AreTablesOf, IsSweep};
 ghost use Rattle.cal_sweep.specs.Sweeps.{IsRunOn, IsSweptLoad, IsSweptRun, varying_of};
 
@@ -122,9 +122,31 @@ fn swept_load<'a>(
     Ok(SweptLoad { load, runs })
 }
 
-/// The runs of each of these loads, as many loads at a time as there are processors; one after the
-/// other where no thread can be started. What they are does not depend on it. The fault is that of
-/// the first load that has one.
+/// The runs of each of these loads, as many loads at a time as there are processors, and one after
+/// the other where no thread can be started; or the fault of the first load that has one. What is
+/// answered does not depend on the threads. Fails only when out of memory.
+fn answered_loads<'a>(
+    rt: &(impl Threads + Sync),
+    alloc: Global,
+    tables: &[Config],
+    asked: &Asked<'a>,
+    loads: &[u64],
+) -> Result<Result<Vec<SweptLoad>, SweepFault<'a>>, AllocError>
+    ensures { IfOk result (λ answer. IfOk answer
+        (λ swept. AreSweptLoads tables.now loads.now swept.items)) }
+{
+    loads
+        .par_iter()
+        .with_min_len(1)
+        .map(
+            |load: &u64| -> Result<SweptLoad, SweepFault>
+                ensures { IfOk result (IsSweptLoad tables.entry.now load.now) }
+            { swept_load(alloc, tables, asked, *load) },
+        )
+        .collect(rt, alloc)
+}
+
+/// For each of these loads a run of each table, in the order of the loads.
 fn swept_loads<'a>(
     rt: &(impl Threads + Sync),
     alloc: Global,
@@ -134,15 +156,7 @@ fn swept_loads<'a>(
 ) -> Result<Vec<SweptLoad>, SweepFault<'a>>
     ensures { IfOk result (λ swept. AreSweptLoads tables.now loads.now swept.items) }
 {
-    loads
-        .par_iter()
-        .with_min_len(1)
-        .map(
-            |load: &u64| -> Result<SweptLoad, SweepFault>
-                ensures { IfOk result (IsSweptLoad tables.now load.now) }
-            { swept_load(alloc, tables, asked, *load) },
-        )
-        .collect::<Result<Vec<SweptLoad>, SweepFault<'a>>>(rt, alloc)?
+    answered_loads(rt, alloc, tables, asked, loads)?
 }
 
 /// One table alone. Fails only when out of memory.

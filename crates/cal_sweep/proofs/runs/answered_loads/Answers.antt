@@ -1,0 +1,18 @@
+use Rattle.std.proofs.Common.{◌≡◌, ℕ, List, map, Ok, ap, ◌∙◌, subst, sym}
+use Rattle.std.specs.Prelude.{IfOk}
+use Rattle.rayon.proofs.ListFacts.{IfOk-then}
+use Rattle.rayon.proofs.ToStd.{slice-AllZip}
+use Rattle.cal_sweep.specs.Sweeps.{IsSweptLoad}
+use Rattle.cal_sweep.proofs.Answered.{each_answered, ok_then}
+use Rattle.cal_sweep.proofs.runs.answered_loads.Goals as goal
+
+pub returns : goal.returns
+returns g c =
+    let tables = c.args.tables.now in
+    let loads = c.args.loads.now in
+    let shown = ap (λ it. it.base.slice.now) c.map.ensures.base ∙ ap (λ it. it.slice.now) c.with_min_len.ensures.base ∙ c.par_iter.ensures in
+    IfOk-then c.collect.result _ _ c.collect.ensures (λ answer made.
+    let chain = rw c.map.ensures.f at made.1 in
+    let each = slice-AllZip chain.0 loads (chain.1 ∙ shown) (λ load r. IfOk r (IsSweptLoad tables load)) made.0 chain.2 in
+    ok_then _ _ _ answer made.2 (λ swept of.
+    rw of.2 (each_answered _ (IsSweptLoad tables) loads of.0 (rw of.1 at each))))
