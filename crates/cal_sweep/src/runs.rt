@@ -103,8 +103,8 @@ fn swept_runs<'a>(
 {
     let mut runs = Vec::new(alloc);
     for place in 0..tables.len() {
-        let run = swept_run(alloc, table_at(tables, place), place, asked, load)?;
-        runs.push(run)?;
+        let of_table = swept_run(alloc, table_at(tables, place), place, asked, load)?;
+        runs.push(of_table)?;
     }
     Ok(runs)
 }

@@ -10,16 +10,23 @@ use cal_measure::Time;
 use cal_tables::Variation;
 use std::io::Write;
 
+/// Whether a run misses an objective.
+fn is_missed_by(objective: &Objective, run: &SweptRun) -> bool
+    ensures { result ≡ is_missed_by objective.now run.now }
+{
+    !is_kept(objective, &run.numbers)
+}
+
 /// Whether one of some runs misses an objective.
 fn is_missed_by_any(objective: &Objective, runs: &[SweptRun]) -> bool
     ensures { result ≡ list_any (is_missed_by objective.now) runs.now }
 {
-    let mut missed = false;
     for run in runs {
-        let kept = is_kept(objective, &run.numbers);
-        missed = missed || !kept;
+        if is_missed_by(objective, run) {
+            return true;
+        }
     }
-    missed
+    false
 }
 
 /// Whether one of the runs of the last load misses an objective.
@@ -57,7 +64,7 @@ pub fn say_misses<E: Write>(
     };
     for table in 0..last.runs.len() {
         let run = &last.runs[table];
-        if !is_kept(objective, &run.numbers) {
+        if is_missed_by(objective, run) {
             say_name(variation, table, errors);
             say_missed(objective, last.load, run, errors);
             say_kept(kept_up_to(objective, loads, table), errors);
@@ -103,7 +110,7 @@ fn kept_up_to(objective: &Objective, loads: &[SweptLoad], table: usize) -> Optio
     let mut kept = None;
     for load in loads {
         let run = load.runs.as_slice().get(table)?;
-        if !is_kept(objective, &run.numbers) {
+        if is_missed_by(objective, run) {
             break;
         }
         kept = Some(load.load);

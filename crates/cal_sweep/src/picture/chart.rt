@@ -106,6 +106,15 @@ fn step_of(last: u64) -> u64 {
     10_000
 }
 
+/// How long the longest of some texts is.
+fn longest_of(texts: &[&str]) -> usize {
+    let mut longest = 0usize;
+    for text in texts {
+        longest = longest.max(text.len());
+    }
+    longest
+}
+
 /// The objective, where it is of this task.
 fn objective_of(objective: Option<Objective>, task: usize) -> Option<Objective> {
     match objective {
@@ -180,11 +189,7 @@ impl<'a> Chart<'a> {
         let Some(variation) = self.variation else {
             return 0;
         };
-        let mut longest = 0usize;
-        for value in variation.values {
-            longest = longest.max(value.len());
-        }
-        longest
+        longest_of(variation.values)
             .saturating_add(variation.key.len())
             .saturating_add(1) as u64
     }

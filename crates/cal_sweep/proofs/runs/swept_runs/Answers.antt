@@ -7,11 +7,11 @@ use Rattle.cal_sweep.proofs.runs.swept_runs.Goals as goal
 pub loop-place-preserved : goal.loop-place-preserved
 loop-place-preserved c =
     let before : List SweptRun = c.loop-place.runs.items in
-    let now : SweptRun = c.in_ok-run.run in
+    let now : SweptRun = c.in_ok-of_table.of_table in
     let more : c.push.new.self.items ≡ before ++ now ∷ [] = c.in_ok-push.ensures.items in
     let many : length before ≡ c.loop-place.place = c.loop-place.invariant.many in
     record {
       many = let e = ap (λ (l : List SweptRun). length l) more in omega (arith, e, many, length-append before (now ∷ []));
       each = subst (λ (l : List SweptRun). EachIsOf IsSweptRun c.args.tables.now l) (sym more)
-          (one_more IsSweptRun c.args.tables.now before c.loop-place.place _ now many c.table_at.ensures c.in_ok-run.ensures c.loop-place.invariant.each);
+          (one_more IsSweptRun c.args.tables.now before c.loop-place.place _ now many c.table_at.ensures c.in_ok-of_table.ensures c.loop-place.invariant.each);
     }

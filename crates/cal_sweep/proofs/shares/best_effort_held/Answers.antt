@@ -23,5 +23,5 @@ loop-task-preserved c = λ small.
     ∙ ap (λ n. so_far + f n (get_or tasks t no_task)) (zero-add t) in
     let before = c.loop-task.invariant (omega (arith, more, small)) in
     let one = c.held_by.ensures in
-    let added = c.saturating_add.ensures in
+    let added = c.saturating_add-held.ensures in
     omega (arith, more, small, before, one, added)
