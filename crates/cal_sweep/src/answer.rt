@@ -5,13 +5,14 @@ ghost use Rattle.cal_sweep.specs.Objectives.{status_of};
 ghost use Rattle.cal_sweep.specs.Sweeps.{of_writer};
 
 use crate::fault::SweepFault;
+use crate::naming::SweepNames;
 use crate::picture::picture_of;
 use crate::runs::{Sweep, swept};
 use crate::table::sheet_of;
 use crate::verdict::{say_misses, status_of};
 use crate::words::{Asked, SweepForm, SweepWords, asked_of};
 use cal_engine::{RunFault, read_input};
-use cal_tables::{ComparisonFault, Variation};
+use cal_tables::ComparisonFault;
 use std::alloc::{AllocError, Global};
 use std::io::{Read, Write};
 use std::thread::Threads;
@@ -21,18 +22,18 @@ fn text_of(
     alloc: Global,
     sweep: &Sweep,
     asked: &Asked<'_>,
-    variation: Option<Variation<'_>>,
+    names: SweepNames<'_>,
     form: SweepForm,
 ) -> Result<String, AllocError> {
     match form {
         SweepForm::Numbers(form) => {
-            sheet_of(alloc, sweep, asked.task(), variation, form)?.written(alloc, form)
+            sheet_of(alloc, sweep, asked.task(), names, form)?.written(alloc, form)
         }
-        SweepForm::Picture => picture_of(alloc, sweep, asked, variation),
+        SweepForm::Picture => picture_of(alloc, sweep, asked, names),
     }
 }
 
-/// Writes a sweep, and answers the exit status: 1 where one of the runs of its last load misses the
+/// Writes a sweep under these names, and answers the exit status: 1 where one of the runs of its last load misses the
 /// objective, and 0 else. Of a miss a line is written to `errors`, with its numbers.
 ///
 /// The fault is `Write`, or `Memory` before anything is written.
@@ -40,7 +41,7 @@ pub fn end_sweep<'a, W: Write, E: Write>(
     alloc: Global,
     sweep: &Sweep,
     asked: &Asked<'a>,
-    variation: Option<Variation<'_>>,
+    names: SweepNames<'_>,
     form: SweepForm,
     output: &mut W,
     errors: &mut E,
@@ -50,19 +51,19 @@ pub fn end_sweep<'a, W: Write, E: Write>(
     ensures untouched { IfErr result (λ fault.
         fault ≢ SweepFault.Run of_writer → output.new ≡ output.old) }
 {
-    let text = text_of(alloc, sweep, asked, variation, form)?;
+    let text = text_of(alloc, sweep, asked, names, form)?;
     if output.write_all(text.as_bytes()).is_err() {
         return Err(SweepFault::Run(ComparisonFault::from(RunFault::Write)));
     }
     let status = status_of(asked.objective, sweep.loads.as_slice());
     if let Some(objective) = asked.objective {
-        say_misses(sweep, &objective, variation, errors);
+        say_misses(sweep, &objective, names, errors);
     }
     Ok(status)
 }
 
-/// Reads a task table, makes the runs that words ask for, writes what came of them, and answers the
-/// exit status: 1 where one of the runs of the last load misses the objective, and 0 else. What
+/// Reads a task table, makes the runs that words ask for, writes what came of them under these
+/// names, and answers the exit status: 1 where one of the runs of the last load misses the objective, and 0 else. What
 /// follows a separator line in the input is not read. The variation is that of the words.
 ///
 /// The faults of words that need no table come first, then those of the input, then those of
@@ -72,7 +73,7 @@ pub fn answer_sweep<'a, H: Threads + Sync, R: Read + Drop, W: Write, E: Write>(
     alloc: Global,
     mut reader: R,
     words: &SweepWords<'a>,
-    variation: Option<Variation<'_>>,
+    names: SweepNames<'_>,
     output: &mut W,
     errors: &mut E,
 ) -> Result<u8, SweepFault<'a>>
@@ -82,6 +83,6 @@ pub fn answer_sweep<'a, H: Threads + Sync, R: Read + Drop, W: Write, E: Write>(
 {
     let asked = asked_of(alloc, words)?;
     let input = read_input(alloc, &mut reader)?;
-    let sweep = swept(rt, alloc, input.as_slice(), &asked, variation)?;
-    end_sweep(alloc, &sweep, &asked, variation, words.form, output, errors)
+    let sweep = swept(rt, alloc, input.as_slice(), &asked, names.variation)?;
+    end_sweep(alloc, &sweep, &asked, names, words.form, output, errors)
 }

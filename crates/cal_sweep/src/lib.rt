@@ -9,6 +9,7 @@
 
 mod answer;
 mod fault;
+mod naming;
 mod objective;
 mod picture;
 mod runs;
@@ -19,6 +20,7 @@ mod words;
 
 pub use answer::{answer_sweep, end_sweep};
 pub use fault::SweepFault;
+pub use naming::SweepNames;
 pub use objective::{Objective, objective_of};
 pub use runs::{Sweep, SweptLoad, SweptRun, swept};
 pub use verdict::{is_missed, status_of};

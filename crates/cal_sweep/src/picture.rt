@@ -5,6 +5,7 @@ mod chart;
 mod curves;
 mod style;
 
+use crate::naming::SweepNames;
 use crate::objective::rank_word;
 use crate::picture::axes::{draw_loads, draw_objective, draw_times};
 use crate::picture::chart::{CANVAS, Chart, HIGH, LEFT, RANKS};
@@ -13,19 +14,18 @@ use crate::picture::style::{dash_of, draw_style};
 use crate::runs::Sweep;
 use crate::words::Asked;
 use cal_picture::Page;
-use cal_tables::Variation;
 use std::alloc::{AllocError, Global};
 
-/// The picture of a sweep, which stands alone: over the load, the median of the responses of the
+/// The picture of a sweep, which stands alone, under these names: over the load, the median of the responses of the
 /// task that is swept, their 99th and their 99.9th of 100, a colour for each table, and the
 /// objective. Fails only when out of memory.
 pub fn picture_of(
     alloc: Global,
     sweep: &Sweep,
     asked: &Asked<'_>,
-    variation: Option<Variation<'_>>,
+    names: SweepNames<'_>,
 ) -> Result<String, AllocError> {
-    let chart = Chart::new(sweep, asked.task(), asked.objective, variation);
+    let chart = Chart::new(sweep, asked.task(), asked.objective, names);
     let mut page = Page::new(alloc);
     draw_frame(&chart, &mut page);
     draw_style(&chart, &mut page);
@@ -65,7 +65,9 @@ fn draw_ground(chart: &Chart<'_>, page: &mut Page) {
 
 /// What the picture is of.
 fn tell_title(chart: &Chart<'_>, page: &mut Page) {
-    page.fill("Response of task {} over its load", &[chart.task as u64]);
+    page.put("Response of ");
+    page.put_task(chart.labels(), chart.task);
+    page.put(" over its load");
 }
 
 /// How many loads there are, and of how many tables.
@@ -81,14 +83,16 @@ fn tell_loads(chart: &Chart<'_>, page: &mut Page) {
 fn draw_heading(chart: &Chart<'_>, page: &mut Page) {
     page.put("<text class='h' x='16' y='30'>");
     tell_title(chart, page);
+    page.put("</text>\n<text x='16' y='50'>From arrival to answer, in ");
+    page.put_escaped(chart.labels().tick.unwrap_or("clock ticks"));
     page.put(
-        "</text>\n<text x='16' y='50'>From arrival to answer, in clock ticks, at ranks among all \
-requests that came. An arrow at the top: what stands there was not answered.</text>\n",
+        ", at ranks among all requests that came. An arrow at the top: what stands there was not \
+answered.</text>\n",
     );
     for place in 0..RANKS.len() {
         draw_rank(place, page);
     }
-    for table in 0..chart.names() {
+    for table in 0..chart.named() {
         draw_entry(chart, table, page);
     }
 }

@@ -1,13 +1,14 @@
 //! A sweep as a table: a row for each run, by loads and then by tables.
 
+use crate::naming::SweepNames;
 use crate::objective::rank_word;
 use crate::runs::{Sweep, SweptLoad, SweptRun};
 use crate::shares::best_effort_share;
 use cal_load::Count;
 use cal_machine::Config;
 use cal_tables::{
-    CoreLine, Figure, Line, NumberForm, Rank, Sheet, Unit, Variation, core_figure, number,
-    put_figure, put_heading, request_figure,
+    CoreLine, Figure, Line, NumberForm, Rank, Sheet, Unit, core_figure, number, put_figure,
+    put_heading, request_figure,
 };
 use std::alloc::{AllocError, Global};
 
@@ -107,12 +108,12 @@ fn figure_of(table: &Config, run: &SweptRun, task: usize, column: Column) -> Opt
     }
 }
 
-/// Which sweep is shown, of which task, what made its tables, and in which form.
+/// Which sweep is shown, of which task, under which names, and in which form.
 #[derive(Clone, Copy)]
 struct Shown<'a> {
     sweep: &'a Sweep,
     task: usize,
-    variation: Option<Variation<'a>>,
+    names: SweepNames<'a>,
     form: NumberForm,
 }
 
@@ -127,11 +128,19 @@ impl<'a> Shown<'a> {
         }
     }
 
+    /// What stands over the loads: of which task they are, where it has a name.
+    fn load_heading(self, alloc: Global) -> Result<String, AllocError> {
+        match self.names.labels.name(self.task) {
+            Some(name) => format!(in alloc; "load of {name}"),
+            None => String::from_str(alloc, "load"),
+        }
+    }
+
     /// The first row: what each column is.
     fn heading(self, alloc: Global) -> Result<Vec<String>, AllocError> {
         let mut row = Vec::new(alloc);
-        row.push(String::from_str(alloc, "load")?)?;
-        if let Some(variation) = self.variation {
+        row.push(self.load_heading(alloc)?)?;
+        if let Some(variation) = self.names.variation {
             row.push(String::from_str(alloc, variation.key)?)?;
         }
         for column in COLUMNS {
@@ -149,7 +158,7 @@ impl<'a> Shown<'a> {
 
     /// The value that made the table at a place.
     fn value(self, place: usize) -> Option<&'a str> {
-        let variation = self.variation?;
+        let variation = self.names.variation?;
         variation.values.get(place).copied()
     }
 
@@ -195,18 +204,19 @@ impl<'a> Shown<'a> {
     }
 }
 
-/// The runs of a sweep, a row for each: what came of a task in it. Fails only when out of memory.
+/// The runs of a sweep, a row for each, under these names: what came of a task in it. Fails only
+/// when out of memory.
 pub fn sheet_of(
     alloc: Global,
     sweep: &Sweep,
     task: usize,
-    variation: Option<Variation<'_>>,
+    names: SweepNames<'_>,
     form: NumberForm,
 ) -> Result<Sheet, AllocError> {
     let shown = Shown {
         sweep,
         task,
-        variation,
+        names,
         form,
     };
     let mut sheet = Sheet::new(alloc);

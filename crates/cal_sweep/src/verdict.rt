@@ -4,10 +4,11 @@ ghost use Rattle.std.specs.Prelude.{◌≡◌};
 ghost use Rattle.std.specs.List.{list_any};
 ghost use Rattle.cal_sweep.specs.Objectives.{is_missed, is_missed_at, is_missed_by, status_of};
 
+use crate::naming::SweepNames;
 use crate::objective::{Objective, is_kept, rank_word, response_at};
 use crate::runs::{Sweep, SweptLoad, SweptRun};
 use cal_measure::Time;
-use cal_tables::Variation;
+use cal_tables::{Labels, Variation};
 use std::io::Write;
 
 /// Whether a run misses an objective.
@@ -55,7 +56,7 @@ pub fn status_of(objective: Option<Objective>, loads: &[SweptLoad]) -> u8
 pub fn say_misses<E: Write>(
     sweep: &Sweep,
     objective: &Objective,
-    variation: Option<Variation<'_>>,
+    names: SweepNames<'_>,
     errors: &mut E,
 ) {
     let loads = sweep.loads.as_slice();
@@ -65,8 +66,8 @@ pub fn say_misses<E: Write>(
     for table in 0..last.runs.len() {
         let run = &last.runs[table];
         if is_missed_by(objective, run) {
-            say_name(variation, table, errors);
-            say_missed(objective, last.load, run, errors);
+            say_name(names.variation, table, errors);
+            say_missed(objective, last.load, run, names.labels, errors);
             say_kept(kept_up_to(objective, loads, table), errors);
         }
     }
@@ -83,14 +84,20 @@ fn say_name<E: Write>(variation: Option<Variation<'_>>, table: usize, errors: &m
 }
 
 /// Writes the objective that a run misses, and what stands at its rank.
-fn say_missed<E: Write>(objective: &Objective, load: u64, run: &SweptRun, errors: &mut E) {
+fn say_missed<E: Write>(
+    objective: &Objective,
+    load: u64,
+    run: &SweptRun,
+    labels: Labels<'_>,
+    errors: &mut E,
+) {
     let (ones, rest) = (load / 1000, load % 1000);
     let _ = write!(errors, "{objective} is missed at load {ones}.{rest:03}: ");
-    let rank = rank_word(objective.rank);
+    let (rank, unit) = (rank_word(objective.rank), labels.ticks());
     let _ = match response_at(&run.numbers, objective.task, objective.rank) {
         None => write!(errors, "no requests came"),
-        Some(Time::Known(ticks)) => write!(errors, "{rank} is {ticks} ticks"),
-        Some(Time::More(ticks)) => write!(errors, "{rank} is pending for {ticks} ticks"),
+        Some(Time::Known(ticks)) => write!(errors, "{rank} is {ticks} {unit}"),
+        Some(Time::More(ticks)) => write!(errors, "{rank} is pending for {ticks} {unit}"),
     };
 }
 

@@ -220,17 +220,19 @@ fn answer_job<H: Threads + Sync, R: Read + Drop, W: Write, E: Write>(
     output: &mut W,
     errors: &mut E,
 ) -> Result<u8, RunFault> {
-    // These two refuse their words before they read.
-    match &request.job {
-        Job::Arrivals { asked } => return answer_arrivals(alloc, reader, asked, output, errors),
-        Job::Sweep { asked } => return answer_swept(rt, alloc, reader, asked, output, errors),
-        _ => {}
-    }
     let names = names_of(alloc, request.labels)?;
     let labels = Labels {
         names: names.as_slice(),
         tick: request.labels.tick,
     };
+    // These two refuse their words before they read.
+    match &request.job {
+        Job::Arrivals { asked } => return answer_arrivals(alloc, reader, asked, output, errors),
+        Job::Sweep { asked } => {
+            return answer_swept(rt, alloc, reader, asked, labels, output, errors);
+        }
+        _ => {}
+    }
     let input = read_input(alloc, &mut reader)?;
     let refused = refused_input(request, input.as_slice());
     match answer_read(alloc, &request.job, labels, refused, output, errors) {

@@ -12,10 +12,9 @@ pub fn draw_times(chart: &Chart<'_>, page: &mut Page) {
         draw_decade(chart, exponent, page);
     }
     let (top, middle) = (chart.top().saturating_sub(10), LEFT - 6);
-    page.fill(
-        "<text class='q e' x='{}' y='{}'>ticks</text>\n",
-        &[middle, top],
-    );
+    page.fill("<text class='q e' x='{}' y='{}'>", &[middle, top]);
+    page.put_escaped(chart.labels().ticks());
+    page.put("</text>\n");
 }
 
 /// The lines of a power of ten. All have numbers where there is room for them.
@@ -50,11 +49,9 @@ pub fn draw_loads(chart: &Chart<'_>, page: &mut Page) {
         draw_load(chart, mark.saturating_mul(chart.step), page);
     }
     let foot = chart.base().saturating_add(36);
-    page.fill(
-        "<text class='q e' x='{}' y='{}'>load of task ",
-        &[RIGHT, foot],
-    );
-    page.fill("{}</text>\n", &[chart.task as u64]);
+    page.fill("<text class='q e' x='{}' y='{}'>load of ", &[RIGHT, foot]);
+    page.put_task(chart.labels(), chart.task);
+    page.put("</text>\n");
 }
 
 /// The line of a load, and the load.
@@ -81,5 +78,7 @@ pub fn draw_objective(chart: &Chart<'_>, page: &mut Page) {
         &[LEFT + 6, y.saturating_sub(6)],
     );
     page.put(rank_word(objective.rank));
-    page.fill(" at most {}</text>\n", &[objective.ticks]);
+    page.fill(" at most {}", &[objective.ticks]);
+    page.put_unit(chart.labels());
+    page.put("</text>\n");
 }

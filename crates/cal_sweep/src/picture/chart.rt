@@ -1,10 +1,11 @@
 //! What the picture is drawn from, and where its parts stand, in whole pixels.
 
+use crate::naming::SweepNames;
 use crate::objective::{Objective, response_at};
 use crate::runs::{Sweep, SweptLoad, SweptRun};
 use cal_measure::Time;
 use cal_picture::{Page, TimeScale, scaled};
-use cal_tables::{Rank, Variation};
+use cal_tables::{Labels, Rank};
 
 /// Where the plot begins; times stand at its left.
 pub const LEFT: u64 = 72;
@@ -36,14 +37,14 @@ const STEPS: [u64; 12] = [1, 2, 5, 10, 20, 50, 100, 200, 500, 1000, 2000, 5000];
 /// The most marks of loads.
 const MOST_MARKS: u64 = 10;
 
-/// A sweep, of which task it is shown, its objective, what made the tables, and the scales.
+/// A sweep, of which task it is shown, its objective, its names, and the scales.
 #[derive(Clone, Copy)]
 pub struct Chart<'a> {
     pub sweep: &'a Sweep,
     pub task: usize,
     /// The objective, where it is of the task.
     pub objective: Option<Objective>,
-    pub variation: Option<Variation<'a>>,
+    pub names: SweepNames<'a>,
     pub times: TimeScale,
     /// How far apart loads are marked.
     pub step: u64,
@@ -129,7 +130,7 @@ impl<'a> Chart<'a> {
         sweep: &'a Sweep,
         task: usize,
         objective: Option<Objective>,
-        variation: Option<Variation<'a>>,
+        names: SweepNames<'a>,
     ) -> Chart<'a> {
         let loads = sweep.loads.as_slice();
         let objective = objective_of(objective, task);
@@ -146,11 +147,16 @@ impl<'a> Chart<'a> {
             sweep,
             task,
             objective,
-            variation,
+            names,
             times: times_of(loads, task, objective),
             step,
             end: step.saturating_mul(marks.unwrap_or(1).max(1)),
         }
+    }
+
+    /// What tasks and clock ticks are called.
+    pub fn labels(&self) -> Labels<'a> {
+        self.names.labels
     }
 
     /// How many tables there are.
@@ -159,8 +165,8 @@ impl<'a> Chart<'a> {
     }
 
     /// How many of them have a name: all that a value made.
-    pub fn names(&self) -> usize {
-        match self.variation {
+    pub fn named(&self) -> usize {
+        match self.names.variation {
             Some(_) => self.tables(),
             None => 0,
         }
@@ -175,7 +181,7 @@ impl<'a> Chart<'a> {
 
     /// What made a table: its key and its value.
     pub fn tell_table(&self, table: usize, page: &mut Page) {
-        if let Some(variation) = self.variation {
+        if let Some(variation) = self.names.variation {
             page.put_escaped(variation.key);
             page.put("=");
             if let Some(value) = variation.values.get(table) {
@@ -186,7 +192,7 @@ impl<'a> Chart<'a> {
 
     /// How many letters the longest name has.
     fn longest_name(&self) -> u64 {
-        let Some(variation) = self.variation else {
+        let Some(variation) = self.names.variation else {
             return 0;
         };
         longest_of(variation.values)

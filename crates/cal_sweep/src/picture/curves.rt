@@ -84,7 +84,7 @@ fn draw_point(
 
 /// Says of which table and load a time is, and how long.
 fn tell_point(chart: &Chart<'_>, table: usize, load: u64, time: Time, rank: Rank, page: &mut Page) {
-    if table < chart.names() {
+    if table < chart.named() {
         chart.tell_table(table, page);
         page.put(", ");
     }
@@ -93,7 +93,8 @@ fn tell_point(chart: &Chart<'_>, table: usize, load: u64, time: Time, rank: Rank
     page.put(": ");
     page.put(rank_word(rank));
     match time {
-        Time::Known(ticks) => page.fill(" {} ticks", &[ticks]),
-        Time::More(ticks) => page.fill(" pending for {} ticks", &[ticks]),
+        Time::Known(ticks) => page.fill(" {} ", &[ticks]),
+        Time::More(ticks) => page.fill(" pending for {} ", &[ticks]),
     }
+    page.put_escaped(chart.labels().ticks());
 }

@@ -288,7 +288,8 @@ fn compare_word<'a>(alloc: Global) -> Result<Command<'a>, AllocError> {
         .arg(output_word(alloc))
 }
 
-fn names_word<'a>(alloc: Global) -> Arg<'a> {
+/// The names of the tasks.
+pub fn names_word<'a>(alloc: Global) -> Arg<'a> {
     Arg::new(alloc, "names")
         .long("names")
         .action(ArgAction::Set)
@@ -296,7 +297,8 @@ fn names_word<'a>(alloc: Global) -> Arg<'a> {
         .help("What the tasks are called, in their order")
 }
 
-fn tick_word<'a>(alloc: Global) -> Arg<'a> {
+/// What a clock tick is.
+pub fn tick_word<'a>(alloc: Global) -> Arg<'a> {
     Arg::new(alloc, "tick")
         .long("tick")
         .action(ArgAction::Set)

@@ -2,7 +2,8 @@
 
 use crate::command_words::arrival_words::{load_word, load_words, task_word, with_run_words};
 use crate::command_words::command_line::{
-    csv_word, input_word, number_form_of, output_word, picture_word, vary_word,
+    csv_word, input_word, names_word, number_form_of, output_word, picture_word, tick_word,
+    vary_word,
 };
 use crate::command_words::help_texts;
 use cal_sweep::{SweepForm, SweepWords};
@@ -22,6 +23,8 @@ pub fn sweep_word<'a>(alloc: Global) -> Result<Command<'a>, AllocError> {
         .arg(slo_word(alloc))?
         .arg(csv_word(alloc))?
         .arg(picture_word(alloc).conflicts_with("csv")?)?
+        .arg(names_word(alloc))?
+        .arg(tick_word(alloc))?
         .arg(output_word(alloc))
 }
 

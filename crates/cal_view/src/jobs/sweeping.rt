@@ -2,21 +2,23 @@
 
 use crate::command_words::variation::{key_of, values_of};
 use crate::fault::{end_comparison, explain_comparison};
+use crate::jobs::naming::refuse_count_of_table;
 use crate::refusing::{end_refusal, refuse_word, table_alone};
 use cal_engine::{RunFault, read_input};
-use cal_sweep::{SweepFault, SweepWords, answer_sweep, asked_of};
-use cal_tables::{ComparisonFault, Variation};
+use cal_sweep::{SweepFault, SweepNames, SweepWords, answer_sweep, asked_of};
+use cal_tables::{ComparisonFault, Labels, Variation};
 use std::alloc::Global;
 use std::io::{Read, Write};
 use std::thread::Threads;
 
-/// Makes the runs that the words ask for, and answers the exit status: 1 where the last load misses
-/// the objective, 2 where a word is refused, of which one line then says why.
+/// Makes the runs that the words ask for, under these labels, and answers the exit status: 1 where
+/// the last load misses the objective, 2 where a word is refused, of which one line then says why.
 pub fn answer_swept<H: Threads + Sync, R: Read + Drop, W: Write, E: Write>(
     rt: &H,
     alloc: Global,
     mut reader: R,
     words: &SweepWords<'_>,
+    labels: Labels<'_>,
     output: &mut W,
     errors: &mut E,
 ) -> Result<u8, RunFault> {
@@ -25,23 +27,23 @@ pub fn answer_swept<H: Threads + Sync, R: Read + Drop, W: Write, E: Write>(
         return refuse(alloc, b"", fault, None, errors);
     }
     let input = read_input(alloc, &mut reader)?;
+    let input = input.as_slice();
+    if let Some(status) = refuse_count_of_table(alloc, labels, input, errors)? {
+        return Ok(status);
+    }
+    let mut names = SweepNames {
+        variation: None,
+        labels,
+    };
     let Some(vary) = words.vary else {
-        return end_swept(rt, alloc, input.as_slice(), words, None, output, errors);
+        return end_swept(rt, alloc, input, words, names, output, errors);
     };
     let values = values_of(alloc, vary)?;
-    let variation = Variation {
+    names.variation = Some(Variation {
         key: key_of(vary),
         values: values.as_slice(),
-    };
-    end_swept(
-        rt,
-        alloc,
-        input.as_slice(),
-        words,
-        Some(variation),
-        output,
-        errors,
-    )
+    });
+    end_swept(rt, alloc, input, words, names, output, errors)
 }
 
 /// Makes the runs, and answers the exit status: a fault names the word or the value that has it.
@@ -50,13 +52,13 @@ fn end_swept<H: Threads + Sync, W: Write, E: Write>(
     alloc: Global,
     input: &[u8],
     words: &SweepWords<'_>,
-    variation: Option<Variation<'_>>,
+    names: SweepNames<'_>,
     output: &mut W,
     errors: &mut E,
 ) -> Result<u8, RunFault> {
-    match answer_sweep(rt, alloc, input, words, variation, output, errors) {
+    match answer_sweep(rt, alloc, input, words, names, output, errors) {
         Ok(status) => Ok(status),
-        Err(fault) => refuse(alloc, input, fault, variation, errors),
+        Err(fault) => refuse(alloc, input, fault, names.variation, errors),
     }
 }
 
