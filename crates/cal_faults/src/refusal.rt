@@ -83,10 +83,10 @@ impl TraceKind {
         match self {
             TraceKind::Signals => "`caladan_sim decide`, `caladan_view history` and `explain`",
             TraceKind::Arrivals => {
-                "`caladan_sim lockstep` and `sim`, `caladan_view measure` and `compare`"
+                "`caladan_sim lockstep` and `sim`, `caladan_view measure`, `compare` and `timeline`"
             }
             TraceKind::History => {
-                "`caladan_sim audit`, `caladan_view picture`, `timeline` and `explain`"
+                "`caladan_sim audit`, `caladan_view picture`, `timeline`, `measure` and `explain`"
             }
         }
     }
