@@ -83,7 +83,7 @@ impl TraceKind {
         match self {
             TraceKind::Signals => "`caladan_sim decide`, `caladan_view history` and `explain`",
             TraceKind::Arrivals => {
-                "`caladan_sim lockstep` and `sim`, `caladan_view measure` and `compare`"
+                "`caladan_sim lockstep` and `sim`, `caladan_view measure`, `compare` and `timeline`"
             }
             TraceKind::History => {
                 "`caladan_sim audit`, `caladan_view measure`, `picture`, `timeline` and `explain`"

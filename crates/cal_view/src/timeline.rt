@@ -1,34 +1,42 @@
-//! A history as JSON of the Trace Event Format, which Perfetto and chrome://tracing open.
+//! A history or a run as JSON of the Trace Event Format, which Perfetto and chrome://tracing open.
 //!
 //! Clocks are told from the first one, by their unit where that is one of time, else as microseconds,
 //! since the format knows no ticks. Cores are the tracks of one group, bans those of a second; the
-//! counters of tasks and of bandwidth are a third.
+//! counters of tasks and of bandwidth are a third. Of a run the requests are two more, and flows from
+//! the one to the other.
 
 pub mod events;
 pub mod figures;
+pub mod names;
+pub mod requests;
 pub mod slices;
+pub mod work;
 
 ghost use Rattle.cal_machine.specs.Table.{Table};
+ghost use Rattle.cal_trace.specs.Arrivals.FitsTable.{FitsTable};
 ghost use Rattle.cal_trace.specs.History.Reading.{IsOpen};
 ghost use Rattle.cal_view.specs.Walking.{IsWalkOf};
 
 use crate::jobs::counting::count_passes;
 use crate::story::standing::Row;
 use crate::story::walk::Walk;
-use crate::timeline::events::{BANS, CORES, COUNTERS, Events, Name, Named, SortIndex, Sorted};
+use crate::timeline::events::Events;
 use crate::timeline::figures::{put_figure, put_row};
+use crate::timeline::names::{put_names, put_request_names};
+use crate::timeline::requests::put_requests;
 use crate::timeline::slices::put_ended;
-use cal_engine::{RunFault, recorded_passes};
+use cal_engine::{RunFault, read_parts, recorded_passes};
 use cal_machine::Config;
-use cal_picture::Page;
 use cal_policy::{Action, PassEntry};
+use cal_run::lockstep_end;
 use cal_tables::Labels;
-use cal_trace::HistoryRows;
+use cal_trace::{Arrivals, FaultKind, HistoryRows, read_arrivals};
 use std::alloc::Global;
 use std::io::Write;
 
-/// Writes the history of an input as trace events, under these labels. It takes any history. It
-/// keeps no pass, and writes nothing of an input that is refused.
+/// Writes the history of an input as trace events, under these labels. It takes any history, of
+/// which it keeps no pass. Of an input of a task table and arrivals it writes the run on one thread
+/// that they make, with its requests. It writes nothing of an input that is refused.
 ///
 /// The faults come in this order: `Separator`, `Config`, `Trace`, `Write`; `Memory` may come at any
 /// place.
@@ -38,65 +46,73 @@ pub fn write_timeline<W: Write>(
     labels: Labels<'_>,
     writer: &mut W,
 ) -> Result<(), RunFault> {
+    let (config, trace) = read_parts(alloc, input)?;
+    match read_arrivals(alloc, &config, trace) {
+        Ok(arrivals) => write_run(alloc, &config, &arrivals, labels, writer),
+        Err(fault) if fault.kind == FaultKind::Header => {
+            write_history(alloc, input, labels, writer)
+        }
+        Err(fault) => Err(RunFault::from(fault)),
+    }
+}
+
+/// What stands before the first event.
+const OPENING: &str = "{\"displayTimeUnit\":\"ns\",\"traceEvents\":[";
+
+/// What stands after the last event.
+const CLOSING: &str = "\n]}\n";
+
+/// Writes the history of an input.
+fn write_history<W: Write>(
+    alloc: Global,
+    input: &[u8],
+    labels: Labels<'_>,
+    writer: &mut W,
+) -> Result<(), RunFault> {
     // To its end, so that a fault of the input comes before anything is written.
     count_passes(alloc, input)?;
     let (config, history) = recorded_passes(alloc, input)?;
     let mut events = Events::new(alloc, labels);
-    let opening = "{\"displayTimeUnit\":\"ns\",\"traceEvents\":[";
-    events.page.put(opening);
+    events.page.put(OPENING);
     put_names(&config, &mut events);
     put_passes(&config, history, &mut events, writer)?;
-    events.page.put("\n]}\n");
+    events.page.put(CLOSING);
     events.page.send(writer)
 }
 
-/// The names of the groups and of the tracks of cores.
-fn put_names(config: &Config, events: &mut Events<'_>) {
-    put_name("process_name", CORES, 0, "cores", events);
-    put_name("process_name", BANS, 0, "banned cores", events);
-    put_name("process_name", COUNTERS, 0, "tasks and bandwidth", events);
-    for group in [CORES, BANS, COUNTERS] {
-        put_sort_index("process_sort_index", group, 0, group, events);
-    }
-    for core in 0..config.machine().cores() {
-        put_core_name(u64::from(core), events);
-    }
+/// Makes the run on one thread of a table and arrivals, and writes it: its history, and then what
+/// came of its requests. Nothing is written before the run was made.
+fn write_run<W: Write>(
+    alloc: Global,
+    config: &Config,
+    arrivals: &Arrivals,
+    labels: Labels<'_>,
+    writer: &mut W,
+) -> Result<(), RunFault>
+    requires { FitsTable config.now arrivals.now }
+{
+    let end = lockstep_end(alloc, config, arrivals)?;
+    let mut events = Events::new(alloc, labels);
+    events.begin_at(first_clock(arrivals));
+    events.page.put(OPENING);
+    put_names(config, &mut events);
+    put_request_names(config, &mut events);
+    put_history(config, end.history.as_slice(), &mut events, writer)?;
+    put_requests(config, arrivals, &end, &mut events, writer)?;
+    events.page.put(CLOSING);
+    events.page.send(writer)
 }
 
-/// The name of a core's two tracks.
-fn put_core_name(core: u64, events: &mut Events<'_>) {
-    let mut page = Page::plain(events.alloc);
-    page.fill("core {}", &[core]);
-    match page.whole() {
-        Ok(name) => {
-            put_name("thread_name", CORES, core, name, events);
-            put_name("thread_name", BANS, core, name, events);
-            put_sort_index("thread_sort_index", CORES, core, core, events);
-            put_sort_index("thread_sort_index", BANS, core, core, events);
-        }
-        Err(_) => events.page.refuse(),
+/// The clock of the first pass or of the first turn, whichever is earlier; 0 where there is none.
+fn first_clock(arrivals: &Arrivals) -> u64 {
+    let pass = arrivals.passes.as_slice().get(0);
+    let turn = arrivals.turns.as_slice().get(0);
+    match (pass, turn) {
+        (Some(pass), Some(turn)) => pass.now.min(*turn),
+        (Some(pass), None) => pass.now,
+        (None, Some(turn)) => *turn,
+        (None, None) => 0,
     }
-}
-
-fn put_name(kind: &str, pid: u64, tid: u64, name: &str, events: &mut Events<'_>) {
-    events.put(&Named {
-        name: kind,
-        ph: "M",
-        pid,
-        tid,
-        args: Name { name },
-    });
-}
-
-/// Where a group or a track stands among its like.
-fn put_sort_index(kind: &str, pid: u64, tid: u64, sort_index: u64, events: &mut Events<'_>) {
-    events.put(&Sorted {
-        name: kind,
-        ph: "M",
-        pid,
-        tid,
-        args: SortIndex { sort_index },
-    });
 }
 
 /// Walks over the history once: writes each figure when it changes, and each span and each ban when
@@ -112,6 +128,22 @@ fn put_passes<W: Write>(
     let mut told = Told::new();
     while let Some(entry) = history.next()? {
         told.pass(config, &entry, events);
+        events.page.send(writer)?;
+    }
+    told.rest(config, events);
+    Ok(())
+}
+
+/// The same of a history in memory.
+fn put_history<W: Write>(
+    config: &Config,
+    history: &[PassEntry],
+    events: &mut Events<'_>,
+    writer: &mut W,
+) -> Result<(), RunFault> {
+    let mut told = Told::new();
+    for entry in history {
+        told.pass(config, entry, events);
         events.page.send(writer)?;
     }
     told.rest(config, events);

@@ -27,7 +27,7 @@ pub enum Job<'a> {
         /// Which passes, and what of them.
         shown: Shown,
     },
-    /// Write a history as trace events.
+    /// Write a history, or the run that arrivals make, as trace events.
     Timeline,
     /// Make a run on arrivals, and write its numbers, or those of a history.
     Measure {
@@ -221,7 +221,7 @@ fn drawn_word<'a>(alloc: Global) -> Result<Command<'a>, AllocError> {
 
 fn timeline_word<'a>(alloc: Global) -> Result<Command<'a>, AllocError> {
     Command::new(alloc, "timeline")
-        .about("Write a history as trace events, for Perfetto and chrome://tracing")
+        .about("Write a history or a run as trace events, for Perfetto")
         .after_long_help(help_texts::TIMELINE)
         .arg(input_word(alloc))?
         .arg(names_word(alloc))?

@@ -62,9 +62,12 @@ END"
 /// Of the subcommand `timeline`.
 pub const TIMELINE: &str = help_with_a_run!(
     "\
-Input: a task table (TOML), the line ---, and a history (CSV).
+Input: a task table (TOML), the line ---, and a history (CSV), or
+arrivals (CSV), as `caladan_sim lockstep` reads.
 Output: trace events (JSON), which https://ui.perfetto.dev and
-chrome://tracing open.
+chrome://tracing open. Of arrivals they are of the run that
+`caladan_sim lockstep` makes: its history, its requests as they come, the turns
+that worked at them, and arrows from each request to its turns.
 Exit status: 0 done, 2 rejected input, 3 memory or output was refused.",
     "caladan_view timeline > timeline.json",
     "\

@@ -14,6 +14,12 @@ pub const BANS: u64 = 2;
 /// The group of the counters.
 pub const COUNTERS: u64 = 3;
 
+/// The group of requests that come.
+pub const ARRIVALS: u64 = 4;
+
+/// The group of requests at work.
+pub const WORK: u64 = 5;
+
 /// Where a group or a track stands among its like.
 #[derive(Drop, Serialize)]
 pub struct Sorted<'a> {
@@ -68,6 +74,48 @@ pub struct Story<'a> {
     pub to_pass: Option<usize>,
 }
 
+/// A request on a track of a kernel thread.
+#[derive(Drop, Serialize)]
+pub struct RequestSlice<'a> {
+    pub name: &'a str,
+    pub cat: &'a str,
+    pub ph: &'a str,
+    /// The name of a colour, which chrome://tracing knows.
+    pub cname: Option<&'a str>,
+    pub pid: u64,
+    pub tid: u64,
+    pub args: RequestStory<'a>,
+}
+
+/// What is told of a request.
+#[derive(Drop, Serialize)]
+pub struct RequestStory<'a> {
+    pub told: &'a str,
+    pub request: u64,
+}
+
+/// A part of a flow: an arrow from slice to slice.
+#[derive(Drop, Serialize)]
+pub struct Flow<'a> {
+    pub name: &'a str,
+    pub cat: &'a str,
+    /// `s` at its start, `t` on its way, `f` at its end.
+    pub ph: &'a str,
+    /// What all parts of one flow have in common.
+    pub id: u64,
+    /// `e`: it is bound to the slice that encloses it.
+    pub bp: &'a str,
+    pub pid: u64,
+    pub tid: u64,
+    pub args: OfRequest,
+}
+
+/// The request that a part of a flow is of.
+#[derive(Drop, Serialize)]
+pub struct OfRequest {
+    pub request: u64,
+}
+
 /// What a task has, from this clock on.
 #[derive(Drop, Serialize)]
 pub struct TaskCounter<'a> {
@@ -118,8 +166,8 @@ pub struct Events<'a> {
     pub labels: Labels<'a>,
     pub page: Page,
     first: bool,
-    /// The clock from which clocks are told.
-    zero: u64,
+    /// The clock from which clocks are told, once there is one.
+    zero: Option<u64>,
 }
 
 impl<'a> Events<'a> {
@@ -130,13 +178,15 @@ impl<'a> Events<'a> {
             labels,
             page: Page::plain(alloc),
             first: true,
-            zero: 0,
+            zero: None,
         }
     }
 
-    /// From here on clocks are told from this one.
+    /// Tells clocks from this one, where none was named before.
     pub fn begin_at(&mut self, clock: u64) {
-        self.zero = clock;
+        if self.zero.is_none() {
+            self.zero = Some(clock);
+        }
     }
 
     /// Puts what stands between two events.
@@ -158,7 +208,7 @@ impl<'a> Events<'a> {
     pub fn put_at<T: Serialize>(&mut self, clock: u64, lasts: Option<u64>, event: &T) {
         self.put_between();
         self.page.put("{\"ts\":");
-        self.put_time(clock.saturating_sub(self.zero));
+        self.put_time(clock.saturating_sub(self.zero.unwrap_or(0)));
         if let Some(ticks) = lasts {
             self.page.put(",\"dur\":");
             self.put_time(ticks);
