@@ -31,18 +31,21 @@ pub fn answer_swept<H: Threads + Sync, R: Read + Drop, W: Write, E: Write>(
     if let Some(status) = refuse_count_of_table(alloc, labels, input, errors)? {
         return Ok(status);
     }
-    let mut names = SweepNames {
-        variation: None,
-        labels,
-    };
     let Some(vary) = words.vary else {
+        let names = SweepNames {
+            variation: None,
+            labels,
+        };
         return end_swept(rt, alloc, input, words, names, output, errors);
     };
     let values = values_of(alloc, vary)?;
-    names.variation = Some(Variation {
-        key: key_of(vary),
-        values: values.as_slice(),
-    });
+    let names = SweepNames {
+        variation: Some(Variation {
+            key: key_of(vary),
+            values: values.as_slice(),
+        }),
+        labels,
+    };
     end_swept(rt, alloc, input, words, names, output, errors)
 }
 
