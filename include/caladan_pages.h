@@ -33,7 +33,8 @@
  * debug builds. Noticed are a wrong address, a publication or a taking that was entered again, a publication
  * on a page on which somebody else has published, and a word or an end of a turn that nobody has.
  *
- * ORDER. Loads and stores are as weak as each allows; the reason is beside each. On x86 each is a plain move
+ * ORDER. Loads and stores are as weak as each allows; the reason is beside it, or beside the like one of
+ * caladan_page_open and caladan_page_close. On x86 each is a plain move
  * (the swap that begins a turn is a locked one), and the fences only keep the compiler in order. On ARM a
  * release store is stlr, an acquire load ldar, the fences are dmb ish and dmb ishld; this was never run there.
  * clients/c/order_test.c runs this very code, in small instances, through every order of loads and stores
