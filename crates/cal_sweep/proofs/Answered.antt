@@ -1,5 +1,5 @@
 -- What each thing was answered, where all answers are Ok.
-use Rattle.std.proofs.Common.{◌≡◌, ℕ, List, [], ◌∷◌, map, Ok, Some}
+use Rattle.std.proofs.Common.{List, [], ◌∷◌, map, Ok}
 use Rattle.std.proofs.lemmas.Slice.Zip.{AllZip-left, AllZip-long}
 use Rattle.std.specs.List.{AllZip}
 use Rattle.std.specs.Prelude.{IfOk, MatchResult}

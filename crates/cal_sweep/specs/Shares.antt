@@ -1,5 +1,5 @@
 -- Which part of a machine the best-effort tasks have.
-use Rattle.std.specs.Prelude.{ℕ, ◌*◌, List, Option, Some, None, slice_get, sum}
+use Rattle.std.specs.Prelude.{ℕ, List, Option, Some, None, slice_get, sum}
 use Rattle.cal_machine.specs.Table.{Table}
 use Rattle.cal_machine.specs.declared.task.Kind.{Kind}
 use Rattle.cal_machine.specs.declared.task.Kind.TheVariants.{LatencyCritical, BestEffort}

@@ -1,7 +1,9 @@
 //! What the program `caladan_view` does between its input and its output, which are the standard ones
-//! or files by name: histories from signals, and from histories pictures and trace events.
+//! or files by name: it says what an input is, explains passes, makes histories, arrivals, pictures
+//! and trace events, and tells the numbers of runs, of several tables and of a load that rises.
 //!
-//! What it shows are the spans of a history (`cal_spans`). How they are drawn is only tested.
+//! What is drawn of a history are its spans (`cal_spans`); numbers are those of `cal_tables` and
+//! `cal_sweep`. How they are drawn and written is only tested.
 #![tactic(auto)]
 
 mod command_words;
@@ -15,8 +17,7 @@ mod story;
 mod timeline;
 
 pub use command_words::command_line::{Form, Job, Request, words};
-pub use edge::noted::Noted;
 pub use jobs::recording::{Front, record};
 pub use picture::{Drawn, Shown, draw_picture};
-pub use program::{end_answer, run_program, say_help};
+pub use program::run_program;
 pub use timeline::write_timeline;
