@@ -19,7 +19,7 @@ ghost use Rattle.std.specs.Prelude.{◌≡◌, ◌<◌};
 ghost use Rattle.cal_machine.specs.TableTasks.{threads_of_table};
 ghost use Rattle.cal_policy.specs.Setting as rules;
 ghost use Rattle.cal_policy.specs.Setting.{Begun};
-ghost use Rattle.cal_policy.specs.Board.{IsOfTable};
+ghost use Rattle.cal_policy.specs.State.{IsOfTable};
 ghost use Rattle.cal_policy.specs.Pass.AtHand.{setting_in};
 
 use crate::board::Board;

@@ -6,7 +6,7 @@ ghost use Rattle.cal_machine.specs.TableTasks.{threads_of_table};
 ghost use Rattle.cal_policy.specs.declared.history.action.Action.{Action};
 ghost use Rattle.cal_policy.specs.Explain.Asked.{IsBanReason, due_by};
 ghost use Rattle.cal_policy.specs.Explain.Walks.{IsWalk, Walks, setting_of, actions_so_far};
-ghost use Rattle.cal_policy.specs.Board.{IsOfTable, Stands};
+ghost use Rattle.cal_policy.specs.State.{IsOfTable, Stands};
 ghost use Rattle.cal_policy.specs.Pass.AtHand.{setting_in};
 ghost use Rattle.cal_policy.specs.History.{holder_of};
 ghost use Rattle.cal_policy.specs.Pass.Bans.{too_long_on};

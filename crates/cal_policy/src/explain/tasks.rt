@@ -7,7 +7,7 @@ ghost use Rattle.cal_policy.specs.declared.history.action.Action.{Action};
 ghost use Rattle.cal_policy.specs.Board.Counts.{cores_of_thread};
 ghost use Rattle.cal_policy.specs.Explain.Asked.{IsTaskState, IsThreadState};
 ghost use Rattle.cal_policy.specs.Explain.Walks.{IsWalk, Walks, setting_of, actions_so_far};
-ghost use Rattle.cal_policy.specs.Board.{IsOfTable, Stands};
+ghost use Rattle.cal_policy.specs.State.{IsOfTable, Stands};
 ghost use Rattle.cal_policy.specs.Pass.AtHand.{setting_in};
 ghost use Rattle.cal_policy.specs.Pass.Bandwidth as bandwidth;
 ghost use Rattle.cal_policy.specs.Pass.Grants as grants;

@@ -5,7 +5,8 @@ ghost use Rattle.std.specs.Option.{IfSome};
 ghost use Rattle.cal_machine.specs.Table.{IsTable};
 ghost use Rattle.cal_policy.specs.declared.history.action_list.TheConstants.{MOST_ACTIONS};
 ghost use Rattle.cal_policy.specs.Setting.{Setting};
-ghost use Rattle.cal_policy.specs.Board.{Stands, IsReady, NamesTable};
+ghost use Rattle.cal_policy.specs.Board.{NamesTable};
+ghost use Rattle.cal_policy.specs.State.{IsReady, Stands};
 
 use crate::board::Board;
 use crate::history::action::Action;

@@ -4,7 +4,7 @@ ghost use Rattle.std.specs.Prelude.{◌≡◌, ◌+◌, ◌≤◌, ◌++◌, len
 ghost use Rattle.cal_machine.specs.Table.{IsTable};
 ghost use Rattle.cal_policy.specs.declared.history.action_list.TheConstants.{MOST_ACTIONS};
 ghost use Rattle.cal_policy.specs.Setting.{Setting};
-ghost use Rattle.cal_policy.specs.Board.{Stands, IsReady};
+ghost use Rattle.cal_policy.specs.State.{IsReady, Stands};
 ghost use Rattle.cal_policy.specs.Pass.Coupled.{both_of, BothName};
 
 use crate::board::Board;

@@ -10,8 +10,9 @@ ghost use Rattle.cal_policy.specs.Judgement.OpenInput.{judged_input};
 ghost use Rattle.cal_policy.specs.Judgement.OpenPass.{IsOpenAt};
 ghost use Rattle.cal_policy.specs.Pass.Bans.{NoPairBanned};
 ghost use Rattle.cal_policy.specs.Pass.{pass_of};
-ghost use Rattle.cal_policy.specs.Board.{Agrees, KeepingAgrees, Stands};
-ghost use Rattle.cal_policy.specs.Board.{IsReady, IsOfTable, IsStateAfter, KeepsBefore, HasSizes};
+ghost use Rattle.cal_policy.specs.State.{IsReady, IsOfTable, IsStateAfter};
+ghost use Rattle.cal_policy.specs.State.{Stands, Agrees, KeepingAgrees};
+ghost use Rattle.cal_policy.specs.Board.{KeepsBefore, HasSizes};
 ghost use Rattle.cal_policy.specs.Board.KeepingSets.{FitAfter};
 
 use crate::board::Board;

@@ -10,7 +10,8 @@ ghost use Rattle.cal_policy.specs.Setting.{Begun, Setting, setting_at, so_far, k
 ghost use Rattle.cal_policy.specs.Pass.Frees.{has_left, shows_left, free_at, frees};
 ghost use Rattle.cal_policy.specs.History.{holder_of};
 ghost use Rattle.cal_policy.specs.Pass.AtHand.{setting_in};
-ghost use Rattle.cal_policy.specs.Board.{BoardSound, Stands, IsReady, IsOfTable, NamesTable, kept_number};
+ghost use Rattle.cal_policy.specs.Board.{BoardSound, NamesTable, kept_number};
+ghost use Rattle.cal_policy.specs.State.{IsReady, IsOfTable, Stands};
 
 use crate::board::Board;
 use crate::board::core_sets::next_core;

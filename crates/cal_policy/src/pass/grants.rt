@@ -10,7 +10,8 @@ ghost use Rattle.cal_policy.specs.Setting.{Begun, setting_at, so_far};
 ghost use Rattle.cal_policy.specs.Pass.Grants as rules;
 ghost use Rattle.cal_policy.specs.Pass.Grants.{grant_of, grant_at, grant_of_kind_at};
 ghost use Rattle.cal_policy.specs.Pass.Grants.{tasks_of_kind};
-ghost use Rattle.cal_policy.specs.Board.{Stands, IsReady, IsOfTable, NamesTable};
+ghost use Rattle.cal_policy.specs.Board.{NamesTable};
+ghost use Rattle.cal_policy.specs.State.{IsReady, IsOfTable, Stands};
 ghost use Rattle.cal_policy.specs.Pass.AtHand.{setting_in};
 
 use crate::board::Board;

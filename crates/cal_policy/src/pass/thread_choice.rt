@@ -6,7 +6,7 @@ ghost use Rattle.cal_policy.specs.declared.history.action.Action.{Action};
 ghost use Rattle.cal_machine.specs.TableTasks.{threads_of_table, limit_of};
 ghost use Rattle.cal_policy.specs.Setting.{Begun, so_far};
 ghost use Rattle.cal_policy.specs.Pass.Grants as grants;
-ghost use Rattle.cal_policy.specs.Board.{IsOfTable, Stands};
+ghost use Rattle.cal_policy.specs.State.{IsOfTable, Stands};
 ghost use Rattle.cal_policy.specs.Pass.AtHand.{setting_in};
 
 use crate::board::survey::survey_of;

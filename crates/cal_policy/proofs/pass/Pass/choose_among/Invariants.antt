@@ -5,7 +5,7 @@ use Rattle.cal_policy.specs.Setting.{Begun}
 use Rattle.cal_policy.specs.History.CoreClasses.{comes_before}
 use Rattle.cal_policy.specs.Pass.Choice.{best_below}
 use Rattle.cal_policy.specs.Pass.Among.{class_among}
-use Rattle.cal_policy.specs.Board.{Stands}
+use Rattle.cal_policy.specs.State.{Stands}
 use Rattle.cal_policy.specs.Pass.AtHand.{setting_in}
 use Rattle.cal_policy.proofs.pass.Pass.choose_among.Given as goal
 

@@ -11,7 +11,7 @@ use Rattle.cal_policy.specs.Setting.{so_far}
 use Rattle.cal_policy.specs.Pass.Choice.{best_below}
 use Rattle.cal_policy.specs.History.CoreClasses.{comes_before}
 use Rattle.cal_policy.specs.Pass.Among.{class_among}
-use Rattle.cal_policy.specs.Board.{IsOfTable, Stands}
+use Rattle.cal_policy.specs.State.{IsOfTable, Stands}
 use Rattle.cal_policy.specs.Pass.AtHand.{setting_in}
 use Rattle.cal_policy.specs.Pass.Grants.{choice_of}
 use Rattle.cal_policy.proofs.BoardLemmas.TwoSets.{choice_joins, idle_choice, none_taken}

@@ -15,7 +15,7 @@ use Rattle.cal_policy.specs.History.CoreClasses.{comes_before}
 use Rattle.cal_policy.proofs.ListLemmas.OneNumberMore.{best_more}
 use Rattle.cal_policy.proofs.BoardLemmas.TwoSets.{best_skip}
 use Rattle.cal_policy.proofs.PassLemmas.Early.{IsLeast, class_of_idle, least_found, least_stays}
-use Rattle.cal_policy.specs.Board.{IsOfTable, Stands}
+use Rattle.cal_policy.specs.State.{IsOfTable, Stands}
 use Rattle.cal_policy.specs.Pass.AtHand.{setting_in}
 use Rattle.cal_policy.proofs.pass.Pass.choose_idle.Goals as goal
 

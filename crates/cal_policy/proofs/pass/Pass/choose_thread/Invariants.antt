@@ -6,7 +6,7 @@ use Rattle.cal_policy.specs.Setting.{so_far}
 use Rattle.cal_machine.specs.TableTasks.{thread_of}
 use Rattle.cal_policy.specs.Pass.Choice.{best_below}
 use Rattle.cal_policy.specs.Pass.Grants.{thread_rank}
-use Rattle.cal_policy.specs.Board.{Stands}
+use Rattle.cal_policy.specs.State.{Stands}
 use Rattle.cal_policy.specs.Pass.AtHand.{setting_in}
 use Rattle.cal_policy.proofs.pass.Pass.choose_thread.Given as goal
 

@@ -4,7 +4,7 @@ use Rattle.cal_policy.specs.Setting.{Begun}
 use Rattle.cal_policy.specs.Pass.Choice.{highest_below}
 use Rattle.cal_policy.specs.Setting.{so_far}
 use Rattle.cal_policy.specs.Pass.Bandwidth.{can_lose}
-use Rattle.cal_policy.specs.Board.{Stands}
+use Rattle.cal_policy.specs.State.{Stands}
 use Rattle.cal_policy.specs.Board.Losing.{HoldsCore}
 use Rattle.cal_policy.specs.Pass.AtHand.{setting_in}
 use Rattle.cal_policy.proofs.pass.Pass.cores_to_lose.Given as goal

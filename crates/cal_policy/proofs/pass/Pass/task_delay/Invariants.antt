@@ -1,7 +1,7 @@
 use Rattle.std.proofs.Common.{◌≡◌, ◌+◌, ◌-◌, ◌≤◌, List}
 use Rattle.cal_policy.specs.declared.history.action.Action.{Action}
 use Rattle.cal_policy.specs.Setting.{Begun}
-use Rattle.cal_policy.specs.Board.{Stands}
+use Rattle.cal_policy.specs.State.{Stands}
 use Rattle.cal_policy.specs.Pass.AtHand.{setting_in}
 use Rattle.cal_machine.specs.TableTasks.{thread_of}
 use Rattle.cal_policy.specs.Pass.Choice.{greatest_below}

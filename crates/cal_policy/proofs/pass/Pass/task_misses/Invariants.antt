@@ -4,7 +4,7 @@ use Rattle.cal_policy.specs.Setting.{Begun}
 use Rattle.cal_machine.specs.TableTasks.{thread_of}
 use Rattle.cal_policy.specs.Pass.Choice.{sum_below}
 use Rattle.cal_policy.specs.Pass.Bandwidth.{new_misses}
-use Rattle.cal_policy.specs.Board.{Stands}
+use Rattle.cal_policy.specs.State.{Stands}
 use Rattle.cal_policy.specs.Pass.AtHand.{setting_in}
 use Rattle.cal_policy.proofs.pass.Pass.task_misses.Given as goal
 

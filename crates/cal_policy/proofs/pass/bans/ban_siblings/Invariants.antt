@@ -3,7 +3,7 @@ use Rattle.cal_policy.specs.Setting.{Begun}
 use Rattle.cal_policy.specs.History.Lists.{in_pair}
 use Rattle.cal_policy.specs.Setting.{setting_at}
 use Rattle.cal_policy.specs.Pass.Bans.{bans_at}
-use Rattle.cal_policy.specs.Board.{Stands, IsReady}
+use Rattle.cal_policy.specs.State.{IsReady, Stands}
 use Rattle.cal_policy.specs.Pass.ToBan.{NoneOver}
 use Rattle.cal_policy.proofs.PassLemmas.PartSoFar.{Reached}
 use Rattle.cal_policy.proofs.pass.bans.ban_siblings.Given as goal

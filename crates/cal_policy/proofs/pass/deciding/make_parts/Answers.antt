@@ -4,7 +4,7 @@ use Rattle.cal_machine.specs.declared.task.Kind.TheVariants as kinds
 use Rattle.cal_policy.specs.declared.history.action.Action.{Action}
 use Rattle.cal_policy.specs.Setting.{Setting, setting_at}
 use Rattle.cal_policy.specs.Pass.Grants.{is_of_kind, tasks_of_kind}
-use Rattle.cal_policy.specs.Board.{Stands}
+use Rattle.cal_policy.specs.State.{Stands}
 use Rattle.cal_policy.proofs.ListLemmas.OneNumberMore.{count_at_most, count_both}
 use Rattle.cal_policy.proofs.PassLemmas.FromParts.{parts_pass, freed_apart}
 use Rattle.cal_policy.proofs.pass.deciding.make_parts.Goals as goal

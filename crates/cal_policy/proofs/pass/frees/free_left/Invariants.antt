@@ -2,7 +2,7 @@ use Rattle.std.proofs.Common.{◌+◌, ◌-◌, ◌≤◌, length}
 use Rattle.cal_policy.specs.Setting.{Begun}
 use Rattle.cal_policy.specs.Setting.{setting_at}
 use Rattle.cal_policy.specs.Pass.Frees.{free_at}
-use Rattle.cal_policy.specs.Board.{Stands, IsReady}
+use Rattle.cal_policy.specs.State.{IsReady, Stands}
 use Rattle.cal_policy.proofs.PassLemmas.PartSoFar.{Reached}
 use Rattle.cal_policy.proofs.pass.frees.free_left.Given as goal
 

@@ -3,7 +3,7 @@ use Rattle.cal_machine.specs.Tasks.{first_thread}
 use Rattle.cal_policy.specs.Setting.{Begun, setting_at}
 use Rattle.cal_policy.specs.Pass.Choice.{count_below}
 use Rattle.cal_policy.specs.Pass.Grants.{grant_of_kind_at, is_of_kind}
-use Rattle.cal_policy.specs.Board.{Stands, IsReady}
+use Rattle.cal_policy.specs.State.{IsReady, Stands}
 use Rattle.cal_policy.proofs.PassLemmas.PartSoFar.{Reached}
 use Rattle.cal_policy.proofs.pass.grants.grants_of_kind.Given as goal
 
