@@ -27,7 +27,7 @@ went_through g h input given chosen told guard are same is permitted keeps histo
       input = is;
       permitted = permitted;
       table = refl;
-      history = history;
+      goes_on = history;
       after = keeps;
     } in
     subst (λ (i : Input). WentThrough g h i told new) same whole

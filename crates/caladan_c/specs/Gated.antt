@@ -48,7 +48,7 @@ pub record WentThrough (old : Gated) (history : List PassEntry) (given : Input) 
   pub input : IsInput old.table history given
   pub permitted : ArePermitted (setting old.table history given) chosen
   pub table : new.table ≡ old.table
-  pub history : IsPermittedHistory new.table (and_then history given chosen)
+  pub goes_on : IsPermittedHistory new.table (and_then history given chosen)
   pub after : IsStateAfter (board_in new.guard) (and_then history given chosen)
 
 -- the pass was stopped: of the actions that C told this is the first that is not permitted, and why
