@@ -147,6 +147,7 @@ impl Book {
     /// Appends the actions of the next pass, at this clock and bandwidth figure and on the looks
     /// that came in, one of each thread, to an empty list, and takes the pass into the book. It is
     /// `step` on the input that is made of these looks, with no list of looks made.
+    #[inline(always)]
     pub fn pass(
         &mut self,
         config: &Config,
