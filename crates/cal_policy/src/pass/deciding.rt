@@ -70,6 +70,7 @@ pub fn decide(config: &Config, input: &Input, board: &mut Board, out: &mut Actio
 
 /// The same, where the looks came in one by one, one of each thread, and only those that are news
 /// were noted.
+#[inline(always)]
 pub fn decide_noted(
     config: &Config,
     now: u64,
