@@ -2,23 +2,24 @@
 use Rattle.std.proofs.Common.{◌≡◌, ◌+◌, ◌≤◌, List, length, ap, sym, subst, arith}
 use Rattle.cal_machine.specs.declared.task.Kind.TheVariants as kinds
 use Rattle.cal_policy.specs.declared.history.action.Action.{Action}
-use Rattle.cal_policy.specs.Setting.{Setting, setting_at}
+use Rattle.cal_policy.specs.Setting.{Setting}
+use Rattle.cal_policy.specs.Pass.AtHand.{setting_in}
 use Rattle.cal_policy.specs.Pass.Grants.{is_of_kind, tasks_of_kind}
-use Rattle.cal_policy.specs.Board.{Stands}
+use Rattle.cal_policy.specs.State.{Stands}
 use Rattle.cal_policy.proofs.ListLemmas.OneNumberMore.{count_at_most, count_both}
 use Rattle.cal_policy.proofs.PassLemmas.FromParts.{parts_pass, freed_apart}
-use Rattle.cal_policy.proofs.pass.deciding.make_parts.Goals as goal
+use Rattle.cal_policy.proofs.pass.Pass.make_parts.Goals as goal
 
 pub grants_of_kind-requires-clause-room : goal.grants_of_kind-requires-clause-room
 grants_of_kind-requires-clause-room c =
-    let table = c.args.config.now in
+    let table = c.args.self.now.config.now in
     let few : tasks_of_kind kinds.LatencyCritical table ≤ length table.tasks = count_at_most (is_of_kind kinds.LatencyCritical table) (length table.tasks) in
     let empty : length c.args.out.now ≡ 0 = ap length c.requires.empty in
     omega (arith, few, empty, c.requires.of_table.accepted.tasks, c.requires.of_table.accepted.machine.most)
 
 pub grants_of_kind-requires-2-clause-room : goal.grants_of_kind-requires-2-clause-room
 grants_of_kind-requires-2-clause-room c =
-    let table = c.args.config.now in
+    let table = c.args.self.now.config.now in
     let all : tasks_of_kind kinds.LatencyCritical table + tasks_of_kind kinds.BestEffort table ≡ length table.tasks =
     count_both (is_of_kind kinds.LatencyCritical table) (length table.tasks) in
     let empty : length c.args.out.now ≡ 0 = ap length c.requires.empty in
@@ -26,7 +27,7 @@ grants_of_kind-requires-2-clause-room c =
 
 pub returns-clause-acts : goal.returns-clause-acts
 returns-clause-acts c = λ h apart st.
-    let s : Setting = setting_at c.args.config.now c.args.terms.now h in
+    let s : Setting = setting_in c.args.self.now h in
     let P : List Action → Type 0 = λ o. Stands c.args.board.now s o in
     let r1 = c.free_left.ensures.acts h (subst P (sym c.requires.empty) st) in
     let r2 = c.end_bans.ensures.acts h (freed_apart s _ _ c.requires.empty r1.0 apart) r1.1 in

@@ -1,6 +1,6 @@
 use Rattle.cal_policy.specs.Setting.{so_far}
 use Rattle.cal_policy.proofs.PassLemmas.FromParts.{Stands_push}
-use Rattle.cal_policy.proofs.pass.appending.make.Goals as goal
+use Rattle.cal_policy.proofs.pass.Pass.make.Goals as goal
 
 pub returns-in-Some-clause-stands : goal.returns-in-Some-clause-stands
 returns-in-Some-clause-stands c = λ s st.
