@@ -1,6 +1,7 @@
 //! The report of a history: its passes, what they did, and the tasks at its end.
 
 pub mod summary;
+pub mod tally;
 
 ghost use Rattle.std.specs.Prelude.{◌<◌, ◌+◌, ◌^◌, ◌++◌, ◌∷◌, [], ℕ, List, Option, length, OnOk};
 ghost use Rattle.std.specs.List.{flat_map};
