@@ -1,5 +1,5 @@
 -- What a turn hands out, counted step by step.
-use Rattle.std.proofs.Common.{◌≡◌, ◌<◌, ◌≤◌, ◌+◌, ℕ, zero, suc, Option, None, Some, List, ◌∷◌, [], ◌++◌, length, get_or, arith, length-append}
+use Rattle.std.proofs.Common.{◌<◌, ◌≤◌, ◌+◌, ℕ, zero, suc, Option, None, Some, List, ◌∷◌, [], length, get_or, arith, length-append}
 use Rattle.std.specs.List.{AllZip}
 use Rattle.cal_kthread.specs.Turn.{noted}
 use Rattle.cal_kthread.specs.declared.journal.entry.Entry.{Entry}

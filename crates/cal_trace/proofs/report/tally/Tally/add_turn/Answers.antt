@@ -1,4 +1,4 @@
-use Rattle.std.proofs.Common.{◌≡◌, ◌<◌, ◌≤◌, ◌+◌, ◌^◌, List, length, arith, subst}
+use Rattle.std.proofs.Common.{◌≤◌, ◌+◌, List, length, arith, subst}
 use Rattle.cal_kthread.specs.Turn.{noted}
 use Rattle.cal_kthread.specs.declared.journal.entry.Entry.{Entry}
 use Rattle.cal_kthread.proofs.TurnLemmas.Turns.{noted-all}
