@@ -6,7 +6,7 @@
 --     `IsOfTable`      the table is an accepted one, and the board is ready for it
 --   of a board and what led to it
 --     `IsStateAfter`   it is the state that the passes of a history leave
---     `Stands`         it is the state within a pass, after the first of its actions
+--     `Stands`         it is the state within a pass, after the actions of it so far
 --   their parts
 --     `Agrees`         its cores, bans and caps are as these actions say
 --     `KeepingAgrees`  its records are as these looks say
@@ -35,8 +35,8 @@ use Rattle.cal_signal.specs.Records.{zero_record}
 use Rattle.cal_signal.specs.Shown.{nothing_shown}
 
 -- the board is ready for passes on the table: its threads are the table's, its counts are those of
--- its cores, its sets have each core where its holder, its ban and its thread's kept record say, and
--- each thread where its kept record says
+-- its cores, its sets have each core where its holder, its ban and its thread's kept record say,
+-- and each thread where its kept record says
 pub record IsReady (table : Table) (b : Board) : Type 0 where
   pub sound : BoardSound MOST_THREADS b
   pub own : BoardSound (threads_of_table table) b
