@@ -1,7 +1,8 @@
 -- The passes that signals lead to: each is decided after all before it.
 use Rattle.std.specs.Prelude.{◌≡◌, List, [], ◌∷◌, ◌++◌}
 use Rattle.cal_machine.specs.Table.{Table}
-use Rattle.cal_policy.specs.Book.{AgreesWith}
+use Rattle.cal_policy.specs.Book.{board_in}
+use Rattle.cal_policy.specs.State.{IsStateAfter}
 use Rattle.cal_policy.specs.declared.history.entry.PassEntry.{PassEntry}
 use Rattle.cal_policy.specs.declared.history.input.Input.{Input}
 use Rattle.cal_policy.specs.Judgement.OpenInput.{judged_input}
@@ -34,6 +35,6 @@ decided table passes = decided_after table [] passes
 
 -- the report has come to the end of this history: its book agrees with it, and it has its lines
 pub record Tells (history : List PassEntry) (report : OpenReport) : Type 0 where
-  pub agrees : AgreesWith report.decider.book history
+  pub agrees : IsStateAfter (board_in report.decider.book) history
   pub of : IsReportOf history report.report
   pub written : report.text.items ≡ passes_text history

@@ -5,7 +5,8 @@
 ghost use Rattle.std.specs.Prelude.{◌≡◌, length, OnOk};
 ghost use Rattle.cal_machine.specs.TableTasks.{threads_of_table};
 ghost use Rattle.cal_policy.specs.Auditor.{IsAuditorOf};
-ghost use Rattle.cal_policy.specs.Book.{IsBookOf};
+ghost use Rattle.cal_policy.specs.Book.{board_in};
+ghost use Rattle.cal_policy.specs.State.{IsReady};
 
 use cal_machine::Config;
 use cal_policy::{Actions, Auditor, Book, FoundLook, Look, PassEntry, Record};
@@ -23,9 +24,9 @@ fn pass(
     now: u64,
     found: &[FoundLook],
 ) -> anyhow::Result<Option<PassEntry>>
-    requires of { IsBookOf config.now book.old }
+    requires of { IsReady config.now (board_in book.old) }
     requires each { length found.now ≡ threads_of_table config.now }
-    ensures of { OnOk result (IsBookOf config.now book.new) }
+    ensures of { OnOk result (IsReady config.now (board_in book.new)) }
 {
     let mut actions = Actions::reserved(rt.alloc())?;
     let input = book.input(rt.alloc(), config, now, 0, found)?;
@@ -53,9 +54,9 @@ fn pass_on(
     auditor: &mut Auditor,
     shown: (u64, u64, Record),
 ) -> anyhow::Result<()>
-    requires book { IsBookOf config.now book.old }
+    requires book { IsReady config.now (board_in book.old) }
     requires auditor { IsAuditorOf config.now auditor.old }
-    ensures book { OnOk result (IsBookOf config.now book.new) }
+    ensures book { OnOk result (IsReady config.now (board_in book.new)) }
     ensures auditor { OnOk result (IsAuditorOf config.now auditor.new) }
 {
     let (now, number, rec) = shown;

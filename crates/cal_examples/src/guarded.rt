@@ -3,7 +3,8 @@
 
 // begin
 ghost use Rattle.std.specs.Prelude.{◌≡◌, length, OnOk};
-ghost use Rattle.cal_guard.specs.Guarded.{IsGuardOf};
+ghost use Rattle.cal_guard.specs.Guarded.{board_in};
+ghost use Rattle.cal_policy.specs.State.{IsReady};
 ghost use Rattle.cal_machine.specs.TableTasks.{threads_of_table};
 
 use cal_guard::Guard;
@@ -23,9 +24,9 @@ fn pass(
     found: &[FoundLook],
     chosen: &[Action],
 ) -> anyhow::Result<()>
-    requires of { IsGuardOf config.now guard.old }
+    requires of { IsReady config.now (board_in guard.old) }
     requires each { length found.now ≡ threads_of_table config.now }
-    ensures of { OnOk result (IsGuardOf config.now guard.new) }
+    ensures of { OnOk result (IsReady config.now (board_in guard.new)) }
 {
     let input = guard.board().input(rt.alloc(), config, now, 0, found)?;
     if !guard.board().fits(config, &input) {

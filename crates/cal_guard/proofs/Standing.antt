@@ -5,7 +5,8 @@ use Rattle.cal_policy.specs.declared.history.input.Input.{Input}
 use Rattle.cal_policy.specs.declared.board.Board.{Board}
 use Rattle.cal_policy.specs.History.{actions_of, looks_of}
 use Rattle.cal_policy.specs.Setting.{Setting, so_far}
-use Rattle.cal_policy.specs.Board.{Agrees, HasGranted, Stands, KeepingAgrees, KeepsBefore}
+use Rattle.cal_policy.specs.Board.{HasGranted, KeepsBefore}
+use Rattle.cal_policy.specs.State.{Stands, Agrees, KeepingAgrees}
 use Rattle.cal_policy.specs.declared.history.look.Seen.{Seen}
 use Rattle.cal_policy.proofs.PassLemmas.FromParts.{Stands_begin, Stands_end}
 use Rattle.cal_policy.proofs.HistoryLemmas.OneMore.{kept_push, shown_push}
@@ -17,9 +18,8 @@ stands_more b new s acts a st same agrees fresh =
     let P : List Action → Type 0 = λ x. Agrees new x in record {
       agrees = subst P (append_assoc (actions_of s.history) acts (a ∷ [])) agrees;
       fresh = fresh;
-      kept = λ k lt. rw same (st.kept k lt);
-      before = λ k lt. rw same (st.before k lt);
-      shown = λ k lt. rw same (st.shown k lt);
+      looks = rw same st.looks;
+      before = rw same st.before;
     }
 
 -- a board that stands in a pass begins the next one, with these looks
@@ -37,7 +37,9 @@ pub stands_first : (s : Setting) (b : Board) → s.history ≡ [] → s.input.se
 stands_first s b none unseen agrees fresh keeping before = rw (none, unseen) (record {
   agrees = agrees;
   fresh = fresh;
-  kept = λ k lt. keeping.kept k lt ∙ sym (kept_push [] [] k);
-  before = λ k lt. before.before k lt;
-  shown = λ k lt. keeping.shown k lt ∙ sym (shown_push [] [] k);
+  looks = record {
+    kept = λ k lt. keeping.kept k lt ∙ sym (kept_push [] [] k);
+    shown = λ k lt. keeping.shown k lt ∙ sym (shown_push [] [] k);
+  };
+  before = before;
 })

@@ -19,7 +19,9 @@ use Rattle.cal_policy.specs.declared.board.bans.BannedFor as bans
 use Rattle.cal_policy.specs.declared.judgement.open_pass.OpenPass.{OpenPass}
 use Rattle.cal_policy.specs.Judgement.OpenPass.{noted_in}
 use Rattle.cal_policy.specs.Setting.{Setting}
-use Rattle.cal_policy.specs.Board.{Agrees, Stands, IsStateAfter, IsReady, placement_of, holder_in}
+use Rattle.cal_policy.specs.Board.{placement_of, holder_in}
+use Rattle.cal_policy.specs.declared.board.records.Keeping.{Keeping}
+use Rattle.cal_policy.specs.State.{IsReady, IsStateAfter, Stands, Agrees, KeepingAgrees}
 use Rattle.cal_policy.specs.Board.Survey.{Surveys}
 use Rattle.cal_guard.specs.declared.pass_looks.PassLooks.{PassLooks}
 use Rattle.cal_guard.specs.declared.pass_looks.PassLooks.TheVariants.{Listed, Noted}
@@ -40,13 +42,19 @@ agree_alike a b x y ax bx ay = record {
   banned = record { banned = λ c lt. bx.banned.banned c lt ∙ sym (ax.banned.banned c lt) ∙ ay.banned.banned c lt };
 }
 
+-- records that agree with the same looks agree with the same others
+keep_alike : (a b : Keeping) (x y : List (List Seen)) → KeepingAgrees a x → KeepingAgrees b x → KeepingAgrees a y → KeepingAgrees b y
+keep_alike a b x y ax bx ay = record {
+  kept = λ k lt. bx.kept k lt ∙ sym (ax.kept k lt) ∙ ay.kept k lt;
+  shown = λ k lt. bx.shown k lt ∙ sym (ax.shown k lt) ∙ ay.shown k lt;
+}
+
 stand_alike : (a b : Board) (s t : Setting) (acts more : List Action) → Stands a s acts → Stands b s acts → Stands a t more → Stands b t more
 stand_alike a b s t acts more sa sb st = record {
   agrees = agree_alike a b _ _ sa.agrees sb.agrees st.agrees;
   fresh = record { fresh = λ c lt. sb.fresh.fresh c lt ∙ sym (sa.fresh.fresh c lt) ∙ st.fresh.fresh c lt };
-  kept = λ k lt. sb.kept k lt ∙ sym (sa.kept k lt) ∙ st.kept k lt;
-  before = λ k lt. sb.before k lt ∙ sym (sa.before k lt) ∙ st.before k lt;
-  shown = λ k lt. sb.shown k lt ∙ sym (sa.shown k lt) ∙ st.shown k lt;
+  looks = keep_alike a.keeping b.keeping _ _ sa.looks sb.looks st.looks;
+  before = record { before = λ k lt. sb.before.before k lt ∙ sym (sa.before.before k lt) ∙ st.before.before k lt };
 }
 
 -- a twin is inside each pass that the other is inside of, and after each history
@@ -62,10 +70,7 @@ twin_inside p q twins s acts is = record {
 pub twin_state : (p q : Passing) → AreTwins p q → (h : List PassEntry) → IsStateAfter p.board h → IsStateAfter q.board h
 twin_state p q twins h is = record {
   actions = agree_alike p.board q.board _ _ twins.one.stands.agrees twins.other.stands.agrees is.actions;
-  looks = record {
-    kept = λ k lt. twins.other.stands.kept k lt ∙ sym (twins.one.stands.kept k lt) ∙ is.looks.kept k lt;
-    shown = λ k lt. twins.other.stands.shown k lt ∙ sym (twins.one.stands.shown k lt) ∙ is.looks.shown k lt;
-  };
+  looks = keep_alike p.board.keeping q.board.keeping _ _ twins.one.stands.looks twins.other.stands.looks is.looks;
 }
 
 pub twin_back : (p q : Passing) → AreTwins p q → AreTwins q p

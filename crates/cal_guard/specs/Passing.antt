@@ -17,7 +17,8 @@ use Rattle.cal_policy.specs.declared.pass.terms.Terms.{Terms}
 use Rattle.cal_policy.specs.Judgement.OpenInput.{judged_looks}
 use Rattle.cal_policy.specs.Judgement.OpenPass.{IsOpenAt, ShowNoted}
 use Rattle.cal_policy.specs.Setting.{Setting, setting, setting_at, so_far}
-use Rattle.cal_policy.specs.Board.{Stands, NamesTable}
+use Rattle.cal_policy.specs.Board.{NamesTable}
+use Rattle.cal_policy.specs.State.{Stands}
 use Rattle.cal_guard.specs.declared.pass_looks.PassLooks.{PassLooks}
 use Rattle.cal_guard.specs.declared.pass_looks.PassLooks.TheVariants.{Listed, Noted}
 use Rattle.cal_guard.specs.declared.passing.Passing.{Passing}

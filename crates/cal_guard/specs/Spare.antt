@@ -5,7 +5,7 @@ use Rattle.cal_machine.specs.declared.machine.TheConstants.{MOST_CORES}
 use Rattle.cal_policy.specs.declared.board.Board.{Board}
 use Rattle.cal_policy.specs.declared.history.action.Action.{Action}
 use Rattle.cal_policy.specs.Setting.{Setting}
-use Rattle.cal_policy.specs.Board.{IsReady}
+use Rattle.cal_policy.specs.State.{IsReady}
 use Rattle.cal_guard.specs.declared.passing.Passing.{Passing}
 use Rattle.cal_guard.specs.Passing.{IsAfter}
 

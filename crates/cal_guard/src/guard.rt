@@ -12,10 +12,11 @@ ghost use Rattle.cal_policy.specs.Judgement.Judging.{IsInput};
 ghost use Rattle.cal_policy.specs.Judgement.OpenInput.{judged_input};
 ghost use Rattle.cal_policy.specs.Judgement.OpenPass.{IsOpenAt};
 ghost use Rattle.cal_policy.specs.Setting.{setting};
-ghost use Rattle.cal_policy.specs.Board.{HasSizes, IsReady, IsStateAfter};
+ghost use Rattle.cal_policy.specs.Board.{HasSizes};
+ghost use Rattle.cal_policy.specs.State.{IsReady, IsStateAfter};
 ghost use Rattle.cal_guard.specs.Permitted.{ArePermitted, IsPermittedHistory};
 ghost use Rattle.cal_guard.specs.Refusals.{MayEndWith, IsFirstWrong};
-ghost use Rattle.cal_guard.specs.Guarded.{Keeps, IsWithin, IsGuardOf};
+ghost use Rattle.cal_guard.specs.Guarded.{board_in, IsWithin};
 ghost use Rattle.cal_guard.specs.Guarded.{and_then};
 ghost use Rattle.cal_guard.specs.Passing.{AreFew, AreLooks, GoesBy};
 ghost use Rattle.cal_policy.specs.declared.history.input.Input.{Input};
@@ -57,8 +58,8 @@ impl Model for Guard {
 impl Guard {
     /// The guard of the empty history. Fails only when out of memory.
     pub fn open(alloc: Global, config: &Config) -> Result<Guard, AllocError>
-        ensures keeps { IfOk result (λ guard. Keeps guard []) }
-        ensures of { IfOk result (λ guard. IsGuardOf config.now guard) }
+        ensures keeps { IfOk result (λ guard. IsStateAfter (board_in guard) []) }
+        ensures of { IfOk result (λ guard. IsReady config.now (board_in guard)) }
     {
         config.limits();
         let passing = Box::new(alloc, Passing::new())?;
@@ -69,19 +70,22 @@ impl Guard {
     /// The state that the history leaves. Within a pass it has the pass's looks too, and the
     /// actions that were taken.
     pub fn board(&self) -> &Board
-        ensures agrees { (h : List PassEntry) → Keeps self.now h → IsStateAfter result.now h }
-        ensures ready { (table : Table) → IsGuardOf table self.now → IsReady table result.now }
+        ensures agrees { (h : List PassEntry) → IsStateAfter (board_in self.now) h →
+            IsStateAfter result.now h }
+        ensures ready { (table : Table) → IsReady table (board_in self.now) →
+            IsReady table result.now }
     {
         &self.passing.board
     }
 
     /// Begins the next pass, on an input that fits, without any action yet.
     pub fn begin(&mut self, config: &Config, input: &Input)
-        requires of { IsGuardOf config.now self.old }
+        requires of { IsReady config.now (board_in self.old) }
         requires sizes { HasSizes config.now input.now }
-        ensures within { (h : List PassEntry) → IsPermittedHistory config.now h → Keeps self.old h →
+        ensures within { (h : List PassEntry) → IsPermittedHistory config.now h →
+            IsStateAfter (board_in self.old) h →
             IsWithin self.new (setting config.now h input.entry.now) [] }
-        ensures of { IsGuardOf config.now self.new }
+        ensures of { IsReady config.now (board_in self.new) }
     {
         config.limits();
         let looks = PassLooks::Listed(input.seen.as_slice());
@@ -97,7 +101,7 @@ impl Guard {
         input: &Input,
         actions: &[Action],
     ) -> Result<(), Refused>
-        requires of { IsGuardOf config.now self.old }
+        requires of { IsReady config.now (board_in self.old) }
         requires sizes { HasSizes config.now input.now }
         ensures exact { (h : List PassEntry) (acts : List Action) →
             IsWithin self.old (setting config.now h input.entry.now) acts →
@@ -109,7 +113,7 @@ impl Guard {
             IsWithin self.old (setting config.now h input.entry.now) acts →
             IsFirstWrong (setting config.now h input.entry.now) acts actions.now refused) }
         ensures unchanged { OnErr result (self.new ≡ self.old) }
-        ensures of { IsGuardOf config.now self.new }
+        ensures of { IsReady config.now (board_in self.new) }
     {
         config.limits();
         let terms = Terms::of(config, input);
@@ -118,12 +122,12 @@ impl Guard {
 
     /// Begins the next pass, on the looks that came in of it, without any action yet.
     pub fn begin_noted(&mut self, config: &Config, looks: &OpenPass)
-        requires { IsGuardOf config.now self.old }
+        requires { IsReady config.now (board_in self.old) }
         ensures within { (h : List PassEntry) (found : List FoundLook) (now bandwidth : ℕ) →
-            IsPermittedHistory config.now h → Keeps self.old h →
+            IsPermittedHistory config.now h → IsStateAfter (board_in self.old) h →
             IsOpenAt config.now h found looks.entry.now → IsWithin self.new
             (setting config.now h (judged_input config.now h now bandwidth found)) [] }
-        ensures of { IsGuardOf config.now self.new }
+        ensures of { IsReady config.now (board_in self.new) }
     {
         config.limits();
         let noted = PassLooks::Noted(looks);
@@ -140,7 +144,7 @@ impl Guard {
         looks: &OpenPass,
         actions: &[Action],
     ) -> Result<(), Refused>
-        requires of { IsGuardOf config.now self.old }
+        requires of { IsReady config.now (board_in self.old) }
         requires all { looks.now.count ≡ threads_of_table config.now }
         ensures exact { (h : List PassEntry) (found : List FoundLook) (acts : List Action) →
             IsOpenAt config.now h found looks.entry.now →
@@ -155,7 +159,7 @@ impl Guard {
             let s = setting config.now h (judged_input config.now h now bandwidth found) in
             IsWithin self.old s acts → IsFirstWrong s acts actions.now refused) }
         ensures unchanged { OnErr result (self.new ≡ self.old) }
-        ensures of { IsGuardOf config.now self.new }
+        ensures of { IsReady config.now (board_in self.new) }
     {
         config.limits();
         let terms = Terms::of_noted(config, now, bandwidth, looks);
@@ -164,12 +168,13 @@ impl Guard {
 
     /// Takes in a pass that does nothing. Nothing is wrong with one, so nothing is tried.
     fn step_idle(&mut self, config: &Config, looks: PassLooks)
-        requires of { IsGuardOf config.now self.old }
+        requires of { IsReady config.now (board_in self.old) }
         requires few { AreFew looks }
         ensures keeps { (h : List PassEntry) (input : Input) →
             AreLooks looks.entry config.now h input.seen → IsPermittedHistory config.now h →
-            Keeps self.old h → Keeps self.new (and_then h input []) }
-        ensures of { IsGuardOf config.now self.new }
+            IsStateAfter (board_in self.old) h →
+            IsStateAfter (board_in self.new) (and_then h input []) }
+        ensures of { IsReady config.now (board_in self.new) }
     {
         config.limits();
         begin_both(config, &mut self.passing, &mut self.spare, looks);
@@ -183,22 +188,22 @@ impl Guard {
         looks: PassLooks,
         chosen: &[Action],
     ) -> Result<(), Refused>
-        requires of { IsGuardOf config.now self.old }
+        requires of { IsReady config.now (board_in self.old) }
         requires few { AreFew looks }
         ensures exact { (h : List PassEntry) (input : Input) →
             GoesBy config.now terms.entry.now looks.entry h input →
-            IsPermittedHistory config.now h → Keeps self.old h →
+            IsPermittedHistory config.now h → IsStateAfter (board_in self.old) h →
             IsOk result ↔ ArePermitted (setting config.now h input) chosen.now }
         ensures keeps { IsOk result → (h : List PassEntry) (input : Input) →
             GoesBy config.now terms.entry.now looks.entry h input →
-            IsPermittedHistory config.now h → Keeps self.old h →
-            Keeps self.new (and_then h input chosen.now) }
+            IsPermittedHistory config.now h → IsStateAfter (board_in self.old) h →
+            IsStateAfter (board_in self.new) (and_then h input chosen.now) }
         ensures first { IfErr result (λ refused. (h : List PassEntry) (input : Input) →
             GoesBy config.now terms.entry.now looks.entry h input →
-            IsPermittedHistory config.now h → Keeps self.old h →
+            IsPermittedHistory config.now h → IsStateAfter (board_in self.old) h →
             IsFirstWrong (setting config.now h input) [] chosen.now refused) }
         ensures unchanged { OnErr result (self.new ≡ self.old) }
-        ensures of { IsGuardOf config.now self.new }
+        ensures of { IsReady config.now (board_in self.new) }
     {
         config.limits();
         let (passing, spare) = (&mut self.passing, &mut self.spare);
@@ -209,21 +214,22 @@ impl Guard {
     /// where they are permitted, and takes it in; else names the first that is not, and takes
     /// nothing in.
     pub fn step(&mut self, config: &Config, input: &Input, chosen: &[Action]) -> Result<(), Refused>
-        requires of { IsGuardOf config.now self.old }
+        requires of { IsReady config.now (board_in self.old) }
         requires sizes { HasSizes config.now input.now }
-        ensures exact { (h : List PassEntry) → IsPermittedHistory config.now h → Keeps self.old h →
+        ensures exact { (h : List PassEntry) → IsPermittedHistory config.now h →
+            IsStateAfter (board_in self.old) h →
             IsOk result ↔ ArePermitted (setting config.now h input.entry.now) chosen.now }
         ensures keeps { IsOk result → (h : List PassEntry) → IsPermittedHistory config.now h →
-            Keeps self.old h →
-            Keeps self.new (and_then h input.entry.now chosen.now) }
+            IsStateAfter (board_in self.old) h →
+            IsStateAfter (board_in self.new) (and_then h input.entry.now chosen.now) }
         ensures permitted { IsOk result → (h : List PassEntry) → IsPermittedHistory config.now h →
-            Keeps self.old h → IsInput config.now h input.entry.now →
+            IsStateAfter (board_in self.old) h → IsInput config.now h input.entry.now →
             IsPermittedHistory config.now (and_then h input.entry.now chosen.now) }
         ensures first { IfErr result (λ refused. (h : List PassEntry) →
-            IsPermittedHistory config.now h → Keeps self.old h →
+            IsPermittedHistory config.now h → IsStateAfter (board_in self.old) h →
             IsFirstWrong (setting config.now h input.entry.now) [] chosen.now refused) }
         ensures unchanged { OnErr result (self.new ≡ self.old) }
-        ensures of { IsGuardOf config.now self.new }
+        ensures of { IsReady config.now (board_in self.new) }
     {
         config.limits();
         doing_nothing_is_permitted();
@@ -247,30 +253,30 @@ impl Guard {
         looks: &OpenPass,
         chosen: &[Action],
     ) -> Result<(), Refused>
-        requires of { IsGuardOf config.now self.old }
+        requires of { IsReady config.now (board_in self.old) }
         requires all { looks.now.count ≡ threads_of_table config.now }
         ensures exact { (h : List PassEntry) (found : List FoundLook) →
-            IsPermittedHistory config.now h → Keeps self.old h →
+            IsPermittedHistory config.now h → IsStateAfter (board_in self.old) h →
             IsOpenAt config.now h found looks.entry.now →
             let s = setting config.now h (judged_input config.now h now bandwidth found) in
             IsOk result ↔ ArePermitted s chosen.now }
         ensures keeps { IsOk result → (h : List PassEntry) (found : List FoundLook) →
-            IsPermittedHistory config.now h → Keeps self.old h →
+            IsPermittedHistory config.now h → IsStateAfter (board_in self.old) h →
             IsOpenAt config.now h found looks.entry.now →
             let input = judged_input config.now h now bandwidth found in
-            Keeps self.new (and_then h input chosen.now) }
+            IsStateAfter (board_in self.new) (and_then h input chosen.now) }
         ensures permitted { IsOk result → (h : List PassEntry) (found : List FoundLook) →
-            IsPermittedHistory config.now h → Keeps self.old h →
+            IsPermittedHistory config.now h → IsStateAfter (board_in self.old) h →
             IsOpenAt config.now h found looks.entry.now →
             let input = judged_input config.now h now bandwidth found in
             IsPermittedHistory config.now (and_then h input chosen.now) }
         ensures first { IfErr result (λ refused. (h : List PassEntry) (found : List FoundLook) →
-            IsPermittedHistory config.now h → Keeps self.old h →
+            IsPermittedHistory config.now h → IsStateAfter (board_in self.old) h →
             IsOpenAt config.now h found looks.entry.now →
             let s = setting config.now h (judged_input config.now h now bandwidth found) in
             IsFirstWrong s [] chosen.now refused) }
         ensures unchanged { OnErr result (self.new ≡ self.old) }
-        ensures of { IsGuardOf config.now self.new }
+        ensures of { IsReady config.now (board_in self.new) }
     {
         config.limits();
         doing_nothing_is_permitted();

@@ -7,7 +7,7 @@ ghost use Rattle.cal_policy.specs.declared.history.action.Action.{Action};
 ghost use Rattle.cal_policy.specs.declared.history.entry.PassEntry.{PassEntry};
 ghost use Rattle.cal_policy.specs.declared.history.input.Input.{Input};
 ghost use Rattle.cal_policy.specs.Setting.{Begun, setting, setting_at};
-ghost use Rattle.cal_policy.specs.Board.{IsReady, IsStateAfter};
+ghost use Rattle.cal_policy.specs.State.{IsReady, IsStateAfter};
 ghost use Rattle.cal_guard.specs.Permitted.{ArePermitted, IsPermittedHistory};
 ghost use Rattle.cal_guard.specs.Refusals.{MayEndWith, IsFirstWrong};
 ghost use Rattle.cal_guard.specs.Passing.{IsInside, AreFew, AreLooks, GoesBy};

@@ -1,6 +1,7 @@
 //! Many passes behind one guard, to be timed.
 
-ghost use Rattle.cal_guard.specs.Guarded.{IsGuardOf};
+ghost use Rattle.cal_guard.specs.Guarded.{board_in};
+ghost use Rattle.cal_policy.specs.State.{IsReady};
 
 use crate::made::record;
 use cal_guard::Guard;
@@ -58,8 +59,8 @@ fn input_of(alloc: Global, config: &Config, guard: &Guard, i: u64) -> Result<Inp
 
 /// Makes pass `i`, and tells whether the guard let it through.
 fn make_pass(alloc: Global, config: &Config, guard: &mut Guard, i: u64) -> Result<bool, AllocError>
-    requires { IsGuardOf config.now guard.old }
-    ensures { IsGuardOf config.now guard.new }
+    requires { IsReady config.now (board_in guard.old) }
+    ensures { IsReady config.now (board_in guard.new) }
 {
     let input = input_of(alloc, config, guard, i)?;
     if !guard.board().fits(config, &input) {

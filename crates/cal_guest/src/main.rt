@@ -5,7 +5,8 @@
 
 ghost use Rattle.std.specs.Prelude.{◌≤◌, length};
 ghost use Rattle.cal_policy.specs.Board.{HasSizes};
-ghost use Rattle.cal_guard.specs.Guarded.{IsGuardOf};
+ghost use Rattle.cal_guard.specs.Guarded.{board_in};
+ghost use Rattle.cal_policy.specs.State.{IsReady};
 
 mod first_come;
 mod long_run;
@@ -49,9 +50,9 @@ fn let_through(
     input: &Input,
     chosen: &[Action],
 ) -> (usize, Option<Refused>)
-    requires of { IsGuardOf config.now guard.old }
+    requires of { IsReady config.now (board_in guard.old) }
     requires sizes { HasSizes config.now input.now }
-    ensures of { IsGuardOf config.now guard.new }
+    ensures of { IsReady config.now (board_in guard.new) }
     ensures few { result.0 ≤ length chosen.now }
 {
     guard.begin(config, input);
@@ -73,9 +74,9 @@ fn make_pass(
     policy: &mut FirstCome,
     input: Input,
 ) -> io::Result<PassEntry>
-    requires of { IsGuardOf config.now guard.old }
+    requires of { IsReady config.now (board_in guard.old) }
     requires sizes { HasSizes config.now input }
-    ensures of { IsGuardOf config.now guard.new }
+    ensures of { IsReady config.now (board_in guard.new) }
 {
     println!(rt; "pass at {}", input.now)?;
     let mut actions = policy.choose(rt.alloc(), config, input.seen.as_slice())?;
@@ -102,8 +103,8 @@ fn show_pass(
     policy: &mut FirstCome,
     made: &Made,
 ) -> io::Result<Option<PassEntry>>
-    requires { IsGuardOf config.now guard.old }
-    ensures { IsGuardOf config.now guard.new }
+    requires { IsReady config.now (board_in guard.old) }
+    ensures { IsReady config.now (board_in guard.new) }
 {
     let input = input_of(rt.alloc(), config, guard, made)?;
     if !guard.board().fits(config, &input) {

@@ -34,7 +34,7 @@ pub struct BareThread {
 
 impl Model for BareThread {
     ghost use Rattle.cal_kthread.specs.Turn.Thread.{KernelView};
-    ghost use Rattle.cal_kthread.specs.Turn.Agreement.{Agrees};
+    ghost use Rattle.cal_kthread.specs.Turn.Agreement.{IsJournalOf};
 
     ghost Value = { KernelView };
 
@@ -44,7 +44,7 @@ impl Model for BareThread {
       thread = k.thread;
     } };
 
-    ghost invariant = { λ k. Agrees k.past k.thread };
+    ghost invariant = { λ k. IsJournalOf k.past k.thread };
 }
 
 impl BareThread {

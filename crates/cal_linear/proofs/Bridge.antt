@@ -53,7 +53,7 @@ AreOnPage events [] = Unit {0}
 AreOnPage events (event ∷ more) = IsOnPage events event × AreOnPage events more
 
 -- both tell the same of a list
-pub record Agrees (es : List Event) : Type 0 where
+pub record TellAlike (es : List Event) : Type 0 where
   pub journals : (k : ℕ) → journal_in es k ≡ journal_along es k
   pub takes : (k : ℕ) → takes_in es k ≡ (state_after (journal_along es k)).taken
   pub publishes : (k : ℕ) → publishes_in es k ≡ length (published_along es k)
@@ -67,7 +67,7 @@ took_same : (n : ℕ) (o : Option Command) → took n o ≡ option_to_list (opti
 took_same n None = refl
 took_same n (Some c) = refl
 
-adds_same : (es : List Event) (k : ℕ) (e : Event) → Agrees es → entries_for k es e ≡ adds_to k (journal_along es k) (history_in es) e
+adds_same : (es : List Event) (k : ℕ) (e : Event) → TellAlike es → entries_for k es e ≡ adds_to k (journal_along es k) (history_in es) e
 adds_same es k (Take thread) was =
     ap (λ l. cond (eqb thread k) l [])
     (took_same (takes_in es k + 1) (next_command es k)
@@ -79,7 +79,7 @@ adds_same es k (Skip thread seen) was = refl
 adds_same es k (Decide entry) was = refl
 adds_same es k (Watch thread number) was = refl
 
-journals_more : (es : List Event) (e : Event) (k : ℕ) → Agrees es → journal_in (es ++ e ∷ []) k ≡ journal_along (es ++ e ∷ []) k
+journals_more : (es : List Event) (e : Event) (k : ℕ) → TellAlike es → journal_in (es ++ e ∷ []) k ≡ journal_along (es ++ e ∷ []) k
 journals_more es e k was = each_of_push (entries_for k) es e ∙ ap (λ l. l ++ entries_for k es e) (was.journals k) ∙ ap (λ l. journal_along es k ++ l) (adds_same es k e was) ∙ sym (journal_push k es e)
 
 -- the counts of Takes and Publishes
@@ -121,7 +121,7 @@ adds_taken table es k (Skip thread seen) may = let same = ap (λ l. (state_after
 adds_taken table es k (Decide entry) may = let same = ap (λ l. (state_after l).taken) (append-nil (journal_along es k)) in omega (arith, same)
 adds_taken table es k (Watch thread number) may = let same = ap (λ l. (state_after l).taken) (append-nil (journal_along es k)) in omega (arith, same)
 
-takes_more : (table : Table) (es : List Event) (e : Event) (k : ℕ) → Agrees es → IsAllowedAlong table es e → takes_in (es ++ e ∷ []) k ≡ (state_after (journal_along (es ++ e ∷ []) k)).taken
+takes_more : (table : Table) (es : List Event) (e : Event) (k : ℕ) → TellAlike es → IsAllowedAlong table es e → takes_in (es ++ e ∷ []) k ≡ (state_after (journal_along (es ++ e ∷ []) k)).taken
 takes_more table es e k was may =
     let count = count_more (is_take_by k) es e in
     let added = adds_taken table es k e may in
@@ -155,7 +155,7 @@ adds_records k own history (Watch thread number) = refl
 published_more : (es : List Event) (e : Event) (k : ℕ) → published_along (es ++ e ∷ []) k ≡ published_along es k ++ records_of (adds_to k (journal_along es k) (history_in es) e)
 published_more es e k = ap records_of (journal_push k es e) ∙ filter_map-append record_in (journal_along es k) (adds_to k (journal_along es k) (history_in es) e)
 
-publishes_more : (es : List Event) (e : Event) (k : ℕ) → Agrees es → publishes_in (es ++ e ∷ []) k ≡ length (published_along (es ++ e ∷ []) k)
+publishes_more : (es : List Event) (e : Event) (k : ℕ) → TellAlike es → publishes_in (es ++ e ∷ []) k ≡ length (published_along (es ++ e ∷ []) k)
 publishes_more es e k was =
     let count = count_more (is_publish_by k) es e in
     let added : List Record = records_of (adds_to k (journal_along es k) (history_in es) e) in
@@ -178,7 +178,7 @@ same_read k es (Skip thread seen) = refl
 same_read k es (Decide entry) = refl
 same_read k es (Watch thread number) = refl
 
-floors_more : (es : List Event) (e : Event) (k : ℕ) → Agrees es → read_floor (es ++ e ∷ []) k ≡ floor_along (es ++ e ∷ []) k
+floors_more : (es : List Event) (e : Event) (k : ℕ) → TellAlike es → read_floor (es ++ e ∷ []) k ≡ floor_along (es ++ e ∷ []) k
 floors_more es e k was =
     ap (λ o. unwrap_or o 0) (last_of_push (place_read k) es e) ∙ unwrap_or_or (place_read k es e) (last_of (place_read k) es) 0
     ∙ ap (unwrap_or (place_read k es e)) (was.floors k) ∙ ap (λ o. unwrap_or o (floor_along es k)) (same_read k es e)
@@ -197,30 +197,30 @@ watched_more : (k : ℕ) (ws : List (ℕ × ℕ)) (o : Option (ℕ × ℕ)) → 
 watched_more k ws None = ap (λ (l : List (ℕ × ℕ)). last_from 0 (filter_map (place_at k) l)) (append-nil ws)
 watched_more k ws (Some w) = ap (last_from 0) (filter_map-push (place_at k) ws w) ∙ last_more (filter_map (place_at k) ws) (place_at k w)
 
-watch_floors_more : (es : List Event) (e : Event) (k : ℕ) → Agrees es → watch_floor (es ++ e ∷ []) k ≡ watch_floor_along (es ++ e ∷ []) k
+watch_floors_more : (es : List Event) (e : Event) (k : ℕ) → TellAlike es → watch_floor (es ++ e ∷ []) k ≡ watch_floor_along (es ++ e ∷ []) k
 watch_floors_more es e k was =
     ap (λ o. unwrap_or o 0) (last_of_push (place_watched k) es e) ∙ unwrap_or_or (place_watched k es e) (last_of (place_watched k) es) 0
     ∙ ap (unwrap_or (place_watched k es e)) (was.watch_floors k) ∙ ap (λ o. unwrap_or o (watch_floor_along es k)) (same_watched k es e)
     ∙ sym (ap (λ (l : List (ℕ × ℕ)). last_from 0 (filter_map (place_at k) l)) (watches_push es e) ∙ watched_more k (watches_in es) (watch_in e))
 
 -- pages only grow
-page_more : (es : List Event) (e : Event) (k : ℕ) → Agrees es → page_in (es ++ e ∷ []) k ≡ page_in es k ++ records_of (adds_to k (journal_along es k) (history_in es) e)
+page_more : (es : List Event) (e : Event) (k : ℕ) → TellAlike es → page_in (es ++ e ∷ []) k ≡ page_in es k ++ records_of (adds_to k (journal_along es k) (history_in es) e)
 page_more es e k was = ap (λ j. page_of (records_of j)) (journals_more es e k was) ∙ ap page_of (published_more es e k)
     ∙ ap (λ j. page_of (records_of j) ++ records_of (adds_to k (journal_along es k) (history_in es) e)) (sym (was.journals k))
 
-record_stays : (es : List Event) (e : Event) (k n : ℕ) → Agrees es → n < length (page_in es k) → record_at (es ++ e ∷ []) k n ≡ record_at es k n
+record_stays : (es : List Event) (e : Event) (k n : ℕ) → TellAlike es → n < length (page_in es k) → record_at (es ++ e ∷ []) k n ≡ record_at es k n
 record_stays es e k n was lt =
     let added : List Record = records_of (adds_to k (journal_along es k) (history_in es) e) in
     ap (λ (l : List Record). get_or l n zero_record) (page_more es e k was) ∙ get_or_append_left (page_in es k) added zero_record n lt
 
-place_stays : (es : List Event) (e : Event) (k n : ℕ) → Agrees es → n < length (page_in es k) → n < length (page_in (es ++ e ∷ []) k)
+place_stays : (es : List Event) (e : Event) (k n : ℕ) → TellAlike es → n < length (page_in es k) → n < length (page_in (es ++ e ∷ []) k)
 place_stays es e k n was lt =
     let added : List Record = records_of (adds_to k (journal_along es k) (history_in es) e) in
     let size = ap (λ (l : List Record). length l) (page_more es e k was) ∙ length-append (page_in es k) added in
     omega (arith, size, lt)
 
 -- so what was looked at stays as it was
-look_stays : (es : List Event) (e : Event) (x : Event) → Agrees es → IsOnPage es x → look_made (es ++ e ∷ []) x ≡ look_made es x
+look_stays : (es : List Event) (e : Event) (x : Event) → TellAlike es → IsOnPage es x → look_made (es ++ e ∷ []) x ≡ look_made es x
 look_stays es e (Take thread) was on = refl
 look_stays es e (Yield thread) was on = refl
 look_stays es e (Publish thread rec) was on = refl
@@ -229,11 +229,11 @@ look_stays es e (Skip thread seen) was on = refl
 look_stays es e (Decide entry) was on = refl
 look_stays es e (Watch thread number) was on = refl
 
-looks_stay : (es : List Event) (e : Event) (xs : List Event) → Agrees es → AreOnPage es xs → filter_map (look_made (es ++ e ∷ [])) xs ≡ filter_map (look_made es) xs
+looks_stay : (es : List Event) (e : Event) (xs : List Event) → TellAlike es → AreOnPage es xs → filter_map (look_made (es ++ e ∷ [])) xs ≡ filter_map (look_made es) xs
 looks_stay es e [] was on = refl
 looks_stay es e (x ∷ xs) was on = ap (λ o. cons_option o (filter_map (look_made (es ++ e ∷ [])) xs)) (look_stays es e x was on.0) ∙ ap (cons_option (look_made es x)) (looks_stay es e xs was on.1)
 
-on_page_stays : (es : List Event) (e : Event) (x : Event) → Agrees es → IsOnPage es x → IsOnPage (es ++ e ∷ []) x
+on_page_stays : (es : List Event) (e : Event) (x : Event) → TellAlike es → IsOnPage es x → IsOnPage (es ++ e ∷ []) x
 on_page_stays es e (Take thread) was on = tt
 on_page_stays es e (Yield thread) was on = tt
 on_page_stays es e (Publish thread rec) was on = tt
@@ -242,19 +242,19 @@ on_page_stays es e (Skip thread seen) was on = tt
 on_page_stays es e (Decide entry) was on = tt
 on_page_stays es e (Watch thread number) was on = tt
 
-are_on_page : (es : List Event) (e : Event) (xs : List Event) → Agrees es → AreOnPage es xs → IsOnPage (es ++ e ∷ []) e → AreOnPage (es ++ e ∷ []) (xs ++ e ∷ [])
+are_on_page : (es : List Event) (e : Event) (xs : List Event) → TellAlike es → AreOnPage es xs → IsOnPage (es ++ e ∷ []) e → AreOnPage (es ++ e ∷ []) (xs ++ e ∷ [])
 are_on_page es e [] was on here = (here, tt)
 are_on_page es e (x ∷ xs) was on here = (on_page_stays es e x was on.0, are_on_page es e xs was on.1 here)
 
 -- the looks since the last Decide, where the event is none
-looks_go_on : (es : List Event) (e : Event) (added : List Seen) → Agrees es → decided_at es e ≡ None → option_to_list (look_made (es ++ e ∷ []) e) ≡ added → looks_with (looks_along es) es e ≡ looks_along es ++ added →
+looks_go_on : (es : List Event) (e : Event) (added : List Seen) → TellAlike es → decided_at es e ≡ None → option_to_list (look_made (es ++ e ∷ []) e) ≡ added → looks_with (looks_along es) es e ≡ looks_along es ++ added →
     looks_since (es ++ e ∷ []) ≡ looks_along (es ++ e ∷ [])
 looks_go_on es e added was none made with_added =
     ap (filter_map (look_made (es ++ e ∷ []))) (since_more es e none) ∙ filter_map-push (look_made (es ++ e ∷ [])) (since_decide es) e
     ∙ ap (λ l. l ++ option_to_list (look_made (es ++ e ∷ []) e)) (looks_stay es e (since_decide es) was was.on_page ∙ was.looks) ∙ ap (λ l. looks_along es ++ l) made
     ∙ sym (looks_push es e ∙ with_added)
 
-read_adds : (es : List Event) (thread number : ℕ) → Agrees es → number ≤ length (published_along es thread) →
+read_adds : (es : List Event) (thread number : ℕ) → TellAlike es → number ≤ length (published_along es thread) →
     looks_with (looks_along es) es (Read thread number) ≡ looks_along es ++ Whole number (record_at (es ++ Read thread number ∷ []) thread number) ∷ []
 read_adds es thread number was within =
     let page : List Record = page_of (published_along es thread) in
@@ -264,7 +264,7 @@ read_adds es thread number was within =
     let rec : record_at (es ++ Read thread number ∷ []) thread number ≡ get_or page number zero_record = record_stays es (Read thread number) thread number was lt ∙ ap (λ (l : List Record). get_or l number zero_record) same in
     ap (λ (o : Option Record). looks_along es ++ option_to_list (option_map (Whole number) o)) (slice_get-get_or page number zero_record (omega (arith, within)) ∙ ap Some (sym rec))
 
-looks_more : (table : Table) (es : List Event) (e : Event) → Agrees es → IsAllowedAlong table es e → looks_since (es ++ e ∷ []) ≡ looks_along (es ++ e ∷ [])
+looks_more : (table : Table) (es : List Event) (e : Event) → TellAlike es → IsAllowedAlong table es e → looks_since (es ++ e ∷ []) ≡ looks_along (es ++ e ∷ [])
 looks_more table es (Take thread) was may = looks_go_on es (Take thread) [] was refl refl (sym (append-nil (looks_along es)))
 looks_more table es (Yield thread) was may = looks_go_on es (Yield thread) [] was refl refl (sym (append-nil (looks_along es)))
 looks_more table es (Publish thread rec) was may = looks_go_on es (Publish thread rec) [] was refl refl (sym (append-nil (looks_along es)))
@@ -273,10 +273,10 @@ looks_more table es (Skip thread seen) was may = looks_go_on es (Skip thread see
 looks_more table es (Decide entry) was may = ap (filter_map (look_made (es ++ Decide entry ∷ []))) (since_none es entry) ∙ sym (looks_push es (Decide entry))
 looks_more table es (Watch thread number) was may = looks_go_on es (Watch thread number) [] was refl refl (sym (append-nil (looks_along es)))
 
-page_goes_on : (es : List Event) (e : Event) → Agrees es → decided_at es e ≡ None → IsOnPage (es ++ e ∷ []) e → AreOnPage (es ++ e ∷ []) (since_decide (es ++ e ∷ []))
+page_goes_on : (es : List Event) (e : Event) → TellAlike es → decided_at es e ≡ None → IsOnPage (es ++ e ∷ []) e → AreOnPage (es ++ e ∷ []) (since_decide (es ++ e ∷ []))
 page_goes_on es e was none here = let P : List Event → Type 0 = λ l. AreOnPage (es ++ e ∷ []) l in subst P (sym (since_more es e none)) (are_on_page es e (since_decide es) was was.on_page here)
 
-on_page_more : (table : Table) (es : List Event) (e : Event) → Agrees es → IsAllowedAlong table es e → AreOnPage (es ++ e ∷ []) (since_decide (es ++ e ∷ []))
+on_page_more : (table : Table) (es : List Event) (e : Event) → TellAlike es → IsAllowedAlong table es e → AreOnPage (es ++ e ∷ []) (since_decide (es ++ e ∷ []))
 on_page_more table es (Take thread) was may = page_goes_on es (Take thread) was refl tt
 on_page_more table es (Yield thread) was may = page_goes_on es (Yield thread) was refl tt
 on_page_more table es (Publish thread rec) was may = page_goes_on es (Publish thread rec) was refl tt
@@ -288,10 +288,10 @@ on_page_more table es (Skip thread seen) was may = page_goes_on es (Skip thread 
 on_page_more table es (Decide entry) was may = let P : List Event → Type 0 = λ l. AreOnPage (es ++ Decide entry ∷ []) l in subst P (sym (since_none es entry)) tt
 on_page_more table es (Watch thread number) was may = page_goes_on es (Watch thread number) was refl tt
 
-agrees_first : Agrees []
+agrees_first : TellAlike []
 agrees_first = record { journals = λ k. refl; takes = λ k. refl; publishes = λ k. refl; floors = λ k. refl; watch_floors = λ k. refl; looks = refl; on_page = tt }
 
-agrees_more : (table : Table) (es : List Event) (e : Event) → Agrees es → IsAllowedAlong table es e → Agrees (es ++ e ∷ [])
+agrees_more : (table : Table) (es : List Event) (e : Event) → TellAlike es → IsAllowedAlong table es e → TellAlike (es ++ e ∷ [])
 agrees_more table es e was may = record {
   journals = λ k. journals_more es e k was;
   takes = λ k. takes_more table es e k was may;
@@ -303,18 +303,18 @@ agrees_more table es e was may = record {
 }
 
 -- what is allowed along the list is allowed as cal_world tells it
-sent_there : (es : List Event) (k : ℕ) → Agrees es → (state_after (journal_along es k)).taken < length (commands_to (actions_of (history_in es)) k) → HasCommand es (Take k)
+sent_there : (es : List Event) (k : ℕ) → TellAlike es → (state_after (journal_along es k)).taken < length (commands_to (actions_of (history_in es)) k) → HasCommand es (Take k)
 sent_there es k was lt =
     let J : List Entry → Type 0 = λ j. (state_after j).taken < length (commands_to (actions_of (history_in es)) k) in
     subst J (sym (was.journals k)) lt
 
-place_there : (es : List Event) (k number floor there : ℕ) → Agrees es → there ≡ floor → floor ≤ number → number ≤ length (published_along es k) → (there ≤ number) × (number < length (page_in es k))
+place_there : (es : List Event) (k number floor there : ℕ) → TellAlike es → there ≡ floor → floor ≤ number → number ≤ length (published_along es k) → (there ≤ number) × (number < length (page_in es k))
 place_there es k number floor there was same above within = let size = ap (λ j. length (page_of (records_of j))) (was.journals k) in (omega (arith, same, above), omega (arith, size, within))
 
-turn_there : (es : List Event) (k : ℕ) → Agrees es → length (looks_along es) ≡ k → k ≡ length (looks_since es)
+turn_there : (es : List Event) (k : ℕ) → TellAlike es → length (looks_along es) ≡ k → k ≡ length (looks_since es)
 turn_there es k was e = sym e ∙ ap (λ (l : List Seen). length l) (sym was.looks)
 
-allowed_there : (table : Table) (es : List Event) (e : Event) → Agrees es → IsAllowedAlong table es e → (why : Illegal) → Passes why table es e
+allowed_there : (table : Table) (es : List Event) (e : Event) → TellAlike es → IsAllowedAlong table es e → (why : Illegal) → Passes why table es e
 allowed_there table es (Take k) was may NoThread = may.0
 allowed_there table es (Take k) was may NothingSent = sent_there es k was may.1
 allowed_there table es (Take k) was may _ = tt
@@ -343,7 +343,7 @@ allowed_there table es (Watch k number) was may NoSuchPlace = place_there es k n
 allowed_there table es (Watch k number) was may _ = tt
 
 -- each event of a legal list, and that both tell the same of the whole
-each_there : (table : Table) (before es : List Event) → AllowedAfter table before es → Agrees before → (i : ℕ) (e : Event) → slice_get es i ≡ Some e → IsAllowed table (before ++ take i es) e
+each_there : (table : Table) (before es : List Event) → AllowedAfter table before es → TellAlike before → (i : ℕ) (e : Event) → slice_get es i ≡ Some e → IsAllowed table (before ++ take i es) e
 each_there table before [] legal was i e at = absurd (cc)
 each_there table before (x ∷ es) legal was zero e at =
     let same : x ≡ e = cc in
@@ -354,14 +354,14 @@ each_there table before (x ∷ es) legal was (suc i) e at =
     let Q : List Event → Type 0 = λ b. IsAllowed table b e in
     subst Q (append_assoc before (x ∷ []) (take i es)) (each_there table (before ++ x ∷ []) es legal.1 (agrees_more table before x was legal.0) i e at)
 
-agrees_all : (table : Table) (before es : List Event) → AllowedAfter table before es → Agrees before → Agrees (before ++ es)
-agrees_all table before [] legal was = let P : List Event → Type 0 = λ b. Agrees b in subst P (sym (append-nil before)) was
+agrees_all : (table : Table) (before es : List Event) → AllowedAfter table before es → TellAlike before → TellAlike (before ++ es)
+agrees_all table before [] legal was = let P : List Event → Type 0 = λ b. TellAlike b in subst P (sym (append-nil before)) was
 agrees_all table before (x ∷ es) legal was =
-    let P : List Event → Type 0 = λ b. Agrees b in
+    let P : List Event → Type 0 = λ b. TellAlike b in
     subst P (append_assoc before (x ∷ []) es) (agrees_all table (before ++ x ∷ []) es legal.1 (agrees_more table before x was legal.0))
 
 pub legal_there : (table : Table) (es : List Event) → IsLegalAlong table es → IsLegalList table es
 legal_there table es legal = record { each = each_there table [] es legal agrees_first }
 
-pub agrees : (table : Table) (es : List Event) → IsLegalAlong table es → Agrees es
+pub agrees : (table : Table) (es : List Event) → IsLegalAlong table es → TellAlike es
 agrees table es legal = agrees_all table [] es legal agrees_first

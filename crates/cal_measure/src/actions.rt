@@ -4,7 +4,8 @@ ghost use Rattle.std.specs.Prelude.{◌≡◌, ◌<◌, ◌+◌, ◌^◌, ◌++�
 ghost use Rattle.std.specs.Prelude.{if◌then◌else◌};
 ghost use Rattle.std.specs.List.{All};
 ghost use Rattle.cal_machine.specs.declared.machine.TheConstants.{MOST_CORES};
-ghost use Rattle.cal_policy.specs.Board.{Agrees, IsReady, NamesTable};
+ghost use Rattle.cal_policy.specs.Board.{NamesTable};
+ghost use Rattle.cal_policy.specs.State.{IsReady, Agrees};
 ghost use Rattle.cal_policy.specs.Board.Counts.{is_held_for};
 ghost use Rattle.cal_policy.specs.History.{ban_of, holder_of};
 ghost use Rattle.cal_policy.specs.declared.history.action.Action.{Action};

@@ -6,7 +6,7 @@ ghost use Rattle.cal_machine.specs.declared.numbering.TheConstants.{MOST_THREADS
 ghost use Rattle.cal_measure.specs.Cores.{congested_for, is_over_limit, over_limit_for};
 ghost use Rattle.cal_measure.specs.States.{found_congested};
 ghost use Rattle.cal_policy.specs.Board.KeepingSets.{FitAfter};
-ghost use Rattle.cal_policy.specs.Board.{IsReady, KeepingAgrees};
+ghost use Rattle.cal_policy.specs.State.{IsReady, KeepingAgrees};
 ghost use Rattle.cal_policy.specs.History.{looks_of};
 ghost use Rattle.cal_policy.specs.Pass.{IsLegal};
 ghost use Rattle.cal_policy.specs.declared.history.entry.PassEntry.{PassEntry};

@@ -5,18 +5,20 @@ use Rattle.cal_policy.specs.declared.auditor.Auditor.{Auditor}
 use Rattle.cal_policy.specs.declared.history.entry.PassEntry.{PassEntry}
 use Rattle.cal_policy.specs.declared.verdict.Verdict.{Verdict}
 use Rattle.cal_policy.specs.declared.verdict.Verdict.TheVariants.{Legal, Illegal}
-use Rattle.cal_policy.specs.Book.{AgreesWith, IsBookOf}
+use Rattle.cal_policy.specs.Book.{board_in}
+use Rattle.cal_policy.specs.State.{IsReady, IsStateAfter}
 use Rattle.cal_policy.specs.Verdict.{IsVerdict}
 
--- the auditor names no thread that is not the table's
+-- the board of the auditor's book is ready for the table
 abbrev pub IsAuditorOf : Table → Auditor → Type 0
-IsAuditorOf table auditor = IsBookOf table auditor.book
+IsAuditorOf table auditor = IsReady table (board_in auditor.book)
 
--- as long as each pass was the policy's, the auditor's book is one of the history, and it has
--- counted the passes, as far as its number goes
+-- as long as each pass was the policy's, the auditor's book keeps the state after the history, and
+-- it has counted the passes, as far as its number goes
 abbrev pub KeepsUp : List PassEntry → Auditor → Verdict → Type 0
 KeepsUp history auditor Legal =
-    AgreesWith auditor.book history × (auditor.passes ≡ min (length history) (2 ^ 64 - 1))
+    IsStateAfter (board_in auditor.book) history
+    × (auditor.passes ≡ min (length history) (2 ^ 64 - 1))
 KeepsUp history auditor (Illegal p) = Unit {0}
 
 -- the auditor was handed this history, and its verdict is the history's

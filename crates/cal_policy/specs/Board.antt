@@ -1,10 +1,5 @@
--- When the plain data that a pass keeps is what the actions and looks so far say, in these words:
---   `IsReady`       what the board has beside cores, bans, caps and records goes by those
---   `IsOfTable`     it is ready for a table, and the table is an accepted one
---   `IsStateAfter`  it is the state that a history leaves
---   `Stands`        it is the state within a pass, after some of its actions
---   `Agrees`, `KeepingAgrees`  their parts: of the actions so far, and of the looks so far
--- What holds a board, as a book or a guard, says the same of it by the first and the third.
+-- What each part of a board keeps, in which numbers, and when it is as the actions say. When the
+-- whole board is the state of a history, State.antt says.
 pub mod CoreSets
 pub mod Counts
 pub mod KeepingSets
@@ -13,9 +8,9 @@ pub mod OpenCores
 pub mod Survey
 pub mod Unshown
 use Rattle.std.specs.Prelude.{◌≡◌, ℕ, ◌<◌, ◌≤◌, ◌^◌, List, min, Option, Some, None}
-use Rattle.std.specs.Prelude.{slice_index, slice_index_or, option_map, [], ◌∷◌, ◌++◌, length}
+use Rattle.std.specs.Prelude.{slice_index, slice_index_or, option_map, length}
 use Rattle.std.specs.Option.{IfSome}
-use Rattle.cal_machine.specs.Table.{Table, IsTable}
+use Rattle.cal_machine.specs.Table.{Table}
 use Rattle.cal_machine.specs.declared.core_set.CoreSet.{CoreSet}
 use Rattle.cal_machine.specs.CoreSet.{has}
 use Rattle.cal_machine.specs.declared.machine.TheConstants.{MOST_CORES}
@@ -27,7 +22,6 @@ use Rattle.cal_policy.specs.declared.history.action.Action.TheVariants.{Free, Un
 use Rattle.cal_policy.specs.declared.history.action.Action.TheVariants.{Revoke, Cap, Grant}
 use Rattle.cal_policy.specs.declared.history.look.Seen.{Seen}
 use Rattle.cal_policy.specs.declared.history.input.Input.{Input}
-use Rattle.cal_policy.specs.declared.history.entry.PassEntry.{PassEntry}
 use Rattle.cal_policy.specs.declared.board.holders.Placement as placements
 use Rattle.cal_policy.specs.declared.board.holders.Holder.{Holder}
 use Rattle.cal_policy.specs.declared.board.holders.Holder.TheVariants as holders
@@ -36,18 +30,10 @@ use Rattle.cal_policy.specs.declared.board.bans.Bans.{Bans}
 use Rattle.cal_policy.specs.declared.board.caps.Caps.{Caps}
 use Rattle.cal_policy.specs.declared.board.records.Keeping.{Keeping}
 use Rattle.cal_policy.specs.declared.board.Board.{Board}
-use Rattle.cal_policy.specs.History.{actions_of, looks_of, holder_of}
+use Rattle.cal_policy.specs.History.{holder_of}
 use Rattle.cal_policy.specs.History.{last_placement, sent_to, ban_of, last_cap}
-use Rattle.cal_signal.specs.Records.{zero_record}
-use Rattle.cal_signal.specs.Shown.{nothing_shown}
-use Rattle.cal_policy.specs.History.Looks.{kept_by, last_shown}
-use Rattle.cal_policy.specs.Setting.{Setting, so_far, kept_now, kept_before}
+use Rattle.cal_policy.specs.History.Looks.{kept_by}
 use Rattle.cal_policy.specs.Pass.Grants.{is_granted_in}
-use Rattle.cal_policy.specs.Board.Survey.{Surveys}
-use Rattle.cal_policy.specs.Board.CoreSets.{Sorts, IsSetOfBanned}
-use Rattle.cal_policy.specs.Board.OpenCores.{Opens}
-use Rattle.cal_policy.specs.Board.KeepingSets.{KeepsSets, kept_in}
-use Rattle.cal_policy.specs.Board.Unshown.{Shows}
 
 -- a number of commands as it is kept: no record acknowledges 2^64, so what is above need not be
 -- told apart
@@ -93,8 +79,8 @@ core_changed (Unban core) = None
 core_changed (Ban core thread started) = None
 core_changed (Cap task cap) = None
 
--- cores, threads and numbers of commands are as the actions x say
-pub record HoldingAgrees (h : Holding) (x : List Action) : Type 0 where
+-- who has each core, and what was sent, are as the actions x say
+pub record HoldersAgree (h : Holding) (x : List Action) : Type 0 where
   pub granted : (c : ℕ) → c < MOST_CORES →
       slice_index_or h.granted c None ≡ option_map kept_placement (last_placement x c)
   pub holders : (c : ℕ) → c < MOST_CORES →
@@ -121,12 +107,6 @@ pub record BansSound (threads : ℕ) (b : Bans) : Type 0 where
 pub record CapsAgree (a : Caps) (x : List Action) : Type 0 where
   pub caps : (t : ℕ) → t < MOST_TASKS → slice_index_or a.caps t None ≡ last_cap x t
 
--- records are as all looks so far say, those of the last pass included
-pub record KeepingAgrees (r : Keeping) (looks : List (List Seen)) : Type 0 where
-  pub kept : (k : ℕ) → k < MOST_THREADS → slice_index_or r.kept k zero_record ≡ kept_by looks k
-  pub shown : (k : ℕ) → k < MOST_THREADS →
-      slice_index_or r.shown k nothing_shown ≡ last_shown looks k
-
 -- the misses of the records kept after these looks, which are all but those of the last pass
 pub record KeepsBefore (r : Keeping) (looks : List (List Seen)) : Type 0 where
   pub before : (k : ℕ) → k < MOST_THREADS → slice_index r.before k ≡ (kept_by looks k).misses
@@ -140,62 +120,20 @@ NamesCores cores threads (Revoke core cause) = core < cores
 NamesCores cores threads (Cap task cap) = task < MOST_TASKS
 NamesCores cores threads (Grant core thread class) = (core < cores) × (thread < threads)
 
--- the board says of cores, bans and caps what the actions x say
-pub record Agrees (b : Board) (x : List Action) : Type 0 where
-  pub holding : HoldingAgrees b.holding x
-  pub bans : BansAgree b.bans x
-  pub caps : CapsAgree b.caps x
-  pub banned : IsSetOfBanned b.sets.banned x
-
 -- every thread that a holder, a last grant or a ban names is below this number
 pub record BoardSound (threads : ℕ) (b : Board) : Type 0 where
   pub holding : HoldingSound threads b.holding
   pub bans : BansSound threads b.bans
 
--- the board is the state that the history leaves: what it says of cores, bans and caps, and of
--- records
-pub record IsStateAfter (b : Board) (history : List PassEntry) : Type 0 where
-  pub actions : Agrees b (actions_of history)
-  pub looks : KeepingAgrees b.keeping (looks_of history)
-
 -- the action's cores, threads and tasks are the table's
 abbrev pub NamesTable : Table → Action → Type 0
 NamesTable table action = NamesCores table.cores (threads_of_table table) action
-
--- the board's threads are the table's, its counts are those of its cores, its sets have each core
--- where its holder, its ban and its thread's kept record say, and each thread where its kept record
--- says
-pub record IsReady (table : Table) (b : Board) : Type 0 where
-  pub sound : BoardSound MOST_THREADS b
-  pub own : BoardSound (threads_of_table table) b
-  pub counts : Surveys table (holder_in b.holding) b.survey
-  pub sets : Sorts (holder_in b.holding) b.sets
-  pub opens : Opens (holder_in b.holding) b.sets.banned b.open_cores
-  pub keeping : KeepsSets b.keeping
-  pub shows : Shows (holder_in b.holding) (kept_in b.keeping) b.unshown
 
 -- the set has the cores that were granted in this pass
 pub record HasGranted (granted : CoreSet) (acts : List Action) : Type 0 where
   pub fresh : (c : ℕ) → c < MOST_CORES → has granted c ≡ is_granted_in acts c
 
--- the board stands in a pass, after the actions acts of it
-pub record Stands (b : Board) (s : Setting) (acts : List Action) : Type 0 where
-  pub agrees : Agrees b (so_far s acts)
-  pub fresh : HasGranted b.fresh acts
-  pub kept : (k : ℕ) → k < MOST_THREADS →
-      slice_index_or b.keeping.kept k zero_record ≡ kept_now s k
-  pub before : (k : ℕ) → k < MOST_THREADS →
-      slice_index b.keeping.before k ≡ (kept_before s k).misses
-  pub shown : (k : ℕ) → k < MOST_THREADS →
-      slice_index_or b.keeping.shown k nothing_shown
-      ≡ last_shown (looks_of s.history ++ s.input.seen ∷ []) k
-
 -- one look and one answer on room for each thread
 pub record HasSizes (table : Table) (input : Input) : Type 0 where
   pub looks : length input.seen ≡ threads_of_table table
   pub rooms : length input.rooms ≡ threads_of_table table
-
--- what a pass is decided by: an accepted table and its board
-pub record IsOfTable (table : Table) (b : Board) : Type 0 where
-  pub accepted : IsTable table
-  pub ready : IsReady table b

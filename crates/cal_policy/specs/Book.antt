@@ -1,23 +1,19 @@
--- When a book is one of a history, and what an action of its last pass sends.
+-- The board that a book keeps, and what an action of its last pass sends.
 use Rattle.std.specs.Prelude.{◌≡◌, ℕ, ◌<◌, List, Option}
 use Rattle.std.specs.Option.{IfSome}
 use Rattle.cal_machine.specs.Table.{Table}
 use Rattle.cal_machine.specs.declared.command.Command.{Command}
 use Rattle.cal_machine.specs.declared.command.Command.TheVariants.{Run, Park}
+use Rattle.cal_policy.specs.declared.board.Board.{Board}
 use Rattle.cal_policy.specs.declared.book.Book.{Book}
 use Rattle.cal_policy.specs.declared.history.action.Action.{Action}
-use Rattle.cal_policy.specs.declared.history.entry.PassEntry.{PassEntry}
 use Rattle.cal_machine.specs.TableTasks.{threads_of_table}
 use Rattle.cal_policy.specs.History.{sends, addressed_to}
-use Rattle.cal_policy.specs.Board.{IsStateAfter, IsReady}
 
--- what the book keeps is the state that the history leaves
-abbrev pub AgreesWith : Book → List PassEntry → Type 0
-AgreesWith book history = IsStateAfter book.board.value history
-
--- the book names no thread that is not the table's
-pub record IsBookOf (table : Table) (book : Book) : Type 0 where
-  pub ready : IsReady table book.board.value
+-- the board that a book keeps. A book is ready for a table where this board is, and it is a book of
+-- a history where this board is the state after it
+abbrev pub board_in : Book → Board
+board_in book = book.board.value
 
 -- a Run is of a core of the table
 abbrev pub RunsOnTable : Table → Command → Type 0

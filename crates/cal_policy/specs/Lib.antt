@@ -1,6 +1,7 @@
 pub mod History
 pub mod Pass
 pub mod Board
+pub mod State
 pub mod Judgement
 pub mod Setting
 pub mod Laws

@@ -3,8 +3,8 @@
 ghost use Rattle.std.specs.Prelude.{◌<◌, ◌^◌, ◌++◌, ◌∷◌, ◌↔◌, [], List, length, IfOk, IsTrue};
 ghost use Rattle.cal_machine.specs.Table.{Table};
 ghost use Rattle.cal_policy.specs.Auditor.{IsAuditOf, IsAuditorOf};
-ghost use Rattle.cal_policy.specs.Board.{IsReady, IsStateAfter};
-ghost use Rattle.cal_policy.specs.Book.{AgreesWith, IsBookOf};
+ghost use Rattle.cal_policy.specs.State.{IsReady, IsStateAfter};
+ghost use Rattle.cal_policy.specs.Book.{board_in};
 ghost use Rattle.cal_policy.specs.Pass.{IsPass, IsLegal};
 ghost use Rattle.cal_policy.specs.Verdict.{IsVerdict};
 ghost use Rattle.cal_policy.specs.declared.history.entry.PassEntry.{PassEntry};
@@ -36,12 +36,14 @@ pub struct Auditor {
 /// Whether an entry is the next pass of a book, which takes it in where it is. `actions` is room to
 /// work in.
 fn is_next(config: &Config, book: &mut Book, entry: &PassEntry, actions: &mut Actions) -> bool
-    requires of { IsBookOf config.now book.old }
-    ensures of { IsBookOf config.now book.new }
-    ensures exact { (h : List PassEntry) → IsLegal config.now h → AgreesWith book.old h →
+    requires of { IsReady config.now (board_in book.old) }
+    ensures of { IsReady config.now (board_in book.new) }
+    ensures exact { (h : List PassEntry) → IsLegal config.now h →
+        IsStateAfter (board_in book.old) h →
         IsTrue result ↔ IsPass config.now h entry.now }
     ensures agrees { IsTrue result → (h : List PassEntry) → IsLegal config.now h →
-        AgreesWith book.old h → AgreesWith book.new (h ++ entry.now ∷ []) }
+        IsStateAfter (board_in book.old) h →
+        IsStateAfter (board_in book.new) (h ++ entry.now ∷ []) }
 {
     if !book.fits(config, &entry.input) {
         return false;

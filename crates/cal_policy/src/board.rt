@@ -19,7 +19,8 @@ ghost use Rattle.cal_machine.specs.declared.numbering.TheConstants.{MOST_THREADS
 ghost use Rattle.cal_policy.specs.declared.history.action.Action.{Action};
 ghost use Rattle.cal_policy.specs.declared.history.look.Seen.{Seen};
 ghost use Rattle.cal_machine.specs.Table.{Table, IsTable};
-ghost use Rattle.cal_policy.specs.Board.{Agrees, IsReady, HasGranted, KeepingAgrees};
+ghost use Rattle.cal_policy.specs.Board.{HasGranted};
+ghost use Rattle.cal_policy.specs.State.{IsReady, Agrees, KeepingAgrees};
 ghost use Rattle.cal_policy.specs.Board.{KeepsBefore, NamesCores, NamesTable};
 ghost use Rattle.cal_policy.specs.Board.KeepingSets.{FitAfter, KeepsSets};
 ghost use Rattle.cal_policy.specs.declared.history.entry.PassEntry.{PassEntry};
@@ -42,7 +43,7 @@ use crate::judgement::open_pass::OpenPass;
 use cal_machine::{Config, CoreSet};
 
 /// The state that the actions and looks so far leave. It has no Model; see `Agrees` and
-/// `KeepingAgrees` (specs/Board.antt) for what each field means.
+/// `KeepingAgrees` (specs/State.antt) for what each field means.
 #[derive(Drop)]
 pub struct Board {
     /// Who has each core, and what was sent.

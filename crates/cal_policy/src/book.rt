@@ -12,8 +12,9 @@ ghost use Rattle.cal_policy.specs.Judgement.OpenPass.{IsOpenAt};
 ghost use Rattle.cal_policy.specs.Judgement.Judging.{judged, IsInput};
 ghost use Rattle.cal_policy.specs.Setting.{setting};
 ghost use Rattle.cal_policy.specs.Pass.{pass_of, IsLegal};
-ghost use Rattle.cal_policy.specs.Board.{HasSizes, IsReady, IsStateAfter, KeepsBefore};
-ghost use Rattle.cal_policy.specs.Book.{AgreesWith, IsBookOf, IsSentBy};
+ghost use Rattle.cal_policy.specs.Board.{HasSizes, KeepsBefore};
+ghost use Rattle.cal_policy.specs.State.{IsReady, IsStateAfter};
+ghost use Rattle.cal_policy.specs.Book.{board_in, IsSentBy};
 
 use crate::board::Board;
 use crate::board::holders::core_changed_by;
@@ -44,8 +45,8 @@ pub struct Book {
 impl Book {
     /// The book of the empty history. Fails only when out of memory.
     pub fn open(alloc: Global, config: &Config) -> Result<Book, AllocError>
-        ensures agrees { IfOk result (λ book. AgreesWith book []) }
-        ensures of { IfOk result (λ book. IsBookOf config.now book) }
+        ensures agrees { IfOk result (λ book. IsStateAfter (board_in book) []) }
+        ensures of { IfOk result (λ book. IsReady config.now (board_in book)) }
     {
         config.limits();
         let board = Box::new(alloc, Board::new())?;
@@ -55,7 +56,7 @@ impl Book {
     /// The judgement of a look at thread `k` after the history.
     pub fn judge(&self, config: &Config, k: usize, look: Look) -> Seen
         requires { k < threads_of_table config.now }
-        ensures { (h : List PassEntry) → AgreesWith self.now h →
+        ensures { (h : List PassEntry) → IsStateAfter (board_in self.now) h →
             result ≡ judged config.now.cores (actions_of h) k look }
     {
         self.board.judge(config, k, look)
@@ -73,7 +74,8 @@ impl Book {
         found: &[FoundLook],
     ) -> Result<Input, AllocError>
         requires { length found.now ≡ threads_of_table config.now }
-        ensures judged { IfOk result (λ input. (h : List PassEntry) → AgreesWith self.now h →
+        ensures judged { IfOk result (λ input. (h : List PassEntry) →
+            IsStateAfter (board_in self.now) h →
             input ≡ judged_input config.now h now bandwidth found.now) }
         ensures sizes { IfOk result (HasSizes config.now) }
     {
@@ -82,7 +84,7 @@ impl Book {
 
     /// Whether the next pass may be given this input.
     pub fn fits(&self, config: &Config, input: &Input) -> bool
-        ensures fits { (h : List PassEntry) → AgreesWith self.now h → IsTrue result ↔
+        ensures fits { (h : List PassEntry) → IsStateAfter (board_in self.now) h → IsTrue result ↔
             IsInput config.now h input.entry.now }
         ensures sizes { IsTrue result → HasSizes config.now input.entry.now }
     {
@@ -91,8 +93,10 @@ impl Book {
 
     /// The state that the history leaves.
     pub fn board(&self) -> &Board
-        ensures agrees { (h : List PassEntry) → AgreesWith self.now h → IsStateAfter result.now h }
-        ensures ready { (table : Table) → IsBookOf table self.now → IsReady table result.now }
+        ensures agrees { (h : List PassEntry) → IsStateAfter (board_in self.now) h →
+            IsStateAfter result.now h }
+        ensures ready { (table : Table) → IsReady table (board_in self.now) →
+            IsReady table result.now }
     {
         &self.board
     }
@@ -105,7 +109,7 @@ impl Book {
     pub fn command_of(&self, action: Action) -> Option<(u8, Command)>
         ensures { (table : Table) (h : List PassEntry) (entry : PassEntry) →
             IsTable table → IsLegal table (h ++ entry ∷ []) →
-            AgreesWith self.now (h ++ entry ∷ []) →
+            IsStateAfter (board_in self.now) (h ++ entry ∷ []) →
             (i : ℕ) → slice_get entry.actions i ≡ Some action →
             IsSentBy table (actions_of h ++ take i entry.actions) action result }
     {
@@ -116,20 +120,26 @@ impl Book {
     /// Appends the actions of the next pass, on an input that fits, to an empty list, and takes the
     /// pass into the book.
     pub fn step(&mut self, config: &Config, input: &Input, out: &mut Actions)
-        requires of { IsBookOf config.now self.old }
+        requires of { IsReady config.now (board_in self.old) }
         requires sizes { HasSizes config.now input.now }
         requires empty { out.old ≡ [] }
-        ensures acts { (h : List PassEntry) → IsLegal config.now h → AgreesWith self.old h →
+        ensures acts { (h : List PassEntry) → IsLegal config.now h →
+            IsStateAfter (board_in self.old) h →
             IsInput config.now h input.entry.now →
             out.new ≡ pass_of (setting config.now h input.entry.now) }
-        ensures agrees { (h : List PassEntry) → IsLegal config.now h → AgreesWith self.old h →
+        ensures agrees { (h : List PassEntry) → IsLegal config.now h →
+            IsStateAfter (board_in self.old) h →
             IsInput config.now h input.entry.now →
-            AgreesWith self.new (h ++ record { input = input.entry.now; actions = out.new } ∷ []) }
+            IsStateAfter (board_in self.new) (h ++ record {
+              input = input.entry.now;
+              actions = out.new;
+            } ∷ []) }
         // The misses of the records kept before this pass's looks are kept too.
-        ensures before { (h : List PassEntry) → IsLegal config.now h → AgreesWith self.old h →
+        ensures before { (h : List PassEntry) → IsLegal config.now h →
+            IsStateAfter (board_in self.old) h →
             IsInput config.now h input.entry.now →
             KeepsBefore self.new.board.value.keeping (looks_of h) }
-        ensures of { IsBookOf config.now self.new }
+        ensures of { IsReady config.now (board_in self.new) }
     {
         config.limits();
         decide(config, input, &mut self.board, out);
@@ -137,6 +147,7 @@ impl Book {
     /// Appends the actions of the next pass, at this clock and bandwidth figure and on the looks
     /// that came in, one of each thread, to an empty list, and takes the pass into the book. It is
     /// `step` on the input that is made of these looks, with no list of looks made.
+    #[inline(always)]
     pub fn pass(
         &mut self,
         config: &Config,
@@ -145,24 +156,24 @@ impl Book {
         looks: &OpenPass,
         out: &mut Actions,
     )
-        requires of { IsBookOf config.now self.old }
+        requires of { IsReady config.now (board_in self.old) }
         requires all { looks.now.count ≡ threads_of_table config.now }
         requires empty { out.old ≡ [] }
         ensures acts { (h : List PassEntry) (found : List FoundLook) → IsLegal config.now h →
-            AgreesWith self.old h → IsOpenAt config.now h found looks.entry.now →
+            IsStateAfter (board_in self.old) h → IsOpenAt config.now h found looks.entry.now →
             out.new ≡ pass_of (setting config.now h (judged_input config.now h now bandwidth
             found)) }
         ensures agrees { (h : List PassEntry) (found : List FoundLook) → IsLegal config.now h →
-            AgreesWith self.old h → IsOpenAt config.now h found looks.entry.now →
-            AgreesWith self.new (h ++ record {
+            IsStateAfter (board_in self.old) h → IsOpenAt config.now h found looks.entry.now →
+            IsStateAfter (board_in self.new) (h ++ record {
               input = judged_input config.now h now bandwidth found;
               actions = out.new;
             } ∷ []) }
         // The misses of the records kept before this pass's looks are kept too.
         ensures before { (h : List PassEntry) (found : List FoundLook) → IsLegal config.now h →
-            AgreesWith self.old h → IsOpenAt config.now h found looks.entry.now →
+            IsStateAfter (board_in self.old) h → IsOpenAt config.now h found looks.entry.now →
             KeepsBefore self.new.board.value.keeping (looks_of h) }
-        ensures of { IsBookOf config.now self.new }
+        ensures of { IsReady config.now (board_in self.new) }
     {
         config.limits();
         decide_noted(config, now, bandwidth, looks, &mut self.board, out);

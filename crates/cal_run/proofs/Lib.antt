@@ -1,4 +1,5 @@
 pub mod Members
+pub mod CollectorLemmas
 pub mod WorkersLemmas
 pub mod PartsLemmas
 pub mod RoundsLemmas

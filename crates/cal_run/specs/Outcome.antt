@@ -3,6 +3,7 @@
 pub mod GivenOnce
 pub mod Headline
 use Rattle.std.specs.Prelude.{◌≡◌, ◌<◌, ℕ, [], length, map, min}
+use Rattle.std.specs.List.{AllZip}
 use Rattle.cal_machine.specs.Table.{Table}
 use Rattle.cal_signal.specs.Pages.{FitsPage}
 use Rattle.cal_policy.specs.declared.history.entry.PassEntry.{PassEntry}
@@ -17,13 +18,14 @@ use Rattle.cal_linear.specs.Law.{IsLinearised}
 use Rattle.cal_linear.specs.Linear.{linear}
 use Rattle.cal_linear.specs.Runs.{AreFirst, AreWatched, page_at}
 use Rattle.cal_linear.specs.Steps.{journal_at}
+use Rattle.cal_trace.specs.Report.Summary.{IsTallyOf}
 use Rattle.cal_trace.specs.declared.arrivals.Arrivals.{Arrivals}
 use Rattle.cal_trace.specs.declared.arrivals.GivenPass.{GivenPass}
 use Rattle.cal_run.specs.Workers.Given.{IsGiven, turns_given}
 use Rattle.cal_run.specs.declared.outcome.Outcome.{Outcome}
 use Rattle.cal_run.specs.declared.parts.opening.TheConstants.{MOST_ROUNDS}
 use Rattle.cal_run.specs.declared.outcome.RunEnd.{RunEnd}
-use Rattle.cal_run.specs.declared.outcome.ThreadsEnd.{ThreadsEnd}
+use Rattle.cal_run.specs.declared.outcome.TalliedEnd.{TalliedEnd}
 
 -- the clock and the bandwidth figure of a pass that was made
 abbrev pub figures_of : PassEntry → GivenPass
@@ -83,9 +85,10 @@ outcome_of end = record {
 abbrev pub IsRunEnd : Table → Arrivals → RunEnd → Type 0
 IsRunEnd table arrivals end = IsRun table arrivals (outcome_of end)
 
--- a run on these arrivals came to some outcome, of which these are the journals and what was left
-pub record IsThreadsEnd (table : Table) (arrivals : Arrivals) (end : ThreadsEnd) : Type 0 where
+-- a run on these arrivals came to some outcome, whose journals these tallies are of, and of which
+-- this is what was left
+pub record IsTalliedEnd (table : Table) (arrivals : Arrivals) (end : TalliedEnd) : Type 0 where
   pub outcome : Outcome
   pub run : IsRun table arrivals outcome
-  pub journals : outcome.journals ≡ end.journals
+  pub tallies : AllZip IsTallyOf outcome.journals end.tallies
   pub left : outcome.left ≡ end.left

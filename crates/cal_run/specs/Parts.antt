@@ -13,7 +13,6 @@ use Rattle.cal_trace.specs.declared.arrivals.Arrivals.{Arrivals}
 use Rattle.cal_run.specs.Outcome.{figures_of}
 use Rattle.cal_run.specs.declared.parts.opening.TheConstants.{MOST_ROUNDS}
 use Rattle.cal_run.specs.Workers.{HaveMade, Seat, pages_of_seats, rings_of_seats, seats_of}
-use Rattle.cal_run.specs.declared.parts.BareParts.{BareParts}
 use Rattle.cal_run.specs.declared.parts.Parts.{Parts}
 
 -- what a scheduler keeps over its passes
@@ -73,11 +72,3 @@ pub record AreParts (table : Table) (arrivals : Arrivals) (p j r : ℕ) (parts :
   pub turns : HaveMade arrivals j parts.workers.items
   pub rounds : length parts.watch.rounds ≡ r
   pub most : parts.watch.most ≡ rounds_of arrivals
-
--- the same parts, whatever became of the entries of the passes
-abbrev pub with_history : BareParts → Parts
-with_history parts = record {
-  scheduler = parts.scheduler;
-  workers = parts.workers;
-  watch = parts.watch;
-}

@@ -7,6 +7,7 @@ use Rattle.cal_signal.specs.Pages.{last_published}
 use Rattle.cal_kthread.specs.Team.{Place, place_of}
 use Rattle.cal_kthread.specs.Turn.Thread.{KernelView}
 use Rattle.cal_kthread.specs.Turn.Turns.{AreTurns}
+use Rattle.cal_kthread.specs.declared.journal.entry.Entry.{Entry}
 use Rattle.cal_trace.specs.Arrivals.FitsTable.{Fits}
 use Rattle.cal_trace.specs.declared.arrivals.Arrival.{Arrival}
 use Rattle.cal_trace.specs.declared.arrivals.Arrivals.{Arrivals}
@@ -78,3 +79,7 @@ pages_of_seats = map (λ seat. seat.page)
 
 abbrev pub rings_of_seats : List Seat → List RingId
 rings_of_seats = map (λ seat. seat.ring)
+
+-- what these threads did, in thread order
+abbrev pub journals_of : List Worker → List (List Entry)
+journals_of = map (λ worker. worker.thread.journal)

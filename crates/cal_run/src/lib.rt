@@ -9,6 +9,7 @@
 #![tactic(auto)]
 
 mod closing;
+mod collector;
 mod fault;
 mod one_thread;
 mod outcome;
@@ -17,14 +18,17 @@ mod rounds;
 mod workers;
 
 pub use closing::{close_parts, end_parts};
+pub use collector::Collector;
+pub use collector::collected::Collected;
+pub use collector::scheduler::CollectingScheduler;
+pub use collector::worker::{CollectingWorker, split_workers};
 pub use fault::SimFault;
-pub use one_thread::{lockstep, lockstep_end, lockstep_threads};
+pub use one_thread::{lockstep, lockstep_end, lockstep_tallied};
 pub use outcome::given_once::given_stand_once;
 pub use outcome::headline::headline_of_runs;
-pub use outcome::{Outcome, RunEnd, ThreadsEnd};
+pub use outcome::{Outcome, RunEnd, TalliedEnd};
 pub use parts::Parts;
 pub use parts::opening::{MOST_ROUNDS, open_parts};
 pub use rounds::passes::pass_given;
 pub use rounds::watch::watch_of_round;
-pub use workers::turn_each;
 pub use workers::worker::Worker;

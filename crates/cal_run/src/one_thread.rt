@@ -1,21 +1,24 @@
 //! A whole run on one thread.
 
-ghost use Rattle.std.specs.Prelude.{◌≡◌, IfOk, IfErr};
+ghost use Rattle.std.specs.Prelude.{◌≡◌, IfOk, IfErr, length};
+ghost use Rattle.cal_run.specs.Collecting.{IsCollectedOf};
 ghost use Rattle.cal_run.specs.Outcome.Headline.{Headline};
 ghost use Rattle.cal_run.specs.Outcome.{EachStandsOnce, IsRun, IsRunEnd};
-ghost use Rattle.cal_run.specs.Outcome.{IsThreadsEnd, outcome_of};
+ghost use Rattle.cal_run.specs.Outcome.{IsTalliedEnd, outcome_of};
+ghost use Rattle.cal_run.specs.Parts.{AreParts, rounds_of};
 ghost use Rattle.cal_run.specs.declared.fault.SimFault.TheVariants.{Memory};
 ghost use Rattle.cal_trace.specs.Arrivals.FitsTable.{FitsTable};
 
-use crate::closing::{close_parts, end_parts, end_threads};
+use crate::closing::{RunRest, close_parts, end_parts, end_run};
+use crate::collector::collected::{Collected, OpenCollection};
+use crate::collector::tallies::Tallies;
 use crate::fault::SimFault;
 use crate::outcome::headline::headline_of_runs;
-use crate::outcome::{Outcome, RunEnd, ThreadsEnd};
+use crate::outcome::{Outcome, RunEnd, TalliedEnd};
+use crate::parts::Parts;
 use crate::parts::opening::open_parts;
-use crate::parts::{BareParts, Parts};
-use crate::rounds::bare::make_bare_rounds;
 use crate::rounds::make_rounds;
-use cal_machine::Config;
+use cal_machine::{Config, Listed};
 use cal_trace::Arrivals;
 use std::alloc::Global;
 
@@ -36,9 +39,8 @@ pub fn lockstep(alloc: Global, config: &Config, arrivals: &Arrivals) -> Result<O
 {
     headline_of_runs();
     config.limits();
-    let mut parts = open_parts(alloc, config, arrivals)?;
-    make_rounds(&mut parts, arrivals)?;
-    close_parts(alloc, config, arrivals, parts)
+    let (parts, collected) = collected_run(alloc, config, arrivals)?;
+    close_parts(alloc, config, arrivals, parts, collected)
 }
 
 /// What the same run ends with: its outcome without the list of its steps, for which the history is
@@ -51,34 +53,48 @@ pub fn lockstep_end(alloc: Global, config: &Config, arrivals: &Arrivals) -> Resu
 {
     headline_of_runs();
     config.limits();
-    let mut parts = open_parts(alloc, config, arrivals)?;
-    make_rounds(&mut parts, arrivals)?;
-    end_parts(alloc, config, arrivals, parts)
+    let (parts, collected) = collected_run(alloc, config, arrivals)?;
+    end_parts(alloc, config, arrivals, parts, collected)
 }
 
-/// What the kernel threads of the same run end with. No pass is kept: the memory that this takes
-/// grows with what the threads did alone. Fails only when out of memory; nothing is left of the run
-/// then.
-pub fn lockstep_threads(
+/// What the same run ends with where what its kernel threads do is counted. No pass and no entry is
+/// kept: the memory that this takes grows with the threads, with what is left with them at the end,
+/// and with the rounds of the watch. Fails only when out of memory; nothing is left of the run then.
+pub fn lockstep_tallied(
     alloc: Global,
     config: &Config,
     arrivals: &Arrivals,
-) -> Result<ThreadsEnd, SimFault>
+) -> Result<TalliedEnd, SimFault>
     requires fits { FitsTable config.now arrivals.now }
-    ensures run { IfOk result (IsThreadsEnd config.now arrivals.now) }
+    ensures run { IfOk result (IsTalliedEnd config.now arrivals.now) }
     ensures memory { IfErr result (λ fault. fault ≡ Memory) }
 {
-    config.limits();
-    let Parts {
-        scheduler,
-        workers,
-        watch,
-    } = open_parts(alloc, config, arrivals)?;
-    let mut parts = BareParts {
-        scheduler: scheduler.bare(),
-        workers,
-        watch,
-    };
-    make_bare_rounds(&mut parts, arrivals)?;
-    end_threads(alloc, config, arrivals, parts)
+    let mut parts = open_parts(alloc, config, arrivals)?;
+    let mut tallies = Tallies::new(alloc, parts.workers.len())?;
+    make_rounds(&mut parts, arrivals, &mut tallies)?;
+    let RunRest { left, .. } = end_run(alloc, config, arrivals, parts)?;
+    Ok(TalliedEnd {
+        tallies: Listed::new(tallies.tallies),
+        left,
+    })
+}
+
+/// The parts of a run, whose passes, turns and rounds were all made, and its history and its
+/// journals.
+fn collected_run(
+    alloc: Global,
+    config: &Config,
+    arrivals: &Arrivals,
+) -> Result<(Parts, Collected), SimFault>
+    requires fits { FitsTable config.now arrivals.now }
+    ensures parts { IfOk result (λ run. AreParts config.now arrivals.now
+        (length arrivals.now.passes) (length arrivals.now.turns) (rounds_of arrivals.now) run.0) }
+    ensures collected { IfOk result (λ run. IsCollectedOf run.0 run.1) }
+    ensures memory { IfErr result (λ fault. fault ≡ Memory) }
+{
+    let mut parts = open_parts(alloc, config, arrivals)?;
+    let mut collection = OpenCollection::new(alloc, parts.workers.len())?;
+    make_rounds(&mut parts, arrivals, &mut collection)?;
+    let collected = collection.close(alloc)?;
+    Ok((parts, collected))
 }

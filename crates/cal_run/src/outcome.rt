@@ -7,6 +7,7 @@ use cal_kthread::{Journal, RequestList};
 use cal_machine::Listed;
 use cal_policy::PassEntry;
 use cal_signal::Round;
+use cal_trace::Tally;
 use cal_world::Event;
 
 /// What a run ends with, once its threads have ended and their ends were brought together: its
@@ -38,11 +39,11 @@ pub struct Outcome {
     pub watched: Listed<Round>,
 }
 
-/// What the kernel threads of a run end with.
+/// What a run ends with where what its kernel threads did was counted, and none of it kept.
 #[derive(Drop)]
-pub struct ThreadsEnd {
-    /// What each kernel thread did, in thread order.
-    pub journals: Listed<Journal>,
+pub struct TalliedEnd {
+    /// What each kernel thread did, counted, in thread order.
+    pub tallies: Listed<Tally>,
     /// The requests that were left with each kernel thread, in thread order.
     pub left: Listed<RequestList>,
 }

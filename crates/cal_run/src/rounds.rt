@@ -1,87 +1,127 @@
 //! The rounds of a run on one thread.
 
-pub mod bare;
 pub mod passes;
 pub mod watch;
 
-ghost use Rattle.std.specs.Prelude.{◌≡◌, ◌+◌, length, min, IfOk, IfErr};
-ghost use Rattle.cal_run.specs.declared.fault.SimFault.TheVariants.{Memory};
+ghost use Rattle.std.specs.Prelude.{◌≡◌, ◌+◌, ◌++◌, List, length, min, option_to_list, IfOk, OnOk};
+ghost use Rattle.cal_kthread.specs.declared.journal.entry.Entry.{Entry};
+ghost use Rattle.cal_policy.specs.declared.history.entry.PassEntry.{PassEntry as EntryOfPass};
 ghost use Rattle.cal_run.specs.Parts.{AreParts, HasPassed, rounds_of, scheduler_seat_of};
 ghost use Rattle.cal_run.specs.Rounds.{AreAfterRounds};
-ghost use Rattle.cal_run.specs.Workers.{FitSomeTable, HaveMade, seats_of};
+ghost use Rattle.cal_run.specs.Workers.{FitSomeTable, HaveMade, journals_of, seats_of};
 
-use crate::fault::SimFault;
+use crate::collector::Collector;
 use crate::parts::Parts;
 use crate::rounds::passes::pass_given;
 use crate::rounds::watch::watch_of_round;
 use crate::workers::turn_each;
 use crate::workers::worker::Worker;
-use cal_sched::Scheduler;
+use cal_policy::PassEntry;
+use cal_sched::BareScheduler;
 use cal_trace::Arrivals;
+use std::alloc::AllocError;
 
-/// All passes, turns and rounds of the watch, one round after the other. Fails only when out of
-/// memory.
-pub(crate) fn make_rounds(parts: &mut Parts, arrivals: &Arrivals) -> Result<(), SimFault>
+/// All passes, turns and rounds of the watch, one round after the other. What each pass and each
+/// turn hands out goes to the collector. Fails only when out of memory, or where the collector does.
+pub(crate) fn make_rounds<C: Collector>(
+    parts: &mut Parts,
+    arrivals: &Arrivals,
+    collector: &mut C,
+) -> Result<(), C::Fault>
     requires fits { FitSomeTable arrivals.now }
     requires opened { AreParts parts.old.scheduler.table arrivals.now 0 0 0 parts.old }
     ensures made { IfOk result (λ _. AreParts parts.old.scheduler.table arrivals.now
         (length arrivals.now.passes) (length arrivals.now.turns) (rounds_of arrivals.now)
         parts.new) }
-    ensures memory { IfErr result (λ fault. fault ≡ Memory) }
+    ensures collected { C.holds collector.old parts.old.scheduler.history
+        (journals_of parts.old.workers.items) →
+        OnOk result (C.holds collector.new parts.new.scheduler.history
+        (journals_of parts.new.workers.items)) }
 {
     let passes = arrivals.passes.as_slice().len();
     let turns = arrivals.turns.as_slice().len();
     for r in 0..passes.max(turns) {
-        make_round(parts, arrivals, r)?;
+        make_round(parts, arrivals, r, collector)?;
     }
     Ok(())
 }
 
 /// Round `r`: first pass `r`, then turn `r` of each thread in thread order, then round `r` of the
 /// watch, each if there is one.
-fn make_round(parts: &mut Parts, arrivals: &Arrivals, r: usize) -> Result<(), SimFault>
+fn make_round<C: Collector>(
+    parts: &mut Parts,
+    arrivals: &Arrivals,
+    r: usize,
+    collector: &mut C,
+) -> Result<(), C::Fault>
     requires fits { FitSomeTable arrivals.now }
     requires before { AreAfterRounds parts.old.scheduler.table arrivals.now r parts.old }
     ensures made { IfOk result (λ _.
         AreAfterRounds parts.old.scheduler.table arrivals.now (r + 1) parts.new) }
-    ensures memory { IfErr result (λ fault. fault ≡ Memory) }
+    ensures collected { C.holds collector.old parts.old.scheduler.history
+        (journals_of parts.old.workers.items) →
+        OnOk result (C.holds collector.new parts.new.scheduler.history
+        (journals_of parts.new.workers.items)) }
 {
-    pass_of_round(&mut parts.scheduler, arrivals, r)?;
-    turns_of_round(parts.workers.as_mut_slice(), arrivals, r)?;
+    let entry = pass_of_round(&mut parts.scheduler, arrivals, r)?;
+    collect_pass(entry, collector)?;
+    turns_of_round(parts.workers.as_mut_slice(), arrivals, r, collector)?;
     watch_of_round(&mut parts.watch);
     Ok(())
 }
 
-/// Pass `r`, if there is one.
-fn pass_of_round(scheduler: &mut Scheduler, arrivals: &Arrivals, r: usize) -> Result<(), SimFault>
+/// Pass `r`, if there is one, and its entry. Fails only when out of memory.
+fn pass_of_round(
+    scheduler: &mut BareScheduler,
+    arrivals: &Arrivals,
+    r: usize,
+) -> Result<Option<PassEntry>, AllocError>
     requires fits { FitSomeTable arrivals.now }
     requires passed { HasPassed arrivals.now (min r (length arrivals.now.passes)) scheduler.old }
     ensures passed { IfOk result (λ _.
         HasPassed arrivals.now (min (r + 1) (length arrivals.now.passes)) scheduler.new) }
+    ensures entered { IfOk result (λ entry.
+        scheduler.new.history ≡ scheduler.old.history ++ option_to_list entry) }
     ensures seat { scheduler_seat_of scheduler.new ≡ scheduler_seat_of scheduler.old }
-    ensures memory { IfErr result (λ fault. fault ≡ Memory) }
 {
     if r >= arrivals.passes.as_slice().len() {
-        return Ok(());
+        return Ok(None);
     }
-    pass_given(scheduler, arrivals, r)
+    let entry = pass_given(scheduler, arrivals, r)?;
+    Ok(Some(entry))
+}
+
+/// The entry of a pass, if one was made, goes to the collector.
+fn collect_pass<C: Collector>(entry: Option<PassEntry>, collector: &mut C) -> Result<(), C::Fault>
+    ensures { (history : List EntryOfPass) (journals : List (List Entry)) →
+        C.holds collector.old history journals →
+        OnOk result (C.holds collector.new (history ++ option_to_list entry) journals) }
+{
+    match entry {
+        Some(entry) => collector.add_pass(entry),
+        None => Ok(()),
+    }
 }
 
 /// Turn `r` of each thread, in thread order, if there is one.
-pub(crate) fn turns_of_round(
+fn turns_of_round<C: Collector>(
     workers: &mut [Worker],
     arrivals: &Arrivals,
     r: usize,
-) -> Result<(), SimFault>
+    collector: &mut C,
+) -> Result<(), C::Fault>
     requires fits { FitSomeTable arrivals.now }
     requires made { HaveMade arrivals.now (min r (length arrivals.now.turns)) workers.old }
     ensures made { IfOk result (λ _.
         HaveMade arrivals.now (min (r + 1) (length arrivals.now.turns)) workers.new) }
     ensures seats { IfOk result (λ _. seats_of workers.new ≡ seats_of workers.old) }
-    ensures memory { IfErr result (λ fault. fault ≡ Memory) }
+    ensures collected { (history : List EntryOfPass) →
+        C.holds collector.old history (journals_of workers.old) →
+        OnOk result (C.holds collector.new history (journals_of workers.new)) }
 {
     if r >= arrivals.turns.as_slice().len() {
         return Ok(());
     }
-    turn_each(workers, arrivals, r)
+    turn_each(workers, arrivals, r, collector)?;
+    Ok(())
 }

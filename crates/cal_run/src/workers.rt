@@ -2,25 +2,36 @@
 
 pub mod worker;
 
-ghost use Rattle.std.specs.Prelude.{◌≡◌, ◌+◌, ◌<◌, length, IfOk, IfErr};
-ghost use Rattle.cal_run.specs.declared.fault.SimFault.TheVariants.{Memory};
-ghost use Rattle.cal_run.specs.Workers.{FitSomeTable, HaveMade, seats_of};
+ghost use Rattle.std.specs.Prelude.{◌≡◌, ◌+◌, ◌<◌, List, length, IfOk, OnOk};
+ghost use Rattle.cal_policy.specs.declared.history.entry.PassEntry.{PassEntry};
+ghost use Rattle.cal_run.specs.Workers.{FitSomeTable, HaveMade, journals_of, seats_of};
 
-use crate::fault::SimFault;
+use crate::collector::Collector;
 use crate::workers::worker::Worker;
+use cal_kthread::laws::turns_add_up;
 use cal_trace::Arrivals;
 
-/// Turn `j` of each thread, in thread order. Fails only when out of memory.
-pub fn turn_each(workers: &mut [Worker], arrivals: &Arrivals, j: usize) -> Result<(), SimFault>
+/// Turn `j` of each thread, in thread order; what each adds to its journal goes to the collector.
+/// Fails only when out of memory, or where the collector does.
+pub(crate) fn turn_each<C: Collector>(
+    workers: &mut [Worker],
+    arrivals: &Arrivals,
+    j: usize,
+    collector: &mut C,
+) -> Result<(), C::Fault>
     requires fits { FitSomeTable arrivals.now }
     requires given { j < length arrivals.now.turns }
     requires made { HaveMade arrivals.now j workers.old }
     ensures made { IfOk result (λ _. HaveMade arrivals.now (j + 1) workers.new) }
     ensures seats { IfOk result (λ _. seats_of workers.new ≡ seats_of workers.old) }
-    ensures memory { IfErr result (λ fault. fault ≡ Memory) }
+    ensures collected { (history : List PassEntry) →
+        C.holds collector.old history (journals_of workers.old) →
+        OnOk result (C.holds collector.new history (journals_of workers.new)) }
 {
+    turns_add_up();
     for k in 0..workers.len() {
-        workers[k].turn(arrivals, j)?;
+        let entries = workers[k].turn(arrivals, j)?;
+        collector.add_turn(k, entries)?;
     }
     Ok(())
 }

@@ -12,7 +12,8 @@ use Rattle.cal_policy.specs.declared.judgement.open_input.FoundLook.{FoundLook}
 use Rattle.cal_policy.specs.declared.history.action.Action.{Action}
 use Rattle.cal_policy.specs.declared.history.entry.PassEntry.{PassEntry}
 use Rattle.cal_policy.specs.declared.history.input.Input.{Input}
-use Rattle.cal_policy.specs.Book.{AgreesWith}
+use Rattle.cal_policy.specs.Book.{board_in}
+use Rattle.cal_policy.specs.State.{IsStateAfter}
 use Rattle.cal_policy.specs.History.Found.{looks_at}
 use Rattle.cal_policy.specs.Judgement.OpenInput.{judged_input, rooms_found}
 use Rattle.cal_policy.specs.Judgement.Judging.{IsInput}
@@ -55,7 +56,7 @@ module _ (s : SchedulerView) (now bandwidth : ℕ) (looked : List ObserverView) 
       sym (unwrap_or-slice_get (rooms_found found) k false)
       ∙ ap (λ o. unwrap_or o false) (slice_get-map (λ (f : FoundLook). f.room) found k ∙ ap (option_map (λ (f : FoundLook). f.room)) at)
 
-  pub may_send : (book : Book) → IsKept s → HaveFound s.observers looked s.senders asked found → AgreesWith book (s.history ++ pass_found ∷ [])
+  pub may_send : (book : Book) → IsKept s → HaveFound s.observers looked s.senders asked found → IsStateAfter (board_in book) (s.history ++ pass_found ∷ [])
       → MaySend s.table book (s.history ++ pass_found ∷ []) asked
   may_send book kept finds agrees = record {
     before = s.history;

@@ -13,7 +13,8 @@ use Rattle.cal_machine.specs.declared.command.Command.TheVariants.{Run, Park}
 use Rattle.cal_policy.specs.declared.book.Book.{Book}
 use Rattle.cal_policy.specs.declared.history.action.Action.{Action}
 use Rattle.cal_policy.specs.declared.history.entry.PassEntry.{PassEntry}
-use Rattle.cal_policy.specs.Book.{AgreesWith, RunsOnTable}
+use Rattle.cal_policy.specs.Book.{board_in, RunsOnTable}
+use Rattle.cal_policy.specs.State.{IsStateAfter}
 use Rattle.cal_policy.specs.History.{actions_of, commands_to, sent_to, sends, addressed_to, command_to}
 use Rattle.cal_policy.specs.Pass.{IsLegal}
 use Rattle.cal_policy.proofs.HistoryLemmas.OneMore.{commands_push}
@@ -187,7 +188,7 @@ module _ (before : List PassEntry) (last : PassEntry) (senders : List SenderView
 -- what may be sent, of the last pass and those before it
 pub record OfLast (table : Table) (book : Book) (before : List PassEntry) (last : PassEntry) (senders : List SenderView) : Type 0 where
   pub legal : IsLegal table (before ++ last ∷ [])
-  pub agrees : AgreesWith book (before ++ last ∷ [])
+  pub agrees : IsStateAfter (board_in book) (before ++ last ∷ [])
   pub sent : (k : ℕ) (sender : SenderView) → slice_get senders k ≡ Some sender → sender.sent ≡ commands_to (actions_of before) k
   pub room : (k : ℕ) (sender : SenderView) → slice_get senders k ≡ Some sender → slice_index_or last.input.rooms k false ≡ true → HasRoom sender
 
@@ -197,7 +198,7 @@ of_last table book history senders before last may e =
     let same = snoc_same may.before before may.last last (sym may.whole ∙ e) in
     record {
       legal = subst (IsLegal table) e may.legal;
-      agrees = subst (AgreesWith book) e may.agrees;
+      agrees = subst (IsStateAfter (board_in book)) e may.agrees;
       sent = λ k sender at. may.sent k sender at ∙ ap (λ h. commands_to (actions_of h) k) same.0;
       room = λ k sender at told. may.room k sender at (ap (λ (l : PassEntry). slice_index_or l.input.rooms k false) same.1 ∙ told);
     }

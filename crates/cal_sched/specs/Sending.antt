@@ -5,7 +5,8 @@ use Rattle.cal_command.specs.Rings.{SenderView, HasRoom}
 use Rattle.cal_machine.specs.Table.{Table}
 use Rattle.cal_policy.specs.declared.book.Book.{Book}
 use Rattle.cal_policy.specs.declared.history.entry.PassEntry.{PassEntry}
-use Rattle.cal_policy.specs.Book.{AgreesWith}
+use Rattle.cal_policy.specs.Book.{board_in}
+use Rattle.cal_policy.specs.State.{IsStateAfter}
 use Rattle.cal_policy.specs.History.{actions_of, commands_to}
 use Rattle.cal_policy.specs.Pass.{IsLegal}
 use Rattle.cal_machine.specs.TableTasks.{threads_of_table}
@@ -19,7 +20,7 @@ pub record MaySend (table : Table) (book : Book) (history : List PassEntry)
   pub last : PassEntry
   pub whole : history ≡ before ++ last ∷ []
   pub legal : IsLegal table history
-  pub agrees : AgreesWith book history
+  pub agrees : IsStateAfter (board_in book) history
   pub rings : length senders ≡ threads_of_table table
   pub sent : (k : ℕ) (sender : SenderView) → slice_get senders k ≡ Some sender →
       sender.sent ≡ commands_to (actions_of before) k

@@ -6,7 +6,8 @@ ghost use Rattle.cal_policy.specs.History.{actions_of, holder_of};
 ghost use Rattle.cal_machine.specs.TableTasks.{threads_of_table};
 ghost use Rattle.cal_policy.specs.declared.history.entry.TheConstants.{MOST_PASSES};
 ghost use Rattle.cal_sched.specs.declared.fault.PassFault.TheVariants.{HistoryFull};
-ghost use Rattle.cal_policy.specs.Book.{AgreesWith, IsBookOf};
+ghost use Rattle.cal_policy.specs.Book.{board_in};
+ghost use Rattle.cal_policy.specs.State.{IsReady, IsStateAfter};
 ghost use Rattle.cal_sched.specs.Passing.{IsPassed};
 ghost use Rattle.cal_sched.specs.Scheduler.{IsKept, HaveSeenNothing, HaveSentNothing};
 
@@ -49,7 +50,8 @@ pub struct BareScheduler {
 
 impl Model for BareScheduler {
     ghost use Rattle.std.specs.Prelude.{◌≡◌, length};
-    ghost use Rattle.cal_policy.specs.Book.{AgreesWith, IsBookOf};
+    ghost use Rattle.cal_policy.specs.Book.{board_in};
+    ghost use Rattle.cal_policy.specs.State.{IsReady, IsStateAfter};
     ghost use Rattle.cal_sched.specs.Past.{history_of};
     ghost use Rattle.cal_sched.specs.Scheduler.{SchedulerView, IsKept};
 
@@ -67,7 +69,8 @@ impl Model for BareScheduler {
       history = history_of s.config s.past;
       observers = s.observers.items;
       senders = s.senders.items;
-    }) × AgreesWith s.book (history_of s.config s.past) × IsBookOf s.config s.book
+    }) × IsStateAfter (board_in s.book) (history_of s.config s.past)
+        × IsReady s.config (board_in s.book)
         × (s.passes ≡ length (history_of s.config s.past)) };
 }
 
@@ -95,8 +98,8 @@ pub struct BareEnd {
 
 /// The book of no pass yet, and the memory of a step.
 fn take_memory(alloc: Global, config: &Config) -> Result<(Book, Box<OpenPass>), AllocError>
-    ensures agrees { IfOk result (λ taken. AgreesWith taken.0 []) }
-    ensures of { IfOk result (λ taken. IsBookOf config.now taken.0) }
+    ensures agrees { IfOk result (λ taken. IsStateAfter (board_in taken.0) []) }
+    ensures of { IfOk result (λ taken. IsReady config.now (board_in taken.0)) }
 {
     let book = Book::open(alloc, config)?;
     let looks = Box::new(alloc, OpenPass::new())?;

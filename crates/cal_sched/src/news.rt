@@ -3,7 +3,7 @@
 ghost use Rattle.std.specs.Prelude.{◌≡◌, ◌+◌, ◌<◌, ◌++◌, ◌∷◌, [], List, length};
 ghost use Rattle.cal_policy.specs.declared.judgement.open_input.FoundLook.{FoundLook};
 ghost use Rattle.cal_policy.specs.declared.history.entry.PassEntry.{PassEntry};
-ghost use Rattle.cal_policy.specs.Board.{IsStateAfter};
+ghost use Rattle.cal_policy.specs.State.{IsStateAfter};
 ghost use Rattle.cal_policy.specs.Board.KeepingSets.{KeepsSets};
 ghost use Rattle.cal_policy.specs.History.{actions_of, looks_of};
 ghost use Rattle.cal_policy.specs.History.Looks.{last_shown};

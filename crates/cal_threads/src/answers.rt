@@ -6,14 +6,14 @@ ghost use Rattle.cal_threads.specs.Promises.{MayGive};
 use crate::gate::Gate;
 use crate::kernel_threads::TurningThread;
 use cal_machine::Past;
-use cal_run::{SimFault, Worker};
+use cal_run::{CollectingWorker, SimFault};
 use std::thread::Threads;
 
 /// What each thread that was joined answered, in order. Contracts see the list, and nothing comes
 /// into it but what a join gave.
 #[derive(Drop)]
 pub(crate) struct Answers {
-    noted: Past<Result<Worker, SimFault>>,
+    noted: Past<Result<CollectingWorker, SimFault>>,
 }
 
 impl Answers {
@@ -31,7 +31,7 @@ impl Answers {
         &mut self,
         rt: &impl Threads,
         thread: TurningThread<'a, G>,
-    ) -> Result<Worker, SimFault>
+    ) -> Result<CollectingWorker, SimFault>
         ensures noted { self.new.noted ≡ self.old.noted ++ result ∷ [] }
         ensures kept { MayGive G.answers_turn thread.entry.promise result }
     {

@@ -13,7 +13,7 @@ use crate::answers::Answers;
 use crate::faults::{both_or_least_fault, least};
 use crate::gate::Gate;
 use crate::working::make_turns;
-use cal_run::{SimFault, Worker};
+use cal_run::{CollectingWorker, SimFault, Worker};
 use cal_trace::Arrivals;
 use std::alloc::Global;
 use std::snapshot::Snapshot;
@@ -23,21 +23,25 @@ use std::thread::{Promise, PromisedHandle, Scope, Threads};
 /// through; or that memory was refused to it, or the gate may have ended it.
 #[derive(Drop)]
 pub(crate) struct Turned<'a, G: Gate> {
-    was: Snapshot<Worker>,
+    was: Snapshot<CollectingWorker>,
     k: usize,
     arrivals: &'a Arrivals,
     gate: &'a G,
 }
 
-impl<'a, G: Gate> Promise<Result<Worker, SimFault>> for Turned<'a, G> {
+impl<'a, G: Gate> Promise<Result<CollectingWorker, SimFault>> for Turned<'a, G> {
     ghost kept_by = { MayGive G.answers_turn };
 }
 
 /// The thread of a kernel thread.
-pub(crate) type TurningThread<'a, G> = PromisedHandle<Result<Worker, SimFault>, Turned<'a, G>>;
+pub(crate) type TurningThread<'a, G> = PromisedHandle<
+    Result<CollectingWorker, SimFault>,
+    Turned<'a, G>,
+>;
 
 /// Runs all kernel threads at the same time, each in a thread of its own, and gives them back in
-/// order. Where it does not, all that were started have still come to their end.
+/// order, with their journals. Where it does not, all that were started have still come to their
+/// end.
 pub(crate) fn run_workers<'s, R: Threads, E, G: Gate + Sync>(
     rt: &R,
     scope: &Scope<'s, E>,
@@ -45,7 +49,7 @@ pub(crate) fn run_workers<'s, R: Threads, E, G: Gate + Sync>(
     gate: &'s G,
     arrivals: &'s Arrivals,
     workers: Vec<Worker>,
-) -> Result<Vec<Worker>, SimFault>
+) -> Result<Vec<CollectingWorker>, SimFault>
     requires fits { FitSomeTable arrivals.now }
     requires none { HaveMade arrivals.now 0 workers.items }
     ensures made { IfOk result (λ v. HaveMade arrivals.now (length arrivals.now.turns) v.items) }
@@ -58,7 +62,7 @@ pub(crate) fn run_workers<'s, R: Threads, E, G: Gate + Sync>(
     // All room is made before the first thread starts, so that none is given up.
     let threads = Vec::with_capacity(alloc, workers.len())?;
     let back = Vec::with_capacity(alloc, workers.len())?;
-    let (threads, started) = start_workers(scope, gate, arrivals, workers, threads);
+    let (threads, started) = start_workers(scope, alloc, gate, arrivals, workers, threads);
     let (joined, _) = join_workers(rt, threads, back);
     match both_or_least_fault(started, joined) {
         Ok((_, workers)) => Ok(workers),
@@ -70,6 +74,7 @@ pub(crate) fn run_workers<'s, R: Threads, E, G: Gate + Sync>(
 /// `threads` is empty and has room.
 fn start_workers<'s, E, G: Gate + Sync>(
     scope: &Scope<'s, E>,
+    alloc: Global,
     gate: &'s G,
     arrivals: &'s Arrivals,
     workers: Vec<Worker>,
@@ -86,6 +91,7 @@ fn start_workers<'s, E, G: Gate + Sync>(
     ensures len { vec_len result.0 ≤ vec_len workers }
 {
     for worker in workers {
+        let worker = CollectingWorker::new(alloc, worker);
         let k = threads.len();
         let promise = Turned {
             was: Snapshot::of(&worker),
@@ -108,8 +114,8 @@ fn start_workers<'s, E, G: Gate + Sync>(
 fn join_workers<'a, G: Gate>(
     rt: &impl Threads,
     threads: Vec<TurningThread<'a, G>>,
-    mut workers: Vec<Worker>,
-) -> (Result<Vec<Worker>, SimFault>, Answers)
+    mut workers: Vec<CollectingWorker>,
+) -> (Result<Vec<CollectingWorker>, SimFault>, Answers)
     requires empty { workers.items ≡ [] }
     requires room { vec_len threads ≤ vec_capacity workers }
     ensures made { IfOk result.0 (λ v. AllZip (λ t w. IsKept G.answers_turn t.promise w)

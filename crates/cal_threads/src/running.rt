@@ -1,9 +1,11 @@
 //! A run of all parts in threads of their own, and back.
 
 ghost use Rattle.std.specs.Prelude.{◌≡◌, ◌⊎◌, IfOk, IfErr, MatchResult, length, vec_len};
+ghost use Rattle.cal_run.specs.Collecting.{IsCollectedOf};
 ghost use Rattle.cal_run.specs.Parts.{AreParts, HasPassed, rounds_of};
 ghost use Rattle.cal_run.specs.Workers.{FitSomeTable, HaveMade, seats_of};
-ghost use Rattle.cal_run.specs.declared.fault.SimFault.TheVariants.{Gate as GateFault, Spawn};
+ghost use Rattle.cal_run.specs.declared.fault.SimFault.TheVariants.{Gate as GateFault, Memory};
+ghost use Rattle.cal_run.specs.declared.fault.SimFault.TheVariants.{Spawn};
 ghost use Rattle.cal_threads.specs.Gates.{EndedBy, LetsEachThrough, LetsThrough};
 ghost use Rattle.cal_threads.specs.Gates.{MayRefuse, MayRefuseOne};
 ghost use Rattle.cal_threads.specs.Promises.{AsksEachPass, HasMadePasses, HasMadeRounds};
@@ -12,8 +14,10 @@ use crate::faults::both_or_least_fault;
 use crate::gate::Gate;
 use crate::kernel_threads::run_workers;
 use crate::working::{make_passes, make_rounds};
-use cal_run::{Parts, SimFault, Worker};
-use cal_sched::{Scheduler, Watch};
+use cal_run::{
+    Collected, CollectingScheduler, CollectingWorker, Parts, SimFault, Worker, split_workers,
+};
+use cal_sched::{BareScheduler, Watch};
 use cal_trace::Arrivals;
 use std::alloc::Global;
 use std::snapshot::Snapshot;
@@ -25,19 +29,19 @@ use std::thread::{Promise, PromisedHandle, Scope, Threads};
 /// through; or that memory was refused to it, or the gate may have ended it.
 #[derive(Drop)]
 struct Passed<'a, G: Gate> {
-    was: Snapshot<Scheduler>,
+    was: Snapshot<CollectingScheduler>,
     arrivals: &'a Arrivals,
     gate: &'a G,
 }
 
-impl<'a, G: Gate> Promise<Result<Scheduler, SimFault>> for Passed<'a, G> {
+impl<'a, G: Gate> Promise<Result<CollectingScheduler, SimFault>> for Passed<'a, G> {
     ghost kept_by = { λ p r. MatchResult r
         (AsksEachPass (G.answers_pass p.gate.now) p.arrivals.now p.was.value)
         (EndedBy (MayRefuse (G.answers_pass p.gate.now) (length p.arrivals.now.passes))) };
 }
 
 /// The thread of the scheduler.
-type PassingThread<'a, G> = PromisedHandle<Result<Scheduler, SimFault>, Passed<'a, G>>;
+type PassingThread<'a, G> = PromisedHandle<Result<CollectingScheduler, SimFault>, Passed<'a, G>>;
 
 /// That the watch comes back in its seat and has made its rounds.
 #[derive(Drop)]
@@ -51,7 +55,8 @@ impl Promise<Watch> for Watched {
 }
 
 /// Runs the scheduler, each kernel thread and the watch at the same time, each in a thread of its
-/// own, and gives them back once each has come to its end. They share their pages, rings and
+/// own, and gives them back once each has come to its end, with the entries of all passes and the
+/// journal of each kernel thread. They share their pages, rings and
 /// queues, the arrivals, which are only read, and the gate. Only the joins wait.
 ///
 /// `Memory` where memory was refused to a worker or for the threads, `Spawn` where a thread could
@@ -64,11 +69,12 @@ pub fn run_threads<R: Threads + Wait + Sync, G: Gate + Sync>(
     arrivals: &Arrivals,
     gate: &G,
     parts: Parts,
-) -> Result<Parts, SimFault>
+) -> Result<(Parts, Collected), SimFault>
     requires fits { FitSomeTable arrivals.now }
     requires parts { AreParts parts.scheduler.table arrivals.now 0 0 0 parts }
-    ensures ran { IfOk result (AreParts parts.scheduler.table arrivals.now
-        (length arrivals.now.passes) (length arrivals.now.turns) (rounds_of arrivals.now)) }
+    ensures ran { IfOk result (λ run. AreParts parts.scheduler.table arrivals.now
+        (length arrivals.now.passes) (length arrivals.now.turns) (rounds_of arrivals.now) run.0) }
+    ensures collected { IfOk result (λ run. IsCollectedOf run.0 run.1) }
     ensures passes_asked { IfOk result (λ _.
         LetsThrough (G.answers_pass gate.now) (length arrivals.now.passes)) }
     ensures turns_asked { IfOk result (λ _. LetsEachThrough
@@ -81,12 +87,13 @@ pub fn run_threads<R: Threads + Wait + Sync, G: Gate + Sync>(
     thread::scope(
         thread::scope_env(),
         rt,
-        move |scope| -> Result<Parts, SimFault>
+        move |scope| -> Result<(Parts, Collected), SimFault>
             requires fits { FitSomeTable arrivals.now }
             requires parts { AreParts parts.scheduler.table arrivals.now 0 0 0 parts }
-            ensures ran { IfOk result (AreParts parts.scheduler.table arrivals.entry.now
+            ensures ran { IfOk result (λ run. AreParts parts.scheduler.table arrivals.entry.now
                 (length arrivals.entry.now.passes) (length arrivals.entry.now.turns)
-                (rounds_of arrivals.entry.now)) }
+                (rounds_of arrivals.entry.now) run.0) }
+            ensures collected { IfOk result (λ run. IsCollectedOf run.0 run.1) }
             ensures passes_asked { IfOk result (λ _.
                 LetsThrough (G.answers_pass gate.entry.now) (length arrivals.entry.now.passes)) }
             ensures turns_asked { IfOk result (λ _.
@@ -108,11 +115,12 @@ fn run_within<'s, R: Threads, E, G: Gate + Sync>(
     arrivals: &'s Arrivals,
     gate: &'s G,
     parts: Parts,
-) -> Result<Parts, SimFault>
+) -> Result<(Parts, Collected), SimFault>
     requires fits { FitSomeTable arrivals.now }
     requires parts { AreParts parts.scheduler.table arrivals.now 0 0 0 parts }
-    ensures ran { IfOk result (AreParts parts.scheduler.table arrivals.now
-        (length arrivals.now.passes) (length arrivals.now.turns) (rounds_of arrivals.now)) }
+    ensures ran { IfOk result (λ run. AreParts parts.scheduler.table arrivals.now
+        (length arrivals.now.passes) (length arrivals.now.turns) (rounds_of arrivals.now) run.0) }
+    ensures collected { IfOk result (λ run. IsCollectedOf run.0 run.1) }
     ensures passes_asked { IfOk result (λ _.
         LetsThrough (G.answers_pass gate.now) (length arrivals.now.passes)) }
     ensures turns_asked { IfOk result (λ _. LetsEachThrough
@@ -127,17 +135,39 @@ fn run_within<'s, R: Threads, E, G: Gate + Sync>(
         workers,
         watch,
     } = parts;
-    let passing = start_scheduler(scope, arrivals, gate, scheduler)?;
+    let passing = start_scheduler(scope, alloc, arrivals, gate, scheduler)?;
     let others = run_others(rt, scope, alloc, arrivals, gate, workers, watch);
     let scheduler = passing.join(rt);
     match both_or_least_fault(scheduler, others) {
-        Ok((scheduler, (workers, watch))) => Ok(Parts {
-            scheduler,
-            workers,
-            watch,
-        }),
+        Ok((scheduler, (workers, watch))) => {
+            let made = apart(alloc, scheduler, workers, watch)?;
+            Ok(made)
+        }
         Err(fault) => Err(fault),
     }
+}
+
+/// The parts of a run, and what was collected beside them.
+fn apart(
+    alloc: Global,
+    scheduler: CollectingScheduler,
+    workers: Vec<CollectingWorker>,
+    watch: Watch,
+) -> Result<(Parts, Collected), SimFault>
+    ensures scheduler { IfOk result (λ run. run.0.scheduler ≡ scheduler) }
+    ensures workers { IfOk result (λ run. run.0.workers.items ≡ workers.items) }
+    ensures watch { IfOk result (λ run. run.0.watch ≡ watch) }
+    ensures collected { IfOk result (λ run. IsCollectedOf run.0 run.1) }
+    ensures memory { IfErr result (λ fault. fault ≡ Memory) }
+{
+    let (scheduler, history) = scheduler.into_parts();
+    let (workers, journals) = split_workers(alloc, workers)?;
+    let parts = Parts {
+        scheduler,
+        workers,
+        watch,
+    };
+    Ok((parts, Collected { history, journals }))
 }
 
 /// Runs the watch and all kernel threads at the same time, and gives them back once each has come
@@ -150,7 +180,7 @@ fn run_others<'s, R: Threads, E, G: Gate + Sync>(
     gate: &'s G,
     workers: Vec<Worker>,
     watch: Watch,
-) -> Result<(Vec<Worker>, Watch), SimFault>
+) -> Result<(Vec<CollectingWorker>, Watch), SimFault>
     requires fits { FitSomeTable arrivals.now }
     requires none { HaveMade arrivals.now 0 workers.items }
     requires unwatched { length watch.rounds ≡ 0 }
@@ -175,9 +205,10 @@ fn run_others<'s, R: Threads, E, G: Gate + Sync>(
 /// Starts the scheduler's thread. The error is `Spawn` alone.
 fn start_scheduler<'s, E, G: Gate + Sync>(
     scope: &Scope<'s, E>,
+    alloc: Global,
     arrivals: &'s Arrivals,
     gate: &'s G,
-    scheduler: Scheduler,
+    scheduler: BareScheduler,
 ) -> Result<PassingThread<'s, G>, SimFault>
     requires fits { FitSomeTable arrivals.now }
     requires none { HasPassed arrivals.now 0 scheduler }
@@ -186,6 +217,7 @@ fn start_scheduler<'s, E, G: Gate + Sync>(
     ensures gate { IfOk result (λ t. t.promise.gate.now ≡ gate.now) }
     ensures spawn { IfErr result (λ fault. fault ≡ Spawn) }
 {
+    let scheduler = CollectingScheduler::new(alloc, scheduler);
     let promise = Passed {
         was: Snapshot::of(&scheduler),
         arrivals,

@@ -54,7 +54,7 @@ pub fn simulate<R: Threads + Wait + Sync, G: Gate + Sync>(
     headline_of_runs();
     let parts = open_parts(alloc, config, arrivals)?;
     match run_threads(rt, alloc, arrivals, gate, parts) {
-        Ok(parts) => close_parts(alloc, config, arrivals, parts),
+        Ok((parts, collected)) => close_parts(alloc, config, arrivals, parts, collected),
         Err(fault) => Err(fault),
     }
 }
@@ -84,7 +84,7 @@ pub fn simulation_end<R: Threads + Wait + Sync, G: Gate + Sync>(
     headline_of_runs();
     let parts = open_parts(alloc, config, arrivals)?;
     match run_threads(rt, alloc, arrivals, gate, parts) {
-        Ok(parts) => end_parts(alloc, config, arrivals, parts),
+        Ok((parts, collected)) => end_parts(alloc, config, arrivals, parts, collected),
         Err(fault) => Err(fault),
     }
 }

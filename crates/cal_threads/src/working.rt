@@ -7,16 +7,17 @@ ghost use Rattle.cal_run.specs.Workers.{FitSomeTable, HasMade, seat_of};
 ghost use Rattle.cal_threads.specs.Gates.{EndedBy, LetsThrough, MayRefuse};
 
 use crate::gate::Gate;
-use cal_run::{SimFault, Worker, pass_given, watch_of_round};
-use cal_sched::{Scheduler, Watch};
+use cal_run::{CollectingScheduler, CollectingWorker, SimFault, watch_of_round};
+use cal_sched::Watch;
 use cal_trace::Arrivals;
 
-/// Each pass that is given, in order, where the gate lets the scheduler make it.
+/// Each pass that is given, in order, where the gate lets the scheduler make it. Its entry is
+/// collected beside the scheduler.
 pub(crate) fn make_passes<G: Gate>(
     gate: &G,
     arrivals: &Arrivals,
-    mut scheduler: Scheduler,
-) -> Result<Scheduler, SimFault>
+    mut scheduler: CollectingScheduler,
+) -> Result<CollectingScheduler, SimFault>
     requires fits { FitSomeTable arrivals.now }
     requires none { HasPassed arrivals.now 0 scheduler }
     ensures passed { IfOk result (HasPassed arrivals.now (length arrivals.now.passes)) }
@@ -30,18 +31,19 @@ pub(crate) fn make_passes<G: Gate>(
         if !gate.before_pass(p as u64) {
             return Err(SimFault::Gate);
         }
-        pass_given(&mut scheduler, arrivals, p)?;
+        scheduler.pass_given(arrivals, p)?;
     }
     Ok(scheduler)
 }
 
-/// Each turn that is given to kernel thread `k`, in order, where the gate lets it make it.
+/// Each turn that is given to kernel thread `k`, in order, where the gate lets it make it. Its
+/// entries are collected beside the thread.
 pub(crate) fn make_turns<G: Gate>(
     gate: &G,
     k: usize,
     arrivals: &Arrivals,
-    mut worker: Worker,
-) -> Result<Worker, SimFault>
+    mut worker: CollectingWorker,
+) -> Result<CollectingWorker, SimFault>
     requires fits { FitSomeTable arrivals.now }
     requires none { HasMade arrivals.now k 0 worker }
     ensures made { IfOk result (HasMade arrivals.now k (length arrivals.now.turns)) }
@@ -55,7 +57,7 @@ pub(crate) fn make_turns<G: Gate>(
         if !gate.before_turn(k, j as u64) {
             return Err(SimFault::Gate);
         }
-        worker.turn(arrivals, j)?;
+        worker = worker.turn(arrivals, j)?;
     }
     Ok(worker)
 }

@@ -4,3 +4,4 @@ pub mod ListLemmas
 pub mod HistoryLemmas
 pub mod Given
 pub mod ArrivalsFit
+pub mod Tallies

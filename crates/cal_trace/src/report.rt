@@ -1,13 +1,14 @@
 //! The report of a history: its passes, what they did, and the tasks at its end.
 
 pub mod summary;
+pub mod tally;
 
 ghost use Rattle.std.specs.Prelude.{◌<◌, ◌+◌, ◌^◌, ◌++◌, ◌∷◌, [], ℕ, List, Option, length, OnOk};
 ghost use Rattle.std.specs.List.{flat_map};
 ghost use Rattle.std.specs.Io.KnownBytes.{Appends};
 ghost use Rattle.cal_policy.specs.declared.history.action.Action.{Action};
 ghost use Rattle.cal_policy.specs.declared.history.entry.PassEntry.{PassEntry};
-ghost use Rattle.cal_policy.specs.Board.{Agrees, IsReady};
+ghost use Rattle.cal_policy.specs.State.{IsReady, Agrees};
 ghost use Rattle.cal_policy.specs.History.{actions_of};
 ghost use Rattle.cal_policy.specs.Judgement.Orderly.{IsOrderly};
 ghost use Rattle.cal_trace.specs.Report.{action_line, kept_line, kept_lines, pass_text};

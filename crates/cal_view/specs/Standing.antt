@@ -4,17 +4,10 @@ use Rattle.std.specs.Prelude.{◌≡◌, ℕ, ◌<◌, nat_lt, false, List, leng
 use Rattle.cal_machine.specs.Table.{Table}
 use Rattle.cal_machine.specs.TableTasks.{delay_of}
 use Rattle.cal_measure.specs.States.{delay_after}
-use Rattle.cal_policy.specs.Board.{Agrees, KeepingAgrees}
 use Rattle.cal_policy.specs.Board.Counts.{booked_by, cap_of, held_by}
-use Rattle.cal_policy.specs.declared.board.Board.{Board}
 use Rattle.cal_policy.specs.declared.history.action.Action.{Action}
 use Rattle.cal_policy.specs.declared.history.look.Seen.{Seen}
 use Rattle.cal_view.specs.declared.story.standing.Figures.{Figures}
-
--- the board says what these actions and looks say
-pub record Says (board : Board) (x : List Action) (seen : List (List Seen)) : Type 0 where
-  pub actions : Agrees board x
-  pub looks : KeepingAgrees board.keeping seen
 
 -- what no task has
 abbrev pub no_figures : Figures

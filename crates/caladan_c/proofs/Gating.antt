@@ -7,7 +7,8 @@ use Rattle.cal_policy.specs.Judgement.Judging.{IsInput}
 use Rattle.cal_policy.specs.Setting.{setting}
 use Rattle.cal_guard.specs.declared.guard.Guard.{Guard}
 use Rattle.cal_guard.specs.declared.refusal.Refused.{Refused}
-use Rattle.cal_guard.specs.Guarded.{Keeps, and_then}
+use Rattle.cal_guard.specs.Guarded.{board_in, and_then}
+use Rattle.cal_policy.specs.State.{IsStateAfter}
 use Rattle.cal_guard.specs.Permitted.{ArePermitted, IsPermittedHistory}
 use Rattle.cal_guard.specs.Refusals.{IsFirstWrong}
 use Rattle.caladan_c.specs.Gated.{Gated, WentThrough, WasStopped}
@@ -16,7 +17,7 @@ use Rattle.caladan_c.specs.declared.told.Told.{Told}
 
 pub went_through : (g : Gated) (h : List PassEntry) (input given : Input) (chosen : List Action) (told : List Told) (guard : Guard)
     → map told_of chosen ≡ told → input ≡ given → IsInput g.table h input → ArePermitted (setting g.table h input) chosen
-    → Keeps guard (and_then h input chosen) → IsPermittedHistory g.table (and_then h input chosen)
+    → IsStateAfter (board_in guard) (and_then h input chosen) → IsPermittedHistory g.table (and_then h input chosen)
     → WentThrough g h given told (record { table = g.table; guard = guard })
 went_through g h input given chosen told guard are same is permitted keeps history =
     let new : Gated = record { table = g.table; guard = guard } in
@@ -26,7 +27,8 @@ went_through g h input given chosen told guard are same is permitted keeps histo
       input = is;
       permitted = permitted;
       table = refl;
-      after = record { permitted = history; keeps = keeps };
+      goes_on = history;
+      after = keeps;
     } in
     subst (λ (i : Input). WentThrough g h i told new) same whole
 

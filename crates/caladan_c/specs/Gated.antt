@@ -14,7 +14,8 @@ use Rattle.cal_guard.specs.declared.refusal.Why.TheVariants.{TooMany, DoesNotFit
 use Rattle.cal_guard.specs.declared.refusal.Why.TheVariants.{AtLimit, AtCap, AtGuarantee, NoRoom}
 use Rattle.cal_guard.specs.declared.refusal.Why.TheVariants.{SecondCommand, BannedHeld, OverCap}
 use Rattle.cal_guard.specs.declared.refusal.Refused.{Refused}
-use Rattle.cal_guard.specs.Guarded.{Keeps, and_then}
+use Rattle.cal_guard.specs.Guarded.{board_in, and_then}
+use Rattle.cal_policy.specs.State.{IsStateAfter}
 use Rattle.cal_guard.specs.Permitted.{ArePermitted, IsPermittedHistory}
 use Rattle.cal_guard.specs.Refusals.{IsFirstWrong}
 use Rattle.caladan_c.specs.Opening.{number_of}
@@ -27,23 +28,19 @@ pub record Gated : Type 0 where
   pub table : Table
   pub guard : Guard
 
--- the history is permitted, and the gate's guard keeps what it comes to
-pub record GuardsAfter (gate : Gated) (history : List PassEntry) : Type 0 where
-  pub permitted : IsPermittedHistory gate.table history
-  pub keeps : Keeps gate.guard history
-
 -- a gate of this table, after no pass
 pub record IsNewGate (read : Table) (gate : Gated) : Type 0 where
   pub table : gate.table ≡ read
-  pub guards : GuardsAfter gate []
+  pub permitted : IsPermittedHistory gate.table []
+  pub after : IsStateAfter (board_in gate.guard) []
 
 -- the number follows from the text: 0 and a gate of its table, or its first fault's
 abbrev pub SaysGate : Result Table ConfigFault → ℕ → Option Gated → Type 0
 SaysGate (Ok table) number kept = (number ≡ 0) × IsSomeAnd kept (IsNewGate table)
 SaysGate (Err fault) number kept = number ≡ number_of fault
 
--- the pass went through: these actions are the ones that C told, each is permitted at its place,
--- and the gate stands after the pass
+-- the pass went through: these actions are the ones that C told, and each is permitted at its
+-- place; with the pass the history is permitted, and the gate's guard keeps the state after it
 pub record WentThrough (old : Gated) (history : List PassEntry) (given : Input) (told : List Told)
     (new : Gated) : Type 0 where
   pub chosen : List Action
@@ -51,7 +48,8 @@ pub record WentThrough (old : Gated) (history : List PassEntry) (given : Input) 
   pub input : IsInput old.table history given
   pub permitted : ArePermitted (setting old.table history given) chosen
   pub table : new.table ≡ old.table
-  pub after : GuardsAfter new (and_then history given chosen)
+  pub goes_on : IsPermittedHistory new.table (and_then history given chosen)
+  pub after : IsStateAfter (board_in new.guard) (and_then history given chosen)
 
 -- the pass was stopped: of the actions that C told this is the first that is not permitted, and why
 pub record WasStopped (old : Gated) (history : List PassEntry) (given : Input) (told : List Told)

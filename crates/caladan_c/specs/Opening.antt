@@ -9,7 +9,9 @@ use Rattle.cal_machine.specs.declared.fault.ConfigFault.TheVariants.{OutOfRange}
 use Rattle.cal_machine.specs.declared.fault.ConfigFault.TheVariants.{BestEffortGuarantee}
 use Rattle.cal_machine.specs.declared.fault.ConfigFault.TheVariants.{GuaranteesExceedCores}
 use Rattle.cal_machine.specs.declared.fault.ConfigFault.TheVariants.{TooManyThreads, Memory}
-use Rattle.caladan_c.specs.Passing.{StandsAfter}
+use Rattle.cal_policy.specs.Book.{board_in}
+use Rattle.cal_policy.specs.Pass.{IsLegal}
+use Rattle.cal_policy.specs.State.{IsStateAfter}
 use Rattle.caladan_c.specs.Standing.{Standing}
 
 -- the number of a table's fault
@@ -27,9 +29,10 @@ number_of Memory = 9
 -- a scheduler of this table, after no pass
 pub record IsNew (read : Table) (scheduler : Standing) : Type 0 where
   pub table : scheduler.table ≡ read
-  pub stands : StandsAfter scheduler []
+  pub legal : IsLegal scheduler.table []
+  pub after : IsStateAfter (board_in scheduler.book) []
 
 -- the number follows from the text: 0 and a scheduler of its table, or its first fault's
-abbrev pub Says : Result Table ConfigFault → ℕ → Option Standing → Type 0
-Says (Ok table) number kept = (number ≡ 0) × IsSomeAnd kept (IsNew table)
-Says (Err fault) number kept = number ≡ number_of fault
+abbrev pub SaysScheduler : Result Table ConfigFault → ℕ → Option Standing → Type 0
+SaysScheduler (Ok table) number kept = (number ≡ 0) × IsSomeAnd kept (IsNew table)
+SaysScheduler (Err fault) number kept = number ≡ number_of fault

@@ -1,35 +1,32 @@
--- When a scheduler stands after a history, and what a pass makes of it.
+-- What a pass makes of a scheduler.
 use Rattle.std.specs.Prelude.{◌≡◌, ℕ, ◌<◌, ◌≤◌, ◌⊎◌, List, [], ◌∷◌, ◌++◌, length}
 use Rattle.cal_machine.specs.Table.{Table}
 use Rattle.cal_policy.specs.declared.history.action_list.TheConstants.{MOST_ACTIONS}
 use Rattle.cal_policy.specs.declared.history.entry.PassEntry.{PassEntry}
 use Rattle.cal_policy.specs.declared.history.input.Input.{Input}
-use Rattle.cal_policy.specs.Book.{AgreesWith}
+use Rattle.cal_policy.specs.Book.{board_in}
+use Rattle.cal_policy.specs.State.{IsStateAfter}
 use Rattle.cal_policy.specs.Judgement.Judging.{IsInput}
 use Rattle.cal_policy.specs.Pass.{pass_of, IsLegal}
 use Rattle.cal_policy.specs.Setting.{setting}
 use Rattle.caladan_c.specs.Standing.{Standing}
 use Rattle.caladan_c.specs.declared.told.Told.{Told}
 
--- the history is legal, and the scheduler's book agrees with it
-pub record StandsAfter (scheduler : Standing) (history : List PassEntry) : Type 0 where
-  pub legal : IsLegal scheduler.table history
-  pub agrees : AgreesWith scheduler.book history
-
 -- the pass itself: what the policy does on this input after this history
 abbrev pub passed : Table → List PassEntry → Input → PassEntry
 passed table history input =
     record { input = input; actions = pass_of (setting table history input) }
 
--- the input was one that the pass may be given; its actions are the policy's, and the scheduler
--- stands after the pass
+-- the input was one that the pass may be given, and its actions are the policy's; with the pass the
+-- history is legal, and the scheduler's book keeps the state after it
 pub record IsPassed (old : Standing) (history : List PassEntry) (given : Input) (new : Standing)
     : Type 0 where
   pub input : IsInput old.table history given
   pub actions : new.made ≡ pass_of (setting old.table history given)
   pub short : length new.made ≤ MOST_ACTIONS
   pub table : new.table ≡ old.table
-  pub after : StandsAfter new (history ++ passed old.table history given ∷ [])
+  pub legal : IsLegal new.table (history ++ passed old.table history given ∷ [])
+  pub after : IsStateAfter (board_in new.book) (history ++ passed old.table history given ∷ [])
 
 -- room for a judgement of each look, and for the most actions that a pass has
 abbrev pub HasRoom : ℕ → List ℕ → List Told → Type 0

@@ -43,17 +43,21 @@ pub struct Gate {
 }
 
 impl Model for Gate {
-    ghost use Rattle.cal_guard.specs.Guarded.{IsGuardOf};
+    ghost use Rattle.cal_guard.specs.Guarded.{board_in};
+    ghost use Rattle.cal_policy.specs.State.{IsReady};
     ghost use Rattle.caladan_c.specs.Gated.{Gated};
 
     ghost Value = { Gated };
 
     ghost view = { λ g. record { table = g.config; guard = g.guard } };
 
-    ghost invariant = { λ g. IsGuardOf g.config g.guard };
+    ghost invariant = { λ g. IsReady g.config (board_in g.guard) };
 }
 
-ghost use Rattle.caladan_c.specs.Gated.{GuardsAfter, WentThrough, WasStopped};
+ghost use Rattle.cal_policy.specs.State.{IsStateAfter};
+ghost use Rattle.cal_guard.specs.Guarded.{board_in};
+ghost use Rattle.cal_guard.specs.Permitted.{IsPermittedHistory};
+ghost use Rattle.caladan_c.specs.Gated.{WentThrough, WasStopped};
 ghost use Rattle.caladan_c.specs.Recorded.{AreNoActions};
 ghost use Rattle.caladan_c.specs.declared.answer.Refusal.TheVariants.{Memory, Unfit, NoAction};
 
@@ -62,7 +66,8 @@ impl Gate {
     /// that passes of at most `MOST_ACTIONS` actions need.
     pub fn open(alloc: Global, table: &[u8]) -> Result<Gate, ConfigFault>
         ensures table { Gives (λ gate. gate.table) result (table_in table.now) }
-        ensures new { IfOk result (λ gate. GuardsAfter gate []) }
+        ensures new { IfOk result (λ gate. IsPermittedHistory gate.table []
+            × IsStateAfter (board_in gate.guard) []) }
     {
         let config = Config::read(alloc, table)?;
         let guard = Guard::open(alloc, &config)?;
@@ -86,7 +91,8 @@ impl Gate {
     /// Who has a core, where the table has it.
     pub fn holder(&self, core: u8) -> Option<Holder>
         ensures there { is_some result ≡ nat_lt core self.now.table.cores }
-        ensures holder { IfSome result (λ holder. (h : List PassEntry) → GuardsAfter self.now h →
+        ensures holder { IfSome result (λ holder. (h : List PassEntry) →
+            IsPermittedHistory self.now.table h → IsStateAfter (board_in self.now.guard) h →
             holder ≡ kept_holder (holder_of (actions_of h) core)) }
     {
         holder_on(&self.config, self.guard.board(), core)
@@ -95,7 +101,8 @@ impl Gate {
     /// How many cores a task holds, how many it books, and its cap, where the table has it.
     pub fn counts(&self, task: usize) -> Option<Counts>
         ensures there { is_some result ≡ nat_lt task (length self.now.table.tasks) }
-        ensures counts { IfSome result (λ counted. (h : List PassEntry) → GuardsAfter self.now h →
+        ensures counts { IfSome result (λ counted. (h : List PassEntry) →
+            IsPermittedHistory self.now.table h → IsStateAfter (board_in self.now.guard) h →
             counted ≡ counts_of self.now.table (actions_of h) task) }
     {
         counts_of_task(&self.config, self.guard.board(), task)
@@ -113,16 +120,20 @@ impl Gate {
         requires count { length given.looks.now ≡ threads_of_table self.old.table }
         requires room { threads_of_table self.old.table ≤ length judged.old }
         ensures through { IfOk result (λ said.
-            IfNone said ((h : List PassEntry) → GuardsAfter self.old h →
+            IfNone said ((h : List PassEntry) → IsPermittedHistory self.old.table h →
+            IsStateAfter (board_in self.old.guard) h →
             WentThrough self.old h (input_given self.old.table h given.entry) told.now
             self.new)) }
         ensures judged { IfOk result (λ said.
-            IfNone said ((h : List PassEntry) → GuardsAfter self.old h →
+            IfNone said ((h : List PassEntry) → IsPermittedHistory self.old.table h →
+            IsStateAfter (board_in self.old.guard) h →
             AreJudgements (input_given self.old.table h given.entry).seen judged.new)) }
         ensures stopped { IfOk result (λ said. IfSome said (λ refused. (h : List PassEntry) →
-            GuardsAfter self.old h → WasStopped self.old h (input_given self.old.table h
+            IsPermittedHistory self.old.table h → IsStateAfter (board_in self.old.guard) h →
+            WasStopped self.old h (input_given self.old.table h
             given.entry) told.now refused)) }
-        ensures unfit { result ≡ Err Unfit → (h : List PassEntry) → GuardsAfter self.old h →
+        ensures unfit { result ≡ Err Unfit → (h : List PassEntry) →
+            IsPermittedHistory self.old.table h → IsStateAfter (board_in self.old.guard) h →
             IsInput self.old.table h (input_given self.old.table h given.entry) → ⊥ }
         ensures no_action { result ≡ Err NoAction → AreNoActions told.now }
         ensures why { IfErr result (λ why. (why ≡ Unfit) ⊎ (why ≡ NoAction) ⊎ (why ≡ Memory)) }

@@ -4,7 +4,7 @@ ghost use Rattle.std.specs.Prelude.{◌≡◌, ◌<◌, List, length, IfNone};
 ghost use Rattle.std.specs.Option.{is_some, IfSome};
 ghost use Rattle.cal_machine.specs.TableTasks.{threads_of_table};
 ghost use Rattle.cal_policy.specs.declared.history.entry.PassEntry.{PassEntry};
-ghost use Rattle.cal_policy.specs.Board.{IsStateAfter};
+ghost use Rattle.cal_policy.specs.State.{IsStateAfter};
 ghost use Rattle.caladan_c.specs.OneByOne.{is_unfit, IsFirstUnfit, AllFit};
 
 use crate::found::{Found, found_look};

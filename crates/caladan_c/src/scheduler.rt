@@ -41,17 +41,21 @@ pub struct Scheduler {
 }
 
 impl Model for Scheduler {
-    ghost use Rattle.cal_policy.specs.Book.{IsBookOf};
+    ghost use Rattle.cal_policy.specs.Book.{board_in};
+    ghost use Rattle.cal_policy.specs.State.{IsReady};
     ghost use Rattle.caladan_c.specs.Standing.{Standing};
 
     ghost Value = { Standing };
 
     ghost view = { λ s. record { table = s.config; book = s.book; made = s.made } };
 
-    ghost invariant = { λ s. IsBookOf s.config s.book };
+    ghost invariant = { λ s. IsReady s.config (board_in s.book) };
 }
 
-ghost use Rattle.caladan_c.specs.Passing.{StandsAfter, IsPassed};
+ghost use Rattle.cal_policy.specs.Book.{board_in};
+ghost use Rattle.cal_policy.specs.Pass.{IsLegal};
+ghost use Rattle.cal_policy.specs.State.{IsStateAfter};
+ghost use Rattle.caladan_c.specs.Passing.{IsPassed};
 ghost use Rattle.caladan_c.specs.Told.{AreJudgements};
 ghost use Rattle.caladan_c.specs.declared.answer.Refusal.TheVariants.{Unfit};
 
@@ -60,7 +64,8 @@ impl Scheduler {
     /// memory that its passes need.
     pub fn open(alloc: Global, table: &[u8]) -> Result<Scheduler, ConfigFault>
         ensures table { Gives (λ scheduler. scheduler.table) result (table_in table.now) }
-        ensures new { IfOk result (λ scheduler. StandsAfter scheduler []) }
+        ensures new { IfOk result (λ scheduler. IsLegal scheduler.table []
+            × IsStateAfter (board_in scheduler.book) []) }
     {
         let config = Config::read(alloc, table)?;
         let book = Book::open(alloc, &config)?;
@@ -98,7 +103,8 @@ impl Scheduler {
     /// Who has a core, where the table has it.
     pub fn holder(&self, core: u8) -> Option<Holder>
         ensures there { is_some result ≡ nat_lt core self.now.table.cores }
-        ensures holder { IfSome result (λ holder. (h : List PassEntry) → StandsAfter self.now h →
+        ensures holder { IfSome result (λ holder. (h : List PassEntry) → IsLegal self.now.table h →
+            IsStateAfter (board_in self.now.book) h →
             holder ≡ kept_holder (holder_of (actions_of h) core)) }
     {
         holder_on(&self.config, self.book.board(), core)
@@ -107,7 +113,8 @@ impl Scheduler {
     /// How many cores a task holds, how many it books, and its cap, where the table has it.
     pub fn counts(&self, task: usize) -> Option<Counts>
         ensures there { is_some result ≡ nat_lt task (length self.now.table.tasks) }
-        ensures counts { IfSome result (λ counted. (h : List PassEntry) → StandsAfter self.now h →
+        ensures counts { IfSome result (λ counted. (h : List PassEntry) → IsLegal self.now.table h →
+            IsStateAfter (board_in self.now.book) h →
             counted ≡ counts_of self.now.table (actions_of h) task) }
     {
         counts_of_task(&self.config, self.book.board(), task)
@@ -118,11 +125,14 @@ impl Scheduler {
     pub fn pass(&mut self, given: Given<'_>, judged: &mut [u8]) -> Result<(), Refusal>
         requires count { length given.looks.now ≡ threads_of_table self.old.table }
         requires room { threads_of_table self.old.table ≤ length judged.old }
-        ensures passed { IfOk result (λ _. (h : List PassEntry) → StandsAfter self.old h →
+        ensures passed { IfOk result (λ _. (h : List PassEntry) → IsLegal self.old.table h →
+            IsStateAfter (board_in self.old.book) h →
             IsPassed self.old h (input_given self.old.table h given.entry) self.new) }
-        ensures judged { IfOk result (λ _. (h : List PassEntry) → StandsAfter self.old h →
+        ensures judged { IfOk result (λ _. (h : List PassEntry) → IsLegal self.old.table h →
+            IsStateAfter (board_in self.old.book) h →
             AreJudgements (input_given self.old.table h given.entry).seen judged.new) }
-        ensures unfit { result ≡ Err Unfit → (h : List PassEntry) → StandsAfter self.old h →
+        ensures unfit { result ≡ Err Unfit → (h : List PassEntry) → IsLegal self.old.table h →
+            IsStateAfter (board_in self.old.book) h →
             IsInput self.old.table h (input_given self.old.table h given.entry) → ⊥ }
         ensures why { IfErr result (λ why. why ≡ Unfit) }
         ensures refused { OnErr result ((self.new ≡ self.old) × (judged.new ≡ judged.old)) }

@@ -5,7 +5,7 @@ ghost use Rattle.std.specs.Prelude.{IfOk, IfErr, List, map, length, ℕ, Some};
 ghost use Rattle.cal_machine.specs.TableTasks.{threads_of_table};
 ghost use Rattle.cal_policy.specs.declared.history.entry.PassEntry.{PassEntry};
 ghost use Rattle.cal_policy.specs.declared.judgement.open_input.FoundLook.{FoundLook};
-ghost use Rattle.cal_policy.specs.Board.{IsStateAfter};
+ghost use Rattle.cal_policy.specs.State.{IsStateAfter};
 ghost use Rattle.cal_policy.specs.Board.KeepingSets.{KeepsSets};
 ghost use Rattle.cal_policy.specs.Judgement.Judging.{IsInput};
 ghost use Rattle.cal_policy.specs.Judgement.OneByOne.{fault_of};

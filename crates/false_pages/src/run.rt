@@ -6,7 +6,7 @@ use crate::thread::Thread;
 use cal_machine::Config;
 use cal_policy::{Action, Auditor, PassEntry, Verdict};
 use cal_run::{Parts, Worker, open_parts};
-use cal_sched::Scheduler;
+use cal_sched::BareScheduler;
 use cal_trace::read_arrivals;
 use std::alloc::{AllocError, Global};
 use std::io;
@@ -14,7 +14,8 @@ use std::io;
 #[derive(Drop)]
 struct Run {
     config: Config,
-    scheduler: Scheduler,
+    scheduler: BareScheduler,
+    history: Vec<PassEntry>,
     threads: Vec<Thread>,
     broken: Broken,
     counts: Counts,
@@ -53,6 +54,7 @@ fn open(alloc: Global, table: &[u8], broken: Broken) -> io::Result<Run> {
     Ok(Run {
         config,
         scheduler,
+        history: Vec::new(alloc),
         threads: threads_of(alloc, workers)?,
         broken,
         counts: Counts::NONE,
@@ -74,10 +76,11 @@ impl Run {
         for pass in from..to {
             let now = pass.saturating_mul(10).saturating_add(1000);
             self.turn_each(pass, now);
-            if self.scheduler.pass(now.saturating_add(5), 0).is_err() {
+            let Ok(entry) = self.scheduler.pass(now.saturating_add(5), 0) else {
                 return Err(refused());
-            }
-            self.counts = self.looked();
+            };
+            self.counts = self.looked(&entry);
+            self.history.push(entry)?;
         }
         Ok(())
     }
@@ -88,12 +91,9 @@ impl Run {
         }
     }
 
-    /// The counts with the last pass and its looks.
-    fn looked(&self) -> Counts {
+    /// The counts with this pass and its looks.
+    fn looked(&self, entry: &PassEntry) -> Counts {
         let mut counts = self.counts;
-        let Some(entry) = self.scheduler.history().last() else {
-            return counts;
-        };
         counts.passes = counts.passes.saturating_add(1);
         for (thread, seen) in self.threads.iter().zip(entry.input.seen.as_slice().iter()) {
             counts.note(*seen, thread.wanted());
@@ -114,7 +114,7 @@ impl Run {
 
     /// The counts of the whole run.
     fn end(self, alloc: Global, went_on: bool) -> io::Result<Counts> {
-        let history = self.scheduler.history();
+        let history = self.history.as_slice();
         let verdict = audit_in_turn(alloc, &self.config, history)?;
         Ok(Counts {
             runs: 1,

@@ -8,7 +8,7 @@
 use cal_engine::{RunFault, fault_line, read_input, run_input, status};
 use cal_kthread::Entry;
 use cal_machine::{Command, Request};
-use cal_run::{ThreadsEnd, lockstep_threads};
+use cal_run::{RunEnd, lockstep_end};
 use std::alloc::Global;
 use std::io;
 use std::io::{BufWriter, Read, Write};
@@ -32,7 +32,7 @@ fn tell_run<R: Read + Drop, W: Write>(
 ) -> Result<(), RunFault> {
     let input = read_input(alloc, &mut reader)?;
     let (config, arrivals) = run_input(alloc, input.as_slice())?;
-    let end = lockstep_threads(alloc, &config, &arrivals)?;
+    let end = lockstep_end(alloc, &config, &arrivals)?;
     let Ok(mut buffer) = BufWriter::new(alloc, output) else {
         return Err(RunFault::Memory);
     };
@@ -43,7 +43,7 @@ fn tell_run<R: Read + Drop, W: Write>(
 }
 
 /// Writes the rows of each thread.
-fn put_journals<W: Write>(end: &ThreadsEnd, writer: &mut W) -> io::Result<()> {
+fn put_journals<W: Write>(end: &RunEnd, writer: &mut W) -> io::Result<()> {
     for (thread, journal) in end.journals.as_slice().iter().enumerate() {
         put_entries(thread, journal.as_slice(), writer)?;
     }

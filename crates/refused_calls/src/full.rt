@@ -2,16 +2,15 @@
 
 use crate::attempt::wrong;
 use crate::given::Given;
-use crate::scheduling::{open, parts};
+use crate::scheduling::open;
 use cal_kthread::{KernelThread, TurnFault};
-use cal_run::Worker;
 use cal_sched::PassFault;
 use std::io;
 use std::io::Write;
 
 /// Passes until one is refused.
 pub fn full_history(rt: &HostRuntime, given: &Given) -> io::Result<bool> {
-    let mut scheduler = open(rt.alloc(), given)?;
+    let mut scheduler = open(rt.alloc(), given)?.scheduler;
     for pass in 1..=1_100_000_u64 {
         if let Err(fault) = scheduler.pass(pass, 0) {
             let passes = scheduler.history().len();
@@ -30,7 +29,7 @@ pub fn full_history(rt: &HostRuntime, given: &Given) -> io::Result<bool> {
 
 /// Turns of the first thread until one is refused.
 pub fn full_journal(rt: &HostRuntime, given: &Given) -> io::Result<bool> {
-    let mut thread = first_of(parts(rt.alloc(), given)?.workers)?;
+    let mut thread = first_of(open(rt.alloc(), given)?.threads)?;
     for turn in 1..=1_100_000_u64 {
         let now = thread.clock().saturating_add(1);
         if let Err(fault) = thread.turn(now, None) {
@@ -48,9 +47,9 @@ pub fn full_journal(rt: &HostRuntime, given: &Given) -> io::Result<bool> {
     Err(wrong())
 }
 
-fn first_of(workers: Vec<Worker>) -> io::Result<KernelThread> {
-    match workers.into_iter().next() {
-        Some(worker) => Ok(worker.thread),
+fn first_of(threads: Vec<KernelThread>) -> io::Result<KernelThread> {
+    match threads.into_iter().next() {
+        Some(thread) => Ok(thread),
         None => Err(wrong()),
     }
 }

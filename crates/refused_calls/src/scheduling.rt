@@ -8,12 +8,10 @@ use crate::attempt::{Fault, answer, begin, end, tell, wrong};
 use crate::given::Given;
 use crate::texts::{write_lists, write_passes};
 use cal_command::Sender;
-use cal_kthread::{Team, open_threads};
+use cal_kthread::{KernelThread, Team, open_threads};
 use cal_machine::Config;
-use cal_run::{Parts, open_parts};
 use cal_sched::{NotWatched, Scheduler, Watch};
 use cal_signal::Observer;
-use cal_trace::read_arrivals;
 use std::alloc::Global;
 use std::io;
 use std::io::Write;
@@ -31,21 +29,28 @@ pub fn threads(rt: &HostRuntime, given: &Given) -> io::Result<bool> {
     Ok(true)
 }
 
-/// Scheduler, threads and watch of a table, which did nothing yet.
-pub fn parts(alloc: Global, given: &Given) -> io::Result<Parts> {
-    let Ok(arrivals) = read_arrivals(alloc, &given.config, b"caladan-arrivals,1\nend,0\n") else {
-        return Err(wrong());
-    };
-    match open_parts(alloc, &given.config, &arrivals) {
-        Ok(parts) => Ok(parts),
-        Err(_) => Err(wrong()),
-    }
+/// A scheduler and the kernel threads of a table, which did nothing yet.
+#[derive(Drop)]
+pub struct Opened {
+    /// The scheduler.
+    pub scheduler: Scheduler,
+    /// The kernel threads, in thread order.
+    pub threads: Vec<KernelThread>,
 }
 
-/// A scheduler over threads that do nothing.
-pub fn open(alloc: Global, given: &Given) -> io::Result<Scheduler> {
-    let Parts { scheduler, .. } = parts(alloc, given)?;
-    Ok(scheduler)
+/// A scheduler and kernel threads that did nothing yet.
+pub fn open(alloc: Global, given: &Given) -> io::Result<Opened> {
+    let Team {
+        threads,
+        observers,
+        senders,
+        ..
+    } = open_threads(alloc, &given.config)?;
+    let config = given.config.copy(alloc)?;
+    match Scheduler::new(alloc, config, observers, senders) {
+        Ok(scheduler) => Ok(Opened { scheduler, threads }),
+        Err(_) => Err(wrong()),
+    }
 }
 
 /// A scheduler over the threads of a team, and a first pass of it.

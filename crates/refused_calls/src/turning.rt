@@ -4,10 +4,9 @@ ghost use Rattle.std.specs.Prelude.{◌≡◌};
 
 use crate::attempt::{answer, begin, wrong};
 use crate::given::Given;
-use crate::scheduling::parts;
+use crate::scheduling::{Opened, open};
 use crate::texts::{write_each, write_passes};
 use cal_kthread::{KernelThread, Request};
-use cal_run::{Parts, Worker};
 use cal_sched::Scheduler;
 use std::io;
 
@@ -19,24 +18,22 @@ const PASSES: u64 = 12;
 
 /// Turns of each thread, before each pass.
 pub fn turns(rt: &HostRuntime, given: &Given) -> io::Result<bool> {
-    let Parts {
+    let Opened {
         mut scheduler,
-        mut workers,
-        ..
-    } = parts(rt.alloc(), given)?;
+        mut threads,
+    } = open(rt.alloc(), given)?;
     for id in 0..TURNS {
-        try_each(rt, workers.as_mut_slice(), id)?;
+        try_each(rt, threads.as_mut_slice(), id)?;
         if scheduler.pass(100 * id + 150, 0).is_err() {
             return Err(wrong());
         }
     }
-    write_journals(rt, workers.as_slice())?;
+    write_journals(rt, threads.as_slice())?;
     Ok(true)
 }
 
-fn try_each(rt: &HostRuntime, workers: &mut [Worker], id: u64) -> io::Result<()> {
-    for worker in workers {
-        let thread = &mut worker.thread;
+fn try_each(rt: &HostRuntime, threads: &mut [KernelThread], id: u64) -> io::Result<()> {
+    for thread in threads {
         if !turn(rt, thread, id)? && !turn(rt, thread, id)? {
             return Err(wrong());
         }
@@ -50,22 +47,21 @@ fn turn(rt: &HostRuntime, thread: &mut KernelThread, id: u64) -> io::Result<bool
     Ok(answer(rt, thread.turn(now, Some(request(id))))?.is_some())
 }
 
-fn write_journals(rt: &HostRuntime, workers: &[Worker]) -> io::Result<()> {
-    for worker in workers {
-        write_each(rt, worker.thread.journal())?;
+fn write_journals(rt: &HostRuntime, threads: &[KernelThread]) -> io::Result<()> {
+    for thread in threads {
+        write_each(rt, thread.journal())?;
     }
     Ok(())
 }
 
 /// Passes, each after a turn of each thread.
 pub fn passes(rt: &HostRuntime, given: &Given) -> io::Result<bool> {
-    let Parts {
+    let Opened {
         mut scheduler,
-        mut workers,
-        ..
-    } = parts(rt.alloc(), given)?;
+        mut threads,
+    } = open(rt.alloc(), given)?;
     for id in 0..PASSES {
-        turn_each(workers.as_mut_slice(), id)?;
+        turn_each(threads.as_mut_slice(), id)?;
         let now = 100 * id + 150;
         if !pass(rt, &mut scheduler, now)? && !pass(rt, &mut scheduler, now)? {
             return Err(wrong());
@@ -81,10 +77,10 @@ fn pass(rt: &HostRuntime, scheduler: &mut Scheduler, now: u64) -> io::Result<boo
 }
 
 /// A turn of each thread, 100 ticks after the one before.
-fn turn_each(workers: &mut [Worker], id: u64) -> io::Result<()> {
-    for worker in workers {
-        let now = worker.thread.clock().saturating_add(100);
-        if worker.thread.turn(now, Some(request(id))).is_err() {
+fn turn_each(threads: &mut [KernelThread], id: u64) -> io::Result<()> {
+    for thread in threads {
+        let now = thread.clock().saturating_add(100);
+        if thread.turn(now, Some(request(id))).is_err() {
             return Err(wrong());
         }
     }

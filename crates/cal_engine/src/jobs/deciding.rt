@@ -3,7 +3,8 @@
 ghost use Rattle.std.specs.Prelude.{◌≡◌, ◌≢◌, ◌<◌, ◌+◌, ◌^◌, ◌++◌, ◌∷◌, [], ℕ, List, length};
 ghost use Rattle.std.specs.Prelude.{IfOk, OnOk, IfErr, IfSome};
 ghost use Rattle.cal_machine.specs.Tasks.{threads_in};
-ghost use Rattle.cal_policy.specs.Book.{AgreesWith, IsBookOf};
+ghost use Rattle.cal_policy.specs.Book.{board_in};
+ghost use Rattle.cal_policy.specs.State.{IsReady, IsStateAfter};
 ghost use Rattle.cal_policy.specs.Judgement.Judging.{IsInput};
 ghost use Rattle.cal_policy.specs.Pass.{IsLegal};
 ghost use Rattle.cal_machine.specs.TableTasks.{threads_of_table};
@@ -103,7 +104,7 @@ impl OpenReport {
     /// The report before the first pass. Fails only when out of memory.
     fn open(alloc: Global, config: &Config) -> Result<OpenReport, AllocError>
         ensures tells { IfOk result (Tells []) }
-        ensures of { IfOk result (λ report. IsBookOf config.now report.decider.book) }
+        ensures of { IfOk result (λ report. IsReady config.now (board_in report.decider.book)) }
     {
         let decider = Decider::open(alloc, config)?;
         Ok(OpenReport {
@@ -115,13 +116,13 @@ impl OpenReport {
 
     /// Decides the next pass, and writes its lines. The fault is `Memory`.
     fn take(&mut self, alloc: Global, config: &Config, pass: &SignalPass) -> Result<(), RunFault>
-        requires of { IsBookOf config.now self.old.decider.book }
+        requires of { IsReady config.now (board_in self.old.decider.book) }
         requires looks { length pass.now.looks ≡ threads_of_table config.now }
         ensures tells { OnOk result ((h : List PassEntry) → IsLegal config.now h →
             IsInput config.now h (input_of config.now h pass.entry.now) → length h + 1 < 2 ^ 64 →
             Tells h self.old →
             Tells (h ++ decided_pass config.now h pass.entry.now ∷ []) self.new) }
-        ensures of { OnOk result (IsBookOf config.now self.new.decider.book) }
+        ensures of { OnOk result (IsReady config.now (board_in self.new.decider.book)) }
         ensures kind { IfErr result (λ fault. fault ≡ RunFault.Memory) }
     {
         let entry = self.decider.decide(alloc, config, pass)?;
@@ -134,7 +135,7 @@ impl OpenReport {
 
     /// The whole report, after the last pass. The fault is `Memory`.
     fn end(mut self, config: &Config) -> Result<Vec<u8>, RunFault>
-        requires { IsBookOf config.now self.decider.book }
+        requires { IsReady config.now (board_in self.decider.book) }
         ensures text { (h : List PassEntry) → Tells h self →
             IfOk result (λ text. text.items ≡ report_text config.now h) }
         ensures kind { IfErr result (λ fault. fault ≡ RunFault.Memory) }
@@ -184,8 +185,8 @@ fn decide_with(
     passes: Vec<SignalPass>,
 ) -> Result<Vec<PassEntry>, AllocError>
     requires fit { AreFittingPasses (threads_in config.now.tasks) passes.items }
-    requires agrees { AgreesWith decider.old.book [] }
-    requires of { IsBookOf config.now decider.old.book }
+    requires agrees { IsStateAfter (board_in decider.old.book) [] }
+    requires of { IsReady config.now (board_in decider.old.book) }
     ensures decided { IfOk result (λ history. history.items ≡ decided config.now passes.items) }
     ensures legal { IfOk result (λ history. IsLegal config.now history.items) }
 {
@@ -208,8 +209,8 @@ struct Decider {
 impl Decider {
     /// Before the first pass. Fails only when out of memory.
     fn open(alloc: Global, config: &Config) -> Result<Decider, AllocError>
-        ensures agrees { IfOk result (λ decider. AgreesWith decider.book []) }
-        ensures of { IfOk result (λ decider. IsBookOf config.now decider.book) }
+        ensures agrees { IfOk result (λ decider. IsStateAfter (board_in decider.book) []) }
+        ensures of { IfOk result (λ decider. IsReady config.now (board_in decider.book)) }
     {
         let book = Book::open(alloc, config)?;
         let actions = Actions::reserved(alloc)?;
@@ -223,17 +224,17 @@ impl Decider {
         config: &Config,
         pass: &SignalPass,
     ) -> Result<PassEntry, AllocError>
-        requires of { IsBookOf config.now self.old.book }
+        requires of { IsReady config.now (board_in self.old.book) }
         requires looks { length pass.now.looks ≡ threads_of_table config.now }
         ensures decided { IfOk result (λ entry. (h : List PassEntry) → IsLegal config.now h →
-            AgreesWith self.old.book h →
+            IsStateAfter (board_in self.old.book) h →
             IsInput config.now h (input_of config.now h pass.entry.now) →
             entry ≡ decided_pass config.now h pass.entry.now) }
         ensures agrees { IfOk result (λ entry. (h : List PassEntry) → IsLegal config.now h →
-            AgreesWith self.old.book h →
+            IsStateAfter (board_in self.old.book) h →
             IsInput config.now h (input_of config.now h pass.entry.now) →
-            AgreesWith self.new.book (h ++ entry ∷ [])) }
-        ensures of { OnOk result (IsBookOf config.now self.new.book) }
+            IsStateAfter (board_in self.new.book) (h ++ entry ∷ [])) }
+        ensures of { OnOk result (IsReady config.now (board_in self.new.book)) }
     {
         let looks = pass.looks.as_slice();
         let input = self

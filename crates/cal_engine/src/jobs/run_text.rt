@@ -1,9 +1,11 @@
 //! What is written of a run, in memory.
 
-ghost use Rattle.std.specs.Prelude.{◌≡◌, length, IfOk, IfErr};
+ghost use Rattle.std.specs.Prelude.{◌≡◌, List, length, IfOk, IfErr};
+ghost use Rattle.std.specs.List.{AllZip};
+ghost use Rattle.cal_kthread.specs.declared.journal.entry.Entry.{Entry};
 ghost use Rattle.cal_policy.specs.Pass.{IsLegal};
 ghost use Rattle.cal_run.specs.Outcome.{outcome_of};
-ghost use Rattle.cal_trace.specs.Report.Summary.{summary_text};
+ghost use Rattle.cal_trace.specs.Report.Summary.{IsTallyOf, summary_text};
 ghost use Rattle.cal_engine.specs.Running.{run_text};
 
 use crate::fault::RunFault;
@@ -11,8 +13,8 @@ use crate::jobs::running::RunAnswer;
 use cal_kthread::{Journal, RequestList};
 use cal_machine::Config;
 use cal_policy::legal_is_orderly;
-use cal_run::{RunEnd, ThreadsEnd};
-use cal_trace::{Arrivals, write_history, write_report, write_summary};
+use cal_run::{RunEnd, TalliedEnd};
+use cal_trace::{Arrivals, write_history, write_report, write_summary, write_tallied_summary};
 use std::alloc::Global;
 
 /// What is written of what a run ends with, in memory, without the table. Its fault is `Memory`.
@@ -52,22 +54,28 @@ pub(crate) fn run_text(
     }
 }
 
-/// The summary of what the kernel threads of a run end with, in memory. Its fault is `Memory`.
-pub(crate) fn threads_summary(
+/// The summary of a run whose threads were counted, in memory. Its fault is `Memory`.
+pub(crate) fn tallied_summary(
     alloc: Global,
     arrivals: &Arrivals,
-    end: &ThreadsEnd,
+    end: &TalliedEnd,
 ) -> Result<Vec<u8>, RunFault>
-    ensures text { IfOk result (λ text. text.items ≡ summary_text
-        (length arrivals.now.passes) (length arrivals.now.turns) end.now.journals end.now.left) }
+    ensures text { (journals : List (List Entry)) → AllZip IsTallyOf journals end.now.tallies →
+        IfOk result (λ text. text.items ≡ summary_text
+        (length arrivals.now.passes) (length arrivals.now.turns) journals end.now.left) }
     ensures kind { IfErr result (λ fault. fault ≡ RunFault.Memory) }
 {
-    summary_of(
-        alloc,
-        arrivals,
-        end.journals.as_slice(),
-        end.left.as_slice(),
-    )
+    let (passes, turns) = (
+        arrivals.passes.as_slice().len(),
+        arrivals.turns.as_slice().len(),
+    );
+    let (tallies, left) = (end.tallies.as_slice(), end.left.as_slice());
+    let mut text = Vec::new(alloc);
+    match write_tallied_summary(passes, turns, tallies, left, &mut text) {
+        Ok(()) => Ok(text),
+        // A list in memory refuses nothing but memory.
+        Err(_) => Err(RunFault::Memory),
+    }
 }
 
 /// The summary of what kernel threads did and were left with, in memory. Its fault is `Memory`.

@@ -11,9 +11,9 @@ use crate::input::parts::run_input;
 use crate::input::read_input;
 use crate::jobs::answer::write_after_front;
 use crate::jobs::front::Front;
-use crate::jobs::run_text::{run_text, threads_summary};
+use crate::jobs::run_text::{run_text, tallied_summary};
 use cal_machine::Config;
-use cal_run::{lockstep_end, lockstep_threads};
+use cal_run::{lockstep_end, lockstep_tallied};
 use cal_trace::Arrivals;
 use std::alloc::Global;
 use std::io::{Read, Write};
@@ -90,10 +90,10 @@ fn lockstep_on(
     ensures kind { IfErr result (λ fault. fault ≡ RunFault.Memory) }
 {
     match answer {
-        // A summary reads no pass, so none is kept.
+        // A summary counts what the threads do, so neither passes nor journals are kept.
         RunAnswer::Summary => {
-            let end = lockstep_threads(alloc, config, arrivals)?;
-            threads_summary(alloc, arrivals, &end)
+            let end = lockstep_tallied(alloc, config, arrivals)?;
+            tallied_summary(alloc, arrivals, &end)
         }
         _ => {
             let end = lockstep_end(alloc, config, arrivals)?;

@@ -6,7 +6,7 @@ use mathlib.Core.Option.{some}
 use lib.ListN.{get_elem?}
 use Rattle.crossbeam_deque.proofs.Lists.{at_map}
 use Rattle.cal_machine.specs.declared.request.Request.{Request}
-use Rattle.cal_kthread.specs.Turn.Agreement.{Agrees, held}
+use Rattle.cal_kthread.specs.Turn.Agreement.{IsJournalOf, held}
 use Rattle.cal_kthread.specs.Turn.Thread.{ThreadView}
 use Rattle.cal_kthread.specs.declared.turn.current.Current.{Current}
 use Rattle.cal_kthread.specs.declared.journal.entry.Entry.{Entry}
@@ -34,11 +34,11 @@ Gone ends = (gone : List Waiting) × ((p : ℕ → ℕ) → weigh p (waiting_nam
     × ((h : Waiting → ℕ) → weigh (λ e. taken_of h e + handed_of h e) ends ≡ weigh h gone + weigh (kept_of h) ends)
 
 -- a thread whose turns are over keeps what it kept in its turns
-pub ended : (e : EndView) (entries : List Entry) (t u : ThreadView) (current : Option Waiting) → Agrees entries t → u ≡ t → e.journal ≡ entries
+pub ended : (e : EndView) (entries : List Entry) (t u : ThreadView) (current : Option Waiting) → IsJournalOf entries t → u ≡ t → e.journal ≡ entries
     → current ≡ option_map (λ (c : Current). c.waiting) u.current
     → e.rest ≡ record { queue = u.queue; victims = u.victims; held = option_to_list current ++ option_to_list u.front; left = [] }
     → e.rest.queue.handed ≡ [] → KeepsItsWork e
-ended e entries t u current agrees same entries_are current_is rest_is none_handed = let a = subst (Agrees entries) (sym same) agrees in record {
+ended e entries t u current agrees same entries_are current_is rest_is none_handed = let a = subst (IsJournalOf entries) (sym same) agrees in record {
   gone = a.served.0;
   arrived = ap (λ (r : RestView). requests_of r.queue.pushed) rest_is ∙ sym a.arrivals ∙ ap arrivals_of (sym entries_are);
   served = sym a.served.1 ∙ ap served_of (sym entries_are);

@@ -5,7 +5,7 @@ use Rattle.std.proofs.lemmas.List.{get_or-set_other, get_or-set_same, map-set}
 use mathlib.Core.Option.{some}
 use lib.ListN.{get_elem?}
 use Rattle.crossbeam_deque.proofs.Lists.{at_set, at_snoc, at_map}
-use Rattle.cal_kthread.specs.Turn.Agreement.{Agrees}
+use Rattle.cal_kthread.specs.Turn.Agreement.{IsJournalOf}
 use Rattle.cal_kthread.specs.Team.Linking.{Lends, StoleNothing, unlinked, numbers_at, shares_at, thieves_of}
 use Rattle.cal_kthread.specs.Places.{Each, one_if}
 use Rattle.cal_kthread.specs.Queue.{QueueId}
@@ -16,8 +16,8 @@ use Rattle.cal_kthread.specs.declared.journal.entry.Entry.{Entry}
 use Rattle.cal_kthread.specs.declared.turn.victims.Victim.{Victim}
 use Rattle.cal_kthread.proofs.ListSums.{weigh-set, weigh-one-more, each-set, map-set-like, map-append, within, at-get_or}
 
-pub robs-agree : (journal : List Entry) (t u : ThreadView) (v : Victim) → v.thief.had ≡ [] → Agrees journal t → u ≡ record t { victims = t.victims ++ v ∷ [] } → Agrees journal u
-robs-agree journal t u v fresh a is = subst (Agrees journal) (sym is) (record {
+pub robs-agree : (journal : List Entry) (t u : ThreadView) (v : Victim) → v.thief.had ≡ [] → IsJournalOf journal t → u ≡ record t { victims = t.victims ++ v ∷ [] } → IsJournalOf journal u
+robs-agree journal t u v fresh a is = subst (IsJournalOf journal) (sym is) (record {
   is_journal = a.is_journal;
   state = a.state;
   records = a.records;

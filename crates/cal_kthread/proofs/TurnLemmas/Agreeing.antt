@@ -13,7 +13,7 @@ use Rattle.cal_kthread.specs.declared.journal.entry.Entry.{Entry}
 use Rattle.cal_kthread.specs.declared.journal.entry.Entry.TheVariants.{Arrived, Took, Stole, Served, Yielded}
 use Rattle.cal_kthread.specs.declared.turn.victims.Victim.{Victim}
 use Rattle.cal_kthread.specs.declared.queue.waiting.Waiting.{Waiting}
-use Rattle.cal_kthread.specs.Turn.Agreement.{Agrees, HasServed, state_of, held, had_weight}
+use Rattle.cal_kthread.specs.Turn.Agreement.{IsJournalOf, HasServed, state_of, held, had_weight}
 use Rattle.cal_kthread.specs.Journal.{State, MayStand, changed_by, record_in, records_of, command_in, arrival_in, served_in, served_of, core_after}
 use Rattle.cal_signal.specs.Records.{running_word}
 use Rattle.cal_signal.specs.declared.record.TheConstants.{MOST_MISSES}
@@ -51,9 +51,9 @@ serving j t u w had lost (served, names, weighs) = (
 )
 
 -- one more entry, and what must be so of the thread after it
-noted : (j : List Entry) (e : Entry) (t u : ThreadView) → Agrees j t → MayStand j e → changed_by e (state_of t) ≡ state_of u → t.publisher.published ++ option_to_list (record_in e) ≡ u.publisher.published
+noted : (j : List Entry) (e : Entry) (t u : ThreadView) → IsJournalOf j t → MayStand j e → changed_by e (state_of t) ≡ state_of u → t.publisher.published ++ option_to_list (record_in e) ≡ u.publisher.published
     → IsPage (page_of u.publisher.published) → t.taker.taken ++ option_to_list (command_in e) ≡ u.taker.taken → map request_of t.queue.pushed ++ option_to_list (arrival_in e) ≡ map request_of u.queue.pushed
-    → HasServed (j ++ e ∷ []) u → Agrees (j ++ e ∷ []) u
+    → HasServed (j ++ e ∷ []) u → IsJournalOf (j ++ e ∷ []) u
 noted j e t u a may state records page commands arrivals served =
     let published : records_of (j ++ e ∷ []) ≡ u.publisher.published = filter_map-push record_in j e ∙ (ap (λ l. l ++ option_to_list (record_in e)) a.records ∙ records) in record {
       is_journal = record { each = each-push j e a.is_journal.each may; page = subst (λ l. IsPage (page_of l)) (sym published) page };
@@ -65,19 +65,19 @@ noted j e t u a may state records page commands arrivals served =
     }
 
 -- the page of a thread that agrees with its journal
-page_in : (j : List Entry) (t : ThreadView) → Agrees j t → IsPage (page_of t.publisher.published)
+page_in : (j : List Entry) (t : ThreadView) → IsJournalOf j t → IsPage (page_of t.publisher.published)
 page_in j t a = subst (λ l. IsPage (page_of l)) a.records a.is_journal.page
 
 -- one more entry that only a request's way through the thread asks for: nothing else is changed
-apart : (j : List Entry) (e : Entry) (t u : ThreadView) → Agrees j t → MayStand j e → changed_by e (state_of t) ≡ state_of u → record_in e ≡ None → command_in e ≡ None → arrival_in e ≡ None → t.publisher ≡ u.publisher
-    → t.taker ≡ u.taker → t.queue.pushed ≡ u.queue.pushed → HasServed (j ++ e ∷ []) u → Agrees (j ++ e ∷ []) u
+apart : (j : List Entry) (e : Entry) (t u : ThreadView) → IsJournalOf j t → MayStand j e → changed_by e (state_of t) ≡ state_of u → record_in e ≡ None → command_in e ≡ None → arrival_in e ≡ None → t.publisher ≡ u.publisher
+    → t.taker ≡ u.taker → t.queue.pushed ≡ u.queue.pushed → HasServed (j ++ e ∷ []) u → IsJournalOf (j ++ e ∷ []) u
 apart j e t u a may state no_record no_command no_arrival publisher taker pushed served = noted j e t u a may state
     (ap (λ o. t.publisher.published ++ option_to_list o) no_record ∙ (append-nil _ ∙ ap (λ p. p.published) publisher)) (subst (λ p. IsPage (page_of p.published)) publisher (page_in j t a))
     (ap (λ o. t.taker.taken ++ option_to_list o) no_command ∙ (append-nil _ ∙ ap (λ p. p.taken) taker))
     (ap (λ o. map request_of t.queue.pushed ++ option_to_list o) no_arrival ∙ (append-nil _ ∙ ap (map request_of) pushed)) served
 
 -- 1
-pub arrives : (j : List Entry) (now : ℕ) (request : Option Request) (t : ThreadView) → Agrees j t → let a = turn.arrived now request t in Agrees (turn.noted j a.1) a.0
+pub arrives : (j : List Entry) (now : ℕ) (request : Option Request) (t : ThreadView) → IsJournalOf j t → let a = turn.arrived now request t in IsJournalOf (turn.noted j a.1) a.0
 arrives j now None t a = a
 arrives j now (Some request) t a = let w : Waiting = record { request = request; arrived = now } in let u : ThreadView = (turn.arrived now (Some request) t).0 in
     noted j (Arrived request) t u a tt refl (append-nil _) (page_in j t a) (append-nil _) (sym (map-append request_of t.queue.pushed (w ∷ [])))
@@ -93,7 +93,7 @@ resumes h now (Some core) before None front = refl
 resumes h now (Some core) None (Some current) front = refl
 resumes h now (Some core) (Some c) (Some current) front = refl
 
-pub takes : (j : List Entry) (now : ℕ) (command : Option Command) (t : ThreadView) → Agrees j t → let a = turn.taken now command t in Agrees (turn.noted j a.1) a.0
+pub takes : (j : List Entry) (now : ℕ) (command : Option Command) (t : ThreadView) → IsJournalOf j t → let a = turn.taken now command t in IsJournalOf (turn.noted j a.1) a.0
 takes j now None t a = a
 takes j now (Some command) t a = let u : ThreadView = (turn.taken now (Some command) t).0 in let n : length t.taker.taken + 1 ≡ length u.taker.taken = sym (length_push t.taker.taken command) in
     let e : Entry = Took (length t.taker.taken + 1) command in
@@ -107,7 +107,7 @@ robbed-weight h (v ∷ vs) zero w within = let e = weigh-append h v.thief.had (w
 robbed-weight h (v ∷ vs) (suc place) w within = let e = robbed-weight h vs place w (omega arith) in omega arith
 
 -- the thread after its queue is popped
-unentered : (j : List Entry) (t u : ThreadView) → Agrees j t → state_of t ≡ state_of u → t.publisher ≡ u.publisher → t.taker ≡ u.taker → t.queue.pushed ≡ u.queue.pushed → Even t u → Agrees j u
+unentered : (j : List Entry) (t u : ThreadView) → IsJournalOf j t → state_of t ≡ state_of u → t.publisher ≡ u.publisher → t.taker ≡ u.taker → t.queue.pushed ≡ u.queue.pushed → Even t u → IsJournalOf j u
 unentered j t u a state publisher taker pushed even = record {
   is_journal = a.is_journal;
   state = a.state ∙ state;
@@ -122,9 +122,9 @@ module _ (j : List Entry) (now : ℕ) (publisher : PublisherView) (taker : Taker
   thread core current front = record { publisher = publisher; taker = taker; queue = queue; victims = victims; core = core; current = current; front = front; misses = misses }
 
   abbrev After : ThreadView × Option Entry → Type 0
-  After a = Agrees (turn.noted j a.1) a.0
+  After a = IsJournalOf (turn.noted j a.1) a.0
 
-  provides-at : (core : Option ℕ) (current : Option Current) (front answer : Option Waiting) (theft : Option (ℕ × Waiting)) → IfSome theft (λ place. place.0 < length victims) → Agrees j (thread core current front)
+  provides-at : (core : Option ℕ) (current : Option Current) (front answer : Option Waiting) (theft : Option (ℕ × Waiting)) → IfSome theft (λ place. place.0 < length victims) → IsJournalOf j (thread core current front)
       → After (turn.provided now answer theft (thread core current front))
   provides-at None current front answer theft within a = a
   provides-at (Some core) (Some current) front answer theft within a = a
@@ -136,38 +136,38 @@ module _ (j : List Entry) (now : ℕ) (publisher : PublisherView) (taker : Taker
       let e : Entry = Stole (turn.number_at victims theft.0) theft.1.request.id in
       apart j e t u a tt refl refl refl refl refl refl refl (unserving j e u refl (kept j t u (λ h. let r = robbed-weight h victims theft.0 theft.1 within in omega arith) a.served))
 
-  worked-so : (core : ℕ) (current : Current) (front : Option Waiting) (total : ℕ) (last : Bool) → let t = thread (Some core) (Some current) front in Agrees j t
+  worked-so : (core : ℕ) (current : Current) (front : Option Waiting) (total : ℕ) (last : Bool) → let t = thread (Some core) (Some current) front in IsJournalOf j t
       → After (record t { current = if last then None else Some (record current { remaining = current.remaining - 1 }); misses = total }, if last then Some (Served current.waiting.request.id) else None)
   worked-so core current front total true a = let t = thread (Some core) (Some current) front in let u : ThreadView = record t { current = None; misses = total } in
       apart j (Served current.waiting.request.id) t u a tt refl refl refl refl refl refl refl (serving j t u current.waiting (λ h. refl) (λ h. refl) a.served)
   worked-so core current front total false a = let t = thread (Some core) (Some current) front in
       unentered j t (record t { current = Some (record current { remaining = current.remaining - 1 }); misses = total }) a refl refl refl refl (λ h. refl)
 
-  works-at : (core : Option ℕ) (current : Option Current) (front : Option Waiting) → Agrees j (thread core current front) → After (turn.worked (thread core current front))
+  works-at : (core : Option ℕ) (current : Option Current) (front : Option Waiting) → IsJournalOf j (thread core current front) → After (turn.worked (thread core current front))
   works-at None current front a = a
   works-at (Some core) None front a = let t = thread (Some core) None front in let u : ThreadView = record t { core = None } in
       apart j Yielded t u a (ap (λ (s : State). is_some s.core) a.state) refl refl refl refl refl refl refl (unserving j Yielded u refl (kept j t u (λ h. refl) a.served))
   works-at (Some core) (Some current) front a = worked-so core current front (min (misses + current.waiting.request.misses) MOST_MISSES) (nat_le current.remaining 1) a
 
-  fronts-at : (core : Option ℕ) (current : Option Current) (front answer : Option Waiting) → Agrees j (thread core current front) → Agrees j (turn.fronted answer (thread core current front))
+  fronts-at : (core : Option ℕ) (current : Option Current) (front answer : Option Waiting) → IsJournalOf j (thread core current front) → IsJournalOf j (turn.fronted answer (thread core current front))
   fronts-at core current (Some next) answer a = a
   fronts-at core current None None a = a
   fronts-at core current None (Some w) a = let t = thread core current None in
       unentered j t (turn.fronted (Some w) t) a refl refl refl refl
       (λ h. let e = weigh-append h queue.had (w ∷ []) in let hand = option_to_list (option_map (λ (c : Current). c.waiting) current) in let x = weigh-append h hand [] in let y = weigh-append h hand (w ∷ []) in omega arith)
 
-pub provides : (j : List Entry) (now : ℕ) (answer : Option Waiting) (theft : Option (ℕ × Waiting)) (t : ThreadView) → IfSome theft (λ place. place.0 < length t.victims) → Agrees j t → let a = turn.provided now answer theft t in Agrees (turn.noted j a.1) a.0
+pub provides : (j : List Entry) (now : ℕ) (answer : Option Waiting) (theft : Option (ℕ × Waiting)) (t : ThreadView) → IfSome theft (λ place. place.0 < length t.victims) → IsJournalOf j t → let a = turn.provided now answer theft t in IsJournalOf (turn.noted j a.1) a.0
 provides j now answer theft t within a = provides-at j now t.publisher t.taker t.queue t.victims t.misses t.core t.current t.front answer theft within a
 
-pub works : (j : List Entry) (t : ThreadView) → Agrees j t → let a = turn.worked t in Agrees (turn.noted j a.1) a.0
+pub works : (j : List Entry) (t : ThreadView) → IsJournalOf j t → let a = turn.worked t in IsJournalOf (turn.noted j a.1) a.0
 works j t a = works-at j 0 t.publisher t.taker t.queue t.victims t.misses t.core t.current t.front a
 
 -- 4
-pub fronts : (j : List Entry) (answer : Option Waiting) (t : ThreadView) → Agrees j t → Agrees j (turn.fronted answer t)
+pub fronts : (j : List Entry) (answer : Option Waiting) (t : ThreadView) → IsJournalOf j t → IsJournalOf j (turn.fronted answer t)
 fronts j answer t a = fronts-at j 0 t.publisher t.taker t.queue t.victims t.misses t.core t.current t.front answer a
 
 -- 5
-pub publishes : (j : List Entry) (now : ℕ) (t : ThreadView) → MayFollow (last_published t.publisher.published) (turn.shown now t) → Agrees j t → let p = turn.published now t in Agrees (j ++ p.1 ∷ []) p.0
+pub publishes : (j : List Entry) (now : ℕ) (t : ThreadView) → MayFollow (last_published t.publisher.published) (turn.shown now t) → IsJournalOf j t → let p = turn.published now t in IsJournalOf (j ++ p.1 ∷ []) p.0
 publishes j now t follows a = let u : ThreadView = (turn.published now t).0 in let e : Entry = (turn.published now t).1 in
     noted j e t u a (ap (λ l. length l + 1) (sym a.records), ap (λ (s : State). s.taken) (sym a.state), ap (λ (s : State). running_word s.core) (sym a.state)) refl refl
     (page-push t.publisher.published (turn.shown now t) (page_in j t a) follows) (append-nil _) (append-nil _) (unserving j e u refl (kept j t u (λ h. refl) a.served))

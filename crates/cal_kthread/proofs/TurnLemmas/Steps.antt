@@ -4,7 +4,7 @@ use Rattle.cal_machine.specs.declared.request.Request.{Request}
 use Rattle.cal_signal.specs.Pages.{last_published}
 use Rattle.cal_signal.specs.Records.{MayFollow}
 use Rattle.cal_kthread.specs.declared.journal.entry.Entry.{Entry}
-use Rattle.cal_kthread.specs.Turn.Agreement.{Agrees}
+use Rattle.cal_kthread.specs.Turn.Agreement.{IsJournalOf}
 use Rattle.cal_kthread.specs.Turn.Thread.{ThreadView, KernelView}
 use Rattle.cal_kthread.specs.Turn.{Answers, arrived, taken, provided, worked, fronted, shown, published, noted, turned}
 use Rattle.cal_kthread.proofs.TurnLemmas.Agreeing.{arrives, takes, provides, works, fronts, publishes}
@@ -28,14 +28,14 @@ module _ (now : ℕ) (request : Option Request) (answers : Answers) (k : KernelV
       ∙ (λ i. record { number = k.number; journal = noted (noted (noted (noted (noted k.journal (arriving i).1) (took i).1) (provision i).1) (work i).1) (Some (publication i).1); thread = (publication i).0 })
 
   -- and the thread and its journal agree after them
-  pub agrees : Agrees k.journal k.thread → IfSome answers.theft (λ theft. theft.0 < length b.0.victims) → MayFollow (last_published e.publisher.published) (shown now e) → Agrees j f.0
+  pub agrees : IsJournalOf k.journal k.thread → IfSome answers.theft (λ theft. theft.0 < length b.0.victims) → MayFollow (last_published e.publisher.published) (shown now e) → IsJournalOf j f.0
   agrees before within follows =
-      let one : Agrees (noted k.journal a.1) a.0 = subst (λ (z : Stepped). Agrees (noted k.journal z.1) z.0) (sym arriving) (arrives k.journal now request k.thread before) in
-      let two : Agrees (noted (noted k.journal a.1) b.1) b.0 = subst (λ (z : Stepped). Agrees (noted (noted k.journal a.1) z.1) z.0) (sym taking) (takes _ now answers.command a.0 one) in
-      let three : Agrees (noted (noted (noted k.journal a.1) b.1) c.1) c.0 =
-      subst (λ (z : Stepped). Agrees (noted (noted (noted k.journal a.1) b.1) z.1) z.0) (sym providing) (provides _ now answers.own answers.theft b.0 within two) in
-      let four : Agrees (noted (noted (noted (noted k.journal a.1) b.1) c.1) d.1) d.0 = subst (λ (z : Stepped). Agrees (noted (noted (noted (noted k.journal a.1) b.1) c.1) z.1) z.0) (sym working) (works _ c.0 three) in
-      let five : Agrees (noted (noted (noted (noted k.journal a.1) b.1) c.1) d.1) e = subst (Agrees (noted (noted (noted (noted k.journal a.1) b.1) c.1) d.1)) (sym fronting) (fronts _ answers.front d.0 four) in
-      let six : Agrees (noted (noted (noted (noted (noted k.journal a.1) b.1) c.1) d.1) (Some f.1)) f.0 =
-      subst (λ (z : ThreadView × Entry). Agrees (noted (noted (noted (noted (noted k.journal a.1) b.1) c.1) d.1) (Some z.1)) z.0) (sym publishing) (publishes _ now e follows five) in
-      subst (λ l. Agrees l f.0) (sym noting) six
+      let one : IsJournalOf (noted k.journal a.1) a.0 = subst (λ (z : Stepped). IsJournalOf (noted k.journal z.1) z.0) (sym arriving) (arrives k.journal now request k.thread before) in
+      let two : IsJournalOf (noted (noted k.journal a.1) b.1) b.0 = subst (λ (z : Stepped). IsJournalOf (noted (noted k.journal a.1) z.1) z.0) (sym taking) (takes _ now answers.command a.0 one) in
+      let three : IsJournalOf (noted (noted (noted k.journal a.1) b.1) c.1) c.0 =
+      subst (λ (z : Stepped). IsJournalOf (noted (noted (noted k.journal a.1) b.1) z.1) z.0) (sym providing) (provides _ now answers.own answers.theft b.0 within two) in
+      let four : IsJournalOf (noted (noted (noted (noted k.journal a.1) b.1) c.1) d.1) d.0 = subst (λ (z : Stepped). IsJournalOf (noted (noted (noted (noted k.journal a.1) b.1) c.1) z.1) z.0) (sym working) (works _ c.0 three) in
+      let five : IsJournalOf (noted (noted (noted (noted k.journal a.1) b.1) c.1) d.1) e = subst (IsJournalOf (noted (noted (noted (noted k.journal a.1) b.1) c.1) d.1)) (sym fronting) (fronts _ answers.front d.0 four) in
+      let six : IsJournalOf (noted (noted (noted (noted (noted k.journal a.1) b.1) c.1) d.1) (Some f.1)) f.0 =
+      subst (λ (z : ThreadView × Entry). IsJournalOf (noted (noted (noted (noted (noted k.journal a.1) b.1) c.1) d.1) (Some z.1)) z.0) (sym publishing) (publishes _ now e follows five) in
+      subst (λ l. IsJournalOf l f.0) (sym noting) six

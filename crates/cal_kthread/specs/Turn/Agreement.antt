@@ -30,7 +30,7 @@ HasServed journal t = (served : List Waiting)
     × ((h : Waiting → ℕ) → had_weight h t ≡ weigh h served + weigh h (held t))
 
 -- the journal is one, and says of the core, the page, the ring and the queues what is so
-pub record Agrees (journal : List Entry) (t : ThreadView) : Type 0 where
+pub record IsJournalOf (journal : List Entry) (t : ThreadView) : Type 0 where
   pub is_journal : IsJournal journal
   pub state : state_after journal ≡ state_of t
   pub records : records_of journal ≡ t.publisher.published

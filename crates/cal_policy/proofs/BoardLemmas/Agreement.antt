@@ -10,14 +10,14 @@ use Rattle.cal_policy.specs.declared.board.holders.Holding.{Holding}
 use Rattle.cal_policy.specs.declared.board.holders.Holder.{Holder}
 use Rattle.cal_policy.specs.declared.board.holders.Holder.TheVariants as holders
 use Rattle.cal_policy.specs.History.{holder_of, last_placement, sent_to, placed, left_by}
-use Rattle.cal_policy.specs.Board.{HoldingAgrees, kept_number, kept_placement, kept_holder}
+use Rattle.cal_policy.specs.Board.{HoldersAgree, kept_number, kept_placement, kept_holder}
 use Rattle.cal_policy.proofs.ListLemmas.OneMore.{set_says, or_if, map_if}
 use Rattle.cal_policy.proofs.BoardLemmas.CommandNumbers.{kept_more}
 use Rattle.cal_policy.proofs.HistoryLemmas.OneMore.{holder_push, last_placement_push, sent_push, last_thread_placement}
 use Rattle.cal_machine.proofs.Booleans.{unwrap_if}
 
-pub Holding_free : (h : Holding) (x : List Action) (core : ℕ) → length h.holders ≡ 128 → core < 128 → HoldingAgrees h x →
-    HoldingAgrees (record { granted = h.granted; holders = set h.holders core holders.Free; sent = h.sent }) (x ++ Free core ∷ [])
+pub Holding_free : (h : Holding) (x : List Action) (core : ℕ) → length h.holders ≡ 128 → core < 128 → HoldersAgree h x →
+    HoldersAgree (record { granted = h.granted; holders = set h.holders core holders.Free; sent = h.sent }) (x ++ Free core ∷ [])
 Holding_free h x core len low s = record {
   granted = λ c lt. s.granted c lt ∙ sym (ap (λ o. option_map kept_placement o) (last_placement_push x (Free core) c));
   holders = λ c lt. set_says h.holders holders.Free (λ c. kept_holder (holder_of x c)) 128 core holders.Free len low s.holders c lt
@@ -28,7 +28,7 @@ Holding_free h x core len low s = record {
 -- an action that sends nothing and names no holder
 pub Holding_same : (h : Holding) (x : List Action) (a : Action) →
     ((c : ℕ) → last_placement (x ++ a ∷ []) c ≡ last_placement x c) → ((c : ℕ) → holder_of (x ++ a ∷ []) c ≡ holder_of x c) →
-    ((k : ℕ) → sent_to (x ++ a ∷ []) k ≡ sent_to x k) → HoldingAgrees h x → HoldingAgrees h (x ++ a ∷ [])
+    ((k : ℕ) → sent_to (x ++ a ∷ []) k ≡ sent_to x k) → HoldersAgree h x → HoldersAgree h (x ++ a ∷ [])
 Holding_same h x a e f g s = record {
   granted = λ c lt. s.granted c lt ∙ sym (ap (λ o. option_map kept_placement o) (e c));
   holders = λ c lt. s.holders c lt ∙ sym (ap kept_holder (f c));
@@ -59,9 +59,9 @@ left_kept : (o : Option placements.Placement) (cause : Cause) → kept_holder (l
 left_kept None cause = refl
 left_kept (Some p) cause = refl
 
-pub Holding_revoke_none : (h : Holding) (x : List Action) (core : ℕ) (cause : Cause) → length h.holders ≡ 128 → core < 128 → HoldingAgrees h x →
+pub Holding_revoke_none : (h : Holding) (x : List Action) (core : ℕ) (cause : Cause) → length h.holders ≡ 128 → core < 128 → HoldersAgree h x →
     get_or h.granted core None ≡ None →
-    HoldingAgrees (record { granted = h.granted; holders = set h.holders core holders.Free; sent = h.sent }) (x ++ Revoke core cause ∷ [])
+    HoldersAgree (record { granted = h.granted; holders = set h.holders core holders.Free; sent = h.sent }) (x ++ Revoke core cause ∷ [])
 Holding_revoke_none h x core cause len low s e =
     let gone : option_map kept_placement (last_placement x core) ≡ None = sym (s.granted core low) ∙ e in
     let was : last_placement x core ≡ None = none_of (last_placement x core) gone in record {
@@ -72,8 +72,8 @@ Holding_revoke_none h x core cause len low s e =
     }
 
 pub Holding_revoke : (h : Holding) (x : List Action) (core : ℕ) (cause : Cause) (p : placements.Placement) → length h.holders ≡ 128 → length h.sent ≡ 128 →
-    core < 128 → p.thread < 128 → HoldingAgrees h x → get_or h.granted core None ≡ Some p → (n : ℕ) → n ≡ min (get_or h.sent p.thread 0 + 1) (2 ^ 64) →
-    HoldingAgrees (record { granted = h.granted; holders = set h.holders core (holders.Leaving p cause); sent = set h.sent p.thread n }) (x ++ Revoke core cause ∷ [])
+    core < 128 → p.thread < 128 → HoldersAgree h x → get_or h.granted core None ≡ Some p → (n : ℕ) → n ≡ min (get_or h.sent p.thread 0 + 1) (2 ^ 64) →
+    HoldersAgree (record { granted = h.granted; holders = set h.holders core (holders.Leaving p cause); sent = set h.sent p.thread n }) (x ++ Revoke core cause ∷ [])
 Holding_revoke h x core cause p len len2 low lowk s e n is =
     let was : option_map kept_placement (last_placement x core) ≡ Some p = sym (s.granted core low) ∙ e in record {
       granted = λ c lt. s.granted c lt ∙ sym (ap (λ o. option_map kept_placement o) (last_placement_push x (Revoke core cause) c));
@@ -86,8 +86,8 @@ Holding_revoke h x core cause p len len2 low lowk s e n is =
     }
 
 pub Holding_grant : (h : Holding) (x : List Action) (core thread class : ℕ) → length h.granted ≡ 128 → length h.holders ≡ 128 → length h.sent ≡ 128 →
-    core < 128 → thread < 128 → HoldingAgrees h x → (n : ℕ) → n ≡ min (get_or h.sent thread 0 + 1) (2 ^ 64) →
-    HoldingAgrees (record { granted = set h.granted core (Some (record { thread = thread; number = n })); holders = set h.holders core (holders.Held (record { thread = thread; number = n })); sent = set h.sent thread n }) (x ++ Grant core thread class ∷ [])
+    core < 128 → thread < 128 → HoldersAgree h x → (n : ℕ) → n ≡ min (get_or h.sent thread 0 + 1) (2 ^ 64) →
+    HoldersAgree (record { granted = set h.granted core (Some (record { thread = thread; number = n })); holders = set h.holders core (holders.Held (record { thread = thread; number = n })); sent = set h.sent thread n }) (x ++ Grant core thread class ∷ [])
 Holding_grant h x core thread class len0 len len2 low lowk s n is =
     let P : ℕ → placements.Placement = λ m. record { thread = thread; number = m } in
     let was : n ≡ kept_number (sent_to x thread + 1) = is ∙ ap (λ m. min (m + 1) (2 ^ 64)) (s.sent thread lowk) ∙ kept_more (sent_to x thread) in record {

@@ -5,7 +5,7 @@ use Rattle.cal_signal.specs.declared.shown.Shown.{Shown}
 use Rattle.cal_policy.specs.declared.history.look.Seen.{Seen}
 use Rattle.cal_policy.specs.declared.board.records.Keeping.{Keeping}
 use Rattle.cal_policy.specs.Judgement.Judging.{IsFitLook}
-use Rattle.cal_policy.specs.Board.{KeepingAgrees}
+use Rattle.cal_policy.specs.State.{KeepingAgrees}
 use Rattle.cal_policy.specs.Board.KeepingSets.{FitShown, FitAfter, shown_in}
 
 pub fit_shown : (r : Keeping) (looks : List (List Seen)) (seen : List Seen) → KeepingAgrees r looks → length seen ≤ 128 → FitAfter looks seen → FitShown r seen

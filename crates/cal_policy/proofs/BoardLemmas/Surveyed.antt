@@ -12,7 +12,7 @@ use Rattle.cal_policy.specs.History.{holder_of}
 use Rattle.cal_policy.specs.Pass.Choice.{count_below}
 use Rattle.cal_policy.specs.Board.Counts.{is_held_for, is_booked_for, is_with}
 use Rattle.cal_policy.specs.Pass.Grants.{leaves_for}
-use Rattle.cal_policy.specs.Board.{HoldingAgrees, holder_in, holder_at}
+use Rattle.cal_policy.specs.Board.{HoldersAgree, holder_in, holder_at}
 use Rattle.cal_policy.specs.Board.Survey.{Surveys, CountsAtMost, IsCounted, CountsOneMore}
 use Rattle.cal_policy.proofs.ListLemmas.OneNumberMore.{count_at_most}
 use Rattle.cal_policy.proofs.BoardLemmas.StateKept.{some_counted}
@@ -128,7 +128,7 @@ Surveys_free table f s e held booked placed awaited = record {
 }
 
 -- the counts are those of the holders that the actions give
-pub Surveys_agree : (table : Table) (h : Holding) (x : List Action) (s : Survey) → table.cores ≤ 128 → HoldingAgrees h x →
+pub Surveys_agree : (table : Table) (h : Holding) (x : List Action) (s : Survey) → table.cores ≤ 128 → HoldersAgree h x →
     Surveys table (holder_in h) s → Surveys table (holder_of x) s
 Surveys_agree table h x s few a v = record {
   held = λ t low. v.held t low ∙ count_same (λ c. is_held_for table t (holder_of x c)) (λ c. is_held_for table t (holder_in h c)) table.cores

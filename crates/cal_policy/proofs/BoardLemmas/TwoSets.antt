@@ -22,7 +22,8 @@ use Rattle.cal_policy.specs.Pass.Choice.{best_below, better}
 use Rattle.cal_policy.specs.Setting.{Setting, so_far, is_held_with_room}
 use Rattle.cal_policy.specs.Pass.Grants.{class_of, class_by, preempt_class, may_preempt, none_leaves_for, is_granted_in, is_thread_for}
 use Rattle.cal_policy.specs.Pass.Among.{class_among}
-use Rattle.cal_policy.specs.Board.{Stands, holder_in}
+use Rattle.cal_policy.specs.Board.{holder_in}
+use Rattle.cal_policy.specs.State.{Stands}
 use Rattle.cal_policy.specs.Board.CoreSets.{Sorts}
 use Rattle.cal_policy.specs.Board.OpenCores.{Opens}
 use Rattle.cal_policy.proofs.BoardLemmas.StateKept.{free_kept}

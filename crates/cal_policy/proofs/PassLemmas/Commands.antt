@@ -19,7 +19,8 @@ use Rattle.cal_policy.specs.declared.board.Board.{Board}
 use Rattle.cal_policy.specs.History.{actions_of, last_placement, last_thread, command_to, addressed_to, sends}
 use Rattle.cal_policy.specs.Setting.{setting_of, so_far}
 use Rattle.cal_policy.specs.Pass.{IsLegal}
-use Rattle.cal_policy.specs.Board.{Agrees, NamesTable, granted_in, core_changed, kept_placement}
+use Rattle.cal_policy.specs.Board.{NamesTable, granted_in, core_changed, kept_placement}
+use Rattle.cal_policy.specs.State.{Agrees}
 use Rattle.cal_policy.specs.Book.{IsSentBy}
 use Rattle.cal_policy.specs.Pass.Steady.{IsSound}
 use Rattle.cal_policy.proofs.ListLemmas.EachAfter.{each_at}
@@ -100,12 +101,12 @@ same_sent (Some r) (Some q) e =
     let to : q.0 ≡ r.0 = eqb-true q.0 r.0 both.0 in λ i. Some (sym to i, sym both.1 i)
 
 -- what `command_for` says of its answer
-abbrev Says : Action → Option ℕ → Option (ℕ × Command) → Type 0
-Says action granted sent =
+abbrev SaysSent : Action → Option ℕ → Option (ℕ × Command) → Type 0
+SaysSent action granted sent =
     (x : List Action) → ((core : ℕ) (cause : Cause) → action ≡ Revoke core cause → granted ≡ last_thread x core) → (k : ℕ) → addressed_to k sent ≡ sends k x action
 
 nothing_sent : (table : Table) (x : List Action) (action : Action) (granted : Option ℕ) (sent : Option (ℕ × Command)) →
-    ((core : ℕ) (cause : Cause) → action ≡ Revoke core cause → granted ≡ last_thread x core) → ((k : ℕ) → sends k x action ≡ []) → Says action granted sent → IsSentBy table x action sent
+    ((core : ℕ) (cause : Cause) → action ≡ Revoke core cause → granted ≡ last_thread x core) → ((k : ℕ) → sends k x action ≡ []) → SaysSent action granted sent → IsSentBy table x action sent
 nothing_sent table x action granted sent other none says =
     let is : sent ≡ None = same_sent sent None (λ k. says x other k ∙ none k) in
     rw is (record { exact = λ k. sym (none k); thread = tt; core = tt })
@@ -113,7 +114,7 @@ nothing_sent table x action granted sent other none says =
 -- an action of the last pass sends what is told by the thread that the board has for its core
 pub action_sends : (b : Board) (table : Table) (history : List PassEntry) (entry : PassEntry) (i : ℕ) (action : Action) (granted : Option ℕ) (sent : Option (ℕ × Command)) → IsTable table →
     IsLegal table (history ++ entry ∷ []) → Agrees b (actions_of (history ++ entry ∷ [])) → slice_get entry.actions i ≡ Some action →
-    ((c : ℕ) → core_changed action ≡ Some c → granted ≡ option_map (λ (p : placements.Placement). p.thread) (granted_in b.holding c)) → Says action granted sent →
+    ((c : ℕ) → core_changed action ≡ Some c → granted ≡ option_map (λ (p : placements.Placement). p.thread) (granted_in b.holding c)) → SaysSent action granted sent →
     IsSentBy table (actions_of history ++ take i entry.actions) action sent
 action_sends b table history entry i (Grant core thread class) granted sent ok legal agrees at has says =
     let x = actions_of history ++ take i entry.actions in

@@ -11,7 +11,8 @@ use Rattle.cal_policy.specs.declared.board.Board.{Board}
 use Rattle.cal_policy.specs.History.{holder_of, last_thread, is_banned}
 use Rattle.cal_policy.specs.Board.Counts.{is_free}
 use Rattle.cal_policy.specs.Board.OpenCores.{Opens}
-use Rattle.cal_policy.specs.Board.{Stands, holder_in}
+use Rattle.cal_policy.specs.Board.{holder_in}
+use Rattle.cal_policy.specs.State.{Stands}
 use Rattle.cal_policy.specs.Setting.{Setting, so_far}
 use Rattle.cal_policy.specs.Pass.Among.{class_among}
 use Rattle.cal_policy.specs.Pass.Grants.{class_of, class_by, idle_class}

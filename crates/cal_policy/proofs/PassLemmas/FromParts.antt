@@ -13,7 +13,8 @@ use Rattle.cal_policy.specs.Pass.Bandwidth.{bandwidth_part}
 use Rattle.cal_machine.specs.declared.task.Kind.TheVariants as kinds
 use Rattle.cal_policy.specs.Pass.Grants.{grants_of_kind}
 use Rattle.cal_policy.specs.Pass.{pass_of, followed}
-use Rattle.cal_policy.specs.Board.{Agrees, HasGranted, KeepingAgrees, KeepsBefore, Stands, IsStateAfter}
+use Rattle.cal_policy.specs.Board.{HasGranted, KeepsBefore}
+use Rattle.cal_policy.specs.State.{IsStateAfter, Stands, Agrees, KeepingAgrees}
 use Rattle.cal_policy.proofs.PassLemmas.Apart.{frees_apart}
 use Rattle.cal_policy.proofs.PassLemmas.Pairs.{so_far_more}
 use Rattle.cal_policy.proofs.BoardLemmas.Replayed.{actions_push, looks_push}
@@ -41,9 +42,8 @@ pub Stands_begin : (s : Setting) (b : Board) → Agrees b (actions_of s.history)
 Stands_begin s b a f k p = record {
   agrees = rw (append-nil (actions_of s.history)) a;
   fresh = f;
-  kept = k.kept;
-  before = p.before;
-  shown = k.shown;
+  looks = k;
+  before = p;
 }
 
 -- where it ends: the board agrees with the history followed by that pass
@@ -55,9 +55,9 @@ Stands_end s b acts st =
     let Q : List (List Seen) → Type 0 = λ looks. KeepingAgrees b.keeping looks in (
       record {
         actions = subst P (sym (actions_push s.history entry)) st.agrees;
-        looks = subst Q (sym (looks_push s.history entry)) (record { kept = st.kept; shown = st.shown });
+        looks = subst Q (sym (looks_push s.history entry)) st.looks;
       },
-      record { before = st.before },
+      st.before,
     )
 
 -- the same said of another name of the setting
@@ -74,7 +74,6 @@ pub Stands_push : (b b2 : Board) (s : Setting) (acts : List Action) (a : Action)
 Stands_push b b2 s acts a agrees fresh keeping st = record {
   agrees = rw (so_far_more s acts (a ∷ [])) agrees;
   fresh = fresh;
-  kept = λ k lt. rw keeping (st.kept k lt);
-  before = λ k lt. rw keeping (st.before k lt);
-  shown = λ k lt. rw keeping (st.shown k lt);
+  looks = rw keeping st.looks;
+  before = rw keeping st.before;
 }

@@ -13,7 +13,7 @@ use Rattle.cal_policy.specs.declared.pass.choice.Candidate.{Candidate}
 use Rattle.cal_policy.specs.declared.board.Board.{Board}
 use Rattle.cal_policy.specs.History.CoreClasses.{comes_before}
 use Rattle.cal_policy.specs.Board.Counts.{held_by, booked_by}
-use Rattle.cal_policy.specs.Board.{Stands, IsReady}
+use Rattle.cal_policy.specs.State.{IsReady, Stands}
 use Rattle.cal_policy.specs.Board.Losing.{secure_of}
 use Rattle.cal_policy.specs.Setting.{Setting, so_far}
 use Rattle.cal_policy.specs.Pass.Choice.{best_below}

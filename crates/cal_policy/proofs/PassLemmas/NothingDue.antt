@@ -28,7 +28,8 @@ use Rattle.cal_machine.specs.Machine.{sibling_of}
 use Rattle.cal_policy.specs.Setting.{Setting, so_far, kept_now}
 use Rattle.cal_policy.specs.Pass.Frees.{free_at, has_left, shows_left}
 use Rattle.cal_policy.specs.Pass.Bans.{unban_at, unban_for, bans_at, ban_for, may_ban_beside, may_be_emptied, too_long_on}
-use Rattle.cal_policy.specs.Board.{Stands, IsReady, holder_in, kept_holder, placement_of}
+use Rattle.cal_policy.specs.Board.{holder_in, kept_holder, placement_of}
+use Rattle.cal_policy.specs.State.{IsReady, Stands}
 use Rattle.cal_policy.specs.Board.OpenCores.{is_alone_by}
 use Rattle.cal_policy.specs.Pass.ToBan.{NoneOver, cores_to_ban}
 use Rattle.cal_policy.specs.Board.CoreSets.{Sorts}
@@ -64,7 +65,7 @@ free_not_unshown table b s acts st ready c lt e =
     let Low : Holder → Type 0 = λ x. IfSome (placement_of x) (λ p. p.thread < 128) in
     let On : Holder → Type 0 = λ x. IsShownOn (kept_in b.keeping) c x in
     ap (λ w. cond w (actions.Free c ∷ []) [])
-    (none_left (kept_in b.keeping) (kept_now s) c h st.kept (subst Low is (ready.sound.holding.holders c)) (subst On is (ready.shows.shown c lt e)))
+    (none_left (kept_in b.keeping) (kept_now s) c h st.looks.kept (subst Low is (ready.sound.holding.holders c)) (subst On is (ready.shows.shown c lt e)))
 
 none_banned : (s : Setting) (c : ℕ) (o : Option BannedFor) → is_some o ≡ false → unban_for s c o ≡ []
 none_banned s c None e = refl
@@ -184,7 +185,7 @@ no_delay_shown now rec e = neither_waits now (nat_lt 0 rec.queued) (nat_lt 0 rec
 -- so a thread that does not wait has none
 pub no_delay : (b : Board) (s : Setting) (acts : List Action) → Stands b s acts → KeepsSets b.keeping → (k : ℕ) → k < 128 →
     has_thread b.keeping.waiting k ≡ false → thread_delay s k ≡ 0
-no_delay b s acts st sets k lt e = ap (record_delay s.input.now) (sym (st.kept k lt))
+no_delay b s acts st sets k lt e = ap (record_delay s.input.now) (sym (st.looks.kept k lt))
     ∙ no_delay_shown s.input.now (kept_in b.keeping k) (sym (sets.waiting k lt) ∙ e)
 
 -- so the greatest delay of a task's threads is that of those before some that do not wait

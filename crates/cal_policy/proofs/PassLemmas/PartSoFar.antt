@@ -6,7 +6,7 @@ use Rattle.cal_policy.specs.declared.history.action.Action.{Action}
 use Rattle.cal_policy.specs.declared.board.Board.{Board}
 use Rattle.cal_policy.specs.History.Lists.{in_turn}
 use Rattle.cal_policy.specs.Setting.{Setting}
-use Rattle.cal_policy.specs.Board.{Stands}
+use Rattle.cal_policy.specs.State.{Stands}
 
 pub in_turn_more : {X : Type 0} (f : List X → ℕ → List X) (before : List X) (n : ℕ) →
     in_turn f before (n + 1) ≡ in_turn f before n ++ f (before ++ in_turn f before n) n

@@ -17,7 +17,8 @@ use Rattle.cal_policy.specs.Pass.Choice.{best_below}
 use Rattle.cal_policy.specs.Setting.{Setting, so_far}
 use Rattle.cal_policy.specs.Pass.Grants.{class_of, class_by, preempt_class, may_preempt}
 use Rattle.cal_policy.specs.Pass.Among.{class_among}
-use Rattle.cal_policy.specs.Board.{Stands, IsReady, kept_holder, placement_of}
+use Rattle.cal_policy.specs.Board.{kept_holder, placement_of}
+use Rattle.cal_policy.specs.State.{IsReady, Stands}
 use Rattle.cal_policy.proofs.BoardLemmas.StateKept.{some_counted}
 use Rattle.cal_policy.proofs.BoardLemmas.TwoSets.{best_none, in_taken}
 use Rattle.std.proofs.lemmas.Bool.{eq-eqb}

@@ -5,7 +5,7 @@ use Rattle.cal_policy.specs.declared.history.entry.PassEntry.{PassEntry}
 use Rattle.cal_policy.specs.declared.history.input.Input.{Input}
 use Rattle.cal_policy.specs.declared.explain.walk.PassWalk.{PassWalk}
 use Rattle.cal_policy.specs.Setting.{Begun, Setting, setting_at, so_far}
-use Rattle.cal_policy.specs.Board.{Stands, IsOfTable}
+use Rattle.cal_policy.specs.State.{IsOfTable, Stands}
 use Rattle.cal_policy.specs.Explain.Turns.{IsTurn, made_before}
 
 -- the pass on this input after these passes, as begun

@@ -1,4 +1,4 @@
--- A pass as the code has it at hand, whose board stands for the passes before it.
+-- A pass as the code has it at hand: its board stands for the passes before it.
 use Rattle.cal_policy.specs.declared.pass.Pass.{Pass}
 use Rattle.cal_policy.specs.Setting.{Setting, Begun, setting_at}
 

@@ -5,7 +5,7 @@ use Rattle.cal_machine.specs.Table.{Table}
 use Rattle.cal_policy.specs.declared.history.action.Action.{Action}
 use Rattle.cal_policy.specs.declared.board.Board.{Board}
 use Rattle.cal_policy.specs.Board.Counts.{is_over}
-use Rattle.cal_policy.specs.Board.{Agrees}
+use Rattle.cal_policy.specs.State.{Agrees}
 
 -- no task holds more cores than it is guaranteed
 abbrev pub NoneOver : Table → Board → Type 0

@@ -5,7 +5,7 @@ ghost use Rattle.cal_machine.specs.declared.machine.TheConstants.{MOST_CORES};
 ghost use Rattle.cal_policy.specs.declared.history.action.Action.{Action};
 ghost use Rattle.cal_policy.specs.History as history;
 ghost use Rattle.cal_policy.specs.History.{holder_of};
-ghost use Rattle.cal_policy.specs.Board.{Agrees};
+ghost use Rattle.cal_policy.specs.State.{Agrees};
 ghost use Rattle.cal_policy.specs.Board.Counts as counts;
 ghost use Rattle.cal_policy.specs.Board.Counts.{cores_of_thread};
 

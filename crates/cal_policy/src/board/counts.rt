@@ -10,7 +10,8 @@ ghost use Rattle.cal_policy.specs.Board.Counts as counts;
 ghost use Rattle.cal_policy.specs.Board.Counts.{is_held_for};
 ghost use Rattle.cal_policy.specs.Board.Losing.{secure_of};
 ghost use Rattle.cal_policy.specs.Pass.ToBan.{NoneOver};
-ghost use Rattle.cal_policy.specs.Board.{Agrees, IsReady, holder_in, placement_of};
+ghost use Rattle.cal_policy.specs.Board.{holder_in, placement_of};
+ghost use Rattle.cal_policy.specs.State.{IsReady, Agrees};
 
 use crate::board::Board;
 use crate::board::holders::Holder;

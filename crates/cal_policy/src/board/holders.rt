@@ -6,7 +6,7 @@ ghost use Rattle.cal_machine.specs.declared.machine.TheConstants.{MOST_CORES};
 ghost use Rattle.cal_machine.specs.declared.numbering.TheConstants.{MOST_THREADS};
 ghost use Rattle.cal_policy.specs.declared.history.action.Action.{Action};
 ghost use Rattle.cal_policy.specs.declared.history.action.Action.TheVariants.{Revoke, Grant};
-ghost use Rattle.cal_policy.specs.Board.{HoldingAgrees, HoldingSound, NamesCores, granted_in};
+ghost use Rattle.cal_policy.specs.Board.{HoldersAgree, HoldingSound, NamesCores, granted_in};
 ghost use Rattle.cal_policy.specs.Board.{holder_in, holder_at, core_changed};
 ghost use Rattle.cal_policy.specs.Board.Counts as counts;
 ghost use Rattle.std.specs.Option.{IfSome, option_map};
@@ -119,7 +119,7 @@ fn one_more(number: u128) -> u128
 impl Holding {
     /// The state before any action.
     pub fn new() -> Holding
-        ensures agrees { HoldingAgrees result [] }
+        ensures agrees { HoldersAgree result [] }
         ensures sound { (threads : ℕ) → HoldingSound threads result }
         ensures free { (c : ℕ) → holder_in result c ≡ Holder.Free }
     {
@@ -167,8 +167,8 @@ impl Holding {
     pub fn apply(&mut self, action: Action)
         requires sound { HoldingSound MOST_THREADS self.old }
         requires names { NamesCores MOST_CORES MOST_THREADS action }
-        ensures agrees { (x : List Action) → HoldingAgrees self.old x →
-            HoldingAgrees self.new (x ++ action ∷ []) }
+        ensures agrees { (x : List Action) → HoldersAgree self.old x →
+            HoldersAgree self.new (x ++ action ∷ []) }
         ensures sound { (threads : ℕ) → HoldingSound threads self.old →
             NamesCores MOST_CORES threads action → HoldingSound threads self.new }
         ensures others { (c : ℕ) → core_changed action ≢ Some c →
@@ -192,8 +192,8 @@ impl Holding {
     fn revoke(&mut self, core: u8, cause: Cause)
         requires sound { HoldingSound MOST_THREADS self.old }
         requires core { core < MOST_CORES }
-        ensures agrees { (x : List Action) → HoldingAgrees self.old x →
-            HoldingAgrees self.new (x ++ Revoke core cause ∷ []) }
+        ensures agrees { (x : List Action) → HoldersAgree self.old x →
+            HoldersAgree self.new (x ++ Revoke core cause ∷ []) }
         ensures sound { (threads : ℕ) → HoldingSound threads self.old →
             HoldingSound threads self.new }
         ensures others { (c : ℕ) → c ≢ core → holder_in self.new c ≡ holder_in self.old c }
@@ -214,8 +214,8 @@ impl Holding {
         requires sound { HoldingSound MOST_THREADS self.old }
         requires core { core < MOST_CORES }
         requires thread { thread < MOST_THREADS }
-        ensures agrees { (x : List Action) → HoldingAgrees self.old x →
-            HoldingAgrees self.new (x ++ Grant core thread class ∷ []) }
+        ensures agrees { (x : List Action) → HoldersAgree self.old x →
+            HoldersAgree self.new (x ++ Grant core thread class ∷ []) }
         ensures sound { (threads : ℕ) → HoldingSound threads self.old → thread < threads →
             HoldingSound threads self.new }
         ensures others { (c : ℕ) → c ≢ core → holder_in self.new c ≡ holder_in self.old c }

@@ -7,7 +7,8 @@ ghost use Rattle.cal_policy.specs.declared.history.action.Action.{Action};
 ghost use Rattle.cal_policy.specs.declared.history.entry.PassEntry.{PassEntry};
 ghost use Rattle.cal_policy.specs.History.{actions_of, looks_of, looks_before};
 ghost use Rattle.cal_policy.specs.Judgement.Orderly.{IsOrderly};
-ghost use Rattle.cal_policy.specs.Board.{Agrees, KeepingAgrees, KeepsBefore, IsReady, NamesTable};
+ghost use Rattle.cal_policy.specs.Board.{KeepsBefore, NamesTable};
+ghost use Rattle.cal_policy.specs.State.{IsReady, Agrees, KeepingAgrees};
 ghost use Rattle.cal_policy.specs.Board.KeepingSets.{FitAfter};
 
 use crate::board::Board;

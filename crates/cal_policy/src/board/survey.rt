@@ -9,7 +9,8 @@ ghost use Rattle.cal_machine.specs.TableTasks.{threads_of_table};
 ghost use Rattle.cal_policy.specs.declared.history.action.Action.{Action};
 ghost use Rattle.cal_policy.specs.History.{holder_of};
 ghost use Rattle.cal_policy.specs.Pass.Grants.{leaves_for};
-ghost use Rattle.cal_policy.specs.Board.{Agrees, IsReady, placement_of};
+ghost use Rattle.cal_policy.specs.Board.{placement_of};
+ghost use Rattle.cal_policy.specs.State.{IsReady, Agrees};
 ghost use Rattle.cal_policy.specs.Board.Survey.{Surveys, CountsAtMost, IsCounted, CountsOneMore};
 
 use crate::board::Board;

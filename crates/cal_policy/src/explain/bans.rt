@@ -6,12 +6,13 @@ ghost use Rattle.cal_machine.specs.TableTasks.{threads_of_table};
 ghost use Rattle.cal_policy.specs.declared.history.action.Action.{Action};
 ghost use Rattle.cal_policy.specs.Explain.Asked.{IsBanReason, due_by};
 ghost use Rattle.cal_policy.specs.Explain.Walks.{IsWalk, Walks, setting_of, actions_so_far};
-ghost use Rattle.cal_policy.specs.Board.{IsOfTable, Stands};
+ghost use Rattle.cal_policy.specs.State.{IsOfTable, Stands};
 ghost use Rattle.cal_policy.specs.Pass.AtHand.{setting_in};
 ghost use Rattle.cal_policy.specs.History.{holder_of};
 ghost use Rattle.cal_policy.specs.Pass.Bans.{too_long_on};
 ghost use Rattle.cal_policy.specs.Setting.{Begun, so_far};
 
+use crate::board::Board;
 use crate::board::cores::is_banned;
 use crate::board::holders::Holder;
 use crate::explain::walk::PassWalk;
@@ -38,17 +39,17 @@ pub enum BanReason {
 
 impl Pass<'_> {
     /// Why no request on the core runs too long for a ban.
-    fn no_long_request(&self, core: u8) -> BanReason
-        requires at_hand { IsOfTable self.now.config.now self.now.board.now }
+    fn no_long_request(&self, board: &Board, core: u8) -> BanReason
+        requires at_hand { IsOfTable self.now.config.now board.now }
         requires core { core < self.now.config.now.cores }
         ensures reason { (h : Begun) (acts : List Action) →
-            Stands self.now.board.now (setting_in self.now h) acts →
+            Stands board.now (setting_in self.now h) acts →
             let s = setting_in self.now h in
             too_long_on s core (holder_of (so_far s acts) core) ≡ None →
             IsBanReason s (so_far s acts) core result }
         ensures none { due_by result ≡ None }
     {
-        match self.board.holding.holders[core as usize] {
+        match board.holding.holders[core as usize] {
             Holder::Free | Holder::Leaving(..) => BanReason::NotHeld,
             Holder::Held(placement) => {
                 let task = self.config.task_of(placement.thread as usize);
@@ -62,11 +63,11 @@ impl Pass<'_> {
     }
 
     /// Whether the sibling is banned for this thread's request on the core, which runs too long.
-    fn ban_of_sibling(&self, core: u8, thread: u8) -> BanReason
-        requires at_hand { IsOfTable self.now.config.now self.now.board.now }
+    fn ban_of_sibling(&self, board: &Board, core: u8, thread: u8) -> BanReason
+        requires at_hand { IsOfTable self.now.config.now board.now }
         requires core { core < self.now.config.now.cores }
         ensures reason { (h : Begun) (acts : List Action) →
-            Stands self.now.board.now (setting_in self.now h) acts →
+            Stands board.now (setting_in self.now h) acts →
             let s = setting_in self.now h in
             too_long_on s core (holder_of (so_far s acts) core) ≡ Some thread →
             IsBanReason s (so_far s acts) core result }
@@ -74,11 +75,11 @@ impl Pass<'_> {
     {
         self.config.limits();
         let sibling = self.config.machine().sibling(core);
-        if is_banned(self.board, core) {
+        if is_banned(board, core) {
             BanReason::Banned
-        } else if is_banned(self.board, sibling) {
+        } else if is_banned(board, sibling) {
             BanReason::SiblingBanned
-        } else if self.may_be_emptied(sibling) {
+        } else if self.may_be_emptied(board, sibling) {
             BanReason::Due { thread }
         } else {
             BanReason::SiblingStays
@@ -86,18 +87,18 @@ impl Pass<'_> {
     }
 
     /// Why a ban of the core's sibling is due, or by what it is not.
-    fn reason_of_ban(&self, core: u8) -> BanReason
-        requires at_hand { IsOfTable self.now.config.now self.now.board.now }
+    fn reason_of_ban(&self, board: &Board, core: u8) -> BanReason
+        requires at_hand { IsOfTable self.now.config.now board.now }
         requires core { core < self.now.config.now.cores }
         ensures reason { (h : Begun) (acts : List Action) →
-            Stands self.now.board.now (setting_in self.now h) acts →
+            Stands board.now (setting_in self.now h) acts →
             let s = setting_in self.now h in IsBanReason s (so_far s acts) core result }
         ensures thread { IfSome (due_by result) (λ k.
             k < threads_of_table self.now.config.now) }
     {
-        match self.too_long_on(core) {
-            None => self.no_long_request(core),
-            Some(thread) => self.ban_of_sibling(core, thread),
+        match self.too_long_on(board, core) {
+            None => self.no_long_request(board, core),
+            Some(thread) => self.ban_of_sibling(board, core, thread),
         }
     }
 }
@@ -112,6 +113,6 @@ impl PassWalk<'_> {
         ensures thread { IfSome (due_by result) (λ k.
             k < threads_of_table self.now.config.now) }
     {
-        self.pass().reason_of_ban(core)
+        self.pass().reason_of_ban(&self.board, core)
     }
 }

@@ -4,13 +4,15 @@ ghost use Rattle.std.specs.Prelude.{◌≡◌, ◌<◌, List, length};
 ghost use Rattle.std.specs.Option.{IfSome};
 ghost use Rattle.cal_machine.specs.TableTasks.{threads_of_table};
 ghost use Rattle.cal_policy.specs.declared.history.action.Action.{Action};
-ghost use Rattle.cal_policy.specs.Board.{placement_of, IsOfTable, Stands};
+ghost use Rattle.cal_policy.specs.Board.{placement_of};
+ghost use Rattle.cal_policy.specs.State.{IsOfTable, Stands};
 ghost use Rattle.cal_policy.specs.Explain.Asked.{IsCoreState};
 ghost use Rattle.cal_policy.specs.Explain.Walks.{IsWalk, Walks, setting_of};
 ghost use Rattle.cal_policy.specs.Pass.AtHand.{setting_in};
 ghost use Rattle.cal_policy.specs.Pass.Grants as grants;
 ghost use Rattle.cal_policy.specs.Setting.{Begun};
 
+use crate::board::Board;
 use crate::board::bans::BannedFor;
 use crate::board::holders::Holder;
 use crate::explain::walk::PassWalk;
@@ -34,11 +36,11 @@ pub struct CoreState {
 
 impl Pass<'_> {
     /// How a core stands.
-    fn core_state(&self, core: u8) -> CoreState
-        requires at_hand { IsOfTable self.now.config.now self.now.board.now }
+    fn core_state(&self, board: &Board, core: u8) -> CoreState
+        requires at_hand { IsOfTable self.now.config.now board.now }
         requires core { core < self.now.config.now.cores }
         ensures state { (h : Begun) (acts : List Action) →
-            Stands self.now.board.now (setting_in self.now h) acts →
+            Stands board.now (setting_in self.now h) acts →
             IsCoreState (setting_in self.now h) acts core result }
         ensures thread { IfSome (placement_of result.holder) (λ placement.
             placement.thread < threads_of_table self.now.config.now) }
@@ -46,24 +48,24 @@ impl Pass<'_> {
             ban.thread < threads_of_table self.now.config.now) }
     {
         CoreState {
-            holder: self.board.holding.holders[core as usize],
-            ban: self.board.bans.bans[core as usize],
-            is_granted_now: self.board.fresh.has(core),
-            is_left: is_left(self.board, core),
+            holder: board.holding.holders[core as usize],
+            ban: board.bans.bans[core as usize],
+            is_granted_now: board.fresh.has(core),
+            is_left: is_left(board, core),
         }
     }
 
     /// The class of a core for a task, if it is a candidate.
-    fn class_of(&self, task: usize, core: u8) -> Option<CoreClass>
-        requires at_hand { IsOfTable self.now.config.now self.now.board.now }
+    fn class_of(&self, board: &Board, task: usize, core: u8) -> Option<CoreClass>
+        requires at_hand { IsOfTable self.now.config.now board.now }
         requires task { task < length self.now.config.now.tasks }
         requires core { core < self.now.config.now.cores }
         ensures { (h : Begun) (acts : List Action) →
-            Stands self.now.board.now (setting_in self.now h) acts →
+            Stands board.now (setting_in self.now h) acts →
             result ≡ grants.class_of (setting_in self.now h) acts task core }
     {
-        let holder = self.board.holding.holders[core as usize];
-        self.class_by_holder(task, core, holder)
+        let holder = board.holding.holders[core as usize];
+        self.class_by_holder(board, task, core, holder)
     }
 }
 
@@ -79,7 +81,7 @@ impl PassWalk<'_> {
         ensures banned_for { IfSome result.ban (λ ban.
             ban.thread < threads_of_table self.now.config.now) }
     {
-        self.pass().core_state(core)
+        self.pass().core_state(&self.board, core)
     }
 
     /// The class of a core for a task, if it is a candidate: where the task gets a core, it is the
@@ -91,7 +93,7 @@ impl PassWalk<'_> {
         ensures { (h : Begun) → Walks self.now h →
             result ≡ grants.class_of (setting_of self.now h) self.now.made.items task core }
     {
-        self.pass().class_of(task, core)
+        self.pass().class_of(&self.board, task, core)
     }
 
     /// The core that is chosen for a task, and its class.
@@ -102,6 +104,6 @@ impl PassWalk<'_> {
             result ≡ grants.choice_of (setting_of self.now h) self.now.made.items task }
         ensures below { IfSome result (λ best. best.number < self.now.config.now.cores) }
     {
-        self.pass().choose_core(task)
+        self.pass().choose_core(&self.board, task)
     }
 }

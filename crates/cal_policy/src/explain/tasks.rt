@@ -7,12 +7,13 @@ ghost use Rattle.cal_policy.specs.declared.history.action.Action.{Action};
 ghost use Rattle.cal_policy.specs.Board.Counts.{cores_of_thread};
 ghost use Rattle.cal_policy.specs.Explain.Asked.{IsTaskState, IsThreadState};
 ghost use Rattle.cal_policy.specs.Explain.Walks.{IsWalk, Walks, setting_of, actions_so_far};
-ghost use Rattle.cal_policy.specs.Board.{IsOfTable, Stands};
+ghost use Rattle.cal_policy.specs.State.{IsOfTable, Stands};
 ghost use Rattle.cal_policy.specs.Pass.AtHand.{setting_in};
 ghost use Rattle.cal_policy.specs.Pass.Bandwidth as bandwidth;
 ghost use Rattle.cal_policy.specs.Pass.Grants as grants;
 ghost use Rattle.cal_policy.specs.Setting.{Begun, so_far};
 
+use crate::board::Board;
 use crate::board::counts::{booked_by, cap_of, held_by};
 use crate::board::survey::survey_of;
 use crate::explain::walk::PassWalk;
@@ -56,95 +57,95 @@ pub struct ThreadState {
 
 impl Pass<'_> {
     /// Whether a core is being left for the task.
-    fn awaits(&self, task: usize) -> bool
-        requires at_hand { IsOfTable self.now.config.now self.now.board.now }
+    fn awaits(&self, board: &Board, task: usize) -> bool
+        requires at_hand { IsOfTable self.now.config.now board.now }
         requires task { task < length self.now.config.now.tasks }
         ensures { (h : Begun) (acts : List Action) →
-            Stands self.now.board.now (setting_in self.now h) acts →
+            Stands board.now (setting_in self.now h) acts →
             let s = setting_in self.now h in
             result ≡ not (grants.none_leaves_for s (so_far s acts) task) }
     {
-        let survey = survey_of(self.config, self.board);
+        let survey = survey_of(self.config, board);
         let awaits_none = survey.awaited[task] == 0;
         !awaits_none
     }
 
     /// Whether the thread holds or leaves a core.
-    fn has_core(&self, thread: usize) -> bool
-        requires at_hand { IsOfTable self.now.config.now self.now.board.now }
+    fn has_core(&self, board: &Board, thread: usize) -> bool
+        requires at_hand { IsOfTable self.now.config.now board.now }
         requires thread { thread < threads_of_table self.now.config.now }
         ensures { (h : Begun) (acts : List Action) →
-            Stands self.now.board.now (setting_in self.now h) acts →
+            Stands board.now (setting_in self.now h) acts →
             let s = setting_in self.now h in
             result ≡ not (cores_of_thread s.table (so_far s acts) thread == 0) }
     {
-        let survey = survey_of(self.config, self.board);
+        let survey = survey_of(self.config, board);
         let has_none = survey.placed[thread] == 0;
         !has_none
     }
 
     /// How a task stands.
-    fn task_state(&self, task: usize) -> TaskState
-        requires at_hand { IsOfTable self.now.config.now self.now.board.now }
+    fn task_state(&self, board: &Board, task: usize) -> TaskState
+        requires at_hand { IsOfTable self.now.config.now board.now }
         requires task { task < length self.now.config.now.tasks }
         ensures { (h : Begun) (acts : List Action) →
-            Stands self.now.board.now (setting_in self.now h) acts →
+            Stands board.now (setting_in self.now h) acts →
             let s = setting_in self.now h in IsTaskState s (so_far s acts) task result }
     {
         self.config.limits();
         TaskState {
-            delay: self.task_delay(task),
-            is_congested: self.is_congested(task),
-            held: held_by(self.config, self.board, task),
-            booked: booked_by(self.config, self.board, task),
-            cap: cap_of(self.config, self.board, task),
-            may_book: self.may_book(task),
-            awaits: self.awaits(task),
+            delay: self.task_delay(board, task),
+            is_congested: self.is_congested(board, task),
+            held: held_by(self.config, board, task),
+            booked: booked_by(self.config, board, task),
+            cap: cap_of(self.config, board, task),
+            may_book: self.may_book(board, task),
+            awaits: self.awaits(board, task),
         }
     }
 
     /// How a thread stands.
-    fn thread_state(&self, thread: usize) -> ThreadState
-        requires at_hand { IsOfTable self.now.config.now self.now.board.now }
+    fn thread_state(&self, board: &Board, thread: usize) -> ThreadState
+        requires at_hand { IsOfTable self.now.config.now board.now }
         requires thread { thread < threads_of_table self.now.config.now }
         ensures { (h : Begun) (acts : List Action) →
-            Stands self.now.board.now (setting_in self.now h) acts →
+            Stands board.now (setting_in self.now h) acts →
             let s = setting_in self.now h in IsThreadState s (so_far s acts) thread result }
     {
         self.config.limits();
         ThreadState {
-            delay: self.thread_delay(thread),
-            has_core: self.has_core(thread),
+            delay: self.thread_delay(board, thread),
+            has_core: self.has_core(board, thread),
             has_room: self.has_room(thread),
-            new_misses: self.new_misses(thread),
-            kept: self.board.keeping.kept[thread],
+            new_misses: self.new_misses(board, thread),
+            kept: board.keeping.kept[thread],
         }
     }
 
     /// The core that the task would lose for bandwidth.
-    fn core_to_lose(&self, task: usize) -> Option<u8>
-        requires at_hand { IsOfTable self.now.config.now self.now.board.now }
+    fn core_to_lose(&self, board: &Board, task: usize) -> Option<u8>
+        requires at_hand { IsOfTable self.now.config.now board.now }
         requires task { task < length self.now.config.now.tasks }
         ensures { (h : Begun) (acts : List Action) →
-            Stands self.now.board.now (setting_in self.now h) acts →
+            Stands board.now (setting_in self.now h) acts →
             let s = setting_in self.now h in
             result ≡ bandwidth.core_to_lose s (so_far s acts) task }
     {
         self.config.limits();
-        let highest = self.cores_to_lose();
+        let highest = self.cores_to_lose(board);
         highest[task]
     }
 
     /// The task that a figure above the limit costs a core, and its misses.
-    fn victim_choice(&self) -> Option<Candidate<u128>>
-        requires at_hand { IsOfTable self.now.config.now self.now.board.now }
+    fn victim_choice(&self, board: &Board) -> Option<Candidate<u128>>
+        requires at_hand { IsOfTable self.now.config.now board.now }
         ensures victim { (h : Begun) (acts : List Action) →
-            Stands self.now.board.now (setting_in self.now h) acts →
+            Stands board.now (setting_in self.now h) acts →
             let s = setting_in self.now h in result ≡ bandwidth.victim_of s (so_far s acts) }
         ensures task { IfSome result (λ best. best.number < length self.now.config.now.tasks) }
     {
-        let highest = self.cores_to_lose();
-        self.victim(&highest)
+        let highest = self.cores_to_lose(board);
+        self.victim(board, &highest)
     }
 }
 
@@ -156,7 +157,7 @@ impl PassWalk<'_> {
         ensures { (h : Begun) → Walks self.now h →
             IsTaskState (setting_of self.now h) (actions_so_far self.now h) task result }
     {
-        self.pass().task_state(task)
+        self.pass().task_state(&self.board, task)
     }
 
     /// How a thread stands.
@@ -166,7 +167,7 @@ impl PassWalk<'_> {
         ensures { (h : Begun) → Walks self.now h →
             IsThreadState (setting_of self.now h) (actions_so_far self.now h) thread result }
     {
-        self.pass().thread_state(thread)
+        self.pass().thread_state(&self.board, thread)
     }
 
     /// Which thread of the task a core would be granted to, counted from its first, and its delay:
@@ -178,7 +179,7 @@ impl PassWalk<'_> {
             ≡ grants.thread_choice (setting_of self.now h) (actions_so_far self.now h) task }
         ensures below { IfSome result (λ best. best.number < limit_of self.now.config.now task) }
     {
-        self.pass().choose_thread(task)
+        self.pass().choose_thread(&self.board, task)
     }
 
     /// The misses of all threads of a task since the pass before.
@@ -188,7 +189,7 @@ impl PassWalk<'_> {
         ensures { (h : Begun) → Walks self.now h →
             result ≡ bandwidth.task_misses (setting_of self.now h) task }
     {
-        self.pass().task_misses(task)
+        self.pass().task_misses(&self.board, task)
     }
 
     /// The core that the task would lose for bandwidth: the highest that it holds by a thread whose
@@ -199,7 +200,7 @@ impl PassWalk<'_> {
         ensures { (h : Begun) → Walks self.now h → result
             ≡ bandwidth.core_to_lose (setting_of self.now h) (actions_so_far self.now h) task }
     {
-        self.pass().core_to_lose(task)
+        self.pass().core_to_lose(&self.board, task)
     }
 
     /// The task that a figure above the limit costs a core, and its misses.
@@ -209,6 +210,6 @@ impl PassWalk<'_> {
             ≡ bandwidth.victim_of (setting_of self.now h) (actions_so_far self.now h) }
         ensures task { IfSome result (λ best. best.number < length self.now.config.now.tasks) }
     {
-        self.pass().victim_choice()
+        self.pass().victim_choice(&self.board)
     }
 }

@@ -5,7 +5,8 @@ ghost use Rattle.std.specs.Option.{IfSome};
 ghost use Rattle.cal_machine.specs.Table.{Table, IsTable};
 ghost use Rattle.cal_machine.specs.declared.task.Kind.TheVariants as kinds;
 ghost use Rattle.cal_policy.specs.declared.history.action.Action.{Action};
-ghost use Rattle.cal_policy.specs.Board.{IsReady, NamesTable, Stands, IsOfTable};
+ghost use Rattle.cal_policy.specs.Board.{NamesTable};
+ghost use Rattle.cal_policy.specs.State.{IsReady, IsOfTable, Stands};
 ghost use Rattle.cal_policy.specs.Explain.Turns.{IsTurn, made_in};
 ghost use Rattle.cal_policy.specs.Explain.Walks.{IsWalk, Walks, begun_on, setting_of};
 ghost use Rattle.cal_policy.specs.Judgement.Judging.{IsInput};
@@ -94,28 +95,28 @@ fn only(action: Option<Action>) -> Coupled
 
 impl Pass<'_> {
     /// What the task gets, if it is latency-critical.
-    fn critical_due(&self, task: usize) -> Option<Action>
-        requires at_hand { IsOfTable self.now.config.now self.now.board.now }
+    fn critical_due(&self, board: &Board, task: usize) -> Option<Action>
+        requires at_hand { IsOfTable self.now.config.now board.now }
         requires task { task < length self.now.config.now.tasks }
         ensures due { (h : Begun) (acts : List Action) →
-            Stands self.now.board.now (setting_in self.now h) acts →
+            Stands board.now (setting_in self.now h) acts →
             option_to_list result
             ≡ grant_of_kind_at kinds.LatencyCritical (setting_in self.now h) acts task }
         ensures names { IfSome result (NamesTable self.now.config.now) }
     {
         if self.config.is_latency_critical(task) {
-            self.grant_due(task)
+            self.grant_due(board, task)
         } else {
             None
         }
     }
 
     /// What the task gets, if it is best-effort.
-    fn best_effort_due(&self, task: usize) -> Option<Action>
-        requires at_hand { IsOfTable self.now.config.now self.now.board.now }
+    fn best_effort_due(&self, board: &Board, task: usize) -> Option<Action>
+        requires at_hand { IsOfTable self.now.config.now board.now }
         requires task { task < length self.now.config.now.tasks }
         ensures due { (h : Begun) (acts : List Action) →
-            Stands self.now.board.now (setting_in self.now h) acts →
+            Stands board.now (setting_in self.now h) acts →
             option_to_list result
             ≡ grant_of_kind_at kinds.BestEffort (setting_in self.now h) acts task }
         ensures names { IfSome result (NamesTable self.now.config.now) }
@@ -123,26 +124,26 @@ impl Pass<'_> {
         if self.config.is_latency_critical(task) {
             None
         } else {
-            self.grant_due(task)
+            self.grant_due(board, task)
         }
     }
 
     /// What a turn makes.
-    fn due_in(&self, turn: Turn) -> Coupled
-        requires at_hand { IsOfTable self.now.config.now self.now.board.now }
+    fn due_in(&self, board: &Board, turn: Turn) -> Coupled
+        requires at_hand { IsOfTable self.now.config.now board.now }
         requires turn { IsTurn self.now.config.now turn }
         ensures due { (h : Begun) (acts : List Action) →
-            Stands self.now.board.now (setting_in self.now h) acts →
+            Stands board.now (setting_in self.now h) acts →
             both_of result ≡ made_in (setting_in self.now h) acts turn }
         ensures names { BothName self.now.config.now result }
     {
         match turn {
-            Turn::Free { core } => only(self.free_due(core)),
-            Turn::Unban { core } => only(self.unban_due(core)),
-            Turn::Ban { core } => self.ban_beside(core),
-            Turn::Bandwidth => self.bandwidth_due(),
-            Turn::LatencyCritical { task } => only(self.critical_due(task as usize)),
-            Turn::BestEffort { task } => only(self.best_effort_due(task as usize)),
+            Turn::Free { core } => only(self.free_due(board, core)),
+            Turn::Unban { core } => only(self.unban_due(board, core)),
+            Turn::Ban { core } => self.ban_beside(board, core),
+            Turn::Bandwidth => self.bandwidth_due(board),
+            Turn::LatencyCritical { task } => only(self.critical_due(board, task as usize)),
+            Turn::BestEffort { task } => only(self.best_effort_due(board, task as usize)),
             Turn::End => neither(),
         }
     }
@@ -213,19 +214,18 @@ impl<'a> PassWalk<'a> {
         self.made.as_slice()
     }
 
-    /// The pass as it stands at the turn.
+    /// The pass that is made.
     pub(crate) fn pass(&self) -> Pass<'_>
         requires walk { IsWalk self.now }
-        ensures at_hand { IsOfTable result.config.now result.board.now }
+        ensures at_hand { IsOfTable result.config.now self.now.board.value }
         ensures config { result.config.now ≡ self.now.config.now }
         ensures stands { (h : Begun) → Walks self.now h →
-            Stands result.board.now (setting_in result h) self.now.made.items }
+            Stands self.now.board.value (setting_in result h) self.now.made.items }
         ensures setting { (h : Begun) → setting_in result h ≡ setting_of self.now h }
     {
         Pass {
             config: self.config,
             terms: &self.terms,
-            board: &self.board,
         }
     }
 
@@ -238,7 +238,7 @@ impl<'a> PassWalk<'a> {
         ensures goes_on { OnOk result ((h : Begun) → Walks self.old h → Walks self.new h) }
         ensures setting { (h : Begun) → setting_of self.new h ≡ setting_of self.old h }
     {
-        let both = self.pass().due_in(self.turn);
+        let both = self.pass().due_in(&self.board, self.turn);
         make_both(self.config, &mut self.board, &mut self.made, both)?;
         self.turn = turn_after(self.config, self.turn);
         Ok(())

@@ -14,7 +14,8 @@ ghost use Rattle.cal_policy.specs.Judgement.Orderly.{IsOrderly};
 ghost use Rattle.cal_machine.specs.TableTasks.{threads_of_table};
 ghost use Rattle.cal_policy.specs.Judgement.Judging.{is_acknowledged_by, is_foreign, judged};
 ghost use Rattle.cal_policy.specs.Judgement.Judging.{IsFitLook, AreFitLooks, IsInput};
-ghost use Rattle.cal_policy.specs.Board.{HasSizes, HoldingAgrees, KeepingAgrees, Agrees};
+ghost use Rattle.cal_policy.specs.Board.{HasSizes, HoldersAgree};
+ghost use Rattle.cal_policy.specs.State.{Agrees, KeepingAgrees};
 
 use crate::board::Board;
 use crate::board::holders::{Holder, Holding, Placement};
@@ -48,7 +49,7 @@ fn is_acknowledged(holder: Holder, k: usize, rec: &Record) -> bool
 /// acknowledges.
 fn is_elsewhere(holding: &Holding, cores: u8, k: usize, rec: Record) -> bool
     requires { cores ≤ MOST_CORES }
-    ensures { (x : List Action) → HoldingAgrees holding.now x → result ≡ is_foreign cores x k rec }
+    ensures { (x : List Action) → HoldersAgree holding.now x → result ≡ is_foreign cores x k rec }
 {
     if rec.running == 0 {
         return false;

@@ -5,7 +5,8 @@ ghost use Rattle.cal_machine.specs.Table.{Table};
 ghost use Rattle.cal_machine.specs.TableTasks.{threads_of_table};
 ghost use Rattle.cal_policy.specs.declared.history.entry.PassEntry.{PassEntry};
 ghost use Rattle.cal_policy.specs.declared.judgement.open_input.FoundLook.{FoundLook};
-ghost use Rattle.cal_policy.specs.Board.{HasSizes, IsStateAfter};
+ghost use Rattle.cal_policy.specs.Board.{HasSizes};
+ghost use Rattle.cal_policy.specs.State.{IsStateAfter};
 ghost use Rattle.cal_policy.specs.Judgement.OpenInput.{judged_input, IsOfFound};
 
 use crate::board::Board;

@@ -13,7 +13,8 @@ ghost use Rattle.cal_policy.specs.History as history;
 ghost use Rattle.cal_policy.specs.Judgement.Orderly as order;
 ghost use Rattle.cal_policy.specs.Judgement.Orderly.{fits_state, FitInTurn, IsOrderlyEntry};
 ghost use Rattle.cal_policy.specs.Judgement.Orderly.{IsOrderly};
-ghost use Rattle.cal_policy.specs.Board.{Agrees, KeepingAgrees, IsReady, NamesTable};
+ghost use Rattle.cal_policy.specs.Board.{NamesTable};
+ghost use Rattle.cal_policy.specs.State.{IsReady, Agrees, KeepingAgrees};
 
 use crate::board::Board;
 use crate::board::cores::{has_no_core, is_banned, is_free, is_held};

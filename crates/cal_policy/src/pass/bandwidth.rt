@@ -9,10 +9,11 @@ ghost use Rattle.cal_machine.specs.declared.task_table.TheConstants.{MOST_TASKS}
 ghost use Rattle.cal_machine.specs.declared.numbering.TheConstants.{MOST_THREADS};
 ghost use Rattle.cal_policy.specs.declared.history.action.Action.{Action};
 ghost use Rattle.cal_policy.specs.Pass.Choice.{lowest_below};
-ghost use Rattle.cal_policy.specs.Setting.{Begun, setting_at, so_far};
+ghost use Rattle.cal_policy.specs.Setting.{Begun, so_far};
 ghost use Rattle.cal_policy.specs.Pass.Bandwidth as rules;
 ghost use Rattle.cal_policy.specs.Board.Counts.{is_held_for};
-ghost use Rattle.cal_policy.specs.Board.{Stands, IsReady, IsOfTable, NamesTable, holder_in};
+ghost use Rattle.cal_policy.specs.Board.{NamesTable, holder_in};
+ghost use Rattle.cal_policy.specs.State.{IsReady, IsOfTable, Stands};
 ghost use Rattle.cal_policy.specs.Pass.AtHand.{setting_in};
 ghost use Rattle.cal_policy.specs.Board.Losing.{HoldsCore};
 ghost use Rattle.cal_policy.specs.Pass.Coupled.{both_of, BothName};
@@ -24,9 +25,8 @@ use crate::history::action::{Action, Cause};
 use crate::history::action_list::Actions;
 use crate::pass::Pass;
 use crate::pass::choice::{Candidate, greater};
-use crate::pass::coupled::{Coupled, make_both, neither};
-use crate::pass::terms::Terms;
-use cal_machine::{Config, MOST_TASKS};
+use crate::pass::coupled::{Coupled, neither};
+use cal_machine::MOST_TASKS;
 
 fn no_cores() -> [Option<u8>; MOST_TASKS]
     ensures { result ≡ replicate MOST_TASKS None }
@@ -49,19 +49,19 @@ fn note(highest: &mut [Option<u8>; MOST_TASKS], task: Option<usize>, core: u8)
 impl Pass<'_> {
     /// The task that can lose the core: the one whose thread holds it, where the thread's ring has
     /// room.
-    fn task_that_can_lose(&self, core: u8) -> Option<usize>
-        requires at_hand { IsOfTable self.now.config.now self.now.board.now }
+    fn task_that_can_lose(&self, board: &Board, core: u8) -> Option<usize>
+        requires at_hand { IsOfTable self.now.config.now board.now }
         requires core { core < self.now.config.now.cores }
         ensures lose { (h : Begun) (acts : List Action) →
-            Stands self.now.board.now (setting_in self.now h) acts →
+            Stands board.now (setting_in self.now h) acts →
             let s = setting_in self.now h in
             (t : ℕ) → rules.can_lose s (so_far s acts) t core ≡ rules.is_number t result }
         ensures task { IfSome result (λ t. t < length self.now.config.now.tasks) }
         ensures held { IfSome result (λ t.
-            is_held_for self.now.config.now t (holder_in self.now.board.now.holding core)
+            is_held_for self.now.config.now t (holder_in board.now.holding core)
             ≡ true) }
     {
-        match self.board.holding.holders[core as usize] {
+        match board.holding.holders[core as usize] {
             Holder::Held(placement) => {
                 let thread = placement.thread as usize;
                 if self.has_room(thread) {
@@ -75,58 +75,63 @@ impl Pass<'_> {
     }
 
     /// For each task the highest core that it can lose.
-    pub fn cores_to_lose(&self) -> [Option<u8>; MOST_TASKS]
-        requires at_hand { IsOfTable self.now.config.now self.now.board.now }
+    pub fn cores_to_lose(&self, board: &Board) -> [Option<u8>; MOST_TASKS]
+        requires at_hand { IsOfTable self.now.config.now board.now }
         ensures lose { (h : Begun) (acts : List Action) →
-            Stands self.now.board.now (setting_in self.now h) acts →
+            Stands board.now (setting_in self.now h) acts →
             let s = setting_in self.now h in
             (t : ℕ) → t < MOST_TASKS →
             slice_index_or result t None ≡ rules.core_to_lose s (so_far s acts) t }
         ensures held { (t : ℕ) → t < MOST_TASKS →
-            HoldsCore self.now.config.now self.now.board.now t (slice_index_or result t None) }
+            HoldsCore self.now.config.now board.now t (slice_index_or result t None) }
     {
         let mut highest = no_cores();
         for core in 0..self.config.machine().cores() {
-            let task = self.task_that_can_lose(core);
+            let task = self.task_that_can_lose(board, core);
             note(&mut highest, task, core);
         }
         highest
     }
 
     /// The misses of a thread since the pass before.
-    pub fn new_misses(&self, thread: usize) -> u64
-        requires at_hand { IsOfTable self.now.config.now self.now.board.now }
+    pub fn new_misses(&self, board: &Board, thread: usize) -> u64
+        requires at_hand { IsOfTable self.now.config.now board.now }
         requires thread { thread < MOST_THREADS }
         ensures { (h : Begun) (acts : List Action) →
-            Stands self.now.board.now (setting_in self.now h) acts →
+            Stands board.now (setting_in self.now h) acts →
             result ≡ rules.new_misses (setting_in self.now h) thread }
     {
-        let misses = self.board.keeping.kept[thread].misses;
-        misses.saturating_sub(self.board.keeping.before[thread])
+        let misses = board.keeping.kept[thread].misses;
+        misses.saturating_sub(board.keeping.before[thread])
     }
 
     /// The misses of all threads of a task since the pass before.
-    pub fn task_misses(&self, task: usize) -> u128
-        requires at_hand { IsOfTable self.now.config.now self.now.board.now }
+    pub fn task_misses(&self, board: &Board, task: usize) -> u128
+        requires at_hand { IsOfTable self.now.config.now board.now }
         requires task { task < length self.now.config.now.tasks }
         ensures { (h : Begun) (acts : List Action) →
-            Stands self.now.board.now (setting_in self.now h) acts →
+            Stands board.now (setting_in self.now h) acts →
             result ≡ rules.task_misses (setting_in self.now h) task }
     {
         let (first, count) = self.config.threads_of(task);
         let mut misses = 0u128;
         for j in 0..count {
-            misses += u128::from(self.new_misses(first + j));
+            misses += u128::from(self.new_misses(board, first + j));
         }
         misses
     }
 
     /// The misses of a best-effort task with a core that it can lose.
-    fn victim_rank(&self, highest: &[Option<u8>; MOST_TASKS], task: usize) -> Option<u128>
-        requires at_hand { IsOfTable self.now.config.now self.now.board.now }
+    fn victim_rank(
+        &self,
+        board: &Board,
+        highest: &[Option<u8>; MOST_TASKS],
+        task: usize,
+    ) -> Option<u128>
+        requires at_hand { IsOfTable self.now.config.now board.now }
         requires task { task < length self.now.config.now.tasks }
         ensures { (h : Begun) (acts : List Action) →
-            Stands self.now.board.now (setting_in self.now h) acts →
+            Stands board.now (setting_in self.now h) acts →
             let s = setting_in self.now h in
             slice_index_or highest.now task None ≡ rules.core_to_lose s (so_far s acts) task →
             result ≡ rules.victim_rank s (so_far s acts) task }
@@ -136,15 +141,19 @@ impl Pass<'_> {
         }
         match highest[task] {
             None => None,
-            Some(_) => Some(self.task_misses(task)),
+            Some(_) => Some(self.task_misses(board, task)),
         }
     }
 
     /// The task with the most misses, of those with as many the one with the least number.
-    pub fn victim(&self, highest: &[Option<u8>; MOST_TASKS]) -> Option<Candidate<u128>>
-        requires at_hand { IsOfTable self.now.config.now self.now.board.now }
+    pub fn victim(
+        &self,
+        board: &Board,
+        highest: &[Option<u8>; MOST_TASKS],
+    ) -> Option<Candidate<u128>>
+        requires at_hand { IsOfTable self.now.config.now board.now }
         ensures victim { (h : Begun) (acts : List Action) →
-            Stands self.now.board.now (setting_in self.now h) acts →
+            Stands board.now (setting_in self.now h) acts →
             let s = setting_in self.now h in
             ((t : ℕ) → t < MOST_TASKS →
             slice_index_or highest.now t None ≡ rules.core_to_lose s (so_far s acts) t) →
@@ -154,25 +163,25 @@ impl Pass<'_> {
     {
         let mut best: Option<Candidate<u128>> = None;
         for t in 0..self.config.tasks() {
-            let rank = self.victim_rank(highest, t);
+            let rank = self.victim_rank(board, highest, t);
             best = greater(best, rank, t as u8);
         }
         best
     }
 
     /// The cap of a task one below what it holds, and the revocation of the core that it loses.
-    fn cut(&self, task: u8, core: Option<u8>) -> Coupled
-        requires at_hand { IsOfTable self.now.config.now self.now.board.now }
+    fn cut(&self, board: &Board, task: u8, core: Option<u8>) -> Coupled
+        requires at_hand { IsOfTable self.now.config.now board.now }
         requires task { task < MOST_TASKS }
-        requires core { HoldsCore self.now.config.now self.now.board.now task core }
+        requires core { HoldsCore self.now.config.now board.now task core }
         ensures cut { (h : Begun) (acts : List Action) →
-            Stands self.now.board.now (setting_in self.now h) acts →
+            Stands board.now (setting_in self.now h) acts →
             let s = setting_in self.now h in
             both_of result ≡ rules.cut_at s (so_far s acts) task core }
         ensures names { BothName self.now.config.now result }
     {
         let Some(core) = core else { return neither() };
-        let held = held_by(self.config, self.board, task as usize);
+        let held = held_by(self.config, board, task as usize);
         Coupled {
             first: Some(Action::Cap {
                 task,
@@ -186,33 +195,33 @@ impl Pass<'_> {
     }
 
     /// What the victim loses.
-    fn cut_victim(&self) -> Coupled
-        requires at_hand { IsOfTable self.now.config.now self.now.board.now }
+    fn cut_victim(&self, board: &Board) -> Coupled
+        requires at_hand { IsOfTable self.now.config.now board.now }
         ensures cut { (h : Begun) (acts : List Action) →
-            Stands self.now.board.now (setting_in self.now h) acts →
+            Stands board.now (setting_in self.now h) acts →
             let s = setting_in self.now h in
             both_of result ≡ rules.cut_of s (so_far s acts) (rules.victim_of s (so_far s acts)) }
         ensures names { BothName self.now.config.now result }
     {
-        let highest = self.cores_to_lose();
-        match self.victim(&highest) {
+        let highest = self.cores_to_lose(board);
+        match self.victim(board, &highest) {
             None => neither(),
-            Some(victim) => self.cut(victim.number, highest[victim.number as usize]),
+            Some(victim) => self.cut(board, victim.number, highest[victim.number as usize]),
         }
     }
 
     /// A cap one higher, where the task is a best-effort one below its limit by its cap.
-    fn rise(&self, task: usize) -> Option<Action>
-        requires at_hand { IsOfTable self.now.config.now self.now.board.now }
+    fn rise(&self, board: &Board, task: usize) -> Option<Action>
+        requires at_hand { IsOfTable self.now.config.now board.now }
         requires task { task < length self.now.config.now.tasks }
         ensures rise { (h : Begun) (acts : List Action) →
-            Stands self.now.board.now (setting_in self.now h) acts →
+            Stands board.now (setting_in self.now h) acts →
             let s = setting_in self.now h in
             option_to_list result ≡ rules.rise_of s (so_far s acts)
             (if rules.is_capped s (so_far s acts) task then Some task else None) }
         ensures names { IfSome result (NamesTable self.now.config.now) }
     {
-        let cap = cap_of(self.config, self.board, task);
+        let cap = cap_of(self.config, board, task);
         if self.config.is_latency_critical(task) || cap >= self.config.task(task).limit {
             None
         } else {
@@ -224,10 +233,10 @@ impl Pass<'_> {
     }
 
     /// The rise of the least-numbered capped task.
-    fn first_rise(&self) -> Option<Action>
-        requires at_hand { IsOfTable self.now.config.now self.now.board.now }
+    fn first_rise(&self, board: &Board) -> Option<Action>
+        requires at_hand { IsOfTable self.now.config.now board.now }
         ensures rise { (h : Begun) (acts : List Action) →
-            Stands self.now.board.now (setting_in self.now h) acts →
+            Stands board.now (setting_in self.now h) acts →
             let s = setting_in self.now h in
             option_to_list result ≡ rules.rise_of s (so_far s acts)
             (lowest_below (rules.is_capped s (so_far s acts))
@@ -235,7 +244,7 @@ impl Pass<'_> {
         ensures names { IfSome result (NamesTable self.now.config.now) }
     {
         for t in 0..self.config.tasks() {
-            if let Some(action) = self.rise(t) {
+            if let Some(action) = self.rise(board, t) {
                 return Some(action);
             }
         }
@@ -243,39 +252,33 @@ impl Pass<'_> {
     }
 
     /// What is due for the bandwidth.
-    pub fn bandwidth_due(&self) -> Coupled
-        requires at_hand { IsOfTable self.now.config.now self.now.board.now }
+    pub fn bandwidth_due(&self, board: &Board) -> Coupled
+        requires at_hand { IsOfTable self.now.config.now board.now }
         ensures due { (h : Begun) (acts : List Action) →
-            Stands self.now.board.now (setting_in self.now h) acts →
+            Stands board.now (setting_in self.now h) acts →
             both_of result ≡ rules.bandwidth_part (setting_in self.now h) acts }
         ensures names { BothName self.now.config.now result }
     {
         if self.terms.bandwidth > self.config.bandwidth_limit() {
-            self.cut_victim()
+            self.cut_victim(board)
         } else {
             Coupled {
-                first: self.first_rise(),
+                first: self.first_rise(board),
                 second: None,
             }
         }
     }
-}
 
-/// Takes a core from the victim where the bandwidth is over its limit, else lets one cap rise.
-pub fn keep_bandwidth(config: &Config, terms: &Terms, board: &mut Board, out: &mut Actions)
-    requires of_table { IsOfTable config.now board.old }
-    requires room { length out.old + 2 ≤ MOST_ACTIONS }
-    ensures acts { (h : Begun) → let s = setting_at config.now terms.entry.now h in
-        Stands board.old s out.old →
-        (out.new ≡ out.old ++ rules.bandwidth_part s out.old) × Stands board.new s out.new }
-    ensures ready { IsReady config.now board.new }
-    ensures length { length out.new ≤ length out.old + 2 }
-{
-    let pass = Pass {
-        config,
-        terms,
-        board,
-    };
-    let both = pass.bandwidth_due();
-    make_both(config, board, out, both);
+    /// Takes a core from the victim where the bandwidth is over its limit, else lets one cap rise.
+    pub fn keep_bandwidth(&self, board: &mut Board, out: &mut Actions)
+        requires of_table { IsOfTable self.now.config.now board.old }
+        requires room { length out.old + 2 ≤ MOST_ACTIONS }
+        ensures acts { (h : Begun) → let s = setting_in self.now h in Stands board.old s out.old →
+            (out.new ≡ out.old ++ rules.bandwidth_part s out.old) × Stands board.new s out.new }
+        ensures ready { IsReady self.now.config.now board.new }
+        ensures length { length out.new ≤ length out.old + 2 }
+    {
+        let both = self.bandwidth_due(board);
+        self.make_both(board, out, both);
+    }
 }

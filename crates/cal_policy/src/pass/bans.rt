@@ -14,9 +14,10 @@ ghost use Rattle.cal_policy.specs.declared.history.action.Cause.TheVariants as c
 ghost use Rattle.cal_policy.specs.History.Lists.{in_pair};
 ghost use Rattle.cal_policy.specs.History.{holder_of};
 ghost use Rattle.cal_policy.specs.Board.Counts.{is_held};
-ghost use Rattle.cal_policy.specs.Setting.{Begun, setting_at, so_far};
+ghost use Rattle.cal_policy.specs.Setting.{Begun, so_far};
 ghost use Rattle.cal_policy.specs.Pass.Bans as rules;
-ghost use Rattle.cal_policy.specs.Board.{Stands, IsReady, IsOfTable, NamesTable};
+ghost use Rattle.cal_policy.specs.Board.{NamesTable};
+ghost use Rattle.cal_policy.specs.State.{IsReady, IsOfTable, Stands};
 ghost use Rattle.cal_policy.specs.Pass.AtHand.{setting_in};
 ghost use Rattle.cal_policy.specs.Pass.Coupled.{both_of, BothName};
 ghost use Rattle.cal_policy.specs.Pass.ToBan.{NoneOver, cores_to_ban};
@@ -28,8 +29,7 @@ use crate::board::holders::Holder;
 use crate::history::action::{Action, Cause};
 use crate::history::action_list::Actions;
 use crate::pass::Pass;
-use crate::pass::coupled::{Coupled, make_both, neither};
-use crate::pass::terms::Terms;
+use crate::pass::coupled::{Coupled, neither};
 use cal_machine::Config;
 use cal_signal::Record;
 
@@ -42,20 +42,20 @@ fn runs_too_long(clock: u64, rec: &Record, core: u8, limit: u64) -> bool
 
 impl Pass<'_> {
     /// The thread that holds the core for a latency-critical task, where its request runs too long.
-    pub fn too_long_on(&self, core: u8) -> Option<u8>
-        requires at_hand { IsOfTable self.now.config.now self.now.board.now }
+    pub fn too_long_on(&self, board: &Board, core: u8) -> Option<u8>
+        requires at_hand { IsOfTable self.now.config.now board.now }
         requires core { core < self.now.config.now.cores }
         ensures due { (h : Begun) (acts : List Action) →
-            Stands self.now.board.now (setting_in self.now h) acts →
+            Stands board.now (setting_in self.now h) acts →
             let s = setting_in self.now h in
             result ≡ rules.too_long_on s core (holder_of (so_far s acts) core) }
         ensures thread { IfSome result (λ thread.
             thread < threads_of_table self.now.config.now) }
     {
-        match self.board.holding.holders[core as usize] {
+        match board.holding.holders[core as usize] {
             Holder::Held(placement) => {
                 let task = self.config.task_of(placement.thread as usize);
-                let rec = &self.board.keeping.kept[placement.thread as usize];
+                let rec = &board.keeping.kept[placement.thread as usize];
                 let limit = self.config.task(task).request;
                 if self.config.is_latency_critical(task)
                     && runs_too_long(self.terms.now, rec, core, limit)
@@ -71,50 +71,50 @@ impl Pass<'_> {
 
     /// Whether the core may be emptied: it is free, being left, or held by a thread whose ring has
     /// room and whose task is over.
-    pub fn may_be_emptied(&self, core: u8) -> bool
-        requires at_hand { IsOfTable self.now.config.now self.now.board.now }
+    pub fn may_be_emptied(&self, board: &Board, core: u8) -> bool
+        requires at_hand { IsOfTable self.now.config.now board.now }
         requires core { core < self.now.config.now.cores }
         ensures { (h : Begun) (acts : List Action) →
-            Stands self.now.board.now (setting_in self.now h) acts →
+            Stands board.now (setting_in self.now h) acts →
             let s = setting_in self.now h in
             result ≡ rules.may_be_emptied s (so_far s acts) (holder_of (so_far s acts) core) }
     {
-        match self.board.holding.holders[core as usize] {
+        match board.holding.holders[core as usize] {
             Holder::Free | Holder::Leaving(..) => true,
             Holder::Held(placement) => {
                 let thread = placement.thread as usize;
                 let task = self.config.task_of(thread);
-                self.has_room(thread) && is_over(self.config, self.board, task)
+                self.has_room(thread) && is_over(self.config, board, task)
             }
         }
     }
 
     /// Whether neither the core nor its sibling is banned, and the sibling may be emptied.
-    fn may_ban_beside(&self, core: u8) -> bool
-        requires at_hand { IsOfTable self.now.config.now self.now.board.now }
+    fn may_ban_beside(&self, board: &Board, core: u8) -> bool
+        requires at_hand { IsOfTable self.now.config.now board.now }
         requires core { core < self.now.config.now.cores }
         ensures { (h : Begun) (acts : List Action) →
-            Stands self.now.board.now (setting_in self.now h) acts →
+            Stands board.now (setting_in self.now h) acts →
             let s = setting_in self.now h in result ≡ rules.may_ban_beside s (so_far s acts) core }
     {
         let beside = self.config.machine().sibling(core);
-        self.board.bans.bans[core as usize].is_none()
-            && self.board.bans.bans[beside as usize].is_none()
-            && self.may_be_emptied(beside)
+        board.bans.bans[core as usize].is_none()
+            && board.bans.bans[beside as usize].is_none()
+            && self.may_be_emptied(board, beside)
     }
 
     /// The thread for whose request on the core the sibling is to be banned, where a ban is due.
-    fn ban_due(&self, core: u8) -> Option<u8>
-        requires at_hand { IsOfTable self.now.config.now self.now.board.now }
+    fn ban_due(&self, board: &Board, core: u8) -> Option<u8>
+        requires at_hand { IsOfTable self.now.config.now board.now }
         requires core { core < self.now.config.now.cores }
         ensures due { (h : Begun) (acts : List Action) →
-            Stands self.now.board.now (setting_in self.now h) acts →
+            Stands board.now (setting_in self.now h) acts →
             let s = setting_in self.now h in result ≡ rules.ban_due s (so_far s acts) core }
         ensures thread { IfSome result (λ thread.
             thread < threads_of_table self.now.config.now) }
     {
-        let thread = self.too_long_on(core)?;
-        if self.may_ban_beside(core) {
+        let thread = self.too_long_on(board, core)?;
+        if self.may_ban_beside(board, core) {
             Some(thread)
         } else {
             None
@@ -122,17 +122,17 @@ impl Pass<'_> {
     }
 
     /// The revocation of a core that is banned for core `by`, where it is held.
-    fn ban_revocation(&self, core: u8, by: u8) -> Option<Action>
-        requires at_hand { IsOfTable self.now.config.now self.now.board.now }
+    fn ban_revocation(&self, board: &Board, core: u8, by: u8) -> Option<Action>
+        requires at_hand { IsOfTable self.now.config.now board.now }
         requires core { core < self.now.config.now.cores }
         ensures due { (h : Begun) (acts : List Action) →
-            Stands self.now.board.now (setting_in self.now h) acts →
+            Stands board.now (setting_in self.now h) acts →
             option_to_list result
             ≡ (if is_held (holder_of (so_far (setting_in self.now h) acts) core)
             then Revoke core (causes.Ban by) ∷ [] else []) }
         ensures names { IfSome result (NamesTable self.now.config.now) }
     {
-        match self.board.holding.holders[core as usize] {
+        match board.holding.holders[core as usize] {
             Holder::Held(_) => Some(Action::Revoke {
                 core,
                 cause: Cause::Ban { by },
@@ -142,46 +142,46 @@ impl Pass<'_> {
     }
 
     /// The ban that a core gives rise to, and where the banned core is held its revocation.
-    pub fn ban_beside(&self, core: u8) -> Coupled
-        requires at_hand { IsOfTable self.now.config.now self.now.board.now }
+    pub fn ban_beside(&self, board: &Board, core: u8) -> Coupled
+        requires at_hand { IsOfTable self.now.config.now board.now }
         requires core { core < self.now.config.now.cores }
         ensures due { (h : Begun) (acts : List Action) →
-            Stands self.now.board.now (setting_in self.now h) acts →
+            Stands board.now (setting_in self.now h) acts →
             let s = setting_in self.now h in both_of result ≡ rules.bans_at s acts core }
         ensures names { BothName self.now.config.now result }
         ensures alone { result.first ≡ None → result.second ≡ None }
     {
         let beside = self.config.machine().sibling(core);
-        let Some(thread) = self.ban_due(core) else {
+        let Some(thread) = self.ban_due(board, core) else {
             return neither();
         };
         let ban = Action::Ban {
             core: beside,
             thread,
-            started: self.board.keeping.kept[thread as usize].started,
+            started: board.keeping.kept[thread as usize].started,
         };
         Coupled {
             first: Some(ban),
-            second: self.ban_revocation(beside, core),
+            second: self.ban_revocation(board, beside, core),
         }
     }
 
     /// What the cores of this pair give rise to: once the one bans the other, that one bans
     /// nothing.
-    fn ban_in_pair(&self, pair: u8) -> Coupled
-        requires at_hand { IsOfTable self.now.config.now self.now.board.now }
+    fn ban_in_pair(&self, board: &Board, pair: u8) -> Coupled
+        requires at_hand { IsOfTable self.now.config.now board.now }
         requires pair { 2 * pair + 1 < self.now.config.now.cores }
         ensures due { (h : Begun) (acts : List Action) →
-            Stands self.now.board.now (setting_in self.now h) acts →
+            Stands board.now (setting_in self.now h) acts →
             let s = setting_in self.now h in
             both_of result ≡ in_pair (rules.bans_at s) acts pair }
         ensures names { BothName self.now.config.now result }
         ensures alone { result.first ≡ None → result.second ≡ None }
     {
-        let lower = self.ban_beside(2 * pair);
+        let lower = self.ban_beside(board, 2 * pair);
         match lower.first {
             Some(_) => lower,
-            None => self.ban_beside(2 * pair + 1),
+            None => self.ban_beside(board, 2 * pair + 1),
         }
     }
 }
@@ -216,31 +216,28 @@ fn next_to_ban(config: &Config, board: &Board, over: bool, first: u8) -> Option<
     }
 }
 
-/// Bans the sibling of each core on which a request runs too long, and revokes it where it is held.
-/// The cores that may give rise to a ban are visited upwards, pair by pair, and a pair gives at
-/// most one ban: those that are taken, but while no task is over only those that are held beside
-/// one that is not, since a core that a thread holds is emptied only where its task is over.
-pub fn ban_siblings(config: &Config, terms: &Terms, board: &mut Board, out: &mut Actions)
-    requires of_table { IsOfTable config.now board.old }
-    requires room { length out.old + MOST_CORES ≤ MOST_ACTIONS }
-    ensures acts { (h : Begun) → let s = setting_at config.now terms.entry.now h in
-        Stands board.old s out.old →
-        (out.new ≡ out.old ++ rules.bans s out.old) × Stands board.new s out.new }
-    ensures ready { IsReady config.now board.new }
-    ensures length { length out.new ≤ length out.old + MOST_CORES }
-{
-    let mut over = some_is_over(config, board);
-    let mut next = 0;
-    while let Some(core) = next_to_ban(config, board, over, 2 * next) {
-        let pair = core / 2;
-        let pass = Pass {
-            config,
-            terms,
-            board,
-        };
-        let both = pass.ban_in_pair(pair);
-        make_both(config, board, out, both);
-        over = some_may_be_over(config, board, over, both.first);
-        next = pair + 1;
+impl Pass<'_> {
+    /// Bans the sibling of each core on which a request runs too long, and revokes it where it is
+    /// held. The cores that may give rise to a ban are visited upwards, pair by pair, and a pair
+    /// gives at most one ban: those that are taken, but while no task is over only those that are
+    /// held beside one that is not, since a core that a thread holds is emptied only where its task
+    /// is over.
+    pub fn ban_siblings(&self, board: &mut Board, out: &mut Actions)
+        requires of_table { IsOfTable self.now.config.now board.old }
+        requires room { length out.old + MOST_CORES ≤ MOST_ACTIONS }
+        ensures acts { (h : Begun) → let s = setting_in self.now h in Stands board.old s out.old →
+            (out.new ≡ out.old ++ rules.bans s out.old) × Stands board.new s out.new }
+        ensures ready { IsReady self.now.config.now board.new }
+        ensures length { length out.new ≤ length out.old + MOST_CORES }
+    {
+        let mut over = some_is_over(self.config, board);
+        let mut next = 0;
+        while let Some(core) = next_to_ban(self.config, board, over, 2 * next) {
+            let pair = core / 2;
+            let both = self.ban_in_pair(board, pair);
+            self.make_both(board, out, both);
+            over = some_may_be_over(self.config, board, over, both.first);
+            next = pair + 1;
+        }
     }
 }

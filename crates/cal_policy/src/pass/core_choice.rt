@@ -12,12 +12,14 @@ ghost use Rattle.cal_policy.specs.Setting.{Begun, so_far, has_room};
 ghost use Rattle.cal_policy.specs.History.{holder_of, last_thread, is_banned};
 ghost use Rattle.cal_policy.specs.Pass.Grants as grants;
 ghost use Rattle.cal_policy.specs.Pass.Grants.{class_by, is_granted_in, none_leaves_for};
-ghost use Rattle.cal_policy.specs.Board.{IsOfTable, Stands, Agrees, placement_of};
+ghost use Rattle.cal_policy.specs.Board.{placement_of};
+ghost use Rattle.cal_policy.specs.State.{IsOfTable, Stands, Agrees};
 ghost use Rattle.cal_policy.specs.Board.Counts.{held_by};
 ghost use Rattle.cal_policy.specs.Pass.Choice.{best_below};
 ghost use Rattle.cal_policy.specs.Pass.Among.{class_among};
 ghost use Rattle.cal_policy.specs.Pass.AtHand.{setting_in};
 
+use crate::board::Board;
 use crate::board::core_sets::next_core;
 use crate::board::counts::{holds_for, some_is_over};
 use crate::board::holders::{Holder, Placement};
@@ -49,48 +51,48 @@ fn idle_class(config: &Config, task: usize, beside: Holder, last: Option<Placeme
 
 impl Pass<'_> {
     /// The class that a core has while nobody has it and it is not banned.
-    fn class_if_idle(&self, task: usize, core: u8) -> CoreClass
-        requires at_hand { IsOfTable self.now.config.now self.now.board.now }
+    fn class_if_idle(&self, board: &Board, task: usize, core: u8) -> CoreClass
+        requires at_hand { IsOfTable self.now.config.now board.now }
         requires core { core < self.now.config.now.cores }
-        ensures { (x : List Action) → Agrees self.now.board.now x →
+        ensures { (x : List Action) → Agrees board.now x →
             result ≡ grants.idle_class self.now.config.now task (holder_of x (sibling_of core))
             (last_thread x core) }
     {
         let sibling = self.config.machine().sibling(core);
-        let beside = self.board.holding.holders[sibling as usize];
-        let last = self.board.holding.granted[core as usize];
+        let beside = board.holding.holders[sibling as usize];
+        let last = board.holding.granted[core as usize];
         idle_class(self.config, task, beside, last)
     }
 
     /// The class of a core that nobody has, unless it is banned.
-    fn free_class(&self, task: usize, core: u8) -> Option<CoreClass>
-        requires at_hand { IsOfTable self.now.config.now self.now.board.now }
+    fn free_class(&self, board: &Board, task: usize, core: u8) -> Option<CoreClass>
+        requires at_hand { IsOfTable self.now.config.now board.now }
         requires core { core < self.now.config.now.cores }
-        ensures { (x : List Action) → Agrees self.now.board.now x →
+        ensures { (x : List Action) → Agrees board.now x →
             result ≡ (if is_banned x core then None
             else Some (grants.idle_class self.now.config.now task (holder_of x (sibling_of core))
             (last_thread x core))) }
     {
-        match self.board.bans.bans[core as usize] {
+        match board.bans.bans[core as usize] {
             Some(_) => None,
-            None => Some(self.class_if_idle(task, core)),
+            None => Some(self.class_if_idle(board, task, core)),
         }
     }
 
     /// The class of a core that another task holds, as far as that task goes: `BestEffortBurstable`
     /// of a best-effort one, `LatencyCriticalBurstable` of a latency-critical one that is over,
     /// where the task has booked less than it is guaranteed.
-    fn preempt_class(&self, task: usize, other: usize) -> Option<CoreClass>
-        requires at_hand { IsOfTable self.now.config.now self.now.board.now }
+    fn preempt_class(&self, board: &Board, task: usize, other: usize) -> Option<CoreClass>
+        requires at_hand { IsOfTable self.now.config.now board.now }
         requires task { task < length self.now.config.now.tasks }
         requires other { other < length self.now.config.now.tasks }
-        ensures { (x : List Action) → Agrees self.now.board.now x →
+        ensures { (x : List Action) → Agrees board.now x →
             result ≡ grants.preempt_class self.now.config.now x task other }
     {
         if !self.config.is_latency_critical(other) {
             return Some(CoreClass::BestEffortBurstable);
         }
-        let survey = survey_of(self.config, self.board);
+        let survey = survey_of(self.config, board);
         let is_short = survey.booked[task] < self.config.task(task).guaranteed;
         let is_over = self.config.task(other).guaranteed < survey.held[other];
         if is_short && other != task && is_over {
@@ -102,55 +104,61 @@ impl Pass<'_> {
 
     /// Whether a core may be preempted for the task at all: it is latency-critical, and no core is
     /// being left for it.
-    fn may_preempt_any(&self, task: usize) -> bool
-        requires at_hand { IsOfTable self.now.config.now self.now.board.now }
+    fn may_preempt_any(&self, board: &Board, task: usize) -> bool
+        requires at_hand { IsOfTable self.now.config.now board.now }
         requires task { task < length self.now.config.now.tasks }
         ensures { (h : Begun) (acts : List Action) →
             let s = setting_in self.now h in
-            Agrees self.now.board.now (so_far s acts) →
+            Agrees board.now (so_far s acts) →
             result ≡ (tasks.is_latency_critical self.now.config.now task
             && none_leaves_for s (so_far s acts) task) }
     {
         let is_critical = self.config.is_latency_critical(task);
-        let awaits_none = survey_of(self.config, self.board).awaited[task] == 0;
+        let awaits_none = survey_of(self.config, board).awaited[task] == 0;
         is_critical && awaits_none
     }
 
     /// Whether a core that `thread` holds may be preempted for the task: one may be at all, the
     /// thread's ring has room, and the core was not granted in this pass.
-    fn may_preempt(&self, task: usize, core: u8, thread: u8) -> bool
-        requires at_hand { IsOfTable self.now.config.now self.now.board.now }
+    fn may_preempt(&self, board: &Board, task: usize, core: u8, thread: u8) -> bool
+        requires at_hand { IsOfTable self.now.config.now board.now }
         requires task { task < length self.now.config.now.tasks }
         requires core { core < self.now.config.now.cores }
         requires thread { thread < threads_of_table self.now.config.now }
         ensures { (h : Begun) (acts : List Action) →
-            Stands self.now.board.now (setting_in self.now h) acts →
+            Stands board.now (setting_in self.now h) acts →
             let s = setting_in self.now h in
             result ≡ (tasks.is_latency_critical self.now.config.now task && has_room s thread
             && not (is_granted_in acts core) && none_leaves_for s (so_far s acts) task) }
     {
-        if !self.may_preempt_any(task) {
+        if !self.may_preempt_any(board, task) {
             return false;
         }
-        self.has_room(thread as usize) && !self.board.fresh.has(core)
+        self.has_room(thread as usize) && !board.fresh.has(core)
     }
 
     /// The class of a core by its holder.
-    pub fn class_by_holder(&self, task: usize, core: u8, holder: Holder) -> Option<CoreClass>
-        requires at_hand { IsOfTable self.now.config.now self.now.board.now }
+    pub fn class_by_holder(
+        &self,
+        board: &Board,
+        task: usize,
+        core: u8,
+        holder: Holder,
+    ) -> Option<CoreClass>
+        requires at_hand { IsOfTable self.now.config.now board.now }
         requires task { task < length self.now.config.now.tasks }
         requires core { core < self.now.config.now.cores }
         requires holder { IfSome (placement_of holder)
             (λ placement. placement.thread < threads_of_table self.now.config.now) }
         ensures { (h : Begun) (acts : List Action) →
-            Stands self.now.board.now (setting_in self.now h) acts →
+            Stands board.now (setting_in self.now h) acts →
             result ≡ class_by (setting_in self.now h) acts task core holder }
     {
         match holder {
-            Holder::Free => self.free_class(task, core),
+            Holder::Free => self.free_class(board, task, core),
             Holder::Held(placement) => {
-                if self.may_preempt(task, core, placement.thread) {
-                    self.preempt_class(task, self.config.task_of(placement.thread as usize))
+                if self.may_preempt(board, task, core, placement.thread) {
+                    self.preempt_class(board, task, self.config.task_of(placement.thread as usize))
                 } else {
                     None
                 }
@@ -161,11 +169,16 @@ impl Pass<'_> {
 
     /// The core of the least class for the task among those of a set, of those with that class the
     /// lowest.
-    fn choose_among(&self, task: usize, cores: &CoreSet) -> Option<Candidate<CoreClass>>
-        requires at_hand { IsOfTable self.now.config.now self.now.board.now }
+    fn choose_among(
+        &self,
+        board: &Board,
+        task: usize,
+        cores: &CoreSet,
+    ) -> Option<Candidate<CoreClass>>
+        requires at_hand { IsOfTable self.now.config.now board.now }
         requires task { task < length self.now.config.now.tasks }
         ensures choice { (h : Begun) (acts : List Action) →
-            Stands self.now.board.now (setting_in self.now h) acts →
+            Stands board.now (setting_in self.now h) acts →
             result ≡ best_below comes_before
             (class_among cores.now (setting_in self.now h) acts task) self.now.config.now.cores }
         ensures below { IfSome result (λ best. best.number < self.now.config.now.cores) }
@@ -173,8 +186,8 @@ impl Pass<'_> {
         let mut best: Option<Candidate<CoreClass>> = None;
         let mut first = 0;
         while let Some(core) = next_core(self.config, cores, first) {
-            let holder = self.board.holding.holders[core as usize];
-            let class = self.class_by_holder(task, core, holder);
+            let holder = board.holding.holders[core as usize];
+            let class = self.class_by_holder(board, task, core, holder);
             best = first_class(best, class, core);
             first = core + 1;
         }
@@ -183,20 +196,20 @@ impl Pass<'_> {
 
     /// The core of the least class for the task among the idle ones, of those with that class the
     /// lowest. The first one beside a core that the task holds ends it: no class comes before its.
-    fn choose_idle(&self, task: usize) -> Option<Candidate<CoreClass>>
-        requires at_hand { IsOfTable self.now.config.now self.now.board.now }
+    fn choose_idle(&self, board: &Board, task: usize) -> Option<Candidate<CoreClass>>
+        requires at_hand { IsOfTable self.now.config.now board.now }
         requires task { task < length self.now.config.now.tasks }
         ensures choice { (h : Begun) (acts : List Action) →
-            Stands self.now.board.now (setting_in self.now h) acts →
+            Stands board.now (setting_in self.now h) acts →
             result ≡ best_below comes_before
-            (class_among self.now.board.now.open_cores.idle (setting_in self.now h) acts task)
+            (class_among board.now.open_cores.idle (setting_in self.now h) acts task)
             self.now.config.now.cores }
         ensures below { IfSome result (λ best. best.number < self.now.config.now.cores) }
     {
         let mut best: Option<Candidate<CoreClass>> = None;
         let mut first = 0;
-        while let Some(core) = next_core(self.config, &self.board.open_cores.idle, first) {
-            let class = self.class_if_idle(task, core);
+        while let Some(core) = next_core(self.config, &board.open_cores.idle, first) {
+            let class = self.class_if_idle(board, task, core);
             best = first_class(best, Some(class), core);
             if let CoreClass::Sibling = class {
                 return best;
@@ -208,29 +221,29 @@ impl Pass<'_> {
 
     /// Whether the other task may be preempted for this one: it holds a core, and what it holds has
     /// a class for this one.
-    fn may_be_preempted(&self, task: usize, other: usize) -> bool
-        requires at_hand { IsOfTable self.now.config.now self.now.board.now }
+    fn may_be_preempted(&self, board: &Board, task: usize, other: usize) -> bool
+        requires at_hand { IsOfTable self.now.config.now board.now }
         requires task { task < length self.now.config.now.tasks }
         requires other { other < length self.now.config.now.tasks }
-        ensures { (x : List Action) → Agrees self.now.board.now x →
+        ensures { (x : List Action) → Agrees board.now x →
             result ≡ (nat_lt 0 (held_by self.now.config.now x other)
             && is_some (grants.preempt_class self.now.config.now x task other)) }
     {
-        let class = self.preempt_class(task, other);
-        survey_of(self.config, self.board).held[other] > 0 && class.is_some()
+        let class = self.preempt_class(board, task, other);
+        survey_of(self.config, board).held[other] > 0 && class.is_some()
     }
 
     /// Whether some task may be preempted for this one.
-    fn some_may_be_preempted(&self, task: usize) -> bool
-        requires at_hand { IsOfTable self.now.config.now self.now.board.now }
+    fn some_may_be_preempted(&self, board: &Board, task: usize) -> bool
+        requires at_hand { IsOfTable self.now.config.now board.now }
         requires task { task < length self.now.config.now.tasks }
-        ensures none { result ≡ false → (x : List Action) → Agrees self.now.board.now x →
+        ensures none { result ≡ false → (x : List Action) → Agrees board.now x →
             (other : ℕ) → other < length self.now.config.now.tasks →
             (nat_lt 0 (held_by self.now.config.now x other)
             && is_some (grants.preempt_class self.now.config.now x task other)) ≡ false }
     {
         for other in 0..self.config.tasks() {
-            if self.may_be_preempted(task, other) {
+            if self.may_be_preempted(board, task, other) {
                 return true;
             }
         }
@@ -238,39 +251,39 @@ impl Pass<'_> {
     }
 
     /// Whether some task may be given a core: one is idle, or some task may lose one.
-    pub fn some_core_is_open(&self) -> bool
-        requires at_hand { IsOfTable self.now.config.now self.now.board.now }
+    pub fn some_core_is_open(&self, board: &Board) -> bool
+        requires at_hand { IsOfTable self.now.config.now board.now }
         ensures { result ≡ false → (h : Begun) (acts : List Action) →
-            Stands self.now.board.now (setting_in self.now h) acts →
+            Stands board.now (setting_in self.now h) acts →
             (task : ℕ) → task < length self.now.config.now.tasks →
             grants.choice_of (setting_in self.now h) acts task ≡ None }
     {
-        match next_core(self.config, &self.board.open_cores.idle, 0) {
+        match next_core(self.config, &board.open_cores.idle, 0) {
             Some(_) => true,
-            None => some_is_over(self.config, self.board),
+            None => some_is_over(self.config, board),
         }
     }
 
     /// The core of the least class for the task, of those with that class the lowest. A free core
     /// that is not banned is of a lesser class than any that is held, so those that are taken are
     /// visited only where there is none, and some task may be preempted.
-    pub fn choose_core(&self, task: usize) -> Option<Candidate<CoreClass>>
-        requires at_hand { IsOfTable self.now.config.now self.now.board.now }
+    pub fn choose_core(&self, board: &Board, task: usize) -> Option<Candidate<CoreClass>>
+        requires at_hand { IsOfTable self.now.config.now board.now }
         requires task { task < length self.now.config.now.tasks }
         ensures choice { (h : Begun) (acts : List Action) →
-            Stands self.now.board.now (setting_in self.now h) acts →
+            Stands board.now (setting_in self.now h) acts →
             result ≡ grants.choice_of (setting_in self.now h) acts task }
         ensures below { IfSome result (λ best. best.number < self.now.config.now.cores) }
     {
-        if let Some(idle) = self.choose_idle(task) {
+        if let Some(idle) = self.choose_idle(board, task) {
             return Some(idle);
         }
-        if !self.may_preempt_any(task) {
+        if !self.may_preempt_any(board, task) {
             return None;
         }
-        if !self.some_may_be_preempted(task) {
+        if !self.some_may_be_preempted(board, task) {
             return None;
         }
-        self.choose_among(task, &self.board.sets.taken)
+        self.choose_among(board, task, &board.sets.taken)
     }
 }

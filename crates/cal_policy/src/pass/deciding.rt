@@ -4,44 +4,43 @@ ghost use Rattle.std.specs.Prelude.{◌≡◌, ◌++◌, ◌∷◌, [], List};
 ghost use Rattle.cal_policy.specs.declared.history.entry.PassEntry.{PassEntry};
 ghost use Rattle.cal_policy.specs.declared.judgement.open_input.FoundLook.{FoundLook};
 ghost use Rattle.cal_machine.specs.TableTasks.{threads_of_table};
-ghost use Rattle.cal_policy.specs.Setting.{Begun, setting, setting_at};
+ghost use Rattle.cal_policy.specs.Setting.{Begun, setting};
+ghost use Rattle.cal_policy.specs.Pass.AtHand.{setting_in};
 ghost use Rattle.cal_policy.specs.History.{actions_of, looks_of};
 ghost use Rattle.cal_policy.specs.Judgement.OpenInput.{judged_input};
 ghost use Rattle.cal_policy.specs.Judgement.OpenPass.{IsOpenAt};
 ghost use Rattle.cal_policy.specs.Pass.Bans.{NoPairBanned};
 ghost use Rattle.cal_policy.specs.Pass.{pass_of};
-ghost use Rattle.cal_policy.specs.Board.{Agrees, KeepingAgrees, Stands};
-ghost use Rattle.cal_policy.specs.Board.{IsReady, IsOfTable, IsStateAfter, KeepsBefore, HasSizes};
+ghost use Rattle.cal_policy.specs.State.{IsReady, IsOfTable, IsStateAfter};
+ghost use Rattle.cal_policy.specs.State.{Stands, Agrees, KeepingAgrees};
+ghost use Rattle.cal_policy.specs.Board.{KeepsBefore, HasSizes};
 ghost use Rattle.cal_policy.specs.Board.KeepingSets.{FitAfter};
 
 use crate::board::Board;
 use crate::history::action_list::Actions;
 use crate::history::input::Input;
 use crate::judgement::open_pass::OpenPass;
-use crate::pass::bandwidth::keep_bandwidth;
-use crate::pass::bans::ban_siblings;
-use crate::pass::frees::free_left;
-use crate::pass::grants::grants_of_kind;
+use crate::pass::Pass;
 use crate::pass::terms::Terms;
-use crate::pass::unbans::end_bans;
 use cal_machine::{Config, Kind};
 
-/// Makes the parts of a pass, each after the one before.
-fn make_parts(config: &Config, terms: &Terms, board: &mut Board, out: &mut Actions)
-    requires of_table { IsOfTable config.now board.old }
-    requires empty { out.old ≡ [] }
-    ensures acts { (h : Begun) → NoPairBanned (actions_of h.history) →
-        Stands board.old (setting_at config.now terms.entry.now h) [] →
-        (out.new ≡ pass_of (setting_at config.now terms.entry.now h))
-        × Stands board.new (setting_at config.now terms.entry.now h) out.new }
-    ensures ready { IsReady config.now board.new }
-{
-    free_left(config, terms, board, out);
-    end_bans(config, terms, board, out);
-    ban_siblings(config, terms, board, out);
-    keep_bandwidth(config, terms, board, out);
-    grants_of_kind(config, terms, board, out, Kind::LatencyCritical);
-    grants_of_kind(config, terms, board, out, Kind::BestEffort);
+impl Pass<'_> {
+    /// Makes the parts of a pass, each after the one before.
+    fn make_parts(&self, board: &mut Board, out: &mut Actions)
+        requires of_table { IsOfTable self.now.config.now board.old }
+        requires empty { out.old ≡ [] }
+        ensures acts { (h : Begun) → let s = setting_in self.now h in
+            NoPairBanned (actions_of h.history) → Stands board.old s [] →
+            (out.new ≡ pass_of s) × Stands board.new s out.new }
+        ensures ready { IsReady self.now.config.now board.new }
+    {
+        self.free_left(board, out);
+        self.end_bans(board, out);
+        self.ban_siblings(board, out);
+        self.keep_bandwidth(board, out);
+        self.grants_of_kind(board, out, Kind::LatencyCritical);
+        self.grants_of_kind(board, out, Kind::BestEffort);
+    }
 }
 
 /// Appends the actions of the next pass, on this input, which fits, to an empty list, and brings
@@ -61,12 +60,17 @@ pub fn decide(config: &Config, input: &Input, board: &mut Board, out: &mut Actio
 {
     config.limits();
     let terms = Terms::of(config, input);
+    let pass = Pass {
+        config,
+        terms: &terms,
+    };
     board.begin_fit(input.seen.as_slice());
-    make_parts(config, &terms, board, out);
+    pass.make_parts(board, out);
 }
 
 /// The same, where the looks came in one by one, one of each thread, and only those that are news
 /// were noted.
+#[inline(always)]
 pub fn decide_noted(
     config: &Config,
     now: u64,
@@ -90,6 +94,10 @@ pub fn decide_noted(
 {
     config.limits();
     let terms = Terms::of_noted(config, now, bandwidth, looks);
+    let pass = Pass {
+        config,
+        terms: &terms,
+    };
     board.begin_noted(looks);
-    make_parts(config, &terms, board, out);
+    pass.make_parts(board, out);
 }

@@ -4,10 +4,11 @@ ghost use Rattle.std.specs.Prelude.{◌≡◌, ◌<◌, List, length};
 ghost use Rattle.cal_machine.specs.declared.numbering.TheConstants.{MOST_THREADS};
 ghost use Rattle.cal_policy.specs.declared.history.action.Action.{Action};
 ghost use Rattle.cal_policy.specs.Setting.{Begun};
-ghost use Rattle.cal_policy.specs.Board.{IsOfTable, Stands};
+ghost use Rattle.cal_policy.specs.State.{IsOfTable, Stands};
 ghost use Rattle.cal_policy.specs.Pass.AtHand.{setting_in};
 ghost use Rattle.cal_policy.specs.Pass.Grants as grants;
 
+use crate::board::Board;
 use crate::pass::Pass;
 use cal_signal::Record;
 
@@ -35,29 +36,29 @@ pub fn record_delay(clock: u64, rec: &Record) -> u64
 
 impl Pass<'_> {
     /// The delay of a thread, by its kept record.
-    pub fn thread_delay(&self, thread: usize) -> u64
-        requires at_hand { IsOfTable self.now.config.now self.now.board.now }
+    pub fn thread_delay(&self, board: &Board, thread: usize) -> u64
+        requires at_hand { IsOfTable self.now.config.now board.now }
         requires thread { thread < MOST_THREADS }
         ensures { (h : Begun) (acts : List Action) →
-            Stands self.now.board.now (setting_in self.now h) acts →
+            Stands board.now (setting_in self.now h) acts →
             result ≡ grants.thread_delay (setting_in self.now h) thread }
     {
-        record_delay(self.terms.now, &self.board.keeping.kept[thread])
+        record_delay(self.terms.now, &board.keeping.kept[thread])
     }
 
     /// The delay of a task: the greatest of its threads'. Only those that wait are visited.
-    pub fn task_delay(&self, task: usize) -> u64
-        requires at_hand { IsOfTable self.now.config.now self.now.board.now }
+    pub fn task_delay(&self, board: &Board, task: usize) -> u64
+        requires at_hand { IsOfTable self.now.config.now board.now }
         requires task { task < length self.now.config.now.tasks }
         ensures { (h : Begun) (acts : List Action) →
-            Stands self.now.board.now (setting_in self.now h) acts →
+            Stands board.now (setting_in self.now h) acts →
             result ≡ grants.task_delay (setting_in self.now h) task }
     {
         let (first, count) = self.config.threads_of(task);
         let mut greatest: u64 = 0;
         let mut next = first;
-        while let Some(k) = self.board.keeping.waiting.next(next, first + count) {
-            let delay = self.thread_delay(k);
+        while let Some(k) = board.keeping.waiting.next(next, first + count) {
+            let delay = self.thread_delay(board, k);
             greatest = greatest.max(delay);
             next = k + 1;
         }
@@ -65,13 +66,13 @@ impl Pass<'_> {
     }
 
     /// Whether the task's delay is strictly above its threshold.
-    pub fn is_congested(&self, task: usize) -> bool
-        requires at_hand { IsOfTable self.now.config.now self.now.board.now }
+    pub fn is_congested(&self, board: &Board, task: usize) -> bool
+        requires at_hand { IsOfTable self.now.config.now board.now }
         requires task { task < length self.now.config.now.tasks }
         ensures { (h : Begun) (acts : List Action) →
-            Stands self.now.board.now (setting_in self.now h) acts →
+            Stands board.now (setting_in self.now h) acts →
             result ≡ grants.is_congested (setting_in self.now h) task }
     {
-        self.task_delay(task) > self.config.task(task).delay
+        self.task_delay(board, task) > self.config.task(task).delay
     }
 }

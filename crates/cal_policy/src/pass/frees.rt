@@ -6,11 +6,12 @@ ghost use Rattle.cal_policy.specs.declared.history.action_list.TheConstants.{MOS
 ghost use Rattle.cal_machine.specs.declared.machine.TheConstants.{MOST_CORES};
 ghost use Rattle.cal_machine.specs.declared.numbering.TheConstants.{MOST_THREADS};
 ghost use Rattle.cal_policy.specs.declared.history.action.Action.{Action};
-ghost use Rattle.cal_policy.specs.Setting.{Begun, Setting, setting_at, so_far, kept_now};
+ghost use Rattle.cal_policy.specs.Setting.{Begun, Setting, so_far, kept_now};
 ghost use Rattle.cal_policy.specs.Pass.Frees.{has_left, shows_left, free_at, frees};
 ghost use Rattle.cal_policy.specs.History.{holder_of};
 ghost use Rattle.cal_policy.specs.Pass.AtHand.{setting_in};
-ghost use Rattle.cal_policy.specs.Board.{BoardSound, Stands, IsReady, IsOfTable, NamesTable, kept_number};
+ghost use Rattle.cal_policy.specs.Board.{BoardSound, NamesTable, kept_number};
+ghost use Rattle.cal_policy.specs.State.{IsReady, IsOfTable, Stands};
 
 use crate::board::Board;
 use crate::board::core_sets::next_core;
@@ -18,9 +19,6 @@ use crate::board::holders::Holder;
 use crate::history::action::Action;
 use crate::history::action_list::Actions;
 use crate::pass::Pass;
-use crate::pass::appending::make;
-use crate::pass::terms::Terms;
-use cal_machine::Config;
 use cal_signal::Record;
 
 /// Whether a record shows that the core of this Run was left: it acknowledges the Run, and its
@@ -52,44 +50,37 @@ pub fn is_left(board: &Board, core: u8) -> bool
 
 impl Pass<'_> {
     /// The Free of a core whose thread has left it.
-    pub fn free_due(&self, core: u8) -> Option<Action>
-        requires at_hand { IsOfTable self.now.config.now self.now.board.now }
+    pub fn free_due(&self, board: &Board, core: u8) -> Option<Action>
+        requires at_hand { IsOfTable self.now.config.now board.now }
         requires core { core < self.now.config.now.cores }
         ensures due { (h : Begun) (acts : List Action) →
-            Stands self.now.board.now (setting_in self.now h) acts →
+            Stands board.now (setting_in self.now h) acts →
             option_to_list result ≡ free_at (setting_in self.now h) acts core }
         ensures names { IfSome result (NamesTable self.now.config.now) }
     {
-        if is_left(self.board, core) {
+        if is_left(board, core) {
             Some(Action::Free { core })
         } else {
             None
         }
     }
-}
 
-/// Frees each core whose thread has left it, upwards. Only those that may have been left are gone
-/// over.
-pub fn free_left(config: &Config, terms: &Terms, board: &mut Board, out: &mut Actions)
-    requires of_table { IsOfTable config.now board.old }
-    requires room { length out.old + config.now.cores ≤ MOST_ACTIONS }
-    ensures acts { (h : Begun) →
-        Stands board.old (setting_at config.now terms.entry.now h) out.old →
-        (out.new ≡ out.old ++ frees (setting_at config.now terms.entry.now h) out.old)
-        × Stands board.new (setting_at config.now terms.entry.now h) out.new }
-    ensures ready { IsReady config.now board.new }
-    ensures length { length out.new ≤ length out.old + config.now.cores }
-{
-    let mut first = 0;
-    while let Some(core) = next_core(config, &board.unshown, first) {
-        let pass = Pass {
-            config,
-            terms,
-            board,
-        };
-        let action = pass.free_due(core);
-        make(config, board, out, action);
-        board.note_shown(core);
-        first = core + 1;
+    /// Frees each core whose thread has left it, upwards. Only those that may have been left are
+    /// gone over.
+    pub fn free_left(&self, board: &mut Board, out: &mut Actions)
+        requires of_table { IsOfTable self.now.config.now board.old }
+        requires room { length out.old + self.now.config.now.cores ≤ MOST_ACTIONS }
+        ensures acts { (h : Begun) → let s = setting_in self.now h in Stands board.old s out.old →
+            (out.new ≡ out.old ++ frees s out.old) × Stands board.new s out.new }
+        ensures ready { IsReady self.now.config.now board.new }
+        ensures length { length out.new ≤ length out.old + self.now.config.now.cores }
+    {
+        let mut first = 0;
+        while let Some(core) = next_core(self.config, &board.unshown, first) {
+            let action = self.free_due(board, core);
+            self.make(board, out, action);
+            board.note_shown(core);
+            first = core + 1;
+        }
     }
 }

@@ -5,12 +5,14 @@ ghost use Rattle.std.specs.Prelude.{length, option_to_list, if◌then◌else◌}
 ghost use Rattle.std.specs.Option.{IfSome};
 ghost use Rattle.cal_policy.specs.declared.history.action_list.TheConstants.{MOST_ACTIONS};
 ghost use Rattle.cal_policy.specs.declared.history.action.Action.{Action};
+ghost use Rattle.cal_machine.specs.Table.{IsTable};
 ghost use Rattle.cal_machine.specs.TableTasks.{limit_of};
-ghost use Rattle.cal_policy.specs.Setting.{Begun, setting_at, so_far};
+ghost use Rattle.cal_policy.specs.Setting.{Begun, so_far};
 ghost use Rattle.cal_policy.specs.Pass.Grants as rules;
 ghost use Rattle.cal_policy.specs.Pass.Grants.{grant_of, grant_at, grant_of_kind_at};
 ghost use Rattle.cal_policy.specs.Pass.Grants.{tasks_of_kind};
-ghost use Rattle.cal_policy.specs.Board.{Stands, IsReady, IsOfTable, NamesTable};
+ghost use Rattle.cal_policy.specs.Board.{NamesTable};
+ghost use Rattle.cal_policy.specs.State.{IsReady, IsOfTable, Stands};
 ghost use Rattle.cal_policy.specs.Pass.AtHand.{setting_in};
 
 use crate::board::Board;
@@ -20,24 +22,22 @@ use crate::history::action::{Action, Cause};
 use crate::history::action_list::Actions;
 use crate::history::core_class::CoreClass;
 use crate::pass::Pass;
-use crate::pass::appending::make;
 use crate::pass::choice::Candidate;
-use crate::pass::terms::Terms;
 use cal_machine::{Config, Kind};
 
 impl Pass<'_> {
     /// Whether the task may book one more core: it books fewer than its limit and, if it is
     /// best-effort, fewer than its cap.
-    pub fn may_book(&self, task: usize) -> bool
-        requires at_hand { IsOfTable self.now.config.now self.now.board.now }
+    pub fn may_book(&self, board: &Board, task: usize) -> bool
+        requires at_hand { IsOfTable self.now.config.now board.now }
         requires task { task < length self.now.config.now.tasks }
         ensures { (h : Begun) (acts : List Action) →
-            Stands self.now.board.now (setting_in self.now h) acts →
+            Stands board.now (setting_in self.now h) acts →
             let s = setting_in self.now h in result ≡ rules.may_book s (so_far s acts) task }
     {
-        let booked = survey_of(self.config, self.board).booked[task];
+        let booked = survey_of(self.config, board).booked[task];
         let below_cap = self.config.is_latency_critical(task)
-            || booked < cap_of(self.config, self.board, task);
+            || booked < cap_of(self.config, board, task);
         booked < self.config.task(task).limit && below_cap
     }
 
@@ -48,7 +48,7 @@ impl Pass<'_> {
         thread: Candidate<u128>,
         core: Option<Candidate<CoreClass>>,
     ) -> Option<Action>
-        requires at_hand { IsOfTable self.now.config.now self.now.board.now }
+        requires table { IsTable self.now.config.now }
         requires task { task < length self.now.config.now.tasks }
         requires thread { thread.number < limit_of self.now.config.now task }
         requires core { IfSome core (λ best. best.number < self.now.config.now.cores) }
@@ -74,24 +74,24 @@ impl Pass<'_> {
 
     /// What the task gets, if it is congested and may book one more core. No core is looked for
     /// where none of its threads may be granted one.
-    pub fn grant_due(&self, task: usize) -> Option<Action>
-        requires at_hand { IsOfTable self.now.config.now self.now.board.now }
+    pub fn grant_due(&self, board: &Board, task: usize) -> Option<Action>
+        requires at_hand { IsOfTable self.now.config.now board.now }
         requires task { task < length self.now.config.now.tasks }
         ensures due { (h : Begun) (acts : List Action) →
-            Stands self.now.board.now (setting_in self.now h) acts →
+            Stands board.now (setting_in self.now h) acts →
             option_to_list result ≡ grant_at (setting_in self.now h) acts task }
         ensures names { IfSome result (NamesTable self.now.config.now) }
     {
-        if !self.may_book(task) {
+        if !self.may_book(board, task) {
             return None;
         }
-        if !self.is_congested(task) {
+        if !self.is_congested(board, task) {
             return None;
         }
-        let Some(thread) = self.choose_thread(task) else {
+        let Some(thread) = self.choose_thread(board, task) else {
             return None;
         };
-        let core = self.choose_core(task);
+        let core = self.choose_core(board, task);
         self.chosen(task, thread, core)
     }
 }
@@ -107,74 +107,52 @@ fn is_of_kind(config: &Config, kind: Kind, task: usize) -> bool
     }
 }
 
-/// Gives a task of this kind what it gets, and another nothing.
-fn grant_of_kind(
-    config: &Config,
-    terms: &Terms,
-    board: &mut Board,
-    out: &mut Actions,
-    kind: Kind,
-    task: usize,
-)
-    requires of_table { IsOfTable config.now board.old }
-    requires task { task < length config.now.tasks }
-    requires room { length out.old + (if rules.is_of_kind kind config.now task then 1 else 0)
-        ≤ MOST_ACTIONS }
-    ensures acts { (h : Begun) →
-        Stands board.old (setting_at config.now terms.entry.now h) out.old →
-        (out.new ≡ out.old ++ grant_of_kind_at kind (setting_at config.now terms.entry.now h) out.old
-        task) × Stands board.new (setting_at config.now terms.entry.now h) out.new }
-    ensures ready { IsReady config.now board.new }
-    ensures length { length out.new
-        ≤ length out.old + (if rules.is_of_kind kind config.now task then 1 else 0) }
-{
-    if is_of_kind(config, kind, task) {
-        let pass = Pass {
-            config,
-            terms,
-            board,
-        };
-        let action = pass.grant_due(task);
-        make(config, board, out, action);
-    }
-}
-
-/// Gives each task of this kind, by number, what it gets. Only those with a thread that waits are
-/// visited, and only while some core is open to one.
-pub fn grants_of_kind(
-    config: &Config,
-    terms: &Terms,
-    board: &mut Board,
-    out: &mut Actions,
-    kind: Kind,
-)
-    requires of_table { IsOfTable config.now board.old }
-    requires room { length out.old + tasks_of_kind kind config.now ≤ MOST_ACTIONS }
-    ensures acts { (h : Begun) →
-        Stands board.old (setting_at config.now terms.entry.now h) out.old →
-        (out.new ≡ out.old ++ rules.grants_of_kind kind (setting_at config.now terms.entry.now h)
-        out.old) × Stands board.new (setting_at config.now terms.entry.now h) out.new }
-    ensures ready { IsReady config.now board.new }
-    ensures length { length out.new ≤ length out.old + tasks_of_kind kind config.now }
-{
-    let threads = config.threads();
-    // The threads of the tasks below `reached` are those below `first`.
-    let mut reached = 0;
-    let mut first = 0;
-    while let Some(waiting) = board.keeping.waiting.next(first, threads) {
-        let pass = Pass {
-            config,
-            terms,
-            board,
-        };
-        if !pass.some_core_is_open() {
-            return;
+impl Pass<'_> {
+    /// Gives a task of this kind what it gets, and another nothing.
+    fn grant_of_kind(&self, board: &mut Board, out: &mut Actions, kind: Kind, task: usize)
+        requires of_table { IsOfTable self.now.config.now board.old }
+        requires task { task < length self.now.config.now.tasks }
+        requires room { length out.old
+            + (if rules.is_of_kind kind self.now.config.now task then 1 else 0) ≤ MOST_ACTIONS }
+        ensures acts { (h : Begun) → let s = setting_in self.now h in Stands board.old s out.old →
+            (out.new ≡ out.old ++ grant_of_kind_at kind s out.old task)
+            × Stands board.new s out.new }
+        ensures ready { IsReady self.now.config.now board.new }
+        ensures length { length out.new ≤ length out.old
+            + (if rules.is_of_kind kind self.now.config.now task then 1 else 0) }
+    {
+        if is_of_kind(self.config, kind, task) {
+            let action = self.grant_due(board, task);
+            self.make(board, out, action);
         }
-        let task = config.task_of(waiting);
-        grant_of_kind(config, terms, board, out, kind, task);
-        let (begin, count) = config.threads_of(task);
-        reached = task + 1;
-        first = begin + count;
     }
-    let _ = reached;
+
+    /// Gives each task of this kind, by number, what it gets. Only those with a thread that waits
+    /// are visited, and only while some core is open to one.
+    pub fn grants_of_kind(&self, board: &mut Board, out: &mut Actions, kind: Kind)
+        requires of_table { IsOfTable self.now.config.now board.old }
+        requires room { length out.old + tasks_of_kind kind self.now.config.now ≤ MOST_ACTIONS }
+        ensures acts { (h : Begun) → let s = setting_in self.now h in Stands board.old s out.old →
+            (out.new ≡ out.old ++ rules.grants_of_kind kind s out.old)
+            × Stands board.new s out.new }
+        ensures ready { IsReady self.now.config.now board.new }
+        ensures length { length out.new
+            ≤ length out.old + tasks_of_kind kind self.now.config.now }
+    {
+        let threads = self.config.threads();
+        // The threads of the tasks below `reached` are those below `first`.
+        let mut reached = 0;
+        let mut first = 0;
+        while let Some(waiting) = board.keeping.waiting.next(first, threads) {
+            if !self.some_core_is_open(board) {
+                return;
+            }
+            let task = self.config.task_of(waiting);
+            self.grant_of_kind(board, out, kind, task);
+            let (begin, count) = self.config.threads_of(task);
+            reached = task + 1;
+            first = begin + count;
+        }
+        let _ = reached;
+    }
 }

@@ -6,9 +6,10 @@ ghost use Rattle.cal_policy.specs.declared.history.action.Action.{Action};
 ghost use Rattle.cal_machine.specs.TableTasks.{threads_of_table, limit_of};
 ghost use Rattle.cal_policy.specs.Setting.{Begun, so_far};
 ghost use Rattle.cal_policy.specs.Pass.Grants as grants;
-ghost use Rattle.cal_policy.specs.Board.{IsOfTable, Stands};
+ghost use Rattle.cal_policy.specs.State.{IsOfTable, Stands};
 ghost use Rattle.cal_policy.specs.Pass.AtHand.{setting_in};
 
+use crate::board::Board;
 use crate::board::survey::survey_of;
 use crate::pass::Pass;
 use crate::pass::choice::{Candidate, greater};
@@ -16,18 +17,18 @@ use crate::pass::choice::{Candidate, greater};
 impl Pass<'_> {
     /// The thread's delay, where it may be granted a core: it holds and leaves none, and its ring
     /// has room.
-    fn thread_rank(&self, thread: usize) -> Option<u128>
-        requires at_hand { IsOfTable self.now.config.now self.now.board.now }
+    fn thread_rank(&self, board: &Board, thread: usize) -> Option<u128>
+        requires at_hand { IsOfTable self.now.config.now board.now }
         requires thread { thread < threads_of_table self.now.config.now }
         ensures { (h : Begun) (acts : List Action) →
-            Stands self.now.board.now (setting_in self.now h) acts →
+            Stands board.now (setting_in self.now h) acts →
             let s = setting_in self.now h in
             result ≡ grants.thread_rank s (so_far s acts) thread }
     {
-        let survey = survey_of(self.config, self.board);
+        let survey = survey_of(self.config, board);
         let has_none = survey.placed[thread] == 0;
         if has_none && self.has_room(thread) {
-            Some(u128::from(self.thread_delay(thread)))
+            Some(u128::from(self.thread_delay(board, thread)))
         } else {
             None
         }
@@ -35,11 +36,11 @@ impl Pass<'_> {
 
     /// The task's thread with the greatest delay, of those that may be granted a core; of those
     /// with as great a delay the first. It is counted from the task's first thread.
-    pub fn choose_thread(&self, task: usize) -> Option<Candidate<u128>>
-        requires at_hand { IsOfTable self.now.config.now self.now.board.now }
+    pub fn choose_thread(&self, board: &Board, task: usize) -> Option<Candidate<u128>>
+        requires at_hand { IsOfTable self.now.config.now board.now }
         requires task { task < length self.now.config.now.tasks }
         ensures choice { (h : Begun) (acts : List Action) →
-            Stands self.now.board.now (setting_in self.now h) acts →
+            Stands board.now (setting_in self.now h) acts →
             let s = setting_in self.now h in
             result ≡ grants.thread_choice s (so_far s acts) task }
         ensures below { IfSome result (λ best. best.number < limit_of self.now.config.now task) }
@@ -47,7 +48,7 @@ impl Pass<'_> {
         let (first, _) = self.config.threads_of(task);
         let mut best: Option<Candidate<u128>> = None;
         for j in 0..self.config.task(task).limit {
-            let rank = self.thread_rank(first + j as usize);
+            let rank = self.thread_rank(board, first + j as usize);
             best = greater(best, rank, j);
         }
         best

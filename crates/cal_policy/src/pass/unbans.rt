@@ -6,9 +6,10 @@ ghost use Rattle.cal_machine.specs.declared.machine.TheConstants.{MOST_PAIRS};
 ghost use Rattle.cal_policy.specs.declared.history.action_list.TheConstants.{MOST_ACTIONS};
 ghost use Rattle.cal_policy.specs.declared.history.action.Action.{Action};
 ghost use Rattle.cal_policy.specs.History.Lists.{in_pair};
-ghost use Rattle.cal_policy.specs.Setting.{Begun, setting_at, so_far};
+ghost use Rattle.cal_policy.specs.Setting.{Begun, so_far};
 ghost use Rattle.cal_policy.specs.Pass.Bans.{NoPairBanned, still_shows, unban_at, unbans};
-ghost use Rattle.cal_policy.specs.Board.{Stands, IsReady, IsOfTable, NamesTable};
+ghost use Rattle.cal_policy.specs.Board.{NamesTable};
+ghost use Rattle.cal_policy.specs.State.{IsReady, IsOfTable, Stands};
 ghost use Rattle.cal_policy.specs.Pass.AtHand.{setting_in};
 
 use crate::board::Board;
@@ -16,9 +17,6 @@ use crate::board::core_sets::next_core;
 use crate::history::action::Action;
 use crate::history::action_list::Actions;
 use crate::pass::Pass;
-use crate::pass::appending::make;
-use crate::pass::terms::Terms;
-use cal_machine::Config;
 use cal_signal::Record;
 
 /// Whether a record still shows its thread on the core, at the request begun at `started`.
@@ -30,17 +28,17 @@ fn shows_still(rec: &Record, core: u8, started: u64) -> bool
 
 impl Pass<'_> {
     /// The end of the core's ban, where it has one that ends.
-    pub fn unban_due(&self, core: u8) -> Option<Action>
-        requires at_hand { IsOfTable self.now.config.now self.now.board.now }
+    pub fn unban_due(&self, board: &Board, core: u8) -> Option<Action>
+        requires at_hand { IsOfTable self.now.config.now board.now }
         requires core { core < self.now.config.now.cores }
         ensures due { (h : Begun) (acts : List Action) →
-            Stands self.now.board.now (setting_in self.now h) acts →
+            Stands board.now (setting_in self.now h) acts →
             option_to_list result ≡ unban_at (setting_in self.now h) acts core }
         ensures names { IfSome result (NamesTable self.now.config.now) }
     {
         let beside = self.config.machine().sibling(core);
-        let ban = self.board.bans.bans[core as usize]?;
-        let rec = &self.board.keeping.kept[ban.thread as usize];
+        let ban = board.bans.bans[core as usize]?;
+        let rec = &board.keeping.kept[ban.thread as usize];
         if shows_still(rec, beside, ban.started) {
             None
         } else {
@@ -49,43 +47,38 @@ impl Pass<'_> {
     }
 
     /// The end of the ban on a core of this pair. At most one of the two cores is banned.
-    fn unban_in_pair(&self, pair: u8) -> Option<Action>
-        requires at_hand { IsOfTable self.now.config.now self.now.board.now }
+    fn unban_in_pair(&self, board: &Board, pair: u8) -> Option<Action>
+        requires at_hand { IsOfTable self.now.config.now board.now }
         requires pair { 2 * pair + 1 < self.now.config.now.cores }
         ensures due { (h : Begun) (acts : List Action) →
             let s = setting_in self.now h in
-            NoPairBanned (so_far s acts) → Stands self.now.board.now (setting_in self.now h) acts →
+            NoPairBanned (so_far s acts) → Stands board.now (setting_in self.now h) acts →
             option_to_list result ≡ in_pair (unban_at s) acts pair }
         ensures names { IfSome result (NamesTable self.now.config.now) }
     {
-        match self.unban_due(2 * pair) {
+        match self.unban_due(board, 2 * pair) {
             Some(action) => Some(action),
-            None => self.unban_due(2 * pair + 1),
+            None => self.unban_due(board, 2 * pair + 1),
         }
     }
-}
 
-/// Ends each ban whose thread no longer shows the core beside and the request that it was for. The
-/// banned cores are visited upwards, pair by pair, and a pair gives at most one action.
-pub fn end_bans(config: &Config, terms: &Terms, board: &mut Board, out: &mut Actions)
-    requires of_table { IsOfTable config.now board.old }
-    requires room { length out.old + MOST_PAIRS ≤ MOST_ACTIONS }
-    ensures acts { (h : Begun) → let s = setting_at config.now terms.entry.now h in
-        NoPairBanned (so_far s out.old) → Stands board.old s out.old →
-        (out.new ≡ out.old ++ unbans s out.old) × Stands board.new s out.new }
-    ensures ready { IsReady config.now board.new }
-    ensures length { length out.new ≤ length out.old + MOST_PAIRS }
-{
-    let mut next = 0;
-    while let Some(core) = next_core(config, &board.sets.banned, 2 * next) {
-        let pair = core / 2;
-        let pass = Pass {
-            config,
-            terms,
-            board,
-        };
-        let action = pass.unban_in_pair(pair);
-        make(config, board, out, action);
-        next = pair + 1;
+    /// Ends each ban whose thread no longer shows the core beside and the request that it was for.
+    /// The banned cores are visited upwards, pair by pair, and a pair gives at most one action.
+    pub fn end_bans(&self, board: &mut Board, out: &mut Actions)
+        requires of_table { IsOfTable self.now.config.now board.old }
+        requires room { length out.old + MOST_PAIRS ≤ MOST_ACTIONS }
+        ensures acts { (h : Begun) → let s = setting_in self.now h in
+            NoPairBanned (so_far s out.old) → Stands board.old s out.old →
+            (out.new ≡ out.old ++ unbans s out.old) × Stands board.new s out.new }
+        ensures ready { IsReady self.now.config.now board.new }
+        ensures length { length out.new ≤ length out.old + MOST_PAIRS }
+    {
+        let mut next = 0;
+        while let Some(core) = next_core(self.config, &board.sets.banned, 2 * next) {
+            let pair = core / 2;
+            let action = self.unban_in_pair(board, pair);
+            self.make(board, out, action);
+            next = pair + 1;
+        }
     }
 }

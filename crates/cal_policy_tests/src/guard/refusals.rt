@@ -1,6 +1,7 @@
 //! What the guard lets through, what it refuses and why, and that it goes on after a refusal.
 
-ghost use Rattle.cal_guard.specs.Guarded.{IsGuardOf};
+ghost use Rattle.cal_guard.specs.Guarded.{board_in};
+ghost use Rattle.cal_policy.specs.State.{IsReady};
 ghost use Rattle.cal_policy.specs.Board.{HasSizes};
 
 use cal_guard::{Guard, Refused, Why};
@@ -18,17 +19,17 @@ fn refused(place: usize, why: Why) -> Answer {
 }
 
 fn stepped(guard: &mut Guard, config: &Config, input: &Input, actions: &[Action]) -> Answer
-    requires of { IsGuardOf config.now guard.old }
+    requires of { IsReady config.now (board_in guard.old) }
     requires sizes { HasSizes config.now input.now }
-    ensures { IsGuardOf config.now guard.new }
+    ensures { IsReady config.now (board_in guard.new) }
 {
     guard.step(config, input, actions)
 }
 
 /// Whether each entry's actions are answered so when they are a whole pass.
 fn steps(guard: &mut Guard, config: &Config, passes: &[PassEntry], answers: &[Answer]) -> bool
-    requires { IsGuardOf config.now guard.old }
-    ensures { IsGuardOf config.now guard.new }
+    requires { IsReady config.now (board_in guard.old) }
+    ensures { IsReady config.now (board_in guard.new) }
 {
     for (k, pass) in passes.iter().enumerate() {
         if !guard.board().fits(config, &pass.input) {
@@ -43,17 +44,17 @@ fn steps(guard: &mut Guard, config: &Config, passes: &[PassEntry], answers: &[An
 }
 
 fn begun(guard: &mut Guard, config: &Config, input: &Input)
-    requires of { IsGuardOf config.now guard.old }
+    requires of { IsReady config.now (board_in guard.old) }
     requires sizes { HasSizes config.now input.now }
-    ensures { IsGuardOf config.now guard.new }
+    ensures { IsReady config.now (board_in guard.new) }
 {
     guard.begin(config, input);
 }
 
 fn offered(guard: &mut Guard, config: &Config, input: &Input, actions: &[Action]) -> Answer
-    requires of { IsGuardOf config.now guard.old }
+    requires of { IsReady config.now (board_in guard.old) }
     requires sizes { HasSizes config.now input.now }
-    ensures { IsGuardOf config.now guard.new }
+    ensures { IsReady config.now (board_in guard.new) }
 {
     guard.offer(config, input, actions)
 }
@@ -66,8 +67,8 @@ fn offers(
     groups: &[PassEntry],
     answers: &[Answer],
 ) -> bool
-    requires { IsGuardOf config.now guard.old }
-    ensures { IsGuardOf config.now guard.new }
+    requires { IsReady config.now (board_in guard.old) }
+    ensures { IsReady config.now (board_in guard.new) }
 {
     if !guard.board().fits(config, input) {
         return false;

@@ -7,8 +7,9 @@ ghost use Rattle.std.specs.Prelude.{◌≡◌, ◌<◌, IfOk};
 ghost use Rattle.cal_policy.specs.Board.KeepingSets.{KeepsSets};
 ghost use Rattle.cal_machine.specs.declared.numbering.TheConstants.{MOST_THREADS};
 ghost use Rattle.cal_policy.specs.Board.{HasSizes};
-ghost use Rattle.cal_policy.specs.Book.{IsBookOf};
-ghost use Rattle.cal_guard.specs.Guarded.{IsGuardOf};
+ghost use Rattle.cal_policy.specs.Book.{board_in};
+ghost use Rattle.cal_policy.specs.State.{IsReady};
+ghost use Rattle.cal_guard.specs.Guarded as guards;
 
 use cal_guard::Guard;
 use cal_machine::{Config, MOST_THREADS};
@@ -155,8 +156,8 @@ fn walks(
     looks: &[FoundLook],
     entry: &PassEntry,
 ) -> Result<bool, Fail>
-    requires { IsBookOf config.now book.old }
-    ensures { IsBookOf config.now book.new }
+    requires { IsReady config.now (board_in book.old) }
+    ensures { IsReady config.now (board_in book.new) }
 {
     let fit = take_in_all(came, config, book.board(), looks);
     if !fit || came.count != config.threads() {
@@ -175,9 +176,9 @@ fn walks(
 
 /// The pass that the book makes on this input.
 fn stepped(alloc: Global, config: &Config, book: &mut Book, input: Input) -> Result<PassEntry, Fail>
-    requires of { IsBookOf config.now book.old }
+    requires of { IsReady config.now (board_in book.old) }
     requires sizes { HasSizes config.now input }
-    ensures of { IsBookOf config.now book.new }
+    ensures of { IsReady config.now (board_in book.new) }
     ensures sizes { IfOk result (λ entry. HasSizes config.now entry.input) }
 {
     let mut actions = Actions::reserved(alloc)?;
@@ -188,9 +189,9 @@ fn stepped(alloc: Global, config: &Config, book: &mut Book, input: Input) -> Res
 
 /// Whether the guard lets the pass through.
 fn is_let_through(config: &Config, guard: &mut Guard, entry: &PassEntry) -> bool
-    requires of { IsGuardOf config.now guard.old }
+    requires of { IsReady config.now (guards.board_in guard.old) }
     requires sizes { HasSizes config.now entry.now.input }
-    ensures { IsGuardOf config.now guard.new }
+    ensures { IsReady config.now (guards.board_in guard.new) }
 {
     guard
         .step(config, &entry.input, entry.actions.as_slice())
@@ -230,9 +231,9 @@ struct Together {
 impl Together {
     /// After no pass.
     fn open(alloc: Global, config: &Config) -> Result<Together, Fail>
-        ensures stepped { IfOk result (λ all. IsBookOf config.now all.stepped) }
-        ensures walked { IfOk result (λ all. IsBookOf config.now all.walked) }
-        ensures guard { IfOk result (λ all. IsGuardOf config.now all.guard) }
+        ensures stepped { IfOk result (λ all. IsReady config.now (board_in all.stepped)) }
+        ensures walked { IfOk result (λ all. IsReady config.now (board_in all.walked)) }
+        ensures guard { IfOk result (λ all. IsReady config.now (guards.board_in all.guard)) }
     {
         Ok(Together {
             stepped: Book::open(alloc, config)?,
@@ -252,12 +253,12 @@ impl Together {
         clock: u64,
         bandwidth: u64,
     ) -> Result<bool, Fail>
-        requires stepped { IsBookOf config.now self.old.stepped }
-        requires walked { IsBookOf config.now self.old.walked }
-        requires guard { IsGuardOf config.now self.old.guard }
-        ensures stepped { IfOk result (λ _. IsBookOf config.now self.new.stepped) }
-        ensures walked { IfOk result (λ _. IsBookOf config.now self.new.walked) }
-        ensures guard { IfOk result (λ _. IsGuardOf config.now self.new.guard) }
+        requires stepped { IsReady config.now (board_in self.old.stepped) }
+        requires walked { IsReady config.now (board_in self.old.walked) }
+        requires guard { IsReady config.now (guards.board_in self.old.guard) }
+        ensures stepped { IfOk result (λ _. IsReady config.now (board_in self.new.stepped)) }
+        ensures walked { IfOk result (λ _. IsReady config.now (board_in self.new.walked)) }
+        ensures guard { IfOk result (λ _. IsReady config.now (guards.board_in self.new.guard)) }
     {
         if looks.len() != config.threads() {
             return Ok(false);

@@ -18,9 +18,8 @@ use Rattle.cal_kthread.specs.End.Rest.{EndView}
 use Rattle.cal_linear.specs.Runs.{AreFirst, page_at}
 use Rattle.cal_linear.specs.Steps.{journal_at}
 use Rattle.cal_run.specs.Closing.{AreClosed, AreEndsOf, AreOtherEnds, HaveClosed, IsClosed, IsEndOf, IsWholeRun, pages_of_runs, rings_of_runs}
-use Rattle.cal_run.specs.Workers.{Seat, pages_of_seats, rings_of_seats, seat_of, seats_of}
+use Rattle.cal_run.specs.Workers.{Seat, journals_of, pages_of_seats, rings_of_seats, seat_of, seats_of}
 use Rattle.cal_run.specs.declared.workers.worker.Worker.{Worker}
-use Rattle.cal_run.proofs.ClosingLemmas.Ends.{same_journals}
 
 -- what holds of each end of a thread
 pub each_end : (P : EndView → Type 0) → ((worker : Worker) (e : EndView) → IsEndOf worker e → P e) → (workers : List Worker) (ends : List EndView) → AreEndsOf workers ends → Each P ends
@@ -155,12 +154,12 @@ module _ (workers : List Worker) (ends settled : List EndView) (observers watche
       let run = run_of_journal ends k journal at in
       subst IsJournal run.2 (whole_at workers ends k run.0 are run.1).kept
 
-  pub have_closed : (journals : List (List Entry)) (lefts : List (List Request)) → journals ≡ map (λ (e : EndView). e.journal) settled → length lefts ≡ length ends →
-      IsAccounted (map (λ (e : EndView). e.journal) ends) lefts → HaveClosed workers observers watchers senders journals lefts
-  have_closed journals lefts list count account =
-      let is : map (λ (e : EndView). e.journal) ends ≡ journals = sym (list ∙ same_journals settled ends same) in
+  pub have_closed : (lefts : List (List Request)) → length lefts ≡ length ends → IsAccounted (map (λ (e : EndView). e.journal) ends) lefts →
+      HaveClosed workers observers watchers senders (journals_of workers) lefts
+  have_closed lefts count account =
+      let is : map (λ (e : EndView). e.journal) ends ≡ journals_of workers = same_at_ends (λ worker. worker.thread.journal) (λ e. e.journal) (λ worker e end. end.journal) workers ends are in
       let its : HaveClosed workers observers watchers senders (map (λ (e : EndView). e.journal) ends) lefts = record {
-        same = same_at_ends (λ worker. worker.thread.journal) (λ e. e.journal) (λ worker e end. end.journal) workers ends are;
+        same = is;
         kept = kept_at;
         observed = observed_at;
         watched = watched_at;

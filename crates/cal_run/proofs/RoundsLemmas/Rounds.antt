@@ -1,6 +1,6 @@
 -- The rounds of a run on one thread, one after the other.
 use Rattle.std.proofs.Common.{◌≡◌, ℕ, ◌+◌, List, length, sym, ap, subst, ◌∙◌, arith}
-use Rattle.std.specs.Prelude.{min, Result, IfOk}
+use Rattle.std.specs.Prelude.{min}
 use Rattle.cal_machine.specs.Table.{Table}
 use Rattle.cal_trace.specs.declared.arrivals.Arrivals.{Arrivals}
 use Rattle.cal_run.specs.Parts.{AreOfOneTeam, AreParts, HasPassed, SchedulerSeat, WatchSeat, rounds_of, scheduler_seat_of, watch_seat_of}
@@ -20,10 +20,6 @@ with_counts table arrivals parts p q j k r s pq jk rs are =
 
 pub turns_counted : (arrivals : Arrivals) (workers : List Worker) (j k : ℕ) → j ≡ k → HaveMade arrivals j workers → HaveMade arrivals k workers
 turns_counted arrivals workers j k same made = let P : ℕ → Type 0 = λ n. HaveMade arrivals n workers in subst P same made
-
-pub all_counted : {T E : Type 0} (arrivals : Arrivals) (result : Result T E) (workers : List Worker) (j k : ℕ) → j ≡ k → IfOk result (λ x. HaveMade arrivals j workers) →
-    IfOk result (λ x. HaveMade arrivals k workers)
-all_counted {T} {E} arrivals result workers j k same made = let P : ℕ → Type 0 = λ n. IfOk result (λ (x : T). HaveMade arrivals n workers) in subst P same made
 
 pub before_rounds : (table : Table) (arrivals : Arrivals) (parts : Parts) → AreParts table arrivals 0 0 0 parts → AreAfterRounds table arrivals 0 parts
 before_rounds table arrivals parts are = with_counts table arrivals parts 0 (min 0 (length arrivals.passes)) 0 (min 0 (length arrivals.turns)) 0 (min 0 (rounds_of arrivals))

@@ -9,12 +9,15 @@ ghost use Rattle.cal_machine.specs.Tasks.{threads_in};
 ghost use Rattle.cal_run.specs.Closing.{AreEndsOf, IsEndOf};
 
 use crate::workers::worker::Worker;
-use cal_kthread::{KernelEnd, RequestList, hand_out_all, settle};
+use cal_kthread::{BareThreadEnd, RequestList, hand_out_all, settle};
 use cal_machine::Config;
 use std::alloc::{AllocError, Global};
 
 /// The end of each thread, in thread order.
-pub(crate) fn end_each(alloc: Global, workers: Vec<Worker>) -> Result<Vec<KernelEnd>, AllocError>
+pub(crate) fn end_each(
+    alloc: Global,
+    workers: Vec<Worker>,
+) -> Result<Vec<BareThreadEnd>, AllocError>
     ensures { IfOk result (λ ends. AreEndsOf workers.items ends.items) }
 {
     let mut ends = Vec::new(alloc);
@@ -26,7 +29,7 @@ pub(crate) fn end_each(alloc: Global, workers: Vec<Worker>) -> Result<Vec<Kernel
 }
 
 /// The end of one thread.
-fn end_one(worker: Worker) -> KernelEnd
+fn end_one(worker: Worker) -> BareThreadEnd
     ensures { IsEndOf worker result }
 {
     let Worker { thread, .. } = worker;
@@ -37,7 +40,7 @@ fn end_one(worker: Worker) -> KernelEnd
 pub(crate) fn settle_and_hand_out(
     alloc: Global,
     config: &Config,
-    ends: &mut [KernelEnd],
+    ends: &mut [BareThreadEnd],
 ) -> Result<Vec<RequestList>, AllocError>
     requires count { length ends.old ≡ threads_in config.now.tasks }
     requires team { IsTeam (map (λ e. place_of_rest e.rest) ends.old) }

@@ -11,9 +11,9 @@ ghost use Rattle.cal_run.specs.Workers.{FitSomeTable, HaveMade, HaveMadeNoTurn};
 use crate::fault::SimFault;
 use crate::parts::Parts;
 use crate::workers::worker::Worker;
-use cal_kthread::{KernelThread, Team, open_threads};
+use cal_kthread::{BareTeam, BareThread, open_bare_threads};
 use cal_machine::Config;
-use cal_sched::{Scheduler, Watch};
+use cal_sched::{BareScheduler, Watch};
 use cal_trace::Arrivals;
 use std::alloc::{AllocError, Global};
 
@@ -29,15 +29,15 @@ pub fn open_parts(alloc: Global, config: &Config, arrivals: &Arrivals) -> Result
     ensures memory { IfErr result (λ fault. fault ≡ Memory) }
 {
     config.limits();
-    let Team {
+    let BareTeam {
         threads,
         observers,
         senders,
         watchers,
-    } = open_threads(alloc, config)?;
+    } = open_bare_threads(alloc, config)?;
     let workers = open_workers(alloc, threads, arrivals)?;
     let config = config.copy(alloc)?;
-    let Ok(scheduler) = Scheduler::new(alloc, config, observers, senders) else {
+    let Ok(scheduler) = BareScheduler::new(alloc, config, observers, senders) else {
         return Err(SimFault::Memory);
     };
     let rounds = arrivals.passes.as_slice().len().min(MOST_ROUNDS);
@@ -54,7 +54,7 @@ pub fn open_parts(alloc: Global, config: &Config, arrivals: &Arrivals) -> Result
 /// A worker for each of these kernel threads, in the same order. Fails only when out of memory.
 fn open_workers(
     alloc: Global,
-    threads: Vec<KernelThread>,
+    threads: Vec<BareThread>,
     arrivals: &Arrivals,
 ) -> Result<Vec<Worker>, AllocError>
     requires fits { FitSomeTable arrivals.now }

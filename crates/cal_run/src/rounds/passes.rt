@@ -1,28 +1,35 @@
 //! The passes that a run is given.
 
-ghost use Rattle.std.specs.Prelude.{◌≡◌, ◌+◌, ◌<◌, length, IfOk, IfErr};
-ghost use Rattle.cal_run.specs.declared.fault.SimFault.TheVariants.{Memory};
+ghost use Rattle.std.specs.Prelude.{◌≡◌, ◌+◌, ◌<◌, ◌++◌, ◌∷◌, [], length, IfOk, IfErr};
 ghost use Rattle.cal_run.specs.Parts.{HasPassed, scheduler_seat_of};
 ghost use Rattle.cal_run.specs.Workers.{FitSomeTable};
 
-use crate::fault::SimFault;
-use cal_sched::{PassFault, Scheduler};
+use cal_policy::PassEntry;
+use cal_sched::{BareScheduler, PassFault};
 use cal_trace::Arrivals;
+use std::alloc::AllocError;
 
-/// Pass `p` of those given, with its clock and its bandwidth figure. Asks that the passes before
-/// were made. Fails only when out of memory: the history never fills. Waits for nobody.
-pub fn pass_given(scheduler: &mut Scheduler, arrivals: &Arrivals, p: usize) -> Result<(), SimFault>
+/// Pass `p` of those given, with its clock and its bandwidth figure, and its entry. Asks that the
+/// passes before were made. Fails only when out of memory, and then it has not changed: there
+/// are never too many. Waits for nobody.
+pub fn pass_given(
+    scheduler: &mut BareScheduler,
+    arrivals: &Arrivals,
+    p: usize,
+) -> Result<PassEntry, AllocError>
     requires fits { FitSomeTable arrivals.now }
     requires given { p < length arrivals.now.passes }
     requires passed { HasPassed arrivals.now p scheduler.old }
     ensures passed { IfOk result (λ _. HasPassed arrivals.now (p + 1) scheduler.new) }
+    ensures entered { IfOk result (λ entry.
+        scheduler.new.history ≡ scheduler.old.history ++ entry ∷ []) }
     ensures seat { scheduler_seat_of scheduler.new ≡ scheduler_seat_of scheduler.old }
-    ensures memory { IfErr result (λ fault. fault ≡ Memory) }
+    ensures refused { IfErr result (λ _. scheduler.new ≡ scheduler.old) }
 {
     let given = arrivals.passes.as_slice()[p];
     match scheduler.pass(given.now, given.bandwidth) {
-        Ok(()) => Ok(()),
-        Err(PassFault::Memory) => Err(SimFault::Memory),
+        Ok(entry) => Ok(entry),
+        Err(PassFault::Memory) => Err(AllocError),
         Err(PassFault::HistoryFull) => unreachable!(),
     }
 }

@@ -1,25 +1,25 @@
 //! A kernel thread with the turns that it is given.
 
-ghost use Rattle.std.specs.Prelude.{◌≡◌, ◌+◌, ◌<◌, ◌≤◌, length, Some, IfOk, IfErr, IfSome};
+ghost use Rattle.std.specs.Prelude.{◌≡◌, ◌+◌, ◌<◌, ◌≤◌, ◌++◌, length, IfOk, IfSome};
 ghost use Rattle.std.specs.Prelude.{nat_lt};
+ghost use Rattle.cal_kthread.specs.Turn.Entries.{entries_of};
 ghost use Rattle.cal_trace.specs.Arrivals.FitsTable.{ComesBefore, EachLater};
 ghost use Rattle.cal_trace.specs.History.Ranges.{Each};
-ghost use Rattle.cal_run.specs.declared.fault.SimFault.TheVariants.{Memory};
 ghost use Rattle.cal_run.specs.Workers.Given.{request_at};
 ghost use Rattle.cal_trace.specs.declared.arrivals.Arrival.{Arrival};
 ghost use Rattle.cal_run.specs.Workers.{FitSomeTable, HasMade, IsNext, MadeNoTurn, seat_of};
 
-use crate::fault::SimFault;
 use cal_kthread::laws::{one_turn_more, turns_add_up};
-use cal_kthread::{KernelThread, Request, TurnFault};
+use cal_kthread::{BareThread, Request, TurnEntries};
 use cal_trace::{Arrival, Arrivals};
+use std::alloc::AllocError;
 
 /// A kernel thread that makes the turns that it is given. It may be moved to a thread of its own;
 /// no call of it waits.
 #[derive(Drop)]
 pub struct Worker {
     /// The thread.
-    pub thread: KernelThread,
+    pub thread: BareThread,
     /// Its number.
     pub(crate) number: u8,
     /// The place of the next request that comes to it, among all requests.
@@ -28,7 +28,7 @@ pub struct Worker {
 
 impl Worker {
     /// A kernel thread of this number that made no turn yet.
-    pub fn new(thread: KernelThread, number: u8, arrivals: &Arrivals) -> Worker
+    pub fn new(thread: BareThread, number: u8, arrivals: &Arrivals) -> Worker
         requires fits { FitSomeTable arrivals.now }
         requires fresh { MadeNoTurn thread }
         ensures thread { result.thread ≡ thread }
@@ -42,29 +42,25 @@ impl Worker {
     }
 
     /// Its turn `j`, with the clock that is given for it and the request that comes to the thread
-    /// before it, if one does. Asks that the turns before were made. Fails only when out of memory:
-    /// the journal never fills.
-    pub fn turn(&mut self, arrivals: &Arrivals, j: usize) -> Result<(), SimFault>
+    /// before it, if one does. Gives what the turn adds to the thread's journal. Asks that the turns
+    /// before were made. Fails only when out of memory.
+    pub fn turn(&mut self, arrivals: &Arrivals, j: usize) -> Result<TurnEntries, AllocError>
         requires fits { FitSomeTable arrivals.now }
         requires given { j < length arrivals.now.turns }
         requires made { HasMade arrivals.now self.old.number j self.old }
         ensures made { IfOk result (λ _. HasMade arrivals.now self.old.number (j + 1) self.new) }
+        ensures handed { IfOk result (λ entries.
+            self.new.thread.journal ≡ self.old.thread.journal ++ entries_of entries) }
         ensures seat { seat_of self.new.thread ≡ seat_of self.old.thread }
-        ensures memory { IfErr result (λ fault. fault ≡ Memory) }
     {
         one_turn_more();
         turns_add_up();
         let now = arrivals.turns.as_slice()[j];
         let requests = arrivals.requests.as_slice();
         let (request, next) = coming(requests, self.number, j, self.next);
-        match self.thread.turn(now, request) {
-            Ok(()) => {
-                self.next = next;
-                Ok(())
-            }
-            Err(TurnFault::Memory) => Err(SimFault::Memory),
-            Err(TurnFault::JournalFull) => unreachable!(),
-        }
+        let entries = self.thread.turn(now, request)?;
+        self.next = next;
+        Ok(entries)
     }
 }
 

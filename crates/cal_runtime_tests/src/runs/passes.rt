@@ -4,12 +4,10 @@ ghost use Rattle.std.specs.Prelude.{◌≡◌, ◌<◌, length, IfOk};
 
 use crate::given::{ONE_THREAD, assert_same, does, first_passes, grant, seen};
 use crate::kernel_threads::turn;
-use cal_kthread::{KernelThread, Request};
+use cal_kthread::{KernelThread, Request, Team, open_threads};
 use cal_machine::Config;
 use cal_policy::{Action, Holder, PassEntry, Placement, Seen, Verdict, audit};
-use cal_run::{Parts, Worker, open_parts};
 use cal_sched::Scheduler;
-use cal_trace::read_arrivals;
 use std::alloc::{AllocError, Global};
 use std::process::Abort;
 use std::test::Fail;
@@ -37,25 +35,26 @@ fn open(alloc: Global) -> Result<Opened, Fail>
 fn open_over(alloc: Global, config: &Config) -> Result<Opened, Fail>
     ensures { IfOk result (λ opened. opened.scheduler.table ≡ config.now) }
 {
-    let arrivals = read_arrivals(alloc, config, b"caladan-arrivals,1\nend,0\n")?;
-    let Parts {
-        scheduler,
-        workers,
+    let Team {
+        threads,
+        observers,
+        senders,
         ..
-    } = open_parts(alloc, config, &arrivals)?;
-    with_last(scheduler, workers)
+    } = open_threads(alloc, config)?;
+    let config = config.copy(alloc)?;
+    match Scheduler::new(alloc, config, observers, senders) {
+        Ok(scheduler) => with_last(scheduler, threads),
+        Err(_) => Err(Fail::new("no scheduler was made")),
+    }
 }
 
 /// The scheduler, and the last of the threads.
-fn with_last(scheduler: Scheduler, workers: Vec<Worker>) -> Result<Opened, Fail>
+fn with_last(scheduler: Scheduler, threads: Vec<KernelThread>) -> Result<Opened, Fail>
     ensures { IfOk result (λ opened. opened.scheduler ≡ scheduler) }
 {
-    let mut workers = workers;
-    match workers.pop() {
-        Some(worker) => Ok(Opened {
-            scheduler,
-            thread: worker.thread,
-        }),
+    let mut threads = threads;
+    match threads.pop() {
+        Some(thread) => Ok(Opened { scheduler, thread }),
         None => Err(Fail::new("there is no thread")),
     }
 }

@@ -60,17 +60,17 @@ shown-busy before pass seen is =
     ∙ sym (shown-push k before pass)
 
 -- where a look can stand
-record Stands (threads thread : ℕ) (at_hand : Option SignalPass) : Type 0 where
+record CanStand (threads thread : ℕ) (at_hand : Option SignalPass) : Type 0 where
   pub pass : SignalPass
   pub is : at_hand ≡ Some pass
   pub next : thread ≡ length pass.looks
   pub below : length pass.looks < threads
 
-stands : (threads thread : ℕ) (at_hand : Option SignalPass) → next_thread looks_in threads at_hand ≡ Ok thread → Stands threads thread at_hand
+stands : (threads thread : ℕ) (at_hand : Option SignalPass) → next_thread looks_in threads at_hand ≡ Ok thread → CanStand threads thread at_hand
 stands threads thread None h = cc
 stands threads thread (Some pass) h = by (nat_lt (length pass.looks) threads) refl h
   where
-    by : (b : Bool) → nat_lt (length pass.looks) threads ≡ b → (if b then Ok (length pass.looks) else Err kind.Order) ≡ Ok thread → Stands threads thread (Some pass)
+    by : (b : Bool) → nat_lt (length pass.looks) threads ≡ b → (if b then Ok (length pass.looks) else Err kind.Order) ≡ Ok thread → CanStand threads thread (Some pass)
     by true e h = record { pass = pass; is = refl; next = cc; below = ltb-true _ _ e }
     by false e h = cc
 

@@ -1,11 +1,13 @@
 -- The summary of a run.
-use Rattle.std.specs.Prelude.{ℕ, Bool, true, false, List, [], ◌∷◌, ◌++◌, length, codes, decimal}
+use Rattle.std.specs.Prelude.{◌≡◌, ℕ, Bool, true, false, List, [], ◌∷◌, ◌++◌, length}
+use Rattle.std.specs.Prelude.{codes, decimal}
 use Rattle.std.specs.Prelude.{slice_index_or}
 use Rattle.std.specs.List.{concat, count_by}
 use Rattle.cal_kthread.specs.declared.journal.entry.Entry.{Entry}
 use Rattle.cal_kthread.specs.declared.journal.entry.Entry.TheVariants.{Took, Published, Served}
 use Rattle.cal_machine.specs.declared.request.Request.{Request}
 use Rattle.cal_trace.specs.Rows.Text.{numbered}
+use Rattle.cal_trace.specs.declared.report.tally.Tally.{Tally}
 
 abbrev pub is_took : Entry → Bool
 is_took (Took number command) = true
@@ -18,6 +20,12 @@ is_published _ = false
 abbrev pub is_served : Entry → Bool
 is_served (Served id) = true
 is_served _ = false
+
+-- so many of these entries tell of a command taken, of a record published, of a request served
+pub record IsTallyOf (journal : List Entry) (tally : Tally) : Type 0 where
+  pub taken : tally.taken ≡ count_by is_took journal
+  pub published : tally.published ≡ count_by is_published journal
+  pub served : tally.served ≡ count_by is_served journal
 
 -- the line of a thread: how many commands it took, how many records it published, how many requests
 -- it served, and how many were left with it

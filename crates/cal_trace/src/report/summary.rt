@@ -1,13 +1,16 @@
 //! The summary of a run: what each kernel thread did, counted.
 
-ghost use Rattle.std.specs.Prelude.{◌≡◌, OnOk, [], length, slice_index_or};
+ghost use Rattle.std.specs.Prelude.{◌≡◌, OnOk, List, [], length, slice_index_or};
 ghost use Rattle.std.specs.Io.KnownBytes.{Appends};
-ghost use Rattle.std.specs.List.{count_by};
-ghost use Rattle.cal_trace.specs.Report.Summary.{is_took, is_published, is_served, summary_text};
+ghost use Rattle.std.specs.List.{AllZip};
+ghost use Rattle.cal_kthread.specs.declared.journal.entry.Entry.{Entry};
+ghost use Rattle.cal_machine.specs.declared.request.Request.{Request as RequestOf};
+ghost use Rattle.cal_trace.specs.Report.Summary.{IsTallyOf, summary_text};
 ghost use Rattle.cal_trace.specs.Report.Summary.{thread_line, thread_lines};
 
+use crate::report::tally::Tally;
 use crate::write_fault::WriteFault;
-use cal_kthread::{Entry, Journal};
+use cal_kthread::Journal;
 use cal_machine::{Listed, Request};
 use std::io;
 use std::io::Write;
@@ -33,6 +36,23 @@ pub fn write_summary<W: Write>(
     Ok(())
 }
 
+/// Writes the same summary by the tallies of the threads' journals, in thread order.
+pub fn write_tallied_summary<W: Write>(
+    passes: usize,
+    turns: usize,
+    tallies: &[Tally],
+    left: &[Listed<Request>],
+    writer: &mut W,
+) -> Result<(), WriteFault>
+    ensures { (journals : List (List Entry)) → AllZip IsTallyOf journals tallies.now →
+        OnOk result (Appends (W.contents writer.old) (W.contents writer.new)
+        (summary_text passes turns journals left.now)) }
+{
+    writeln!(writer, "passes {passes} turns {turns}")?;
+    write_tallies(tallies, left, writer)?;
+    Ok(())
+}
+
 fn write_threads<W: Write>(
     journals: &[Journal],
     left: &[Listed<Request>],
@@ -42,7 +62,23 @@ fn write_threads<W: Write>(
         (thread_lines left.now journals.now)) }
 {
     for thread in 0..journals.len() {
-        write_thread(thread, &journals[thread], left_with(left, thread), writer)?;
+        let tally = Tally::of(journals[thread].as_slice());
+        write_thread(thread, tally, left_with(left, thread), writer)?;
+    }
+    Ok(())
+}
+
+fn write_tallies<W: Write>(
+    tallies: &[Tally],
+    left: &[Listed<Request>],
+    writer: &mut W,
+) -> io::Result<()>
+    ensures { (journals : List (List Entry)) → AllZip IsTallyOf journals tallies.now →
+        OnOk result (Appends (W.contents writer.old) (W.contents writer.new)
+        (thread_lines left.now journals)) }
+{
+    for thread in 0..tallies.len() {
+        write_thread(thread, tallies[thread], left_with(left, thread), writer)?;
     }
     Ok(())
 }
@@ -59,56 +95,18 @@ fn left_with(left: &[Listed<Request>], thread: usize) -> usize
 
 fn write_thread<W: Write>(
     thread: usize,
-    journal: &Journal,
+    tally: Tally,
     left: usize,
     writer: &mut W,
 ) -> io::Result<()>
-    ensures { (requests : List Request) → left ≡ length requests →
+    ensures { (journal : List Entry) (requests : List RequestOf) → IsTallyOf journal tally →
+        left ≡ length requests →
         OnOk result (Appends (W.contents writer.old) (W.contents writer.new)
-        (thread_line thread journal.now requests)) }
+        (thread_line thread journal requests)) }
 {
-    let tally = Tally::of(journal.as_slice());
     let (taken, published, served) = (tally.taken, tally.published, tally.served);
     writeln!(
         writer,
         "thread {thread} taken {taken} published {published} served {served} left {left}"
     )
-}
-
-ghost use Rattle.std.specs.Prelude.{List};
-ghost use Rattle.cal_machine.specs.declared.request.Request.{Request};
-
-/// How many entries of a journal tell of a command taken, a record published, a request served.
-#[derive(Clone, Copy)]
-struct Tally {
-    taken: usize,
-    published: usize,
-    served: usize,
-}
-
-impl Tally {
-    ghost use Rattle.std.specs.Prelude.{◌≡◌};
-    ghost use Rattle.std.specs.List.{count_by};
-    ghost use Rattle.cal_trace.specs.Report.Summary.{is_took, is_published, is_served};
-
-    fn of(journal: &[Entry]) -> Tally
-        ensures taken { result.taken ≡ count_by is_took journal.now }
-        ensures published { result.published ≡ count_by is_published journal.now }
-        ensures served { result.served ≡ count_by is_served journal.now }
-    {
-        let mut tally = Tally {
-            taken: 0,
-            published: 0,
-            served: 0,
-        };
-        for entry in journal {
-            match entry {
-                Entry::Took(..) => tally.taken += 1,
-                Entry::Published(..) => tally.published += 1,
-                Entry::Served { .. } => tally.served += 1,
-                _ => {}
-            }
-        }
-        tally
-    }
 }

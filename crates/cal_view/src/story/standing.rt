@@ -5,10 +5,11 @@ ghost use Rattle.std.specs.Prelude.{slice_index_or};
 ghost use Rattle.cal_machine.specs.Table.{Table};
 ghost use Rattle.cal_machine.specs.declared.numbering.TheConstants.{MOST_THREADS};
 ghost use Rattle.cal_machine.specs.declared.task_table.TheConstants.{MOST_TASKS};
-ghost use Rattle.cal_policy.specs.Board.{IsReady, NamesTable};
+ghost use Rattle.cal_policy.specs.Board.{NamesTable};
+ghost use Rattle.cal_policy.specs.State.{IsReady, Agrees, KeepingAgrees};
 ghost use Rattle.cal_policy.specs.declared.history.action.Action.{Action};
 ghost use Rattle.cal_policy.specs.declared.history.look.Seen.{Seen};
-ghost use Rattle.cal_view.specs.Standing.{AreFigures, Says, figures_of, no_figures};
+ghost use Rattle.cal_view.specs.Standing.{AreFigures, figures_of, no_figures};
 
 use cal_machine::{Config, MOST_TASKS, MOST_THREADS};
 use cal_measure::is_congested;
@@ -86,7 +87,8 @@ fn names_table(config: &Config, action: Action) -> bool
 impl Standing {
     /// Before the first pass.
     pub fn new() -> Standing
-        ensures says { Says result.board [] [] }
+        ensures actions { Agrees result.board [] }
+        ensures looks { KeepingAgrees result.board.keeping [] }
         ensures ready { (table : Table) → IsReady table result.board }
     {
         Standing {
@@ -105,9 +107,10 @@ impl Standing {
     /// Goes on by the looks of a pass.
     pub fn take_looks(&mut self, config: &Config, input: &Input)
         requires ready { IsReady config.now self.old.board }
-        ensures says { length input.entry.now.seen ≤ MOST_THREADS → (x : List Action) →
-            (looks : List (List Seen)) → Says self.old.board x looks →
-            Says self.new.board x (looks ++ input.entry.now.seen ∷ []) }
+        ensures actions { (x : List Action) → Agrees self.old.board x → Agrees self.new.board x }
+        ensures looks { length input.entry.now.seen ≤ MOST_THREADS →
+            (looks : List (List Seen)) → KeepingAgrees self.old.board.keeping looks →
+            KeepingAgrees self.new.board.keeping (looks ++ input.entry.now.seen ∷ []) }
         ensures ready { IsReady config.now self.new.board }
     {
         self.orderly = self.orderly && self.board.made_fits(config, input);
@@ -120,9 +123,10 @@ impl Standing {
     /// Goes on by one action. One that does not name the table counts for nothing.
     pub fn note(&mut self, config: &Config, action: Action)
         requires ready { IsReady config.now self.old.board }
-        ensures says { NamesTable config.now action → (x : List Action) →
-            (looks : List (List Seen)) → Says self.old.board x looks →
-            Says self.new.board (x ++ action ∷ []) looks }
+        ensures actions { NamesTable config.now action → (x : List Action) →
+            Agrees self.old.board x → Agrees self.new.board (x ++ action ∷ []) }
+        ensures looks { (looks : List (List Seen)) → KeepingAgrees self.old.board.keeping looks →
+            KeepingAgrees self.new.board.keeping looks }
         ensures ready { IsReady config.now self.new.board }
     {
         config.limits();
@@ -136,7 +140,8 @@ impl Standing {
     fn figures(&self, config: &Config, now: u64, task: usize) -> Figures
         requires ready { IsReady config.now self.now.board }
         requires task { task < length config.now.tasks }
-        ensures { (x : List Action) (looks : List (List Seen)) → Says self.now.board x looks →
+        ensures { (x : List Action) (looks : List (List Seen)) → Agrees self.now.board x →
+            KeepingAgrees self.now.board.keeping looks →
             result ≡ figures_of config.now x looks now task }
     {
         config.limits();
@@ -151,7 +156,8 @@ impl Standing {
     /// What the tasks have by this clock.
     pub fn row(&self, config: &Config, now: u64) -> Row
         requires ready { IsReady config.now self.now.board }
-        ensures { (x : List Action) (looks : List (List Seen)) → Says self.now.board x looks →
+        ensures { (x : List Action) (looks : List (List Seen)) → Agrees self.now.board x →
+            KeepingAgrees self.now.board.keeping looks →
             AreFigures config.now x looks now result.tasks }
     {
         config.limits();

@@ -5,10 +5,11 @@ ghost use Rattle.std.specs.Prelude.{◌≤◌, ◌++◌, ◌∷◌, [], List, le
 ghost use Rattle.cal_machine.specs.Table.{Table};
 ghost use Rattle.cal_machine.specs.declared.numbering.TheConstants.{MOST_THREADS};
 ghost use Rattle.cal_policy.specs.Board.{NamesTable};
+ghost use Rattle.cal_policy.specs.State.{Agrees, KeepingAgrees};
 ghost use Rattle.cal_policy.specs.declared.history.action.Action.{Action};
 ghost use Rattle.cal_policy.specs.declared.history.look.Seen.{Seen};
 ghost use Rattle.cal_view.specs.Standing.{AreFigures};
-ghost use Rattle.cal_view.specs.Walking.{HasPassed, IsWalkOf};
+ghost use Rattle.cal_view.specs.Walking.{IsWalkOf};
 
 use crate::story::clocks::{ClockedBan, ClockedSpan, Clocks};
 use crate::story::standing::{Row, Standing};
@@ -35,7 +36,8 @@ pub struct Walk {
 impl Walk {
     /// Before the first pass.
     pub fn new() -> Walk
-        ensures passed { HasPassed [] [] result }
+        ensures actions { Agrees result.standing.board [] }
+        ensures looks { KeepingAgrees result.standing.board.keeping [] }
         ensures ready { (table : Table) → IsWalkOf table result }
     {
         Walk {
@@ -54,9 +56,12 @@ impl Walk {
     /// Goes on by the looks of a pass.
     pub fn take_looks(&mut self, config: &Config, input: &Input)
         requires ready { IsWalkOf config.now self.old }
-        ensures passed { length input.entry.now.seen ≤ MOST_THREADS → (x : List Action) →
-            (looks : List (List Seen)) → HasPassed x looks self.old →
-            HasPassed x (looks ++ input.entry.now.seen ∷ []) self.new }
+        ensures actions { (x : List Action) → Agrees self.old.standing.board x →
+            Agrees self.new.standing.board x }
+        ensures looks { length input.entry.now.seen ≤ MOST_THREADS →
+            (looks : List (List Seen)) → KeepingAgrees self.old.standing.board.keeping looks →
+            KeepingAgrees self.new.standing.board.keeping
+            (looks ++ input.entry.now.seen ∷ []) }
         ensures ready { IsWalkOf config.now self.new }
     {
         self.standing.take_looks(config, input);
@@ -65,9 +70,12 @@ impl Walk {
     /// Goes on by one action of a pass of this clock, and answers what it ends.
     pub fn note(&mut self, config: &Config, pass: usize, now: u64, action: Action) -> SpanAndBan
         requires ready { IsWalkOf config.now self.old }
-        ensures passed { NamesTable config.now action → (x : List Action) →
-            (looks : List (List Seen)) → HasPassed x looks self.old →
-            HasPassed (x ++ action ∷ []) looks self.new }
+        ensures actions { NamesTable config.now action → (x : List Action) →
+            Agrees self.old.standing.board x →
+            Agrees self.new.standing.board (x ++ action ∷ []) }
+        ensures looks { (looks : List (List Seen)) →
+            KeepingAgrees self.old.standing.board.keeping looks →
+            KeepingAgrees self.new.standing.board.keeping looks }
         ensures ready { IsWalkOf config.now self.new }
     {
         self.standing.note(config, action);
@@ -95,7 +103,9 @@ impl Walk {
     pub fn row(&self, config: &Config, now: u64) -> Row
         requires ready { IsWalkOf config.now self.now }
         ensures figures { (x : List Action) (looks : List (List Seen)) →
-            HasPassed x looks self.now → AreFigures config.now x looks now result.tasks }
+            Agrees self.now.standing.board x →
+            KeepingAgrees self.now.standing.board.keeping looks →
+            AreFigures config.now x looks now result.tasks }
     {
         self.standing.row(config, now)
     }

@@ -24,7 +24,7 @@ use Rattle.cal_world.specs.Threads.{published_by, read_floor}
 use Rattle.cal_world.specs.Looks.{looks_since, record_at}
 use Rattle.cal_world.specs.Safe.{IsSafeEvent, IsSafeList}
 use Rattle.cal_world.proofs.ListLemmas.OneMore.{each_more, of_each_part}
-use Rattle.cal_world.proofs.ScheduleLemmas.Journals.{Stands, stands_first}
+use Rattle.cal_world.proofs.ScheduleLemmas.Journals.{IsConsistent, stands_first}
 use Rattle.cal_world.proofs.ScheduleLemmas.SinceDecide.{LooksInOrder, no_looks, looks_after}
 use Rattle.cal_world.proofs.ScheduleLemmas.Walk.{RunsStand, NoneLeft, runs_through_pass}
 use Rattle.cal_world.proofs.ScheduleLemmas.Moves.{standing_in, moves, decide_stands, history_same, history_more}
@@ -45,7 +45,7 @@ pub record KeptFromPage (events : List Event) (k : ℕ) (kept : Record) : Type 0
 -- the invariant
 pub record Holds (table : Table) (events : List Event) : Type 0 where
   pub permitted : IsPermittedHistory table (history_in events)
-  pub stands : (k : ℕ) → Stands (standing_in events k)
+  pub stands : (k : ℕ) → IsConsistent (standing_in events k)
   pub floors : (k : ℕ) → read_floor events k ≤ length (published_by events k)
   pub kept : (k : ℕ) → KeptFromPage events k (kept_by (looks_of (history_in events)) k)
   pub runs : RunsStand table (actions_in events) (unleft_in events)

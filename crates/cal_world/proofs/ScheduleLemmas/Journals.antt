@@ -56,7 +56,7 @@ pub record WasOn (sent : List Command) (published : List Record) (n : ℕ) : Typ
 
 -- the commands taken are the first ones of those sent; a thread on a core took a Run of it and none
 -- since; its page shows it; and each record on its page that shows a core was true of it
-pub record Stands (t : Standing) : Type 0 where
+pub record IsConsistent (t : Standing) : Type 0 where
   pub count : t.state.taken ≡ t.takes
   pub within : t.takes ≤ length t.sent
   pub first : t.done ≡ take t.takes t.sent
@@ -79,7 +79,7 @@ none_on : (n : ℕ) → ((at_place [] n).running ≡ 0 → ⊥) → WasOn [] [] 
 none_on zero shown = absurd (shown refl)
 none_on (suc n) shown = absurd (shown refl)
 
-pub stands_first : Stands no_standing
+pub stands_first : IsConsistent no_standing
 stands_first = record {
   count = refl;
   within = omega arith;
@@ -93,7 +93,7 @@ stands_first = record {
 abbrev pub sent_more : Standing → List Command → Standing
 sent_more t more = record t { sent = t.sent ++ more }
 
-pub stands_sent : (t : Standing) (more : List Command) → Stands t → Stands (sent_more t more)
+pub stands_sent : (t : Standing) (more : List Command) → IsConsistent t → IsConsistent (sent_more t more)
 stands_sent t more was = record {
   count = was.count;
   within = let le = was.within in omega (arith, length-append t.sent more);
@@ -138,7 +138,7 @@ runs_took t number (Run core) e is c on = record {
 }
 runs_took t number Park e is c on = let shown : None ≡ Some c = on in cc
 
-pub stands_took : (t : Standing) (number : ℕ) (command : Command) → number ≡ t.takes + 1 → slice_get t.sent t.takes ≡ Some command → Stands t → Stands (took_one t number command)
+pub stands_took : (t : Standing) (number : ℕ) (command : Command) → number ≡ t.takes + 1 → slice_get t.sent t.takes ≡ Some command → IsConsistent t → IsConsistent (took_one t number command)
 stands_took t number command e is was =
     let count = was.count in
     let n : number ≡ t.state.taken + 1 = omega arith in
@@ -158,7 +158,7 @@ gave_up t = record t { state = changed_by Yielded t.state }
 shows_off : (s : State) (run : Option ℕ) (rec : Record) → Shows s run rec → Shows (changed_by Yielded s) run rec
 shows_off s run rec was = record { taken = was.taken; on = λ r some same le on. let shown : false ≡ true = some in cc }
 
-pub stands_off : (t : Standing) → Stands t → Stands (gave_up t)
+pub stands_off : (t : Standing) → IsConsistent t → IsConsistent (gave_up t)
 stands_off t was = record {
   count = was.count;
   within = was.within;
@@ -199,7 +199,7 @@ some_core None n e shown = absurd (shown e)
 some_core (Some c) n e shown = ap (λ (m : ℕ). Some m) (let same : c ≡ n - 1 = omega arith in same)
 
 -- the last record, where it shows a core
-on_last : (t : Standing) (rec : Record) → rec.taken ≡ t.state.taken → rec.running ≡ running_word t.state.core → Stands t → (rec.running ≡ 0 → ⊥) →
+on_last : (t : Standing) (rec : Record) → rec.taken ≡ t.state.taken → rec.running ≡ running_word t.state.core → IsConsistent t → (rec.running ≡ 0 → ⊥) →
     WasOn t.sent (t.published ++ rec ∷ []) (length t.published + 1)
 on_last t rec taken running was shown =
     let rs : List Record = t.published in
@@ -228,7 +228,7 @@ on_before sent rs rec n low was =
       unleft = λ i le taken off. was.unleft i le (subst (λ (r : Record). was.place + 1 ≤ r.taken) (sym (same i le)) taken) (ap (λ (r : Record). r.running) (same i le) ∙ off);
     }
 
-on_showed : (t : Standing) (rec : Record) → rec.taken ≡ t.state.taken → rec.running ≡ running_word t.state.core → Stands t → (n : ℕ) →
+on_showed : (t : Standing) (rec : Record) → rec.taken ≡ t.state.taken → rec.running ≡ running_word t.state.core → IsConsistent t → (n : ℕ) →
     ((at_place (t.published ++ rec ∷ []) n).running ≡ 0 → ⊥) → WasOn t.sent (t.published ++ rec ∷ []) n
 on_showed t rec taken running was n shown = ⊎_elim
     (λ (low : n < length t.published + 1). on_before t.sent t.published rec n (omega arith)
@@ -244,7 +244,7 @@ on_showed t rec taken running was n shown = ⊎_elim
     (cases_lt (length t.published + 1) n))
     (cases_lt n (length t.published + 1))
 
-pub stands_showed : (t : Standing) (rec : Record) → rec.taken ≡ t.state.taken → rec.running ≡ running_word t.state.core → Stands t → Stands (showed t rec)
+pub stands_showed : (t : Standing) (rec : Record) → rec.taken ≡ t.state.taken → rec.running ≡ running_word t.state.core → IsConsistent t → IsConsistent (showed t rec)
 stands_showed t rec taken running was = record {
   count = was.count;
   within = was.within;

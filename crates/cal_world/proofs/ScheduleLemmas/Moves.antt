@@ -25,7 +25,7 @@ use Rattle.cal_world.specs.Threads.{state_in, run_number, last_run_of, last_run,
 use Rattle.cal_world.specs.World.{HasCommand, IsItsState}
 use Rattle.cal_world.specs.Safe.{IsSafeEvent}
 use Rattle.cal_world.specs.declared.illegal.Illegal.TheVariants.{NothingSent, NotItsState}
-use Rattle.cal_world.proofs.ScheduleLemmas.Journals.{Standing, Stands, took_one, stands_took, gave_up, stands_off, showed, stands_showed, sent_more, stands_sent}
+use Rattle.cal_world.proofs.ScheduleLemmas.Journals.{Standing, IsConsistent, took_one, stands_took, gave_up, stands_off, showed, stands_showed, sent_more, stands_sent}
 use Rattle.cal_policy.proofs.BoardLemmas.Replayed.{actions_push}
 use Rattle.cal_kthread.proofs.JournalLemmas.OneEntryMore.{state-push}
 
@@ -73,9 +73,9 @@ pub nothing_more : (before : List Event) (event : Event) (k : ℕ) → entry_in 
 nothing_more before event k none quiet untaken =
     same_standing _ _ _ _ _ _ k (journal_same before event k quiet) (history_same before event none) (takes_same before event k untaken)
 
-stays_put : (before : List Event) (event : Event) (k : ℕ) → entry_in event ≡ None → entries_for k before event ≡ [] → is_take_by k event ≡ false → Stands (standing_in before k) →
-    Stands (standing_in (before ++ event ∷ []) k)
-stays_put before event k none quiet untaken was = subst Stands (sym (nothing_more before event k none quiet untaken)) was
+stays_put : (before : List Event) (event : Event) (k : ℕ) → entry_in event ≡ None → entries_for k before event ≡ [] → is_take_by k event ≡ false → IsConsistent (standing_in before k) →
+    IsConsistent (standing_in (before ++ event ∷ []) k)
+stays_put before event k none quiet untaken was = subst IsConsistent (sym (nothing_more before event k none quiet untaken)) was
 
 -- with these parts
 abbrev with_parts : State → Option ℕ → List Command → List Record → List PassEntry → ℕ → ℕ → Standing
@@ -117,14 +117,14 @@ takes_one before thread k is command next =
     ∙ ap (λ rs. with_parts (changed_by (Took (takes_in before k + 1) command) (state_in before k)) (option_or (run_number (Took (takes_in before k + 1) command)) (last_run before k))
     (commands_of (journal_in before k) ++ command ∷ []) rs (history_in before) (takes_in before k + 1) k) (append-nil (published_by before k))
 
-take_moves : (before : List Event) (thread k : ℕ) → (b : Bool) → eqb thread k ≡ b → HasCommand before (Take thread) → Stands (standing_in before k) →
-    Stands (standing_in (before ++ Take thread ∷ []) k)
+take_moves : (before : List Event) (thread k : ℕ) → (b : Bool) → eqb thread k ≡ b → HasCommand before (Take thread) → IsConsistent (standing_in before k) →
+    IsConsistent (standing_in (before ++ Take thread ∷ []) k)
 take_moves before thread k false is has was =
     stays_put before (Take thread) k refl (ap (λ (b : Bool). cond b (took (takes_in before k + 1) (next_command before k)) []) is) is was
 take_moves before thread k true is has was = ⊎_elim
     (λ found.
     let t : Standing = standing_in before k in
-    subst Stands (sym (takes_one before thread k is found.0 found.2)) (stands_took t (takes_in before k + 1) found.0 refl found.2 was))
+    subst IsConsistent (sym (takes_one before thread k is found.0 found.2)) (stands_took t (takes_in before k + 1) found.0 refl found.2 was))
     (λ past.
     let same : thread ≡ k = eqb-true thread k is in
     let P : ℕ → Type 0 = λ n. (state_in before n).taken < sent_to (actions_in before) n in
@@ -142,9 +142,9 @@ yields_one before thread k is =
     ∙ pushed (journal_in before k) Yielded (history_in before) (takes_in before k) k
     ∙ same_parts _ _ _ _ _ _ _ _ (history_in before) (takes_in before k) k refl refl (append-nil (commands_of (journal_in before k))) (append-nil (published_by before k))
 
-yield_moves : (before : List Event) (thread k : ℕ) → (b : Bool) → eqb thread k ≡ b → Stands (standing_in before k) → Stands (standing_in (before ++ Yield thread ∷ []) k)
+yield_moves : (before : List Event) (thread k : ℕ) → (b : Bool) → eqb thread k ≡ b → IsConsistent (standing_in before k) → IsConsistent (standing_in (before ++ Yield thread ∷ []) k)
 yield_moves before thread k false is was = stays_put before (Yield thread) k refl (ap (λ (b : Bool). cond b (Yielded ∷ []) []) is) refl was
-yield_moves before thread k true is was = subst Stands (sym (yields_one before thread k is)) (stands_off (standing_in before k) was)
+yield_moves before thread k true is was = subst IsConsistent (sym (yields_one before thread k is)) (stands_off (standing_in before k) was)
 
 -- the thread publishes
 pub publishes_one : (before : List Event) (thread k : ℕ) (rec : Record) → eqb thread k ≡ true → standing_in (before ++ Publish thread rec ∷ []) k ≡ showed (standing_in before k) rec
@@ -156,18 +156,18 @@ publishes_one before thread k rec is =
     ∙ pushed (journal_in before k) entry (history_in before) (takes_in before k) k
     ∙ same_parts _ _ _ _ _ _ _ _ (history_in before) (takes_in before k) k refl refl (append-nil (commands_of (journal_in before k))) refl
 
-publish_moves : (before : List Event) (thread k : ℕ) (rec : Record) → (b : Bool) → eqb thread k ≡ b → IsItsState before (Publish thread rec) → Stands (standing_in before k) →
-    Stands (standing_in (before ++ Publish thread rec ∷ []) k)
+publish_moves : (before : List Event) (thread k : ℕ) (rec : Record) → (b : Bool) → eqb thread k ≡ b → IsItsState before (Publish thread rec) → IsConsistent (standing_in before k) →
+    IsConsistent (standing_in (before ++ Publish thread rec ∷ []) k)
 publish_moves before thread k rec false is shows was =
     stays_put before (Publish thread rec) k refl (ap (λ (b : Bool). cond b (Published (publishes_in before k + 1) rec ∷ []) []) is) refl was
 publish_moves before thread k rec true is shows was =
     let Q : ℕ → Type 0 = λ n. IsItsState before (Publish n rec) in
     let shown = subst Q (eqb-true thread k is) shows in
-    subst Stands (sym (publishes_one before thread k rec is)) (stands_showed (standing_in before k) rec shown.taken shown.running was)
+    subst IsConsistent (sym (publishes_one before thread k rec is)) (stands_showed (standing_in before k) rec shown.taken shown.running was)
 
 -- every event but a Decide
-pub moves : (table : Table) (before : List Event) (event : Event) → IsSafeEvent table before event → entry_in event ≡ None → (k : ℕ) → Stands (standing_in before k) →
-    Stands (standing_in (before ++ event ∷ []) k)
+pub moves : (table : Table) (before : List Event) (event : Event) → IsSafeEvent table before event → entry_in event ≡ None → (k : ℕ) → IsConsistent (standing_in before k) →
+    IsConsistent (standing_in (before ++ event ∷ []) k)
 moves table before (Take thread) allowed none k was = take_moves before thread k (eqb thread k) refl (allowed NothingSent) was
 moves table before (Yield thread) allowed none k was = yield_moves before thread k (eqb thread k) refl was
 moves table before (Publish thread rec) allowed none k was = publish_moves before thread k rec (eqb thread k) refl (allowed NotItsState) was
@@ -187,7 +187,7 @@ sent_on more x (a ∷ acts) k =
     )
 
 -- a Decide sends more
-pub decide_stands : ActionIsOneMore → (before : List Event) (entry : PassEntry) (k : ℕ) → Stands (standing_in before k) → Stands (standing_in (before ++ Decide entry ∷ []) k)
+pub decide_stands : ActionIsOneMore → (before : List Event) (entry : PassEntry) (k : ℕ) → IsConsistent (standing_in before k) → IsConsistent (standing_in (before ++ Decide entry ∷ []) k)
 decide_stands more before entry k was =
     let t : Standing = standing_in before k in
     let h : List PassEntry = history_in before in
@@ -196,4 +196,4 @@ decide_stands more before entry k was =
     let same : standing_in (before ++ Decide entry ∷ []) k ≡ sent_more t new.0 =
     same_standing _ _ _ _ _ _ k (journal_same before (Decide entry) k refl) (history_more before entry) (takes_same before (Decide entry) k refl)
     ∙ ap (λ cs. record t { sent = cs }) sent in
-    subst Stands (sym same) (stands_sent t new.0 was)
+    subst IsConsistent (sym same) (stands_sent t new.0 was)

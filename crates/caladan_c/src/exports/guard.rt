@@ -15,7 +15,10 @@ ghost use Rattle.cal_policy.specs.Judgement.Judging.{IsInput};
 ghost use Rattle.cal_machine.specs.TableTasks.{threads_of_table};
 ghost use Rattle.cal_policy.specs.declared.history.entry.PassEntry.{PassEntry};
 ghost use Rattle.caladan_c.specs.Found.{input_of, input_given};
-ghost use Rattle.caladan_c.specs.Gated.{GuardsAfter, SaysGate, WentThrough, WasStopped};
+ghost use Rattle.cal_policy.specs.State.{IsStateAfter};
+ghost use Rattle.cal_guard.specs.Guarded.{board_in};
+ghost use Rattle.cal_guard.specs.Permitted.{IsPermittedHistory};
+ghost use Rattle.caladan_c.specs.Gated.{SaysGate, WentThrough, WasStopped};
 ghost use Rattle.caladan_c.specs.Gated.{WasStoppedAt};
 ghost use Rattle.caladan_c.specs.Told.{AreJudgements, counts_of, told_holder_of};
 ghost use Rattle.caladan_c.specs.Recorded.{AreNoActions};
@@ -38,7 +41,8 @@ use std::alloc::Global;
 /// A new gate on the heap.
 fn open(alloc: Global, table: &[u8]) -> Result<Box<Gate>, ConfigFault>
     ensures table { Gives (λ opened. opened.value.table) result (table_in table.now) }
-    ensures new { IfOk result (λ opened. GuardsAfter opened.value []) }
+    ensures new { IfOk result (λ opened. IsPermittedHistory opened.value.table []
+        × IsStateAfter (board_in opened.value.guard) []) }
 {
     let gate = Gate::open(alloc, table)?;
     Ok(Box::new(alloc, gate)?)
@@ -75,16 +79,20 @@ impl Gate {
         actions: &[Told],
     ) -> Result<Option<Refused>, Refusal>
         ensures through { IfOk result (λ said.
-            IfNone said ((h : List PassEntry) → GuardsAfter self.old h →
+            IfNone said ((h : List PassEntry) → IsPermittedHistory self.old.table h →
+            IsStateAfter (board_in self.old.guard) h →
             WentThrough self.old h (input_given self.old.table h given.entry) actions.now
             self.new)) }
         ensures judged { IfOk result (λ said.
-            IfNone said ((h : List PassEntry) → GuardsAfter self.old h →
+            IfNone said ((h : List PassEntry) → IsPermittedHistory self.old.table h →
+            IsStateAfter (board_in self.old.guard) h →
             AreJudgements (input_given self.old.table h given.entry).seen judged.new)) }
         ensures stopped { IfOk result (λ said. IfSome said (λ first. (h : List PassEntry) →
-            GuardsAfter self.old h → WasStopped self.old h
+            IsPermittedHistory self.old.table h → IsStateAfter (board_in self.old.guard) h →
+            WasStopped self.old h
             (input_given self.old.table h given.entry) actions.now first)) }
-        ensures unfit { result ≡ Err Unfit → (h : List PassEntry) → GuardsAfter self.old h →
+        ensures unfit { result ≡ Err Unfit → (h : List PassEntry) →
+            IsPermittedHistory self.old.table h → IsStateAfter (board_in self.old.guard) h →
             IsInput self.old.table h (input_given self.old.table h given.entry) → ⊥ }
         ensures no_action { result ≡ Err NoAction → AreNoActions actions.now }
         ensures wrong_count { length given.entry.looks.now ≢ threads_of_table self.old.table →
@@ -131,16 +139,20 @@ pub extern "C" fn caladan_guard_pass(
 ) -> u8
     ensures closed { is_some handle.old.pointer.kept ≡ false → result ≡ 10 }
     ensures through { result ≡ 0 → ForSome handle.old.pointer.kept (λ g. (h : List PassEntry) →
-        GuardsAfter g h → IsSomeAnd handle.new.pointer.kept
+        IsPermittedHistory g.table h → IsStateAfter (board_in g.guard) h →
+        IsSomeAnd handle.new.pointer.kept
         (WentThrough g h (input_of g.table h now bandwidth looks.now) actions.now)) }
     ensures judged { result ≡ 0 → ForSome handle.old.pointer.kept (λ g. (h : List PassEntry) →
-        GuardsAfter g h → AreJudgements (input_of g.table h now bandwidth looks.now).seen
+        IsPermittedHistory g.table h → IsStateAfter (board_in g.guard) h →
+        AreJudgements (input_of g.table h now bandwidth looks.now).seen
         judged.new) }
     ensures stopped { result ≡ 18 → ForSome handle.old.pointer.kept (λ g. (h : List PassEntry) →
-        GuardsAfter g h → WasStoppedAt g h (input_of g.table h now bandwidth looks.now) actions.now
+        IsPermittedHistory g.table h → IsStateAfter (board_in g.guard) h →
+        WasStoppedAt g h (input_of g.table h now bandwidth looks.now) actions.now
         refused.new) }
     ensures unfit { result ≡ 15 → ForSome handle.old.pointer.kept (λ g. (h : List PassEntry) →
-        GuardsAfter g h → IsInput g.table h (input_of g.table h now bandwidth looks.now) → ⊥) }
+        IsPermittedHistory g.table h → IsStateAfter (board_in g.guard) h →
+        IsInput g.table h (input_of g.table h now bandwidth looks.now) → ⊥) }
     ensures no_action { result ≡ 17 → AreNoActions actions.now }
     ensures wrong_count { ForSome handle.old.pointer.kept (λ g.
         length looks.now ≢ threads_of_table g.table → result ≡ 13) }
@@ -189,7 +201,8 @@ pub extern "C" fn caladan_guard_holder(
 ) -> u8
     ensures closed { is_some handle.old.pointer.kept ≡ false → result ≡ 10 }
     ensures told { result ≡ 0 → ForSome handle.old.pointer.kept (λ g. (h : List PassEntry) →
-        GuardsAfter g h → holder.new ≡ told_holder_of
+        IsPermittedHistory g.table h → IsStateAfter (board_in g.guard) h →
+        holder.new ≡ told_holder_of
         (kept_holder (holder_of (actions_of h) core))) }
     ensures there { ForSome handle.old.pointer.kept (λ g. core < g.table.cores → result ≡ 0) }
     ensures no_core { ForSome handle.old.pointer.kept (λ g. g.table.cores ≤ core → result ≡ 16) }
@@ -223,7 +236,8 @@ pub extern "C" fn caladan_guard_task(
 ) -> u8
     ensures closed { is_some handle.old.pointer.kept ≡ false → result ≡ 10 }
     ensures told { result ≡ 0 → ForSome handle.old.pointer.kept (λ g. (h : List PassEntry) →
-        GuardsAfter g h → counts.new ≡ counts_of g.table (actions_of h) task) }
+        IsPermittedHistory g.table h → IsStateAfter (board_in g.guard) h →
+        counts.new ≡ counts_of g.table (actions_of h) task) }
     ensures there { ForSome handle.old.pointer.kept (λ g. task < length g.table.tasks →
         result ≡ 0) }
     ensures no_task { ForSome handle.old.pointer.kept (λ g. length g.table.tasks ≤ task →

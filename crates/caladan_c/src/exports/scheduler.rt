@@ -14,8 +14,11 @@ ghost use Rattle.cal_policy.specs.Judgement.Judging.{IsInput};
 ghost use Rattle.cal_machine.specs.TableTasks.{threads_of_table};
 ghost use Rattle.cal_policy.specs.declared.history.entry.PassEntry.{PassEntry};
 ghost use Rattle.caladan_c.specs.Found.{input_of, input_given};
-ghost use Rattle.caladan_c.specs.Opening.{Says};
-ghost use Rattle.caladan_c.specs.Passing.{StandsAfter, IsPassed, HasRoom, IsShort};
+ghost use Rattle.caladan_c.specs.Opening.{SaysScheduler};
+ghost use Rattle.cal_policy.specs.Book.{board_in};
+ghost use Rattle.cal_policy.specs.Pass.{IsLegal};
+ghost use Rattle.cal_policy.specs.State.{IsStateAfter};
+ghost use Rattle.caladan_c.specs.Passing.{IsPassed, HasRoom, IsShort};
 ghost use Rattle.caladan_c.specs.Told.{AreTold, AreJudgements, counts_of, told_holder_of};
 ghost use Rattle.caladan_c.specs.declared.answer.Refusal.TheVariants.{NoRoom, Unfit};
 ghost use Rattle.caladan_c.specs.declared.answer.Refusal.TheVariants.{WrongCount};
@@ -35,7 +38,8 @@ use std::alloc::Global;
 /// A new scheduler on the heap.
 fn open(alloc: Global, table: &[u8]) -> Result<Box<Scheduler>, ConfigFault>
     ensures table { Gives (λ opened. opened.value.table) result (table_in table.now) }
-    ensures new { IfOk result (λ opened. StandsAfter opened.value []) }
+    ensures new { IfOk result (λ opened. IsLegal opened.value.table []
+        × IsStateAfter (board_in opened.value.book) []) }
 {
     let scheduler = Scheduler::open(alloc, table)?;
     Ok(Box::new(alloc, scheduler)?)
@@ -47,7 +51,7 @@ fn open(alloc: Global, table: &[u8]) -> Result<Box<Scheduler>, ConfigFault>
 pub extern "C" fn caladan_open(alloc: Global, table: &[u8], handle: &mut SchedulerHandle) -> u8
     ensures already { is_some handle.old.pointer.kept ≡ true → result ≡ 11 }
     ensures opened { is_some handle.old.pointer.kept ≡ false → result ≢ 9 →
-        Says (table_in table.now) result handle.new.pointer.kept }
+        SaysScheduler (table_in table.now) result handle.new.pointer.kept }
     ensures refused { result ≢ 0 → handle.new ≡ handle.old }
 {
     if handle.is_open() {
@@ -104,12 +108,15 @@ impl Scheduler {
         judged: &mut [u8],
         actions: &mut [Told],
     ) -> Result<usize, Refusal>
-        ensures passed { IfOk result (λ made. (h : List PassEntry) → StandsAfter self.old h →
+        ensures passed { IfOk result (λ made. (h : List PassEntry) → IsLegal self.old.table h →
+            IsStateAfter (board_in self.old.book) h →
             IsPassed self.old h (input_given self.old.table h given.entry) self.new
             × AreTold self.new.made made actions.new) }
-        ensures judged { IfOk result (λ _. (h : List PassEntry) → StandsAfter self.old h →
+        ensures judged { IfOk result (λ _. (h : List PassEntry) → IsLegal self.old.table h →
+            IsStateAfter (board_in self.old.book) h →
             AreJudgements (input_given self.old.table h given.entry).seen judged.new) }
-        ensures unfit { result ≡ Err Unfit → (h : List PassEntry) → StandsAfter self.old h →
+        ensures unfit { result ≡ Err Unfit → (h : List PassEntry) → IsLegal self.old.table h →
+            IsStateAfter (board_in self.old.book) h →
             IsInput self.old.table h (input_given self.old.table h given.entry) → ⊥ }
         ensures wrong_count { length given.entry.looks.now ≢ threads_of_table self.old.table →
             result ≡ Err WrongCount }
@@ -153,14 +160,17 @@ pub extern "C" fn caladan_pass(
 ) -> u8
     ensures closed { is_some handle.old.pointer.kept ≡ false → result ≡ 10 }
     ensures passed { result ≡ 0 → ForSome handle.old.pointer.kept (λ s. (h : List PassEntry) →
-        StandsAfter s h → IsSomeAnd handle.new.pointer.kept (λ after.
+        IsLegal s.table h → IsStateAfter (board_in s.book) h →
+        IsSomeAnd handle.new.pointer.kept (λ after.
         IsPassed s h (input_of s.table h now bandwidth looks.now) after ×
         AreTold after.made made.new actions.new)) }
     ensures judged { result ≡ 0 → ForSome handle.old.pointer.kept (λ s. (h : List PassEntry) →
-        StandsAfter s h → AreJudgements (input_of s.table h now bandwidth looks.now).seen
+        IsLegal s.table h → IsStateAfter (board_in s.book) h →
+        AreJudgements (input_of s.table h now bandwidth looks.now).seen
         judged.new) }
     ensures unfit { result ≡ 15 → ForSome handle.old.pointer.kept (λ s. (h : List PassEntry) →
-        StandsAfter s h → IsInput s.table h (input_of s.table h now bandwidth looks.now) → ⊥) }
+        IsLegal s.table h → IsStateAfter (board_in s.book) h →
+        IsInput s.table h (input_of s.table h now bandwidth looks.now) → ⊥) }
     ensures wrong_count { ForSome handle.old.pointer.kept (λ s.
         length looks.now ≢ threads_of_table s.table → result ≡ 13) }
     ensures no_room { ForSome handle.old.pointer.kept (λ s.
@@ -207,7 +217,7 @@ pub extern "C" fn caladan_holder(
 ) -> u8
     ensures closed { is_some handle.old.pointer.kept ≡ false → result ≡ 10 }
     ensures told { result ≡ 0 → ForSome handle.old.pointer.kept (λ s. (h : List PassEntry) →
-        StandsAfter s h → holder.new ≡ told_holder_of
+        IsLegal s.table h → IsStateAfter (board_in s.book) h → holder.new ≡ told_holder_of
         (kept_holder (holder_of (actions_of h) core))) }
     ensures there { ForSome handle.old.pointer.kept (λ s. core < s.table.cores → result ≡ 0) }
     ensures no_core { ForSome handle.old.pointer.kept (λ s. s.table.cores ≤ core → result ≡ 16) }
@@ -241,7 +251,8 @@ pub extern "C" fn caladan_task(
 ) -> u8
     ensures closed { is_some handle.old.pointer.kept ≡ false → result ≡ 10 }
     ensures told { result ≡ 0 → ForSome handle.old.pointer.kept (λ s. (h : List PassEntry) →
-        StandsAfter s h → counts.new ≡ counts_of s.table (actions_of h) task) }
+        IsLegal s.table h → IsStateAfter (board_in s.book) h →
+        counts.new ≡ counts_of s.table (actions_of h) task) }
     ensures there { ForSome handle.old.pointer.kept (λ s. task < length s.table.tasks →
         result ≡ 0) }
     ensures no_task { ForSome handle.old.pointer.kept (λ s. length s.table.tasks ≤ task →

@@ -5,7 +5,10 @@ ghost use Rattle.std.specs.Prelude.{length};
 ghost use Rattle.std.specs.Option.{IfSome};
 ghost use Rattle.cal_policy.specs.declared.history.entry.PassEntry.{PassEntry};
 ghost use Rattle.cal_machine.specs.TableTasks.{threads_of_table};
-ghost use Rattle.caladan_c.specs.Gated.{GuardsAfter, WentThrough, WasStopped};
+ghost use Rattle.cal_policy.specs.State.{IsStateAfter};
+ghost use Rattle.cal_guard.specs.Guarded.{board_in};
+ghost use Rattle.cal_guard.specs.Permitted.{IsPermittedHistory};
+ghost use Rattle.caladan_c.specs.Gated.{WentThrough, WasStopped};
 ghost use Rattle.caladan_c.specs.OneByOne.{input_given_each, AreSaid, IsFirstUnfit, AllFit};
 ghost use Rattle.caladan_c.specs.Recorded.{AreNoActions};
 ghost use Rattle.caladan_c.specs.declared.answer.Refusal.TheVariants.{Memory, NoAction};
@@ -35,13 +38,16 @@ impl Gate {
         requires count { length given.looks.now ≡ threads_of_table self.old.table }
         requires room { threads_of_table self.old.table ≤ length judged.old }
         ensures through { IfOk result (λ said.
-            IfNone said ((h : List PassEntry) → GuardsAfter self.old h →
+            IfNone said ((h : List PassEntry) → IsPermittedHistory self.old.table h →
+            IsStateAfter (board_in self.old.guard) h →
             WentThrough self.old h (input_given_each self.old.table h given.entry) told.now
             self.new)) }
-        ensures judged { IfOk result (λ _. (h : List PassEntry) → GuardsAfter self.old h →
+        ensures judged { IfOk result (λ _. (h : List PassEntry) →
+            IsPermittedHistory self.old.table h → IsStateAfter (board_in self.old.guard) h →
             AreSaid self.old.table.cores h given.entry.looks.now judged.new) }
         ensures stopped { IfOk result (λ said. IfSome said (λ refused. (h : List PassEntry) →
-            GuardsAfter self.old h → WasStopped self.old h (input_given_each self.old.table h
+            IsPermittedHistory self.old.table h → IsStateAfter (board_in self.old.guard) h →
+            WasStopped self.old h (input_given_each self.old.table h
             given.entry) told.now refused)) }
         ensures no_action { result ≡ Err NoAction → AreNoActions told.now }
         ensures why { IfErr result (λ why. (why ≡ NoAction) ⊎ (why ≡ Memory)) }
@@ -70,9 +76,11 @@ impl Gate {
     /// The first thread whose look does not fit what it showed before, or has not the right shape.
     pub fn first_unfit(&self, looks: &[Found]) -> Option<usize>
         requires { length looks.now ≡ threads_of_table self.now.table }
-        ensures first { IfSome result (λ k. (h : List PassEntry) → GuardsAfter self.now h →
+        ensures first { IfSome result (λ k. (h : List PassEntry) →
+            IsPermittedHistory self.now.table h → IsStateAfter (board_in self.now.guard) h →
             IsFirstUnfit h looks.now k) }
-        ensures none { IfNone result ((h : List PassEntry) → GuardsAfter self.now h →
+        ensures none { IfNone result ((h : List PassEntry) → IsPermittedHistory self.now.table h →
+            IsStateAfter (board_in self.now.guard) h →
             AllFit h looks.now) }
     {
         first_unfit(&self.config, self.guard.board(), looks)

@@ -6,7 +6,9 @@ ghost use Rattle.cal_policy.specs.declared.history.entry.PassEntry.{PassEntry};
 ghost use Rattle.cal_machine.specs.TableTasks.{threads_of_table};
 ghost use Rattle.cal_policy.specs.Judgement.Gone.{can_be_gone};
 ghost use Rattle.caladan_c.specs.Facts.{machine_of, row_of, state_of, IsGuardedLookOfGone};
-ghost use Rattle.caladan_c.specs.Gated.{GuardsAfter};
+ghost use Rattle.cal_policy.specs.State.{IsStateAfter};
+ghost use Rattle.cal_guard.specs.Guarded.{board_in};
+ghost use Rattle.cal_guard.specs.Permitted.{IsPermittedHistory};
 
 use super::Gate;
 use crate::found::Found;
@@ -35,7 +37,8 @@ impl Gate {
     /// acknowledges, where the table has the thread.
     pub fn thread(&self, thread: usize) -> Option<ThreadState>
         ensures there { is_some result ≡ nat_lt thread (threads_of_table self.now.table) }
-        ensures state { IfSome result (λ state. (h : List PassEntry) → GuardsAfter self.now h →
+        ensures state { IfSome result (λ state. (h : List PassEntry) →
+            IsPermittedHistory self.now.table h → IsStateAfter (board_in self.now.guard) h →
             state ≡ state_of self.now.table h thread) }
     {
         state_of_thread(&self.config, self.guard.board(), thread)
@@ -44,9 +47,11 @@ impl Gate {
     /// The look at the page of a thread that is gone; None where no page can show it.
     pub fn gone_look(&self, thread: usize) -> Option<Found>
         requires { thread < threads_of_table self.now.table }
-        ensures some { IfSome result (λ look. (h : List PassEntry) → GuardsAfter self.now h →
+        ensures some { IfSome result (λ look. (h : List PassEntry) →
+            IsPermittedHistory self.now.table h → IsStateAfter (board_in self.now.guard) h →
             IsGuardedLookOfGone self.now.table h thread look) }
-        ensures none { (h : List PassEntry) → GuardsAfter self.now h →
+        ensures none { (h : List PassEntry) → IsPermittedHistory self.now.table h →
+            IsStateAfter (board_in self.now.guard) h →
             is_some result ≡ can_be_gone h thread }
     {
         self.config.limits();

@@ -6,7 +6,10 @@ ghost use Rattle.std.specs.Option.{IfSome};
 ghost use Rattle.cal_policy.specs.declared.history.entry.PassEntry.{PassEntry};
 ghost use Rattle.cal_machine.specs.TableTasks.{threads_of_table};
 ghost use Rattle.caladan_c.specs.OneByOne.{input_given_each, AreSaid, IsFirstUnfit, AllFit};
-ghost use Rattle.caladan_c.specs.Passing.{StandsAfter, IsPassed};
+ghost use Rattle.cal_policy.specs.Book.{board_in};
+ghost use Rattle.cal_policy.specs.Pass.{IsLegal};
+ghost use Rattle.cal_policy.specs.State.{IsStateAfter};
+ghost use Rattle.caladan_c.specs.Passing.{IsPassed};
 
 use super::Scheduler;
 use crate::found::Found;
@@ -22,9 +25,11 @@ impl Scheduler {
     pub fn pass_each(&mut self, given: Given<'_>, judged: &mut [u8])
         requires count { length given.looks.now ≡ threads_of_table self.old.table }
         requires room { threads_of_table self.old.table ≤ length judged.old }
-        ensures passed { (h : List PassEntry) → StandsAfter self.old h →
+        ensures passed { (h : List PassEntry) → IsLegal self.old.table h →
+            IsStateAfter (board_in self.old.book) h →
             IsPassed self.old h (input_given_each self.old.table h given.entry) self.new }
-        ensures said { (h : List PassEntry) → StandsAfter self.old h →
+        ensures said { (h : List PassEntry) → IsLegal self.old.table h →
+            IsStateAfter (board_in self.old.book) h →
             AreSaid self.old.table.cores h given.entry.looks.now judged.new }
     {
         self.config.limits();
@@ -52,9 +57,11 @@ impl Scheduler {
     /// The first thread whose look does not fit what it showed before, or has not the right shape.
     pub fn first_unfit(&self, looks: &[Found]) -> Option<usize>
         requires { length looks.now ≡ threads_of_table self.now.table }
-        ensures first { IfSome result (λ k. (h : List PassEntry) → StandsAfter self.now h →
+        ensures first { IfSome result (λ k. (h : List PassEntry) → IsLegal self.now.table h →
+            IsStateAfter (board_in self.now.book) h →
             IsFirstUnfit h looks.now k) }
-        ensures none { IfNone result ((h : List PassEntry) → StandsAfter self.now h →
+        ensures none { IfNone result ((h : List PassEntry) → IsLegal self.now.table h →
+            IsStateAfter (board_in self.now.book) h →
             AllFit h looks.now) }
     {
         first_unfit(&self.config, self.book.board(), looks)

@@ -3,7 +3,7 @@
 ghost use Rattle.std.specs.Prelude.{◌≡◌, List, length, nat_lt};
 ghost use Rattle.std.specs.Option.{is_some, IfSome};
 ghost use Rattle.cal_policy.specs.declared.history.entry.PassEntry.{PassEntry};
-ghost use Rattle.cal_policy.specs.Board.{IsReady, IsStateAfter};
+ghost use Rattle.cal_policy.specs.State.{IsReady, IsStateAfter};
 ghost use Rattle.cal_policy.specs.History.{actions_of};
 ghost use Rattle.caladan_c.specs.Told.{counts_of};
 

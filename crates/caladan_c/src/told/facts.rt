@@ -4,7 +4,7 @@ ghost use Rattle.std.specs.Prelude.{◌≡◌, ◌<◌, List, length, nat_lt};
 ghost use Rattle.std.specs.Option.{is_some, IfSome};
 ghost use Rattle.cal_machine.specs.TableTasks.{threads_of_table};
 ghost use Rattle.cal_policy.specs.declared.history.entry.PassEntry.{PassEntry};
-ghost use Rattle.cal_policy.specs.Board.{IsStateAfter};
+ghost use Rattle.cal_policy.specs.State.{IsStateAfter};
 ghost use Rattle.caladan_c.specs.Facts.{machine_of, row_of, state_of, kind_number, found_shown};
 
 use crate::found::Found;

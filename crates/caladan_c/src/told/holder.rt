@@ -3,7 +3,8 @@
 ghost use Rattle.std.specs.Prelude.{◌≡◌, List, nat_lt};
 ghost use Rattle.std.specs.Option.{is_some, IfSome};
 ghost use Rattle.cal_policy.specs.declared.history.entry.PassEntry.{PassEntry};
-ghost use Rattle.cal_policy.specs.Board.{IsStateAfter, kept_holder};
+ghost use Rattle.cal_policy.specs.Board.{kept_holder};
+ghost use Rattle.cal_policy.specs.State.{IsStateAfter};
 ghost use Rattle.cal_policy.specs.History.{actions_of, holder_of};
 ghost use Rattle.caladan_c.specs.Told.{cause_of, told_holder_of};
 

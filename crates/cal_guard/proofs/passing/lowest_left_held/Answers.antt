@@ -4,7 +4,7 @@ use Rattle.std.proofs.lemmas.Bool.{cases_lt}
 use Rattle.cal_machine.specs.CoreSet.{has}
 use Rattle.cal_policy.specs.declared.history.action.Action.{Action}
 use Rattle.cal_policy.specs.declared.board.Board.{Board}
-use Rattle.cal_policy.specs.Board.{Agrees}
+use Rattle.cal_policy.specs.State.{Agrees}
 use Rattle.cal_policy.specs.Board.Counts.{is_held}
 use Rattle.cal_policy.specs.History.{holder_of}
 use Rattle.cal_policy.specs.Pass.Choice.{lowest_below}

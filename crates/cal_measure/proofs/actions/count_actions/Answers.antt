@@ -1,5 +1,5 @@
 use Rattle.std.proofs.Common.{◌++◌, List, take, subst}
-use Rattle.cal_policy.specs.Board.{Agrees}
+use Rattle.cal_policy.specs.State.{Agrees}
 use Rattle.cal_policy.specs.declared.history.action.Action.{Action}
 use Rattle.cal_policy.proofs.ListLemmas.Each.{after_more}
 use Rattle.cal_measure.specs.Actions.{AreActionsOf}

@@ -1,6 +1,6 @@
 use Rattle.std.proofs.Common.{◌<◌, ◌^◌, ◌++◌, List, length, take}
 use Rattle.cal_policy.specs.declared.history.action.Action.{Action}
-use Rattle.cal_policy.specs.Board.{Agrees, IsReady}
+use Rattle.cal_policy.specs.State.{IsReady, Agrees}
 use Rattle.cal_measure.specs.Actions.{AreActionsOf}
 use Rattle.cal_measure.proofs.actions.count_actions.Given as goal
 

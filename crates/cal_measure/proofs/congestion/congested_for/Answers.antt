@@ -1,6 +1,6 @@
 use Rattle.std.proofs.Common.{◌≡◌, ◌∙◌, Bool, List, length, take, cond, refl, subst, ap, sym, arith}
 use Rattle.std.proofs.lemmas.Option.{slice_get_read}
-use Rattle.cal_policy.specs.Board.{KeepingAgrees}
+use Rattle.cal_policy.specs.State.{KeepingAgrees}
 use Rattle.cal_policy.specs.History.{looks_of}
 use Rattle.cal_policy.specs.Pass.Choice.{sum_below}
 use Rattle.cal_policy.specs.declared.history.entry.PassEntry.{PassEntry}

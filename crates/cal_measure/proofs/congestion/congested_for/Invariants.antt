@@ -1,6 +1,6 @@
 use Rattle.std.proofs.Common.{◌≡◌, ◌≤◌, ◌*◌, ◌^◌, take}
 use Rattle.std.specs.Prelude.{if◌then◌else◌}
-use Rattle.cal_policy.specs.Board.{IsReady, KeepingAgrees}
+use Rattle.cal_policy.specs.State.{IsReady, KeepingAgrees}
 use Rattle.cal_policy.specs.History.{looks_of}
 use Rattle.cal_policy.specs.Pass.Choice.{sum_below}
 use Rattle.cal_measure.specs.States.{is_congested_at, lasts_at}

@@ -1,5 +1,5 @@
 use Rattle.std.proofs.Common.{◌≡◌, ◌≤◌, ◌*◌, ◌^◌, take}
-use Rattle.cal_policy.specs.Board.{Agrees, IsReady}
+use Rattle.cal_policy.specs.State.{IsReady, Agrees}
 use Rattle.cal_policy.specs.History.{actions_of}
 use Rattle.cal_policy.specs.Pass.Choice.{greatest_below, sum_below}
 use Rattle.cal_measure.specs.Actions.{AreActionsOf}

@@ -1,7 +1,8 @@
 use Rattle.std.proofs.Common.{◌≡◌, ◌+◌, ◌*◌, ◌++◌, ℕ, List, length, take, get_or, subst, ap, sym, ◌∙◌, arith}
 use Rattle.std.specs.List.{All}
 use Rattle.std.proofs.lemmas.Option.{slice_get-get_or}
-use Rattle.cal_policy.specs.Board.{Agrees, NamesTable}
+use Rattle.cal_policy.specs.Board.{NamesTable}
+use Rattle.cal_policy.specs.State.{Agrees}
 use Rattle.cal_policy.specs.History.{actions_of}
 use Rattle.cal_policy.specs.Pass.Choice.{sum_below}
 use Rattle.cal_policy.specs.declared.history.action.Action.{Action}

@@ -1,5 +1,5 @@
 use Rattle.std.proofs.Common.{◌≡◌, ◌≤◌, ◌*◌, ◌^◌, take}
-use Rattle.cal_policy.specs.Board.{Agrees, IsReady}
+use Rattle.cal_policy.specs.State.{IsReady, Agrees}
 use Rattle.cal_policy.specs.History.{actions_of}
 use Rattle.cal_policy.specs.Pass.Choice.{sum_below}
 use Rattle.cal_measure.specs.Cores.{in_state_after}

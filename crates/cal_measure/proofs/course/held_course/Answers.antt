@@ -2,7 +2,8 @@ use Rattle.std.proofs.Common.{◌≡◌, ◌∙◌, ◌+◌, ◌<◌, ◌++◌, 
 use Rattle.std.specs.List.{All}
 use Rattle.std.proofs.lemmas.List.{get_or_push, get_or_append_left}
 use Rattle.std.proofs.lemmas.Option.{slice_get-get_or}
-use Rattle.cal_policy.specs.Board.{Agrees, NamesTable}
+use Rattle.cal_policy.specs.Board.{NamesTable}
+use Rattle.cal_policy.specs.State.{Agrees}
 use Rattle.cal_policy.specs.History.{actions_of}
 use Rattle.cal_policy.specs.declared.history.action.Action.{Action}
 use Rattle.cal_policy.proofs.BoardLemmas.StateKept.{names_of_fitting}

@@ -1,5 +1,5 @@
 use Rattle.std.proofs.Common.{◌≡◌, ℕ, ◌<◌, length, get_or, take}
-use Rattle.cal_policy.specs.Board.{Agrees, IsReady}
+use Rattle.cal_policy.specs.State.{IsReady, Agrees}
 use Rattle.cal_policy.specs.History.{actions_of}
 use Rattle.cal_measure.specs.Cores.{held_after}
 use Rattle.cal_measure.proofs.course.held_course.Given as goal

@@ -1,6 +1,6 @@
 use Rattle.std.proofs.Common.{◌≡◌, ◌≤◌, List}
 use Rattle.cal_policy.specs.declared.history.action.Action.{Action}
-use Rattle.cal_policy.specs.Board.{Agrees}
+use Rattle.cal_policy.specs.State.{Agrees}
 use Rattle.cal_policy.specs.History.{holder_of, is_banned}
 use Rattle.cal_policy.specs.Pass.Choice.{count_below}
 use Rattle.cal_measure.specs.States.{is_in_state}

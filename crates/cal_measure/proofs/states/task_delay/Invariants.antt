@@ -1,5 +1,5 @@
 use Rattle.std.proofs.Common.{◌≡◌, List}
-use Rattle.cal_policy.specs.Board.{KeepingAgrees}
+use Rattle.cal_policy.specs.State.{KeepingAgrees}
 use Rattle.cal_policy.specs.History.Looks.{kept_by}
 use Rattle.cal_policy.specs.Pass.Choice.{greatest_below}
 use Rattle.cal_policy.specs.Pass.Grants.{record_delay}

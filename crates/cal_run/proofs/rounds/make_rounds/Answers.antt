@@ -3,10 +3,20 @@ use Rattle.cal_run.proofs.RoundsLemmas.Rounds.{before_rounds, with_table}
 use Rattle.cal_run.proofs.rounds.make_rounds.Goals as goal
 
 pub loop-r-init : goal.loop-r-init
-loop-r-init c = before_rounds c.args.parts.now.scheduler.table c.args.arrivals.now c.args.parts.now c.requires.opened
+loop-r-init g c = record {
+  made = before_rounds c.args.parts.now.scheduler.table c.args.arrivals.now c.args.parts.now c.requires.opened;
+  collected = λ held. held;
+}
 
 pub make_round-requires-clause-before : goal.make_round-requires-clause-before
-make_round-requires-clause-before c = with_table c.args.parts.now.scheduler.table _ c.args.arrivals.now c.loop-r.r c.loop-r.parts (sym c.loop-r.invariant.together.same_table) c.loop-r.invariant
+make_round-requires-clause-before g c =
+    let made = c.loop-r.invariant.made in
+    with_table c.args.parts.now.scheduler.table _ c.args.arrivals.now c.loop-r.r c.loop-r.parts (sym made.together.same_table) made
 
 pub loop-r-preserved : goal.loop-r-preserved
-loop-r-preserved c = with_table _ c.args.parts.now.scheduler.table c.args.arrivals.now _ c.make_round.new.parts c.loop-r.invariant.together.same_table c.in_ok-make_round.ensures.made
+loop-r-preserved g c =
+    let made = c.loop-r.invariant.made in
+    record {
+      made = with_table _ c.args.parts.now.scheduler.table c.args.arrivals.now _ c.make_round.new.parts made.together.same_table c.in_ok-make_round.ensures.made;
+      collected = λ held. c.in_ok-make_round.ensures.collected (c.loop-r.invariant.collected held);
+    }

@@ -1,5 +1,11 @@
 use Rattle.cal_run.specs.Rounds.{AreAfterRounds}
+use Rattle.cal_run.specs.Workers.{journals_of}
 use Rattle.cal_run.proofs.rounds.make_rounds.Given as goal
 
+-- these many rounds were made, and the collector holds what they handed out
 abbrev pub invariant-loop-r : goal.invariant-loop-r
-invariant-loop-r l = AreAfterRounds l.initial.parts.scheduler.table l.arrivals l.r l.parts
+invariant-loop-r g l = record {
+  made : AreAfterRounds l.initial.parts.scheduler.table l.arrivals l.r l.parts;
+  collected : g.C.Collector.holds l.initial.collector l.initial.parts.scheduler.history (journals_of l.initial.parts.workers.items) →
+      g.C.Collector.holds l.collector l.parts.scheduler.history (journals_of l.parts.workers.items);
+}

@@ -1,18 +1,18 @@
 use Rattle.std.proofs.Common.{ℕ, ◌+◌, length, min, List, ap, arith}
-use Rattle.cal_run.proofs.RoundsLemmas.Rounds.{turns_counted, all_counted}
+use Rattle.cal_run.proofs.RoundsLemmas.Rounds.{turns_counted}
 use Rattle.cal_run.proofs.rounds.turns_of_round.Goals as goal
 
 pub returns-then-r-as_slice-clause-made : goal.returns-then-r-as_slice-clause-made
-returns-then-r-as_slice-clause-made c =
+returns-then-r-as_slice-clause-made g c =
     let many = ap (λ (l : List ℕ). length l) c.as_slice.ensures in
     turns_counted c.args.arrivals.now c.args.workers.now (min c.args.r (length c.args.arrivals.now.turns)) (min (c.args.r + 1) (length c.args.arrivals.now.turns)) (omega (arith, many, c.if-r-as_slice.true)) c.requires.made
 
 pub turn_each-requires-clause-made : goal.turn_each-requires-clause-made
-turn_each-requires-clause-made c =
+turn_each-requires-clause-made g c =
     let many = ap (λ (l : List ℕ). length l) c.as_slice.ensures in
     turns_counted c.args.arrivals.now c.args.workers.now (min c.args.r (length c.args.arrivals.now.turns)) c.args.r (omega (arith, many, c.if-r-as_slice.false)) c.requires.made
 
 pub returns-clause-made : goal.returns-clause-made
-returns-clause-made c =
+returns-clause-made g c =
     let many = ap (λ (l : List ℕ). length l) c.as_slice.ensures in
-    all_counted c.args.arrivals.now c.turn_each.result c.turn_each.new.workers (c.args.r + 1) (min (c.args.r + 1) (length c.args.arrivals.now.turns)) (omega (arith, many, c.if-r-as_slice.false)) c.turn_each.ensures.made
+    turns_counted c.args.arrivals.now c.turn_each.new.workers (c.args.r + 1) (min (c.args.r + 1) (length c.args.arrivals.now.turns)) (omega (arith, many, c.if-r-as_slice.false)) c.in_ok-turn_each.ensures.made

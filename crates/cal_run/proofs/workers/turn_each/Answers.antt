@@ -1,20 +1,53 @@
-use Rattle.std.proofs.Common.{arith}
+use Rattle.std.proofs.Common.{◌≡◌, ◌<◌, ◌≤◌, ◌+◌, ◌*◌, ◌++◌, ℕ, List, Some, length, get_or, arith, subst}
+use Rattle.std.specs.List.{slice_get}
 use Rattle.std.proofs.lemmas.Option.{slice_get-get_or}
+use Rattle.cal_kthread.specs.Turn.Entries.{entries_of}
+use Rattle.cal_kthread.specs.declared.journal.entry.Entry.{Entry}
+use Rattle.cal_kthread.specs.declared.kernel_thread.TheConstants.{MOST_ENTRIES}
+use Rattle.cal_trace.specs.declared.arrivals.reading.TheConstants.{MOST_TURNS}
+use Rattle.cal_run.specs.Workers.Given.{turns_given}
+use Rattle.cal_run.proofs.CollectorLemmas.Few.{few_entries}
+use Rattle.cal_run.proofs.CollectorLemmas.Journals.{journal_at_place, journals_after}
 use Rattle.cal_run.proofs.WorkersLemmas.Turns.{all_turned, may_turn, none_turned, one_turned}
 use Rattle.cal_run.proofs.workers.turn_each.Goals as goal
 
 pub loop-k-init : goal.loop-k-init
-loop-k-init c = none_turned c.args.arrivals.now c.args.j c.args.workers.now c.requires.made
+loop-k-init g c = record {
+  turned = none_turned c.args.arrivals.now c.args.j c.args.workers.now c.requires.made;
+  collected = λ history held. held;
+}
 
 pub turn-requires-clause-made : goal.turn-requires-clause-made
-turn-requires-clause-made c = may_turn _ _ c.loop-k.k _ c.loop-k.workers _ c.loop-k.invariant (slice_get-get_or c.loop-k.workers c.loop-k.k c.index-workers-k.result
+turn-requires-clause-made g c = may_turn _ _ c.loop-k.k _ c.loop-k.workers _ c.loop-k.invariant.turned (slice_get-get_or c.loop-k.workers c.loop-k.k c.index-workers-k.result
     (let a = c.loop-k-test.true in let b = c.loop-k.auto.workers in omega (arith, a, b)))
 
 pub loop-k-preserved : goal.loop-k-preserved
-loop-k-preserved c = one_turned c.args.arrivals.now c.args.j c.loop-k.k c.args.workers.now c.loop-k.workers _ c.turn.new.self c.loop-k.invariant
-    (slice_get-get_or c.loop-k.workers c.loop-k.k c.index-workers-k.result (let a = c.loop-k-test.true in let b = c.loop-k.auto.workers in omega (arith, a, b)))
-    c.in_ok-turn.ensures.made c.turn.ensures.seat
+loop-k-preserved g c =
+    let workers = c.loop-k.workers in
+    let k : ℕ = c.loop-k.k in
+    let was = get_or workers k c.index-workers-k.result in
+    let is = c.turn.new.self in
+    let entries = c.in_ok-entries.entries in
+    let low = c.loop-k-test.true in
+    let many = c.loop-k.auto.workers in
+    let at : slice_get workers k ≡ Some was = slice_get-get_or workers k c.index-workers-k.result (omega (arith, low, many)) in
+    let made = c.in_ok-entries.ensures.made in
+    let handed = c.in_ok-entries.ensures.handed in
+    let arrivals = c.args.arrivals.now in
+    let j : ℕ = c.args.j in
+    let few : length is.thread.journal ≤ 5 * (j + 1) = few_entries c.turns_add_up.ensures (turns_given arrivals.requests arrivals.turns was.number) (j + 1) is.thread.journal made.turns in
+    let given : j < length arrivals.turns = c.requires.given in
+    let most : length arrivals.turns ≤ MOST_TURNS = c.requires.fits.1.few_turns in
+    let fits : length is.thread.journal ≤ MOST_ENTRIES = omega arith in
+    let P : List Entry → Type 0 = λ l. length l ≤ MOST_ENTRIES in
+    record {
+      turned = one_turned arrivals j k c.args.workers.now workers _ is c.loop-k.invariant.turned at made c.turn.ensures.seat;
+      collected = λ history held.
+          let Q : List (List Entry) → Type 0 = λ l. g.C.Collector.holds c.add_turn.new.self history l in
+          subst Q (journals_after workers k is (was.thread.journal ++ entries_of entries) handed)
+          (c.in_ok-add_turn.ensures history _ was.thread.journal (c.loop-k.invariant.collected history held) (journal_at_place workers k was at) (subst P handed fits));
+    }
 
 pub returns-clause-made : goal.returns-clause-made
-returns-clause-made c = all_turned c.args.arrivals.now c.args.j c.loop-k.k c.args.workers.now c.loop-k.workers c.loop-k.invariant
+returns-clause-made g c = all_turned c.args.arrivals.now c.args.j c.loop-k.k c.args.workers.now c.loop-k.workers c.loop-k.invariant.turned
     (let a = c.loop-k-test.false in let b = c.loop-k.auto.workers in omega (arith, a, b))

@@ -1,5 +1,13 @@
+use Rattle.std.proofs.Common.{List}
+use Rattle.cal_policy.specs.declared.history.entry.PassEntry.{PassEntry}
+use Rattle.cal_run.specs.Workers.{journals_of}
 use Rattle.cal_run.proofs.WorkersLemmas.Turns.{TurnedUpTo}
 use Rattle.cal_run.proofs.workers.turn_each.Given as goal
 
+-- the first threads made the turn, and the collector holds what they did
 abbrev pub invariant-loop-k : goal.invariant-loop-k
-invariant-loop-k l = TurnedUpTo l.arrivals l.j l.k l.initial.workers l.workers
+invariant-loop-k g l = record {
+  turned : TurnedUpTo l.arrivals l.j l.k l.initial.workers l.workers;
+  collected : (history : List PassEntry) → g.C.Collector.holds l.initial.collector history (journals_of l.initial.workers) →
+      g.C.Collector.holds l.collector history (journals_of l.workers);
+}

@@ -1,6 +1,6 @@
 use Rattle.std.proofs.Common.{◌≡◌, List, length}
 use Rattle.cal_policy.specs.declared.history.entry.PassEntry.{PassEntry}
-use Rattle.cal_policy.specs.Board.{IsStateAfter}
+use Rattle.cal_policy.specs.State.{IsStateAfter}
 use Rattle.cal_policy.specs.Judgement.OpenInput.{IsOfFound}
 use Rattle.cal_sched.proofs.Found.{FoundBelow}
 use Rattle.cal_sched.proofs.finding.find_each.Given as goal

@@ -1,6 +1,6 @@
 use Rattle.std.proofs.Common.{◌≡◌, List}
 use Rattle.cal_policy.specs.declared.history.entry.PassEntry.{PassEntry}
-use Rattle.cal_policy.specs.Board.{IsStateAfter}
+use Rattle.cal_policy.specs.State.{IsStateAfter}
 use Rattle.cal_policy.specs.Judgement.OpenPass.{IsOpenAt}
 use Rattle.cal_policy.specs.Judgement.Settled.{SettledAreNoNews}
 use Rattle.cal_sched.specs.Finding.{HaveFoundSo}

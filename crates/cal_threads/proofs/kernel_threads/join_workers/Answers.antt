@@ -1,6 +1,5 @@
-use Rattle.std.proofs.Common.{◌≡◌, rules, arith, List, [], ◌∷◌, ◌++◌, ◌∙◌, Some, Ok, Err, map, ap, sym, subst}
+use Rattle.std.proofs.Common.{rules, arith, [], ◌∷◌, ◌++◌, ◌∙◌, Some, Ok, map, ap, sym, subst}
 use Rattle.std.specs.Option.{unwrap_or}
-use Rattle.std.specs.List.{AllZip}
 use Rattle.std.proofs.lemmas.Iterator.Consumers.{YieldsList-end}
 use Rattle.std.proofs.lemmas.Iterator.Adapters.{YieldsList-from_vec}
 use Rattle.std.proofs.lemmas.List.{map-append, map-id}

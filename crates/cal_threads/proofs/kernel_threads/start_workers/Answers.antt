@@ -1,6 +1,7 @@
 use Rattle.std.proofs.Common.{◌≡◌, ◌+◌, List, [], ◌∷◌, ◌++◌, rules, ap, subst, sym, ◌∙◌, length}
 use Rattle.std.specs.Prelude.{vec_len}
 use Rattle.std.proofs.iter.Serving.{serving}
+use Rattle.cal_run.specs.Workers.{HasMade}
 use Rattle.cal_run.specs.declared.workers.worker.Worker.{Worker}
 use Rattle.cal_threads.specs.Promises.{IsOf}
 use Rattle.cal_threads.proofs.Pairs.{pairs_pushed}
@@ -21,9 +22,14 @@ loop-worker-init g c =
     )
 
 -- The kernel thread that was taken is next, and made no turn yet.
+pub new-worker-requires : goal.new-worker-requires
+new-worker-requires g c = (first_of_rest _ _ _ _ _ _ c.in-Some.ensures.steps.0 c.loop-worker.invariant.1).turns
+
 pub spawn_with-requires-clause-runs : goal.spawn_with-requires-clause-runs
 spawn_with-requires-clause-runs g c =
-    let none = first_of_rest _ _ _ _ _ _ c.in-Some.ensures.steps.0 c.loop-worker.invariant.1 in
+    let first = first_of_rest _ _ _ _ _ _ c.in-Some.ensures.steps.0 c.loop-worker.invariant.1 in
+    let P : Worker → Type 0 = λ w. HasMade c.args.arrivals.now (vec_len c.loop-worker.threads) 0 w in
+    let none = subst P (sym c.new-worker.ensures) first in
     grind serving
 
 -- The kernel thread that was taken stood first among the rest, and the thread that was started is of it.

@@ -1,5 +1,5 @@
 use Rattle.std.proofs.Common.{◌≡◌, ℕ, ◌<◌, List, Some, length, take, slice_get}
-use Rattle.cal_policy.specs.Board.{IsStateAfter}
+use Rattle.cal_policy.specs.State.{IsStateAfter}
 use Rattle.cal_policy.specs.Judgement.OneByOne.{fault_of}
 use Rattle.cal_policy.specs.Judgement.Settled.{SettledAreNoNews}
 use Rattle.cal_policy.specs.declared.history.entry.PassEntry.{PassEntry}

@@ -4,7 +4,7 @@ use Rattle.std.proofs.lemmas.List.{map_more}
 use Rattle.cal_policy.specs.Judgement.OpenPass.{IsOpenAt}
 use Rattle.cal_policy.specs.declared.judgement.open_input.FoundLook.{FoundLook}
 use Rattle.cal_policy.specs.declared.history.entry.PassEntry.{PassEntry}
-use Rattle.cal_policy.specs.Board.{IsStateAfter}
+use Rattle.cal_policy.specs.State.{IsStateAfter}
 use Rattle.cal_policy.specs.Judgement.Judging.{IsInput}
 use Rattle.caladan_c.specs.Found.{found_of, input_of}
 use Rattle.caladan_c.proofs.Walked.{unfit_is_no_input}

@@ -5,7 +5,10 @@ ghost use Rattle.std.specs.Prelude.{length, false};
 ghost use Rattle.std.specs.Option.{is_some, ForSome, IfSome, IsSomeAnd};
 ghost use Rattle.cal_policy.specs.declared.history.entry.PassEntry.{PassEntry};
 ghost use Rattle.cal_machine.specs.TableTasks.{threads_of_table};
-ghost use Rattle.caladan_c.specs.Gated.{GuardsAfter, WentThrough, WasStopped, WasStoppedAt};
+ghost use Rattle.cal_policy.specs.State.{IsStateAfter};
+ghost use Rattle.cal_guard.specs.Guarded.{board_in};
+ghost use Rattle.cal_guard.specs.Permitted.{IsPermittedHistory};
+ghost use Rattle.caladan_c.specs.Gated.{WentThrough, WasStopped, WasStoppedAt};
 ghost use Rattle.caladan_c.specs.OneByOne.{input_of_each, input_given_each, AreSaid};
 ghost use Rattle.caladan_c.specs.OneByOne.{IsFirstUnfit, AllFit};
 ghost use Rattle.caladan_c.specs.Recorded.{AreNoActions};
@@ -32,13 +35,16 @@ impl Gate {
         actions: &[Told],
     ) -> Result<Option<Refused>, Refusal>
         ensures through { IfOk result (λ said.
-            IfNone said ((h : List PassEntry) → GuardsAfter self.old h →
+            IfNone said ((h : List PassEntry) → IsPermittedHistory self.old.table h →
+            IsStateAfter (board_in self.old.guard) h →
             WentThrough self.old h (input_given_each self.old.table h given.entry) actions.now
             self.new)) }
-        ensures judged { IfOk result (λ _. (h : List PassEntry) → GuardsAfter self.old h →
+        ensures judged { IfOk result (λ _. (h : List PassEntry) →
+            IsPermittedHistory self.old.table h → IsStateAfter (board_in self.old.guard) h →
             AreSaid self.old.table.cores h given.entry.looks.now judged.new) }
         ensures stopped { IfOk result (λ said. IfSome said (λ first. (h : List PassEntry) →
-            GuardsAfter self.old h → WasStopped self.old h
+            IsPermittedHistory self.old.table h → IsStateAfter (board_in self.old.guard) h →
+            WasStopped self.old h
             (input_given_each self.old.table h given.entry) actions.now first)) }
         ensures no_action { result ≡ Err NoAction → AreNoActions actions.now }
         ensures wrong_count { length given.entry.looks.now ≢ threads_of_table self.old.table →
@@ -84,12 +90,15 @@ pub extern "C" fn caladan_guard_pass_each(
 ) -> u8
     ensures closed { is_some handle.old.pointer.kept ≡ false → result ≡ 10 }
     ensures through { result ≡ 0 → ForSome handle.old.pointer.kept (λ g. (h : List PassEntry) →
-        GuardsAfter g h → IsSomeAnd handle.new.pointer.kept
+        IsPermittedHistory g.table h → IsStateAfter (board_in g.guard) h →
+        IsSomeAnd handle.new.pointer.kept
         (WentThrough g h (input_of_each g.table h now bandwidth looks.now) actions.now)) }
     ensures judged { (result ≡ 0) ⊎ (result ≡ 18) → ForSome handle.old.pointer.kept (λ g.
-        (h : List PassEntry) → GuardsAfter g h → AreSaid g.table.cores h looks.now judged.new) }
+        (h : List PassEntry) → IsPermittedHistory g.table h → IsStateAfter (board_in g.guard) h →
+        AreSaid g.table.cores h looks.now judged.new) }
     ensures stopped { result ≡ 18 → ForSome handle.old.pointer.kept (λ g. (h : List PassEntry) →
-        GuardsAfter g h → WasStoppedAt g h (input_of_each g.table h now bandwidth looks.now)
+        IsPermittedHistory g.table h → IsStateAfter (board_in g.guard) h →
+        WasStoppedAt g h (input_of_each g.table h now bandwidth looks.now)
         actions.now refused.new) }
     ensures no_action { result ≡ 17 → AreNoActions actions.now }
     ensures wrong_count { ForSome handle.old.pointer.kept (λ g.
@@ -141,9 +150,10 @@ pub extern "C" fn caladan_guard_first_unfit(
 ) -> u8
     ensures closed { is_some handle.old.pointer.kept ≡ false → result ≡ 10 }
     ensures first { result ≡ 15 → ForSome handle.old.pointer.kept (λ g. (h : List PassEntry) →
-        GuardsAfter g h → IsFirstUnfit h looks.now thread.new) }
+        IsPermittedHistory g.table h → IsStateAfter (board_in g.guard) h →
+        IsFirstUnfit h looks.now thread.new) }
     ensures none { result ≡ 0 → ForSome handle.old.pointer.kept (λ g. (h : List PassEntry) →
-        GuardsAfter g h → AllFit h looks.now) }
+        IsPermittedHistory g.table h → IsStateAfter (board_in g.guard) h → AllFit h looks.now) }
     ensures wrong_count { ForSome handle.old.pointer.kept (λ g.
         length looks.now ≢ threads_of_table g.table → result ≡ 13) }
     ensures answers { ForSome handle.old.pointer.kept (λ g.

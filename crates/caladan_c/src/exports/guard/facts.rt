@@ -6,7 +6,9 @@ ghost use Rattle.cal_policy.specs.declared.history.entry.PassEntry.{PassEntry};
 ghost use Rattle.cal_policy.specs.Judgement.Gone.{can_be_gone};
 ghost use Rattle.cal_machine.specs.TableTasks.{threads_of_table};
 ghost use Rattle.caladan_c.specs.Facts.{machine_of, row_of, state_of, IsGuardedLookOfGone};
-ghost use Rattle.caladan_c.specs.Gated.{GuardsAfter};
+ghost use Rattle.cal_policy.specs.State.{IsStateAfter};
+ghost use Rattle.cal_guard.specs.Guarded.{board_in};
+ghost use Rattle.cal_guard.specs.Permitted.{IsPermittedHistory};
 
 use crate::answer::Refusal;
 use crate::found::Found;
@@ -82,7 +84,8 @@ pub extern "C" fn caladan_guard_thread(
 ) -> u8
     ensures closed { is_some handle.old.pointer.kept ≡ false → result ≡ 10 }
     ensures told { result ≡ 0 → ForSome handle.old.pointer.kept (λ g. (h : List PassEntry) →
-        GuardsAfter g h → state.new ≡ state_of g.table h thread) }
+        IsPermittedHistory g.table h → IsStateAfter (board_in g.guard) h →
+        state.new ≡ state_of g.table h thread) }
     ensures there { ForSome handle.old.pointer.kept (λ g. thread < threads_of_table g.table →
         result ≡ 0) }
     ensures no_thread { ForSome handle.old.pointer.kept (λ g. threads_of_table g.table ≤ thread →
@@ -118,9 +121,11 @@ pub extern "C" fn caladan_guard_gone(
 ) -> u8
     ensures closed { is_some handle.old.pointer.kept ≡ false → result ≡ 10 }
     ensures told { result ≡ 0 → ForSome handle.old.pointer.kept (λ g. (h : List PassEntry) →
-        GuardsAfter g h → IsGuardedLookOfGone g.table h thread look.new) }
+        IsPermittedHistory g.table h → IsStateAfter (board_in g.guard) h →
+        IsGuardedLookOfGone g.table h thread look.new) }
     ensures lost { result ≡ 21 → ForSome handle.old.pointer.kept (λ g. (h : List PassEntry) →
-        GuardsAfter g h → can_be_gone h thread ≡ false) }
+        IsPermittedHistory g.table h → IsStateAfter (board_in g.guard) h →
+        can_be_gone h thread ≡ false) }
     ensures there { ForSome handle.old.pointer.kept (λ g. thread < threads_of_table g.table →
         (result ≡ 0) ⊎ (result ≡ 21)) }
     ensures no_thread { ForSome handle.old.pointer.kept (λ g. threads_of_table g.table ≤ thread →

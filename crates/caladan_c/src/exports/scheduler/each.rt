@@ -6,7 +6,10 @@ ghost use Rattle.cal_policy.specs.declared.history.entry.PassEntry.{PassEntry};
 ghost use Rattle.cal_machine.specs.TableTasks.{threads_of_table};
 ghost use Rattle.caladan_c.specs.OneByOne.{input_of_each, input_given_each, AreSaid};
 ghost use Rattle.caladan_c.specs.OneByOne.{IsFirstUnfit, AllFit};
-ghost use Rattle.caladan_c.specs.Passing.{StandsAfter, IsPassed, HasRoom, IsShort};
+ghost use Rattle.cal_policy.specs.Book.{board_in};
+ghost use Rattle.cal_policy.specs.Pass.{IsLegal};
+ghost use Rattle.cal_policy.specs.State.{IsStateAfter};
+ghost use Rattle.caladan_c.specs.Passing.{IsPassed, HasRoom, IsShort};
 ghost use Rattle.caladan_c.specs.Told.{AreTold};
 ghost use Rattle.caladan_c.specs.declared.answer.Refusal.TheVariants.{NoRoom};
 ghost use Rattle.caladan_c.specs.declared.answer.Refusal.TheVariants.{WrongCount};
@@ -29,10 +32,12 @@ impl Scheduler {
         judged: &mut [u8],
         actions: &mut [Told],
     ) -> Result<usize, Refusal>
-        ensures passed { IfOk result (λ made. (h : List PassEntry) → StandsAfter self.old h →
+        ensures passed { IfOk result (λ made. (h : List PassEntry) → IsLegal self.old.table h →
+            IsStateAfter (board_in self.old.book) h →
             IsPassed self.old h (input_given_each self.old.table h given.entry) self.new
             × AreTold self.new.made made actions.new) }
-        ensures judged { IfOk result (λ _. (h : List PassEntry) → StandsAfter self.old h →
+        ensures judged { IfOk result (λ _. (h : List PassEntry) → IsLegal self.old.table h →
+            IsStateAfter (board_in self.old.book) h →
             AreSaid self.old.table.cores h given.entry.looks.now judged.new) }
         ensures wrong_count { length given.entry.looks.now ≢ threads_of_table self.old.table →
             result ≡ Err WrongCount }
@@ -75,11 +80,13 @@ pub extern "C" fn caladan_pass_each(
 ) -> u8
     ensures closed { is_some handle.old.pointer.kept ≡ false → result ≡ 10 }
     ensures passed { result ≡ 0 → ForSome handle.old.pointer.kept (λ s. (h : List PassEntry) →
-        StandsAfter s h → IsSomeAnd handle.new.pointer.kept (λ after.
+        IsLegal s.table h → IsStateAfter (board_in s.book) h →
+        IsSomeAnd handle.new.pointer.kept (λ after.
         IsPassed s h (input_of_each s.table h now bandwidth looks.now) after ×
         AreTold after.made made.new actions.new)) }
     ensures judged { result ≡ 0 → ForSome handle.old.pointer.kept (λ s. (h : List PassEntry) →
-        StandsAfter s h → AreSaid s.table.cores h looks.now judged.new) }
+        IsLegal s.table h → IsStateAfter (board_in s.book) h →
+        AreSaid s.table.cores h looks.now judged.new) }
     ensures wrong_count { ForSome handle.old.pointer.kept (λ s.
         length looks.now ≢ threads_of_table s.table → result ≡ 13) }
     ensures no_room { ForSome handle.old.pointer.kept (λ s.
@@ -127,9 +134,10 @@ pub extern "C" fn caladan_first_unfit(
 ) -> u8
     ensures closed { is_some handle.old.pointer.kept ≡ false → result ≡ 10 }
     ensures first { result ≡ 15 → ForSome handle.old.pointer.kept (λ s. (h : List PassEntry) →
-        StandsAfter s h → IsFirstUnfit h looks.now thread.new) }
+        IsLegal s.table h → IsStateAfter (board_in s.book) h →
+        IsFirstUnfit h looks.now thread.new) }
     ensures none { result ≡ 0 → ForSome handle.old.pointer.kept (λ s. (h : List PassEntry) →
-        StandsAfter s h → AllFit h looks.now) }
+        IsLegal s.table h → IsStateAfter (board_in s.book) h → AllFit h looks.now) }
     ensures wrong_count { ForSome handle.old.pointer.kept (λ s.
         length looks.now ≢ threads_of_table s.table → result ≡ 13) }
     ensures answers { ForSome handle.old.pointer.kept (λ s.

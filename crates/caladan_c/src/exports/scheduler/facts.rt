@@ -6,7 +6,9 @@ ghost use Rattle.cal_policy.specs.declared.history.entry.PassEntry.{PassEntry};
 ghost use Rattle.cal_policy.specs.Judgement.Gone.{can_be_gone};
 ghost use Rattle.cal_machine.specs.TableTasks.{threads_of_table};
 ghost use Rattle.caladan_c.specs.Facts.{machine_of, row_of, state_of, IsLookOfGone};
-ghost use Rattle.caladan_c.specs.Passing.{StandsAfter};
+ghost use Rattle.cal_policy.specs.Book.{board_in};
+ghost use Rattle.cal_policy.specs.Pass.{IsLegal};
+ghost use Rattle.cal_policy.specs.State.{IsStateAfter};
 
 use crate::answer::Refusal;
 use crate::found::Found;
@@ -82,7 +84,8 @@ pub extern "C" fn caladan_thread(
 ) -> u8
     ensures closed { is_some handle.old.pointer.kept ≡ false → result ≡ 10 }
     ensures told { result ≡ 0 → ForSome handle.old.pointer.kept (λ s. (h : List PassEntry) →
-        StandsAfter s h → state.new ≡ state_of s.table h thread) }
+        IsLegal s.table h → IsStateAfter (board_in s.book) h →
+        state.new ≡ state_of s.table h thread) }
     ensures there { ForSome handle.old.pointer.kept (λ s. thread < threads_of_table s.table →
         result ≡ 0) }
     ensures no_thread { ForSome handle.old.pointer.kept (λ s. threads_of_table s.table ≤ thread →
@@ -118,9 +121,10 @@ pub extern "C" fn caladan_gone(
 ) -> u8
     ensures closed { is_some handle.old.pointer.kept ≡ false → result ≡ 10 }
     ensures told { result ≡ 0 → ForSome handle.old.pointer.kept (λ s. (h : List PassEntry) →
-        StandsAfter s h → IsLookOfGone s.table h thread look.new) }
+        IsLegal s.table h → IsStateAfter (board_in s.book) h →
+        IsLookOfGone s.table h thread look.new) }
     ensures lost { result ≡ 21 → ForSome handle.old.pointer.kept (λ s. (h : List PassEntry) →
-        StandsAfter s h → can_be_gone h thread ≡ false) }
+        IsLegal s.table h → IsStateAfter (board_in s.book) h → can_be_gone h thread ≡ false) }
     ensures there { ForSome handle.old.pointer.kept (λ s. thread < threads_of_table s.table →
         (result ≡ 0) ⊎ (result ≡ 21)) }
     ensures no_thread { ForSome handle.old.pointer.kept (λ s. threads_of_table s.table ≤ thread →

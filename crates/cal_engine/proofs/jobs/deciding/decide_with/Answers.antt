@@ -2,7 +2,8 @@ use Rattle.std.proofs.Common.{◌≡◌, ◌++◌, ◌∷◌, [], List, length, 
 use Rattle.std.proofs.lemmas.Iterator.Adapters.{YieldsList-from_vec}
 use Rattle.std.proofs.lemmas.Iterator.Consumers.{YieldsList-turn, YieldsList-so_far, YieldsList-end}
 use Rattle.std.proofs.lemmas.Option.{slice_get_read}
-use Rattle.cal_policy.specs.Book.{AgreesWith}
+use Rattle.cal_policy.specs.Book.{board_in}
+use Rattle.cal_policy.specs.State.{IsStateAfter}
 use Rattle.cal_machine.specs.TableTasks.{threads_of_table}
 use Rattle.cal_policy.specs.Judgement.Judging.{IsInput}
 use Rattle.cal_policy.specs.declared.history.entry.PassEntry.{PassEntry}
@@ -39,7 +40,7 @@ loop-pass-preserved c =
     let taken = sym (map-id done) ∙ YieldsList-so_far road done c.loop-pass.pass-iterator c.loop-pass.yielded_by in
     let at = slice_get_read passes (length passes) (length done) pass refl turn.0 turn.1 in
     let fits : IsFittingPass (threads_of_table c.args.config.now) done pass = rw taken (c.requires.fit.each (length done) pass at) in
-    let agrees : AgreesWith c.loop-pass.decider.book h = c.loop-pass.invariant.agrees in
+    let agrees : IsStateAfter (board_in c.loop-pass.decider.book) h = c.loop-pass.invariant.agrees in
     let so_far : IsDecided c.args.config.now done h = c.loop-pass.invariant.so_far in
     let given : IsInput c.args.config.now h (input_of c.args.config.now h pass) = judged_is_input c.args.config.now h done pass so_far.shown fits in
     let made : c.in_ok-entry.entry ≡ decided_pass c.args.config.now h pass = c.in_ok-entry.ensures.decided h so_far.legal agrees given in

@@ -5,7 +5,8 @@ use Rattle.cal_policy.specs.declared.history.input.Input.{Input}
 use Rattle.cal_policy.specs.Setting.{setting}
 use Rattle.cal_guard.specs.declared.pass_looks.PassLooks.TheVariants.{Listed}
 use Rattle.cal_guard.specs.Permitted.{ArePermitted}
-use Rattle.cal_guard.specs.Guarded.{Keeps, and_then}
+use Rattle.cal_guard.specs.Guarded.{board_in, and_then}
+use Rattle.cal_policy.specs.State.{IsStateAfter}
 use Rattle.cal_guard.specs.Passing.{GoesBy}
 use Rattle.cal_guard.proofs.Results.{if_err, none_chosen}
 use Rattle.cal_guard.proofs.guard.Guard.step.Goals as goal
@@ -21,7 +22,7 @@ pub returns-then-is_empty-clause-keeps : goal.returns-then-is_empty-clause-keeps
 returns-then-is_empty-clause-keeps c = λ ok h permitted keeps.
     let input : Input = c.args.input.now in
     let none : c.args.chosen.now ≡ [] = none_chosen c.args.chosen.now (sym c.is_empty.ensures ∙ c.if-is_empty.true) in
-    let P : List Action → Type 0 = λ xs. Keeps c.step_idle.new.self (and_then h input xs) in
+    let P : List Action → Type 0 = λ xs. IsStateAfter (board_in c.step_idle.new.self) (and_then h input xs) in
     subst P (sym none) (c.step_idle.ensures.keeps h input c.as_slice.ensures permitted keeps)
 
 pub returns-then-is_empty-clause-permitted : goal.returns-then-is_empty-clause-permitted

@@ -1,7 +1,7 @@
 use Rattle.std.proofs.Common.{◌≡◌, ◌+◌, List, ◌++◌, take}
 use Rattle.cal_policy.specs.declared.history.action.Action.{Action}
 use Rattle.cal_policy.specs.Setting.{Setting}
-use Rattle.cal_policy.specs.Board.{IsReady}
+use Rattle.cal_policy.specs.State.{IsReady}
 use Rattle.cal_guard.specs.Passing.{IsAfter}
 use Rattle.cal_guard.proofs.passing.Passing.follow.Given as goal
 

@@ -4,7 +4,7 @@ use Rattle.cal_signal.specs.Ends.{PublisherView}
 use Rattle.cal_signal.specs.Pages.{last_published}
 use Rattle.cal_signal.specs.Records.{zero_record}
 use Rattle.cal_kthread.specs.contracts.bare_thread.BareThread.{the_view}
-use Rattle.cal_kthread.specs.Turn.Agreement.{Agrees}
+use Rattle.cal_kthread.specs.Turn.Agreement.{IsJournalOf}
 use Rattle.cal_kthread.specs.declared.journal.entry.Entry.{Entry}
 use Rattle.cal_kthread.specs.Journal.{records_of}
 use Rattle.cal_kthread.specs.Team.{place_of}
@@ -53,7 +53,7 @@ noting : (c : goal.After-note_turn)
     ≡ noted (noted (noted (noted (noted c.self.inside.past c.in_ok-arrived.arrived) c.take-took.result) c.provide-stole.result) c.work-worked.result) (Some c.publish-published.result)
 noting c = c.note_turn.ensures
 
-agreeing : (c : goal.After-note_turn) → Agrees c.note_turn.new.past c.publish-published.new.self
+agreeing : (c : goal.After-note_turn) → IsJournalOf c.note_turn.new.past c.publish-published.new.self
 agreeing c = agrees c.args.now c.args.request (answers_of c) (the_view c.self.inside) (c.arrive.new.self, c.in_ok-arrived.arrived) (c.take-took.new.self, c.take-took.result)
     (c.provide-stole.new.self, c.provide-stole.result) (c.work-worked.new.self, c.work-worked.result) c.fill_front.new.self (c.publish-published.new.self, c.publish-published.result) c.note_turn.new.past
     c.in_ok-arrived.ensures.arrived c.take-took.ensures.taken.1 c.provide-stole.ensures.provided.3 c.work-worked.ensures.worked c.fill_front.ensures.fronted.1 c.publish-published.ensures.shown (noting c)

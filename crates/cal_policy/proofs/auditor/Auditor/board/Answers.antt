@@ -1,7 +1,7 @@
 use Rattle.std.proofs.Common.{◌≡◌, List, refl}
 use Rattle.cal_machine.specs.Table.{Table}
 use Rattle.cal_policy.specs.Auditor.{IsAuditOf, KeepsUp}
-use Rattle.cal_policy.specs.Board.{IsStateAfter}
+use Rattle.cal_policy.specs.State.{IsStateAfter}
 use Rattle.cal_policy.specs.Pass.{IsLegal}
 use Rattle.cal_policy.specs.Verdict.{IsFirstIllegal}
 use Rattle.cal_policy.specs.declared.history.entry.PassEntry.{PassEntry}

@@ -10,9 +10,8 @@ pub returns-clause-stands : goal.returns-clause-stands
 returns-clause-stands c = λ s acts st. record {
   agrees = record { holding = st.agrees.holding; bans = st.agrees.bans; caps = st.agrees.caps; banned = st.agrees.banned };
   fresh = st.fresh;
-  kept = st.kept;
+  looks = st.looks;
   before = st.before;
-  shown = st.shown;
 }
 
 pub returns-clause-ready : goal.returns-clause-ready

@@ -3,7 +3,8 @@ use Rattle.std.proofs.Common.{◌≡◌, ℕ, ◌+◌, ◌-◌, List, length, ta
 use Rattle.std.proofs.lemmas.Option.{slice_get_read}
 use Rattle.cal_policy.specs.declared.history.entry.PassEntry.{PassEntry}
 use Rattle.cal_policy.specs.History.{actions_of, looks_of}
-use Rattle.cal_policy.specs.Board.{Agrees, KeepingAgrees, KeepsBefore}
+use Rattle.cal_policy.specs.Board.{KeepsBefore}
+use Rattle.cal_policy.specs.State.{Agrees, KeepingAgrees}
 use Rattle.cal_policy.proofs.ListLemmas.Each.{take_item}
 use Rattle.cal_policy.proofs.BoardLemmas.StateKept.{names_of_fitting}
 use Rattle.cal_policy.proofs.board.replay.board_of.Goals as goal

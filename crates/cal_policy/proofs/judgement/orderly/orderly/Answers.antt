@@ -4,7 +4,7 @@ use Rattle.std.proofs.lemmas.Option.{slice_get_read}
 use Rattle.cal_policy.specs.declared.history.entry.PassEntry.{PassEntry}
 use Rattle.cal_policy.specs.History.{actions_of, looks_of}
 use Rattle.cal_policy.specs.Judgement.Orderly.{IsOrderlyEntry}
-use Rattle.cal_policy.specs.Board.{Agrees, KeepingAgrees}
+use Rattle.cal_policy.specs.State.{Agrees, KeepingAgrees}
 use Rattle.cal_policy.proofs.ListLemmas.Each.{each_more_item, each_all, take_item}
 use Rattle.cal_policy.proofs.judgement.orderly.orderly.Goals as goal
 

@@ -9,7 +9,7 @@ returns-clause-due c = λ h acts st.
     let s = setting_in c.args.self.now h in
     let lt : c.in-Some.thread < 128 = omega (arith, c.in-Some.ensures.thread) in
     ban_parts s (so_far s acts) c.args.core c.in-Some.thread c.sibling-beside.result _ _
-    c.sibling-beside.ensures.value (st.kept c.in-Some.thread lt) (c.ban_revocation.ensures.due h acts st) (c.in-Some.ensures.due h acts st)
+    c.sibling-beside.ensures.value (st.looks.kept c.in-Some.thread lt) (c.ban_revocation.ensures.due h acts st) (c.in-Some.ensures.due h acts st)
 
 pub returns-clause-names : goal.returns-clause-names
 returns-clause-names c =

@@ -5,14 +5,14 @@ use Rattle.cal_policy.specs.Setting.{Begun}
 use Rattle.cal_policy.specs.History.CoreClasses.{comes_before}
 use Rattle.cal_policy.specs.Pass.Choice.{best_below}
 use Rattle.cal_policy.specs.Pass.Among.{class_among}
-use Rattle.cal_policy.specs.Board.{Stands}
+use Rattle.cal_policy.specs.State.{Stands}
 use Rattle.cal_policy.specs.Pass.AtHand.{setting_in}
 use Rattle.cal_policy.proofs.pass.Pass.choose_idle.Given as goal
 
 abbrev pub invariant-loop-core : goal.invariant-loop-core
 invariant-loop-core l = record {
-  choice : (h : Begun) (acts : List Action) → Stands l.self.board.now (setting_in l.self h) acts →
-      l.best ≡ best_below comes_before (class_among l.self.board.now.open_cores.idle (setting_in l.self h) acts l.task) l.first;
+  choice : (h : Begun) (acts : List Action) → Stands l.board (setting_in l.self h) acts →
+      l.best ≡ best_below comes_before (class_among l.board.open_cores.idle (setting_in l.self h) acts l.task) l.first;
   below : IfSome l.best (λ best. best.number < l.first);
   first : l.first ≤ l.self.config.now.cores;
 }

@@ -19,7 +19,7 @@ loop-core-preserved c =
           ∙ sym (highest_more p core);
       held = λ t lt.
           let below : core < c.args.self.now.config.now.cores = omega arith in
-          rw (c.note.ensures t lt) (held_more c.args.self.now.config.now c.args.self.now.board.now t core c.task_that_can_lose-task.result (get_or old t None) below
+          rw (c.note.ensures t lt) (held_more c.args.self.now.config.now c.args.board.now t core c.task_that_can_lose-task.result (get_or old t None) below
           c.task_that_can_lose-task.ensures.held (c.loop-core.invariant.held t lt));
     }
 

@@ -4,14 +4,14 @@ use Rattle.cal_policy.specs.Setting.{Begun}
 use Rattle.cal_policy.specs.Pass.Choice.{highest_below}
 use Rattle.cal_policy.specs.Setting.{so_far}
 use Rattle.cal_policy.specs.Pass.Bandwidth.{can_lose}
-use Rattle.cal_policy.specs.Board.{Stands}
+use Rattle.cal_policy.specs.State.{Stands}
 use Rattle.cal_policy.specs.Board.Losing.{HoldsCore}
 use Rattle.cal_policy.specs.Pass.AtHand.{setting_in}
 use Rattle.cal_policy.proofs.pass.Pass.cores_to_lose.Given as goal
 
 abbrev pub invariant-loop-core : goal.invariant-loop-core
 invariant-loop-core l = record {
-  lose : (h : Begun) (acts : List Action) → let s = setting_in l.self h in Stands l.self.board.now s acts →
+  lose : (h : Begun) (acts : List Action) → let s = setting_in l.self h in Stands l.board s acts →
       (t : ℕ) → t < 16 → get_or l.highest t None ≡ highest_below (can_lose s (so_far s acts) t) l.core;
-  held : (t : ℕ) → t < 16 → HoldsCore l.self.config.now l.self.board.now t (get_or l.highest t None);
+  held : (t : ℕ) → t < 16 → HoldsCore l.self.config.now l.board t (get_or l.highest t None);
 }

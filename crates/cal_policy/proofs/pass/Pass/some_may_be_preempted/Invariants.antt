@@ -3,9 +3,9 @@ use Rattle.std.specs.Option.{is_some}
 use Rattle.cal_policy.specs.declared.history.action.Action.{Action}
 use Rattle.cal_policy.specs.Board.Counts.{held_by}
 use Rattle.cal_policy.specs.Pass.Grants.{preempt_class}
-use Rattle.cal_policy.specs.Board.{Agrees}
+use Rattle.cal_policy.specs.State.{Agrees}
 use Rattle.cal_policy.proofs.pass.Pass.some_may_be_preempted.Given as goal
 
 abbrev pub invariant-loop-other : goal.invariant-loop-other
-invariant-loop-other l = (x : List Action) → Agrees l.self.board.now x → (other : ℕ) → other < l.other →
+invariant-loop-other l = (x : List Action) → Agrees l.board x → (other : ℕ) → other < l.other →
     (nat_lt 0 (held_by l.self.config.now x other) && is_some (preempt_class l.self.config.now x l.task other)) ≡ false

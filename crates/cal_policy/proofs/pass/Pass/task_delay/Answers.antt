@@ -22,7 +22,7 @@ loop-next-preserved c =
       greatest = λ h acts st.
           let s = setting_in c.args.self.now h in
           let F : ℕ → ℕ = λ j. thread_delay s (thread_of c.args.self.now.config.now t j) in
-          let past = delays_past c.args.self.now.board.now s acts st c.requires.at_hand.ready.keeping t first (c.loop-next.next - first) (k - first)
+          let past = delays_past c.args.board.now s acts st c.requires.at_hand.ready.keeping t first (c.loop-next.next - first) (k - first)
           is (omega (arith, from)) most (λ j a b. c.in-Some.ensures.between j (omega (arith, a, i.from)) (omega (arith, b, from, i.from))) in
           let here : k ≡ first_thread c.args.self.now.config.now.tasks t + (k - first) = omega (arith, is, from, i.from) in
           let one : k - first + 1 ≡ k + 1 - first = omega (arith, from, i.from) in
@@ -41,7 +41,7 @@ returns c = λ h acts st.
     let F : ℕ → ℕ = λ j. thread_delay s (thread_of c.args.self.now.config.now t j) in
     let first = c.threads_of-first.result.0 in
     let count = c.threads_of-first.result.1 in
-    let past = delays_past c.args.self.now.board.now s acts st c.requires.at_hand.ready.keeping t first (c.loop-next.next - first) count
+    let past = delays_past c.args.board.now s acts st c.requires.at_hand.ready.keeping t first (c.loop-next.next - first) count
     c.threads_of-first.ensures.first (omega (arith, i.from, i.to)) (omega (arith, c.requires.at_hand.accepted.threads, c.threads_of-first.ensures.within))
     (λ j a b. c.in_default.ensures.none j (omega (arith, a, i.from)) b) in
     i.greatest h acts st ∙ sym past ∙ ap (greatest_below F) c.threads_of-first.ensures.count

@@ -9,5 +9,5 @@ returns c = λ h acts st.
       has_core = c.has_core.ensures h acts st;
       has_room = c.has_room.ensures h;
       new_misses = c.new_misses.ensures h acts st;
-      kept = st.kept c.args.thread few;
+      kept = st.looks.kept c.args.thread few;
     }

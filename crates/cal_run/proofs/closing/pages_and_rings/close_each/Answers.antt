@@ -4,8 +4,8 @@ use Rattle.cal_kthread.specs.End.HandingOut.{run_of}
 use Rattle.cal_run.proofs.ClosingLemmas.Ends.{all_closed, nothing_left}
 use Rattle.cal_run.proofs.closing.pages_and_rings.close_each.Goals as goal
 
-pub returns-clause-closed : goal.returns-clause-closed
-returns-clause-closed c =
+pub returns : goal.returns
+returns c =
     let at = c.loop-end in
     let none : into_iter_items at.end-iterator ≡ [] = nothing_left _ (sym at.invariant.ends ∙ c.in-None.ensures.steps.0) in
     let all = all_closed _ _ _ _ at.invariant.so_far (ap (map run_of) none) in

@@ -1,7 +1,6 @@
-use Rattle.std.proofs.Common.{◌≡◌, ◌++◌, length, map}
+use Rattle.std.proofs.Common.{◌≡◌, length, map}
 use Rattle.std.specs.Vec.Iter.{into_iter_items, into_iter_len}
 use Rattle.cal_kthread.specs.End.HandingOut.{run_of}
-use Rattle.cal_kthread.specs.End.Rest.{EndView}
 use Rattle.cal_run.proofs.ClosingLemmas.Ends.{ClosesOn}
 use Rattle.cal_run.proofs.closing.pages_and_rings.close_each.Given as goal
 
@@ -9,7 +8,6 @@ abbrev pub invariant-loop-end : goal.invariant-loop-end
 invariant-loop-end l = record {
   so_far : ClosesOn (map run_of (into_iter_items l.initial.end-iterator)) (into_iter_items l.initial.observers) (into_iter_items l.initial.watchers) (into_iter_items l.initial.senders)
       (map run_of (into_iter_items l.end-iterator)) (into_iter_items l.observers) (into_iter_items l.watchers) (into_iter_items l.senders);
-  journals : l.journals.items ++ map (λ (e : EndView). e.journal) (into_iter_items l.end-iterator) ≡ map (λ (e : EndView). e.journal) (into_iter_items l.initial.end-iterator);
   ends : into_iter_len l.end-iterator ≡ length (into_iter_items l.end-iterator);
   observers : into_iter_len l.observers ≡ length (into_iter_items l.observers);
   watchers : into_iter_len l.watchers ≡ length (into_iter_items l.watchers);

@@ -38,8 +38,7 @@ returns c =
     let new = c.settle_and_hand_out.new.ends in
     let same : map run_of new ≡ map run_of old.items = rw (← c.as_mut_slice.ensures.value) c.in_ok-left.ensures.same in
     let whole : take old.len (new ++ drop (length new) old.items) ≡ new = written_whole old.len new old.items old.ok.0 (length_alike run_of new old.items same) in
-    let closed : AreClosed (map run_of new) c.args.observers.items c.args.watchers.items c.args.senders.items = rw (← whole) c.in_ok-journals.ensures.closed in
-    let journals : c.in_ok-journals.journals.items ≡ map (λ (e : EndView). e.journal) new = rw (← whole) c.in_ok-journals.ensures.journals in
+    let closed : AreClosed (map run_of new) c.args.observers.items c.args.watchers.items c.args.senders.items = rw (← whole) c.close_each.ensures in
     let count : length c.in_ok-left.left.items ≡ length old.items = rw (← c.as_mut_slice.ensures.value) c.in_ok-left.ensures.count in
     let account : IsAccounted (map (λ (e : EndView). e.journal) old.items) c.in_ok-left.left.items = rw (← c.as_mut_slice.ensures.value) c.in_ok-left.ensures.account in
-    have_closed c.args.workers.items old.items new _ _ _ c.in_ok-ends.ensures same c.requires.others closed _ _ journals count account
+    have_closed c.args.workers.items old.items new _ _ _ c.in_ok-ends.ensures same c.requires.others closed _ count account

@@ -4,7 +4,8 @@ use Rattle.cal_command.specs.Rings.{SenderView}
 use Rattle.cal_policy.specs.declared.history.action.Action.{Action}
 use Rattle.cal_policy.specs.declared.history.entry.PassEntry.{PassEntry}
 use Rattle.cal_policy.specs.declared.history.input.Input.{Input}
-use Rattle.cal_policy.specs.Book.{AgreesWith}
+use Rattle.cal_policy.specs.Book.{board_in}
+use Rattle.cal_policy.specs.State.{IsStateAfter}
 use Rattle.cal_policy.specs.Judgement.OpenInput.{judged_input}
 use Rattle.cal_policy.specs.Judgement.Judging.{IsInput}
 use Rattle.cal_policy.specs.Pass.{pass_of}
@@ -45,14 +46,14 @@ record Decided (c : After-as_mut_slice-3) : Type 0 where
   finds : HaveFound (start c).observers c.find_each.new.observers (start c).senders c.find_each.new.senders c.find_each.new.found
   same : c.finish-input.result ≡ judged_input (start c).table (start c).history c.args.now c.args.bandwidth c.find_each.new.found
   acts : c.step.new.out ≡ (entry c).actions
-  agreed : AgreesWith c.step.new.self (after c)
+  agreed : IsStateAfter (board_in c.step.new.self) (after c)
   rung : take c.self.inside.senders.len (c.find_each.new.senders ++ drop (length c.find_each.new.senders) c.self.inside.senders.items) ≡ c.find_each.new.senders
 
 decided : (c : After-as_mut_slice-3) → Decided c
 decided c =
     let s : SchedulerView = start c in
     let kept : IsKept s = c.self.invariant.0 in
-    let agrees : AgreesWith c.self.inside.book s.history = c.self.invariant.1 in
+    let agrees : IsStateAfter (board_in c.self.inside.book) s.history = c.self.invariant.1 in
     let looked : List ObserverView = c.find_each.new.observers in
     let asked : List SenderView = c.find_each.new.senders in
     let found = c.find_each.new.found in
@@ -75,7 +76,7 @@ decided c =
       finds = finds;
       same = same;
       acts = acts ∙ ap (λ (i : Input). pass_of (setting s.table s.history i)) same;
-      agreed = subst (AgreesWith c.step.new.self) whole (c.step.ensures.agrees s.history kept.legal agrees fits);
+      agreed = subst (IsStateAfter (board_in c.step.new.self)) whole (c.step.ensures.agrees s.history kept.legal agrees fits);
       rung = written_whole ring_items.len asked ring_items.items ring_items.ok.0 many_rings;
     }
 

@@ -3,7 +3,8 @@ use Rattle.cal_signal.specs.Ends.{ObserverView}
 use Rattle.cal_command.specs.Rings.{SenderView}
 use Rattle.cal_policy.specs.declared.history.action.Action.{Action}
 use Rattle.cal_policy.specs.declared.history.entry.PassEntry.{PassEntry}
-use Rattle.cal_policy.specs.Book.{AgreesWith}
+use Rattle.cal_policy.specs.Book.{board_in}
+use Rattle.cal_policy.specs.State.{IsStateAfter}
 use Rattle.cal_policy.specs.Judgement.OpenInput.{judged_input}
 use Rattle.cal_policy.specs.Judgement.OpenPass.{IsOpenAt}
 use Rattle.cal_policy.specs.Judgement.Settled.{SettledAreNoNews}
@@ -43,14 +44,14 @@ record Decided (c : After-as_mut_slice-3) : Type 0 where
   kept : IsKept (start c)
   finds : HaveFound (start c).observers c.find_news.new.observers (start c).senders c.find_news.new.senders c.find_news.new.found
   acts : c.pass.new.out ≡ (entry c).actions
-  agreed : AgreesWith c.pass.new.self (after c)
+  agreed : IsStateAfter (board_in c.pass.new.self) (after c)
   rung : take c.self.inside.senders.len (c.find_news.new.senders ++ drop (length c.find_news.new.senders) c.self.inside.senders.items) ≡ c.find_news.new.senders
 
 decided : (c : After-as_mut_slice-3) → Decided c
 decided c =
     let s : SchedulerView = start c in
     let kept : IsKept s = c.self.invariant.0 in
-    let agrees : AgreesWith c.self.inside.book s.history = c.self.invariant.1 in
+    let agrees : IsStateAfter (board_in c.self.inside.book) s.history = c.self.invariant.1 in
     let looked : List ObserverView = c.find_news.new.observers in
     let asked : List SenderView = c.find_news.new.senders in
     let found = c.find_news.new.found in
@@ -67,7 +68,7 @@ decided c =
       kept = kept;
       finds = finds;
       acts = c.pass.ensures.acts s.history found kept.legal agrees opened;
-      agreed = subst (AgreesWith c.pass.new.self) (ap (λ (l : List Action). let e : PassEntry = record { input = judged_input s.table s.history c.args.now c.args.bandwidth found; actions = l } in s.history ++ e ∷ []) (c.pass.ensures.acts s.history found kept.legal agrees opened)) (c.pass.ensures.agrees s.history found kept.legal agrees opened);
+      agreed = subst (IsStateAfter (board_in c.pass.new.self)) (ap (λ (l : List Action). let e : PassEntry = record { input = judged_input s.table s.history c.args.now c.args.bandwidth found; actions = l } in s.history ++ e ∷ []) (c.pass.ensures.acts s.history found kept.legal agrees opened)) (c.pass.ensures.agrees s.history found kept.legal agrees opened);
       rung = written_whole ring_items.len asked ring_items.items ring_items.ok.0 many_rings;
     }
 

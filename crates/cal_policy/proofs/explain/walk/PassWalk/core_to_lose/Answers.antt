@@ -7,4 +7,4 @@ pub returns : goal.returns
 returns c = λ h w.
     let made = c.args.self.now.made.items in
     let P : Setting → Type 0 = λ s. c.core_to_lose.result ≡ core_to_lose s (so_far s made) c.args.task in
-    subst P (c.pass.ensures.setting h) (c.core_to_lose.ensures h made (c.pass.ensures.stands h w))
+    subst P (c.pass.ensures.setting h) (c.core_to_lose.ensures h made (rw c.deref.ensures (c.pass.ensures.stands h w)))

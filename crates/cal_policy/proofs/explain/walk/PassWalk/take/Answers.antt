@@ -10,7 +10,7 @@ returns-clause-goes_on c = λ h w.
     let s = setting_of c.args.self.now h in
     let made = c.args.self.now.made.items in
     let turn = c.args.self.now.turn in
-    let due = c.due_in-both.ensures.due h made (c.pass.ensures.stands h w)
+    let due = c.due_in-both.ensures.due h made (rw c.deref.ensures (c.pass.ensures.stands h w))
     ∙ ap (λ one. made_in one made turn) (c.pass.ensures.setting h) in
     record {
       made = taken s turn c.turn_after-self.result made _ _ w.made due c.in_ok-make_both.ensures.made

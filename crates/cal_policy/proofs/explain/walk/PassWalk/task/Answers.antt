@@ -7,4 +7,4 @@ pub returns : goal.returns
 returns c = λ h w.
     let made = c.args.self.now.made.items in
     let P : Setting → Type 0 = λ s. IsTaskState s (so_far s made) c.args.task c.task_state.result in
-    subst P (c.pass.ensures.setting h) (c.task_state.ensures h made (c.pass.ensures.stands h w))
+    subst P (c.pass.ensures.setting h) (c.task_state.ensures h made (rw c.deref.ensures (c.pass.ensures.stands h w)))

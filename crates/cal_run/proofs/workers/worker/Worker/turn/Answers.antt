@@ -1,15 +1,31 @@
-use Rattle.std.proofs.Common.{◌≡◌, ◌≤◌, ℕ, ◌+◌, [], List, take, sym, ap, subst, ◌∙◌, refl, slice_index_or, Some, arith}
+use Rattle.std.proofs.Common.{◌≡◌, ◌<◌, ◌≤◌, ◌*◌, ℕ, ◌+◌, [], List, length, take, sym, ap, subst, ◌∙◌, refl, slice_index_or, Some, arith}
 use Rattle.std.specs.List.{slice_get}
 use Rattle.std.proofs.lemmas.Option.{slice_get-get_or}
+use Rattle.cal_kthread.specs.Journal.{record_in, records_of}
 use Rattle.cal_kthread.specs.Turn.Turns.{AreTurns, Given}
+use Rattle.cal_kthread.proofs.JournalLemmas.OneEntryMore.{length-filter_map}
+use Rattle.cal_trace.specs.declared.arrivals.reading.TheConstants.{MOST_TURNS}
 use Rattle.cal_run.specs.Workers.Given.{request_at, turns_given}
 use Rattle.cal_run.specs.Workers.{IsNext}
+use Rattle.cal_run.proofs.CollectorLemmas.Few.{few_entries}
 use Rattle.cal_run.proofs.WorkersLemmas.Given.{given_at}
 use Rattle.cal_run.proofs.workers.worker.Worker.turn.Goals as goal
 use Rattle.cal_machine.proofs.Last.{take_next}
 
-pub returns-in-Ok-clause-made : goal.returns-in-Ok-clause-made
-returns-in-Ok-clause-made c =
+-- a page has places for all turns
+pub turn-requires-clause-room : goal.turn-requires-clause-room
+turn-requires-clause-room c =
+    let arrivals = c.args.arrivals.now in
+    let journal = c.args.self.now.thread.journal in
+    let j : ℕ = c.args.j in
+    let few : length journal ≤ 5 * j = few_entries c.turns_add_up.ensures (turns_given arrivals.requests arrivals.turns c.args.self.now.number) j journal c.requires.made.turns in
+    let records : length (records_of journal) ≤ length journal = length-filter_map record_in journal in
+    let given : j < length arrivals.turns = c.requires.given in
+    let most : length arrivals.turns ≤ MOST_TURNS = c.requires.fits.1.few_turns in
+    omega arith
+
+pub returns-clause-made : goal.returns-clause-made
+returns-clause-made c =
     let arrivals = c.args.arrivals.now in
     let k = c.args.self.now.number in
     let j = c.args.j in
@@ -25,9 +41,9 @@ returns-in-Ok-clause-made c =
     let P : List Given → Type 0 = λ turns. AreTurns turns [] c.turn.new.self.journal in
     record {
       number = refl;
-      turns = subst P (sym (take_next given j (now, request) this)) (c.one_turn_more.ensures (take j given) now request [] c.args.self.now.thread.journal c.turn.new.self.journal c.requires.made.turns c.in-Ok.ensures.added);
+      turns = subst P (sym (take_next given j (now, request) this)) (c.one_turn_more.ensures (take j given) now request [] c.args.self.now.thread.journal c.turn.new.self.journal c.requires.made.turns c.in_ok-entries.ensures.added);
       next = subst (λ l. IsNext l k (j + 1) c.coming-request.result.1) same c.coming-request.ensures.next;
       stamp = λ i clock le e.
           let P : ℕ → Type 0 = λ n. n ≤ clock in
-          subst P (sym c.in-Ok.ensures.stamped) (c.requires.fits.1.never_fall.at j i now clock (omega (arith, le)) at e);
+          subst P (sym c.in_ok-entries.ensures.stamped) (c.requires.fits.1.never_fall.at j i now clock (omega (arith, le)) at e);
     }

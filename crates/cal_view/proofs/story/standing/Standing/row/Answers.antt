@@ -9,6 +9,6 @@ loop-task-preserved c =
     let few : c.loop-task.task < length c.loop-task.tasks = search (rules, arith) in
     record {
       size = search (rules, length-set, before.size);
-      figures = λ x looks says. one_more no_figures (λ t. figures_of c.args.config.now x looks c.args.now t) c.loop-task.tasks c.loop-task.task _ few
-          (c.figures.ensures x looks says) (before.figures x looks says);
+      figures = λ x looks a k. one_more no_figures (λ t. figures_of c.args.config.now x looks c.args.now t) c.loop-task.tasks c.loop-task.task _ few
+          (c.figures.ensures x looks a k) (before.figures x looks a k);
     }

@@ -1,8 +1,0 @@
-use Rattle.std.proofs.Common.{◌++◌, ap, ◌∙◌}
-use Rattle.cal_policy.specs.Setting.{setting_at}
-use Rattle.cal_policy.proofs.pass.bandwidth.keep_bandwidth.Goals as goal
-
-pub returns-clause-acts : goal.returns-clause-acts
-returns-clause-acts c = λ h st.
-    let s = setting_at c.args.config.now c.args.terms.now h in
-    (c.make_both.ensures.out ∙ ap (λ l. c.args.out.now ++ l) (c.bandwidth_due-both.ensures.due h c.args.out.now st), c.make_both.ensures.stands s st)

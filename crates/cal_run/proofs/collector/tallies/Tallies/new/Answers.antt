@@ -1,0 +1,8 @@
+use Rattle.std.proofs.Common.{◌++◌, ◌∷◌, [], List, ap, ◌∙◌}
+use Rattle.std.proofs.lemmas.List.{replicate_more}
+use Rattle.cal_trace.specs.declared.report.tally.Tally.{Tally}
+use Rattle.cal_trace.specs.declared.report.tally.TheConstants.Tally.{NONE}
+use Rattle.cal_run.proofs.collector.tallies.Tallies.new.Goals as goal
+
+pub loop-preserved : goal.loop-preserved
+loop-preserved c = c.in_ok-push.ensures.items ∙ ap (λ (l : List Tally). l ++ NONE ∷ []) c.loop.invariant ∙ replicate_more c.loop.counter NONE

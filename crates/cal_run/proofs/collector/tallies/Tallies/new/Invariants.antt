@@ -1,0 +1,6 @@
+use Rattle.std.proofs.Common.{◌≡◌, replicate}
+use Rattle.cal_trace.specs.declared.report.tally.TheConstants.Tally.{NONE}
+use Rattle.cal_run.proofs.collector.tallies.Tallies.new.Given as goal
+
+abbrev pub invariant-loop : goal.invariant-loop
+invariant-loop l = l.tallies.items ≡ replicate l.counter NONE

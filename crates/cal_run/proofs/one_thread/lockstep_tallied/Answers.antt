@@ -1,0 +1,30 @@
+use Rattle.std.proofs.Common.{◌≡◌, length, refl, arith}
+use Rattle.std.specs.List.{AllZip}
+use Rattle.std.proofs.lemmas.List.{length-map}
+use Rattle.cal_trace.specs.Report.Summary.{IsTallyOf}
+use Rattle.cal_run.specs.Outcome.{outcome_of}
+use Rattle.cal_run.specs.Workers.{journals_of}
+use Rattle.cal_run.specs.declared.workers.worker.Worker.{Worker}
+use Rattle.cal_run.proofs.CollectorLemmas.Opened.{no_turn_yet, none_counted}
+use Rattle.cal_run.proofs.one_thread.lockstep_tallied.Goals as goal
+
+-- before the first round nothing is counted
+pub returns-clause-run : goal.returns-clause-run
+returns-clause-run c =
+    let arrivals = c.args.arrivals.now in
+    let opened = c.in_ok-parts.parts in
+    let are = c.in_ok-parts.ensures.parts in
+    let made = c.make_rounds.new.parts in
+    let journals = journals_of opened.workers.items in
+    let threads = length-map opened.workers.items (λ (w : Worker). w.thread.journal) in
+    let own = opened.workers.ok.0 in
+    let size = c.len.ensures in
+    let many : length journals ≡ c.len.result = omega (arith, size, own, threads) in
+    let fresh : AllZip IsTallyOf journals c.in_ok-tallies.tallies.tallies.items = rw c.in_ok-tallies.ensures (none_counted journals c.len.result many (no_turn_yet arrivals opened.workers.items are.turns)) in
+    let held : AllZip IsTallyOf (journals_of made.workers.items) c.make_rounds.new.collector.tallies.items = c.in_ok-make_rounds.ensures.collected fresh in
+    record {
+      outcome = outcome_of (record { history = made.scheduler.history; journals = journals_of made.workers.items; left = c.in_ok-left.field-0.left; watched = c.in_ok-left.field-0.watched });
+      run = c.in_ok-left.ensures;
+      tallies = rw c.new-2.ensures held;
+      left = refl;
+    }

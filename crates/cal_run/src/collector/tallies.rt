@@ -1,0 +1,50 @@
+//! What the kernel threads of a run did, counted while it is made.
+
+ghost use Rattle.std.specs.Prelude.{◌≡◌, List, IfOk, length, replicate};
+ghost use Rattle.std.specs.List.{AllZip};
+ghost use Rattle.cal_trace.specs.Report.Summary.{IsTallyOf};
+ghost use Rattle.cal_trace.specs.declared.report.tally.TheConstants.Tally.{NONE};
+
+use crate::collector::Collector;
+use cal_kthread::TurnEntries;
+use cal_policy::PassEntry;
+use cal_trace::Tally;
+use std::alloc::{AllocError, Global};
+
+/// What each kernel thread did so far, counted, in thread order. Passes are let go of, so its
+/// memory does not grow with a run.
+#[derive(Drop)]
+pub(crate) struct Tallies {
+    pub(crate) tallies: Vec<Tally>,
+}
+
+impl Tallies {
+    /// Nothing so far, of so many threads.
+    pub(crate) fn new(alloc: Global, threads: usize) -> Result<Tallies, AllocError>
+        ensures { IfOk result (λ all. all.tallies.items ≡ replicate threads NONE) }
+    {
+        let mut tallies = Vec::new(alloc);
+        for _ in 0..threads {
+            tallies.push(Tally::NONE)?;
+        }
+        Ok(Tallies { tallies })
+    }
+}
+
+impl Collector for Tallies {
+    type Fault = AllocError;
+
+    ghost holds = { λ all history journals. AllZip IsTallyOf journals all.tallies.items };
+
+    fn add_pass(&mut self, _entry: PassEntry) -> Result<(), AllocError> {
+        Ok(())
+    }
+
+    fn add_turn(&mut self, k: usize, entries: TurnEntries) -> Result<(), AllocError> {
+        if k >= self.tallies.len() {
+            return Ok(());
+        }
+        self.tallies[k].add_turn(entries);
+        Ok(())
+    }
+}
