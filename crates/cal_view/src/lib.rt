@@ -2,7 +2,7 @@
 //! or files by name: it says what an input is, explains passes, makes histories, arrivals, pictures
 //! and trace events, and tells the numbers of runs, of several tables and of a load that rises.
 //!
-//! What is drawn of a history are its spans (`cal_spans`); numbers are those of `cal_tables` and
+//! What is drawn of a history are its spans (`cal_measure`); numbers are those of `cal_tables` and
 //! `cal_sweep`. How they are drawn and written is only tested.
 #![tactic(auto)]
 

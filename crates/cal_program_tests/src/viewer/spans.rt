@@ -2,8 +2,8 @@
 
 use crate::viewer::given::{DISORDERLY, HISTORY, TABLE};
 use cal_machine::Config;
+use cal_measure::{Left, Span, spans_of};
 use cal_policy::Cause;
-use cal_spans::{Left, Span, spans_of};
 use cal_trace::read_history;
 use std::alloc::Global;
 use std::test::Fail;

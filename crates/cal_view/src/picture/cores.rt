@@ -6,9 +6,9 @@ use crate::picture::telling::{draw_box, tell_ban, tell_span};
 use crate::story::clocks::{ClockedBan, ClockedSpan};
 use crate::story::numbers::task_of;
 use crate::story::window::LEFT;
+use cal_measure::{BanSpan, Left, Span};
 use cal_picture::Page;
 use cal_policy::Cause;
-use cal_spans::{BanSpan, Left, Span};
 use cal_tables::letters;
 
 /// Writes the lanes of all cores.

@@ -1,8 +1,8 @@
 //! The clocks of spans and bans, kept beside them, since no pass is kept that could be asked for
 //! its clock.
 
+use cal_measure::{BanSpan, Span};
 use cal_policy::Action;
-use cal_spans::{BanSpan, Span};
 
 /// A span, and the clocks of its passes.
 #[derive(Clone, Copy)]

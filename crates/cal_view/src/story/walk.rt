@@ -14,8 +14,8 @@ ghost use Rattle.cal_view.specs.Walking.{IsWalkOf};
 use crate::story::clocks::{ClockedBan, ClockedSpan, Clocks};
 use crate::story::standing::{Row, Standing};
 use cal_machine::Config;
+use cal_measure::{BanSpan, BanTracker, Span, Tracker};
 use cal_policy::{Action, Input};
-use cal_spans::{BanSpan, BanTracker, Span, Tracker};
 
 /// A span and a ban of a core, where there are such.
 #[derive(Clone, Copy)]
