@@ -123,7 +123,7 @@ fn swept_load<'a>(
     Ok(SweptLoad { load, runs })
 }
 
-/// The runs of each of these loads, as many loads at a time as there are processors, and one after
+/// The runs of each of these loads, at most two loads at a time for each processor, and one after
 /// the other where no thread can be started; or the fault of the first load that has one. What is
 /// answered does not depend on the threads. Fails only when out of memory.
 fn answered_loads<'a>(
