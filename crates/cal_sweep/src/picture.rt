@@ -16,9 +16,9 @@ use crate::words::Asked;
 use cal_picture::Page;
 use std::alloc::{AllocError, Global};
 
-/// The picture of a sweep, which stands alone, under these names: over the load, the median of the responses of the
-/// task that is swept, their 99th and their 99.9th of 100, a colour for each table, and the
-/// objective. Fails only when out of memory.
+/// The picture of a sweep, which stands alone, under these names: over the load, the median of the
+/// responses of the task that is swept, their 99th and their 99.9th of 100, a colour for each
+/// table, and the objective. Fails only when out of memory.
 pub fn picture_of(
     alloc: Global,
     sweep: &Sweep,
