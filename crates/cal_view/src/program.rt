@@ -4,7 +4,7 @@
 ghost use Rattle.std.specs.Prelude.{◌≡◌, ◌≢◌, IfErr};
 
 use crate::command_words::command_line::{Job, Request, help, words};
-use crate::edge::beside::{Beside, open_beside};
+use crate::edge::beside::open_beside;
 use crate::edge::failure::Failure;
 use crate::edge::noted::Noted;
 use crate::edge::sources::{open_named, read_tables, said_of_reading};

@@ -61,7 +61,8 @@ fn put_slice<'a>(place: Place, name: &'a Page, told: &'a Page, events: &mut Even
     }
 }
 
-/// The colour of a task's spans and requests, by its name in chrome://tracing. After eight they begin again.
+/// The colour of a task's spans and requests, by its name in chrome://tracing. After eight they
+/// begin again.
 pub fn colour_of(task: usize) -> &'static str {
     match task % 8 {
         0 => "rail_response",
