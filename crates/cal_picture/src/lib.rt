@@ -10,6 +10,6 @@ mod page;
 mod scale;
 
 pub use colours::{Paper, Scheme, Shade, paper_of, shade_of};
-pub use compared::draw_comparison;
+pub use compared::comparison_page;
 pub use page::Page;
 pub use scale::{TimeScale, scaled};
