@@ -16,8 +16,9 @@ mod scale;
 mod story;
 mod timeline;
 
-pub use compared::draw_comparison;
+pub use compared::comparison_page;
 pub use counting::count_passes;
 pub use history::{Drawn, Shown, draw_picture};
 pub use loads::{LoadCurves, LoadTimes, RunTimes, TimeLimit, draw_load_curves};
+pub use page::Page;
 pub use timeline::write_timeline;
