@@ -7,7 +7,7 @@ use crate::timeline::events::{
     ARRIVALS, Events, Flow, OfRequest, RequestSlice, RequestStory, WORK,
 };
 use crate::timeline::slices::colour_of;
-use crate::timeline::work::{WorkTurn, begun_in, work_of};
+use crate::timeline::work::{WorkTurn, begun_of, work_turns};
 use cal_engine::RunFault;
 use cal_machine::Config;
 use cal_measure::run_end;
@@ -24,25 +24,26 @@ pub fn put_requests<W: Write>(
     events: &mut Events<'_>,
     writer: &mut W,
 ) -> Result<(), RunFault> {
-    let work = work_of(events.alloc, config, end, run_end(arrivals))?;
-    let begun = begun_in(events.alloc, work.as_slice())?;
+    let last = run_end(arrivals);
+    let begun = begun_of(events.alloc, config, end, last)?;
     for arrival in arrivals.requests.as_slice() {
         put_arrival(config, arrivals, arrival, &begun, events);
         events.page.send(writer)?;
     }
-    put_work(config, work.as_slice(), events, writer)
+    put_work(config, end, last, events, writer)
 }
 
 /// Puts the turns of all threads in which they worked.
 fn put_work<W: Write>(
     config: &Config,
-    work: &[Vec<WorkTurn>],
+    end: &RunEnd,
+    last: u64,
     events: &mut Events<'_>,
     writer: &mut W,
 ) -> Result<(), RunFault> {
-    for thread in 0..work.len() {
-        let turns = work[thread].as_slice();
-        put_work_of(config, thread as u8, turns, events, writer)?;
+    for thread in 0..config.threads() as u8 {
+        let turns = work_turns(events.alloc, end, last, thread)?;
+        put_work_of(config, thread, turns.as_slice(), events, writer)?;
     }
     Ok(())
 }

@@ -1,7 +1,7 @@
 //! The turns in which the kernel threads of a run worked at requests, as their journals tell.
 
 use cal_machine::Config;
-use cal_measure::{TimedTurn, services_of, timed_of, turns_of};
+use cal_measure::{TimedTurn, timed_of, turns_of};
 use cal_run::RunEnd;
 use std::alloc::{AllocError, Global};
 use std::collections::HashSet;
@@ -48,11 +48,11 @@ fn requests_in(
     turns: &[TimedTurn],
     left: Option<u64>,
 ) -> Result<Vec<u64>, AllocError> {
-    let mut services = Vec::new(alloc);
-    services_of(turns, &mut services)?;
     let mut requests = Vec::new(alloc);
-    for service in services.as_slice() {
-        requests.push(service.id)?;
+    for turn in turns {
+        if let Some(request) = turn.served {
+            requests.push(request)?;
+        }
     }
     if let Some(request) = left {
         requests.push(request)?;
@@ -74,8 +74,9 @@ fn work_in(turn: &TimedTurn, request: Option<u64>) -> Option<WorkTurn> {
 }
 
 /// The turns in which a thread worked, in order, in a run with this last clock. A thread is at one
-/// request until that is served, so each turn is at the first that was not served before it.
-fn work_turns(
+/// request until that is served, so each turn is at the first that was not served before it. Fails
+/// only when out of memory.
+pub fn work_turns(
     alloc: Global,
     end: &RunEnd,
     last: u64,
@@ -96,22 +97,6 @@ fn work_turns(
     Ok(worked)
 }
 
-/// The turns in which each thread worked, by threads and then in order, in a run with this last
-/// clock. Fails only when out of memory.
-pub fn work_of(
-    alloc: Global,
-    config: &Config,
-    end: &RunEnd,
-    last: u64,
-) -> Result<Vec<Vec<WorkTurn>>, AllocError> {
-    let mut work = Vec::new(alloc);
-    for thread in 0..config.threads() as u8 {
-        let turns = work_turns(alloc, end, last, thread)?;
-        work.push(turns)?;
-    }
-    Ok(work)
-}
-
 /// Adds the requests of these turns.
 fn note_begun(begun: &mut HashSet<u64>, turns: &[WorkTurn]) -> Result<(), AllocError> {
     for turn in turns {
@@ -120,10 +105,16 @@ fn note_begun(begun: &mut HashSet<u64>, turns: &[WorkTurn]) -> Result<(), AllocE
     Ok(())
 }
 
-/// The requests at which the threads worked. Fails only when out of memory.
-pub fn begun_in(alloc: Global, work: &[Vec<WorkTurn>]) -> Result<HashSet<u64>, AllocError> {
+/// The requests that were begun in a run with this last clock. Fails only when out of memory.
+pub fn begun_of(
+    alloc: Global,
+    config: &Config,
+    end: &RunEnd,
+    last: u64,
+) -> Result<HashSet<u64>, AllocError> {
     let mut begun = HashSet::new(alloc);
-    for turns in work {
+    for thread in 0..config.threads() as u8 {
+        let turns = work_turns(alloc, end, last, thread)?;
         note_begun(&mut begun, turns.as_slice())?;
     }
     Ok(begun)
