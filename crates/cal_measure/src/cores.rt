@@ -97,7 +97,7 @@ impl TaskActions {
 }
 
 /// The core time of so many cores over some ticks.
-fn core_time(cores: u8, ticks: u64) -> u128
+pub fn core_time(cores: u8, ticks: u64) -> u128
     ensures time { result ≡ cores * ticks }
     ensures few { result < 2 ^ 72 }
 {

@@ -1,0 +1,47 @@
+-- What a walk over the passes of a history holds after those so far.
+use Rattle.std.specs.Prelude.{◌≡◌, ℕ, ◌+◌, ◌-◌, ◌*◌, ◌^◌, ◌≤◌, List, [], ◌∷◌, ◌++◌, length}
+use Rattle.std.specs.Prelude.{Option, Some, None, slice_get}
+use Rattle.cal_machine.specs.Table.{Table}
+use Rattle.cal_policy.specs.Pass.Choice.{greatest_below}
+use Rattle.cal_policy.specs.declared.history.entry.PassEntry.{PassEntry}
+use Rattle.cal_measure.specs.Cores.{congested_for, core_time, held_after, left_after}
+use Rattle.cal_measure.specs.States.{is_congested_at, lasts_at}
+use Rattle.cal_measure.specs.declared.walk.task_time.TaskTime.{TaskTime}
+
+-- how long what is so after the last pass of a history lasts once this pass follows; 0 where there
+-- is none before it
+abbrev pub until_next : List PassEntry → PassEntry → ℕ
+until_next history next = lasts_at (history ++ next ∷ []) (length history - 1)
+
+-- the clock of a pass, where there is one
+abbrev pub clock_of : Option PassEntry → Option ℕ
+clock_of None = None
+clock_of (Some entry) = Some entry.input.now
+
+-- the clock of the last pass of a history
+abbrev pub last_clock : List PassEntry → Option ℕ
+last_clock history = clock_of (slice_get history (length history - 1))
+
+-- what was so since this clock, where there is one, has lasted so long by now
+abbrev pub since : Option ℕ → ℕ → ℕ
+since None now = 0
+since (Some clock) now = now - clock
+
+-- something holds of what stands at each task's place
+abbrev pub EachTask : {X : Type 0} → (ℕ → X → Type 0) → List X → Type 0
+EachTask {X} P rows = (t : ℕ) (row : X) → slice_get rows t ≡ Some row → P t row
+
+-- the core time of task t over the passes of a history, and how the last of them left it
+pub record IsTimeOf (table : Table) (history : List PassEntry) (t : ℕ)
+    (time : TaskTime) : Type 0 where
+  pub most : time.most ≡ greatest_below (held_after table history t) (length history)
+  pub held : time.held ≡ core_time history (held_after table history t)
+  pub leaving : time.leaving ≡ core_time history (left_after table history t)
+  pub congested : time.congested ≡ congested_for table history t
+  pub holds : (p : ℕ) → length history ≡ p + 1 → time.holds ≡ held_after table history t p
+  pub leaves : (p : ℕ) → length history ≡ p + 1 → time.leaves ≡ left_after table history t p
+  pub found : (p : ℕ) → length history ≡ p + 1 →
+      time.found ≡ is_congested_at table history t p
+  pub few_held : time.held ≤ length history * 2 ^ 72
+  pub few_leaving : time.leaving ≤ length history * 2 ^ 72
+  pub few_congested : time.congested ≤ length history * 2 ^ 72
