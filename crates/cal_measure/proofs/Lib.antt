@@ -4,3 +4,4 @@ pub mod Counting
 pub mod Passes
 pub mod Whole
 pub mod OneMore
+pub mod SpanLemmas

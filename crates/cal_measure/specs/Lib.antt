@@ -11,3 +11,4 @@ pub mod States
 pub mod Actions
 pub mod Cores
 pub mod Walk
+pub mod Spans
