@@ -5,3 +5,4 @@ pub mod Passes
 pub mod Whole
 pub mod OneMore
 pub mod SpanLemmas
+pub mod EachTaskLemmas

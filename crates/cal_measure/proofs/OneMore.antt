@@ -1,13 +1,15 @@
 -- A history with one pass more: what was so after each pass before is so still.
-use Rattle.std.proofs.Common.{◌≡◌, ◌∙◌, ◌+◌, ◌-◌, ◌*◌, ◌<◌, ◌≤◌, ◌++◌, ◌∷◌, [], ℕ, zero, suc, max, List, Option, Some, None, length, length-append, take, take_all, slice_get, ap, refl, sym, subst, arith}
+use Rattle.std.specs.Prelude.{nat_lt}
+use Rattle.std.proofs.Common.{◌≡◌, ◌∙◌, ◌+◌, ◌-◌, ◌*◌, ◌<◌, ◌≤◌, ◌++◌, ◌∷◌, [], ℕ, zero, suc, max, Bool, true, false, cond, List, Option, Some, None, length, length-append, take, take_all, slice_get, ap, refl, sym, subst, arith}
 use Rattle.cal_machine.specs.Table.{Table}
 use Rattle.cal_policy.specs.History.{actions_of}
 use Rattle.cal_policy.specs.Board.Counts.{booked_by, held_by}
 use Rattle.cal_policy.specs.Pass.Choice.{greatest_below, sum_below}
 use Rattle.cal_policy.specs.declared.history.entry.PassEntry.{PassEntry}
-use Rattle.cal_measure.specs.Cores.{held_after, left_after}
-use Rattle.cal_measure.specs.States.{clock_at, clock_in, found_congested, is_congested_at, lasts_at}
-use Rattle.cal_measure.specs.Walk.{until_next}
+use Rattle.cal_measure.specs.Cores.{bandwidth_in, core_time, held_after, in_state_after, is_over_limit, left_after}
+use Rattle.cal_measure.specs.States.{clock_at, clock_in, count_in_state, found_congested, is_congested_at, lasts_at}
+use Rattle.cal_measure.specs.declared.states.CoreState.{CoreState}
+use Rattle.cal_measure.specs.Walk.{clock_of, last_clock, since, until_next}
 
 pub take_left : {X : Type 0} (xs ys : List X) (k : ℕ) → k ≤ length xs → take k (xs ++ ys) ≡ take k xs
 take_left xs ys zero le = refl
@@ -117,3 +119,42 @@ pub congested_before : (table : Table) (h : List PassEntry) (e : PassEntry) (t p
 congested_before table h e t p lt =
     ap (λ (l : List PassEntry). found_congested table l t (slice_get (h ++ e ∷ []) p)) (take_left h (e ∷ []) p (omega (arith, lt)))
     ∙ ap (found_congested table (take p h) t) (slice_left h (e ∷ []) p lt)
+
+pub in_state_before : (table : Table) (h : List PassEntry) (e : PassEntry) (state : CoreState) (p : ℕ) → p < length h → in_state_after table (h ++ e ∷ []) state p ≡ in_state_after table h state p
+in_state_before table h e state p lt = ap (λ (l : List PassEntry). count_in_state table (actions_of l) state) (take_left h (e ∷ []) (p + 1) (omega (arith, lt)))
+
+pub over_before : (table : Table) (h : List PassEntry) (e : PassEntry) (p : ℕ) → p < length h → is_over_limit table (h ++ e ∷ []) p ≡ is_over_limit table h p
+over_before table h e p lt = ap (λ (o : Option PassEntry). nat_lt table.bandwidth_limit (bandwidth_in o)) (slice_left h (e ∷ []) p lt)
+
+-- core time in a state, of one pass more, where so many cores were in it after the last pass before
+pub state_summed : (table : Table) (h : List PassEntry) (e : PassEntry) (state : CoreState) (sum time lasts now : ℕ) → sum ≡ core_time h (in_state_after table h state) →
+    lasts ≡ until_next h e → time ≡ now * lasts → ((p : ℕ) → length h ≡ p + 1 → now ≡ in_state_after table h state p) →
+    sum + time ≡ core_time (h ++ e ∷ []) (in_state_after table (h ++ e ∷ []) state)
+state_summed table h e state sum time lasts now was lasting is so =
+    summed h e (λ p l. in_state_after table h state p * l) (λ p l. in_state_after table (h ++ e ∷ []) state p * l)
+    (λ p l lt. ap (λ n. n * l) (in_state_before table h e state p lt)) (λ p. omega arith) (λ p. omega arith)
+    sum time lasts was lasting (λ none. is ∙ ap (λ l. now * l) none ∙ omega arith) (λ p at. is ∙ ap (λ n. n * lasts) (so p at))
+
+-- no time is none, whatever it is of
+pub no_ticks : (b : Bool) → ◌≡◌ {A = ℕ} (cond b 0 0) 0
+no_ticks true = refl
+no_ticks false = refl
+
+since_from : (x : PassEntry) (xs : List PassEntry) (now : ℕ) → since (clock_of (slice_get (x ∷ xs) (length xs))) now ≡ now - clock_in (slice_get (x ∷ xs) (length xs))
+since_from x [] now = refl
+since_from x (y ∷ ys) now = since_from y ys now
+
+-- what was so after the last pass lasts from its clock to the next
+pub since_last : (h : List PassEntry) (e : PassEntry) → since (last_clock h) e.input.now ≡ until_next h e
+since_last [] e = omega arith
+since_last (x ∷ xs) e =
+    let h : List PassEntry = x ∷ xs in
+    let h2 : List PassEntry = h ++ e ∷ [] in
+    let now = e.input.now in
+    let at : length h - 1 ≡ length xs = omega arith in
+    let plus : length xs + 1 ≡ length h = omega arith in
+    let next : slice_get h2 (length xs + 1) ≡ Some e = ap (λ k. slice_get h2 k) plus ∙ slice_here h e in
+    ap (λ k. since (clock_of (slice_get h k)) now) at ∙ since_from x xs now
+    ∙ sym (ap (λ (o : Option PassEntry). now - clock_in o) (slice_left h (e ∷ []) (length xs) (omega arith)))
+    ∙ sym (ap (λ (o : Option PassEntry). clock_in o - clock_at h2 (length xs)) next)
+    ∙ sym (ap (λ k. lasts_at h2 k) at)

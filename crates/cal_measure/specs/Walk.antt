@@ -4,8 +4,12 @@ use Rattle.std.specs.Prelude.{Option, Some, None, slice_get}
 use Rattle.cal_machine.specs.Table.{Table}
 use Rattle.cal_policy.specs.Pass.Choice.{greatest_below}
 use Rattle.cal_policy.specs.declared.history.entry.PassEntry.{PassEntry}
-use Rattle.cal_measure.specs.Cores.{congested_for, core_time, held_after, left_after}
+use Rattle.cal_measure.specs.Cores.{AreMachineCores, congested_for, core_time, held_after}
+use Rattle.cal_measure.specs.Cores.{in_state_after, is_over_limit, left_after}
 use Rattle.cal_measure.specs.States.{is_congested_at, lasts_at}
+use Rattle.cal_measure.specs.declared.cores.MachineCores.{MachineCores}
+use Rattle.cal_measure.specs.declared.states.CoreState.TheVariants as states
+use Rattle.cal_measure.specs.declared.walk.machine_time.MachineTime.{MachineTime}
 use Rattle.cal_measure.specs.declared.walk.task_time.TaskTime.{TaskTime}
 
 -- how long what is so after the last pass of a history lasts once this pass follows; 0 where there
@@ -45,3 +49,29 @@ pub record IsTimeOf (table : Table) (history : List PassEntry) (t : ℕ)
   pub few_held : time.held ≤ length history * 2 ^ 72
   pub few_leaving : time.leaving ≤ length history * 2 ^ 72
   pub few_congested : time.congested ≤ length history * 2 ^ 72
+
+-- the machine's numbers over the passes of a history, low enough for one pass more
+pub record AreMachineCoresSoFar (table : Table) (history : List PassEntry)
+    (numbers : MachineCores) : Type 0 where
+  pub are : AreMachineCores table history numbers
+  pub few_lasted : numbers.lasted ≤ length history * 2 ^ 72
+  pub few_held : numbers.held ≤ length history * 2 ^ 72
+  pub few_leaving : numbers.leaving ≤ length history * 2 ^ 72
+  pub few_banned : numbers.banned ≤ length history * 2 ^ 72
+  pub few_free : numbers.free ≤ length history * 2 ^ 72
+  pub few_over : numbers.over_limit ≤ length history * 2 ^ 72
+
+-- the core time of the machine over the passes of a history, and how the last of them left it
+pub record IsMachineTimeOf (table : Table) (history : List PassEntry)
+    (time : MachineTime) : Type 0 where
+  pub numbers : AreMachineCoresSoFar table history time.numbers
+  pub held : (p : ℕ) → length history ≡ p + 1 →
+      time.held ≡ in_state_after table history states.Held p
+  pub leaving : (p : ℕ) → length history ≡ p + 1 →
+      time.leaving ≡ in_state_after table history states.Leaving p
+  pub banned : (p : ℕ) → length history ≡ p + 1 →
+      time.banned ≡ in_state_after table history states.Banned p
+  pub free : (p : ℕ) → length history ≡ p + 1 →
+      time.free ≡ in_state_after table history states.Free p
+  pub is_over : (p : ℕ) → length history ≡ p + 1 →
+      time.is_over ≡ is_over_limit table history p

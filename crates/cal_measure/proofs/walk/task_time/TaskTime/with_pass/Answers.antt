@@ -7,12 +7,8 @@ use Rattle.cal_policy.specs.declared.history.entry.PassEntry.{PassEntry}
 use Rattle.cal_policy.proofs.BoardLemmas.Replayed.{looks_push}
 use Rattle.cal_measure.specs.Cores.{held_after, left_after}
 use Rattle.cal_measure.specs.States.{found_congested, is_congested_at, lasts_at}
-use Rattle.cal_measure.proofs.OneMore.{congested_before, greatest, held_before, left_before, slice_here, summed, take_before, take_here}
+use Rattle.cal_measure.proofs.OneMore.{congested_before, greatest, held_before, left_before, no_ticks, slice_here, summed, take_before, take_here}
 use Rattle.cal_measure.proofs.walk.task_time.TaskTime.with_pass.Goals as goal
-
-no_ticks : (b : Bool) → ◌≡◌ {A = ℕ} (cond b 0 0) 0
-no_ticks true = refl
-no_ticks false = refl
 
 pub returns : goal.returns
 returns c = λ h e few state clock lasting was.
