@@ -1,10 +1,11 @@
 -- What stands at each task's place, while one place after the other is brought up.
-use Rattle.std.proofs.Common.{◌≡◌, ◌≢◌, ◌∙◌, ◌+◌, ◌<◌, ◌≤◌, ℕ, List, Some, length, get_or, set, ap, refl, subst, sym, arith, ⊎_elim}
+use Rattle.std.proofs.Common.{◌++◌, ◌∷◌, [], ◌≡◌, ◌≢◌, ◌∙◌, ◌+◌, ◌<◌, ◌≤◌, ℕ, List, Some, length, get_or, set, ap, refl, subst, sym, arith, ⊎_elim}
 use Rattle.std.specs.List.{slice_get}
 use Rattle.std.proofs.Math.ListN.{length-set}
 use Rattle.std.proofs.lemmas.Bool.{cases_eq}
 use Rattle.std.proofs.lemmas.List.{get_or-set_same, get_or-set_other}
 use Rattle.std.proofs.lemmas.Option.{slice_get-get_or, slice_get_within, get_or_from_slice_get}
+use Rattle.cal_machine.proofs.Last.{last_or_before}
 use Rattle.cal_measure.specs.Walk.{EachTask}
 
 -- the first i places have what is new, the others what was
@@ -51,3 +52,8 @@ one_done {X} Old New i rows d is lt are step = record {
         let Q : ℕ → Type 0 = λ n. New n row in
         let R : X → Type 0 = λ r. New i r in
         subst Q same (subst R found made)
+
+-- one row more, at its end
+pub each_more : {X : Type 0} (P : ℕ → X → Type 0) (rows : List X) (row : X) → EachTask P rows → P (length rows) row → EachTask P (rows ++ row ∷ [])
+each_more {X} P rows row each here t found at =
+    ⊎_elim (λ was. each t found was.1) (λ last. subst (λ r. P t r) last.1 (subst (λ k. P k row) (sym last.0) here)) (last_or_before rows row found t at)

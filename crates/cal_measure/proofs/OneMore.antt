@@ -158,3 +158,9 @@ since_last (x ∷ xs) e =
     ∙ sym (ap (λ (o : Option PassEntry). now - clock_in o) (slice_left h (e ∷ []) (length xs) (omega arith)))
     ∙ sym (ap (λ (o : Option PassEntry). clock_in o - clock_at h2 (length xs)) next)
     ∙ sym (ap (λ k. lasts_at h2 k) at)
+
+-- the clock of the last pass is that of the one that came last
+pub clock_here : (h : List PassEntry) (e : PassEntry) → last_clock (h ++ e ∷ []) ≡ Some e.input.now
+clock_here h e =
+    let at : length (h ++ e ∷ []) - 1 ≡ length h = omega (arith, length-append h (e ∷ [])) in
+    ap (λ k. clock_of (slice_get (h ++ e ∷ []) k)) at ∙ ap (λ (o : Option PassEntry). clock_of o) (slice_here h e)

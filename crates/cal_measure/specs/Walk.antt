@@ -2,14 +2,20 @@
 use Rattle.std.specs.Prelude.{◌≡◌, ℕ, ◌+◌, ◌-◌, ◌*◌, ◌^◌, ◌≤◌, List, [], ◌∷◌, ◌++◌, length}
 use Rattle.std.specs.Prelude.{Option, Some, None, slice_get}
 use Rattle.cal_machine.specs.Table.{Table}
+use Rattle.cal_policy.specs.History.{actions_of}
 use Rattle.cal_policy.specs.Pass.Choice.{greatest_below}
+use Rattle.cal_policy.specs.State.{IsReady, IsStateAfter}
+use Rattle.cal_policy.specs.declared.history.action_list.TheConstants.{MOST_ACTIONS}
 use Rattle.cal_policy.specs.declared.history.entry.PassEntry.{PassEntry}
-use Rattle.cal_measure.specs.Cores.{AreMachineCores, congested_for, core_time, held_after}
-use Rattle.cal_measure.specs.Cores.{in_state_after, is_over_limit, left_after}
+use Rattle.cal_measure.specs.Actions.{AreActionsOf}
+use Rattle.cal_measure.specs.Cores.{AreCoresOf, AreMachineCores, congested_for, core_time}
+use Rattle.cal_measure.specs.Cores.{held_after, in_state_after, is_over_limit, left_after}
 use Rattle.cal_measure.specs.States.{is_congested_at, lasts_at}
 use Rattle.cal_measure.specs.declared.cores.MachineCores.{MachineCores}
+use Rattle.cal_measure.specs.declared.cores.TaskCores.{TaskCores}
 use Rattle.cal_measure.specs.declared.states.CoreState.TheVariants as states
 use Rattle.cal_measure.specs.declared.walk.machine_time.MachineTime.{MachineTime}
+use Rattle.cal_measure.specs.declared.walk.Walk.{Walk}
 use Rattle.cal_measure.specs.declared.walk.task_time.TaskTime.{TaskTime}
 
 -- how long what is so after the last pass of a history lasts once this pass follows; 0 where there
@@ -75,3 +81,26 @@ pub record IsMachineTimeOf (table : Table) (history : List PassEntry)
       time.free ≡ in_state_after table history states.Free p
   pub is_over : (p : ℕ) → length history ≡ p + 1 →
       time.is_over ≡ is_over_limit table history p
+
+-- a walk can take passes on this table: its board is ready for them, and each task has its rows
+pub record IsOpenFor (table : Table) (walk : Walk) : Type 0 where
+  pub ready : IsReady table walk.board
+  pub actions : length walk.actions.items ≡ length table.tasks
+  pub times : length walk.times.items ≡ length table.tasks
+
+-- what a walk holds after these passes: the state that they leave, the clock of the last one, and
+-- the numbers of each task and of the machine
+pub record IsWalkOf (table : Table) (history : List PassEntry) (walk : Walk) : Type 0 where
+  pub state : IsStateAfter walk.board history
+  pub clock : walk.clock ≡ last_clock history
+  pub actions : EachTask (λ t of_task. AreActionsOf table t (actions_of history) of_task)
+      walk.actions.items
+  pub times : EachTask (IsTimeOf table history) walk.times.items
+  pub machine : IsMachineTimeOf table history walk.machine
+  pub few_actions : length (actions_of history) ≤ length history * MOST_ACTIONS
+
+-- for each task, in task order, the numbers of its cores in this history
+pub record AreCoresOfEach (table : Table) (history : List PassEntry)
+    (numbers : List TaskCores) : Type 0 where
+  pub many : length numbers ≡ length table.tasks
+  pub each : EachTask (AreCoresOf table history) numbers

@@ -78,7 +78,7 @@ pub struct MachineCores {
 
 impl TaskActions {
     /// Of nothing that was done.
-    fn none() -> TaskActions
+    pub fn none() -> TaskActions
         ensures { (table : Table) (t : ℕ) → AreActionsOf table t [] result }
     {
         TaskActions {
