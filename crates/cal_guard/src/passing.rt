@@ -22,7 +22,7 @@ ghost use Rattle.cal_guard.specs.Permitted.{IsPermitted, IsPermittedHistory, cor
 ghost use Rattle.cal_guard.specs.Refusals as refusals;
 ghost use Rattle.cal_guard.specs.Refusals.{MayEndWith, IsFirstWrong};
 ghost use Rattle.cal_guard.specs.Passing.{IsSetOfSent, IsAfter, IsInside, MayFollow};
-ghost use Rattle.cal_guard.specs.Passing.{AreFew, AreLooks, AreShown, next_setting};
+ghost use Rattle.cal_guard.specs.Passing.{AreFew, AreLooks, AreShown, InsideOn, next_setting};
 
 use crate::pass_looks::PassLooks;
 use crate::refusal::{Refused, Why};
@@ -357,9 +357,8 @@ impl Passing {
         requires ready { IsReady config.now self.now.board }
         ensures names { IfNone result (NamesTable config.now action) }
         ensures few { IfNone result (self.now.made < MOST_ACTIONS) }
-        ensures wrong { (h : Begun) (acts : List Action) →
-            let s = setting_at config.now terms.entry.now h in
-            IsInside self.now s acts → result ≡ refusals.wrong_with s acts action }
+        ensures wrong { InsideOn config.now terms.entry.now self.now (λ s acts.
+            result ≡ refusals.wrong_with s acts action) }
     {
         if self.made >= MOST_ACTIONS {
             return Some(Why::TooMany);
@@ -400,19 +399,16 @@ impl Passing {
     ) -> Result<(), Refused>
         requires table { IsTable config.now }
         requires ready { IsReady config.now self.old.board }
-        ensures exact { (h : Begun) (acts : List Action) →
-            let s = setting_at config.now terms.entry.now h in
-            IsInside self.old s acts → IsOk result ↔ MayEndWith s acts actions.now }
-        ensures inside { IsOk result → (h : Begun) (acts : List Action) →
-            let s = setting_at config.now terms.entry.now h in
-            IsInside self.old s acts → IsInside self.new s (acts ++ actions.now) }
+        ensures exact { InsideOn config.now terms.entry.now self.old (λ s acts.
+            IsOk result ↔ MayEndWith s acts actions.now) }
+        ensures inside { IsOk result → InsideOn config.now terms.entry.now self.old (λ s acts.
+            IsInside self.new s (acts ++ actions.now)) }
         ensures after { IsOk result → (s : Setting) (acts : List Action) →
             IsAfter self.old s acts → IsAfter self.new s (acts ++ actions.now) }
         ensures follow { IsOk result → MayFollow config.now self.old.made actions.now }
         ensures made { IsOk result → self.new.made ≡ self.old.made + length actions.now }
-        ensures first { IfErr result (λ refused. (h : Begun) (acts : List Action) →
-            let s = setting_at config.now terms.entry.now h in
-            IsInside self.old s acts → IsFirstWrong s acts actions.now refused) }
+        ensures first { IfErr result (λ refused. InsideOn config.now terms.entry.now self.old
+            (λ s acts. IsFirstWrong s acts actions.now refused)) }
         ensures ready { IsReady config.now self.new.board }
     {
         for (place, action) in actions.iter().enumerate() {
