@@ -1,14 +1,13 @@
-//! A gate: its table, and the guard of the passes so far. It lets a pass through whose actions
-//! somebody else chose, or says which of them is not permitted.
+//! A guard with its table. It lets a pass through whose actions somebody else chose, or says which
+//! of them is not permitted.
 
 mod each;
 mod facts;
 
-ghost use Rattle.std.specs.Prelude.{◌≡◌, ◌⊎◌, ◌≤◌, Err, IfOk, IfErr, IfNone, OnErr, List, []};
+ghost use Rattle.std.specs.Prelude.{◌≡◌, ◌⊎◌, ◌≤◌, Err, IfOk, IfErr, IfNone, OnErr, []};
 ghost use Rattle.std.specs.Prelude.{length, nat_lt};
 ghost use Rattle.cal_machine.specs.Outcome.{Gives};
 ghost use Rattle.cal_machine.specs.Reading.{table_in};
-ghost use Rattle.cal_policy.specs.declared.history.entry.PassEntry.{PassEntry};
 ghost use Rattle.cal_policy.specs.Board.{kept_holder};
 ghost use Rattle.cal_policy.specs.History.{actions_of, holder_of};
 ghost use Rattle.cal_policy.specs.Judgement.Judging.{IsInput};
@@ -18,7 +17,7 @@ ghost use Rattle.caladan_c.specs.Told.{AreJudgements, counts_of};
 ghost use Rattle.std.specs.Option.{is_some, IfSome};
 
 use crate::answer::Refusal;
-use crate::given::Given;
+use crate::handed_in::HandedIn;
 use crate::recorded::read_actions;
 use crate::told::Told;
 use crate::told::counts::{Counts, counts_of_task};
@@ -33,7 +32,7 @@ use std::marker::Model;
 
 /// A table, the guard of the passes so far, and memory that each pass uses again.
 #[derive(Drop)]
-pub struct Gate {
+pub struct TableGuard {
     config: Config,
     guard: Guard,
     /// The actions of the last pass that was given.
@@ -42,12 +41,12 @@ pub struct Gate {
     looks: Box<OpenPass>,
 }
 
-impl Model for Gate {
+impl Model for TableGuard {
     ghost use Rattle.cal_guard.specs.Guarded.{board_in};
     ghost use Rattle.cal_policy.specs.State.{IsReady};
-    ghost use Rattle.caladan_c.specs.Gated.{Gated};
+    ghost use Rattle.caladan_c.specs.GuardView.{GuardView};
 
-    ghost Value = { Gated };
+    ghost Value = { GuardView };
 
     ghost view = { λ g. record { table = g.config; guard = g.guard } };
 
@@ -55,25 +54,25 @@ impl Model for Gate {
 }
 
 ghost use Rattle.cal_policy.specs.State.{IsStateAfter};
-ghost use Rattle.cal_guard.specs.Guarded.{board_in};
+ghost use Rattle.cal_guard.specs.Guarded.{board_in, AfterPermitted};
 ghost use Rattle.cal_guard.specs.Permitted.{IsPermittedHistory};
-ghost use Rattle.caladan_c.specs.Gated.{WentThrough, WasStopped};
+ghost use Rattle.caladan_c.specs.GuardView.{WentThrough, WasStopped};
 ghost use Rattle.caladan_c.specs.Recorded.{AreNoActions};
 ghost use Rattle.caladan_c.specs.declared.answer.Refusal.TheVariants.{Memory, Unfit, NoAction};
 
-impl Gate {
-    /// A gate of this table that was handed no pass, or the table's fault. It takes all the memory
+impl TableGuard {
+    /// A guard of this table that was handed no pass, or the table's fault. It takes all the memory
     /// that passes of at most `MOST_ACTIONS` actions need.
-    pub fn open(alloc: Global, table: &[u8]) -> Result<Gate, ConfigFault>
-        ensures table { Gives (λ gate. gate.table) result (table_in table.now) }
-        ensures new { IfOk result (λ gate. IsPermittedHistory gate.table []
-            × IsStateAfter (board_in gate.guard) []) }
+    pub fn open(alloc: Global, table: &[u8]) -> Result<TableGuard, ConfigFault>
+        ensures table { Gives (λ opened. opened.table) result (table_in table.now) }
+        ensures new { IfOk result (λ opened. IsPermittedHistory opened.table []
+            × IsStateAfter (board_in opened.guard) []) }
     {
         let config = Config::read(alloc, table)?;
         let guard = Guard::open(alloc, &config)?;
         let chosen = Vec::with_capacity(alloc, MOST_ACTIONS)?;
         let looks = Box::new(alloc, OpenPass::new())?;
-        Ok(Gate {
+        Ok(TableGuard {
             config,
             guard,
             chosen,
@@ -91,9 +90,8 @@ impl Gate {
     /// Who has a core, where the table has it.
     pub fn holder(&self, core: u8) -> Option<Holder>
         ensures there { is_some result ≡ nat_lt core self.now.table.cores }
-        ensures holder { IfSome result (λ holder. (h : List PassEntry) →
-            IsPermittedHistory self.now.table h → IsStateAfter (board_in self.now.guard) h →
-            holder ≡ kept_holder (holder_of (actions_of h) core)) }
+        ensures holder { IfSome result (λ holder. AfterPermitted self.now.table self.now.guard (λ h.
+            holder ≡ kept_holder (holder_of (actions_of h) core))) }
     {
         holder_on(&self.config, self.guard.board(), core)
     }
@@ -101,9 +99,9 @@ impl Gate {
     /// How many cores a task holds, how many it books, and its cap, where the table has it.
     pub fn counts(&self, task: usize) -> Option<Counts>
         ensures there { is_some result ≡ nat_lt task (length self.now.table.tasks) }
-        ensures counts { IfSome result (λ counted. (h : List PassEntry) →
-            IsPermittedHistory self.now.table h → IsStateAfter (board_in self.now.guard) h →
-            counted ≡ counts_of self.now.table (actions_of h) task) }
+        ensures counts { IfSome result (λ counted.
+            AfterPermitted self.now.table self.now.guard (λ h.
+            counted ≡ counts_of self.now.table (actions_of h) task)) }
     {
         counts_of_task(&self.config, self.guard.board(), task)
     }
@@ -113,28 +111,23 @@ impl Gate {
     /// takes memory only for more than `MOST_ACTIONS` actions.
     pub fn pass(
         &mut self,
-        given: Given<'_>,
+        given: HandedIn<'_>,
         judged: &mut [u8],
         told: &[Told],
     ) -> Result<Option<Refused>, Refusal>
         requires count { length given.looks.now ≡ threads_of_table self.old.table }
         requires room { threads_of_table self.old.table ≤ length judged.old }
         ensures through { IfOk result (λ said.
-            IfNone said ((h : List PassEntry) → IsPermittedHistory self.old.table h →
-            IsStateAfter (board_in self.old.guard) h →
-            WentThrough self.old h (input_given self.old.table h given.entry) told.now
-            self.new)) }
+            IfNone said (AfterPermitted self.old.table self.old.guard (λ h.
+            WentThrough self.old h (input_given self.old.table h given.entry) told.now self.new))) }
         ensures judged { IfOk result (λ said.
-            IfNone said ((h : List PassEntry) → IsPermittedHistory self.old.table h →
-            IsStateAfter (board_in self.old.guard) h →
-            AreJudgements (input_given self.old.table h given.entry).seen judged.new)) }
-        ensures stopped { IfOk result (λ said. IfSome said (λ refused. (h : List PassEntry) →
-            IsPermittedHistory self.old.table h → IsStateAfter (board_in self.old.guard) h →
-            WasStopped self.old h (input_given self.old.table h
-            given.entry) told.now refused)) }
-        ensures unfit { result ≡ Err Unfit → (h : List PassEntry) →
-            IsPermittedHistory self.old.table h → IsStateAfter (board_in self.old.guard) h →
-            IsInput self.old.table h (input_given self.old.table h given.entry) → ⊥ }
+            IfNone said (AfterPermitted self.old.table self.old.guard (λ h.
+            AreJudgements (input_given self.old.table h given.entry).seen judged.new))) }
+        ensures stopped { IfOk result (λ said. IfSome said (λ refused.
+            AfterPermitted self.old.table self.old.guard (λ h.
+            WasStopped self.old h (input_given self.old.table h given.entry) told.now refused))) }
+        ensures unfit { result ≡ Err Unfit → AfterPermitted self.old.table self.old.guard (λ h.
+            IsInput self.old.table h (input_given self.old.table h given.entry) → ⊥) }
         ensures no_action { result ≡ Err NoAction → AreNoActions told.now }
         ensures why { IfErr result (λ why. (why ≡ Unfit) ⊎ (why ≡ NoAction) ⊎ (why ≡ Memory)) }
         ensures stands { IfOk result (λ said. IfSome said (λ _. (self.new ≡ self.old) ×

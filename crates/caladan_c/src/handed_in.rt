@@ -4,7 +4,7 @@ use crate::found::Found;
 
 /// What a pass is given.
 #[derive(Clone, Copy)]
-pub struct Given<'a> {
+pub struct HandedIn<'a> {
     /// The clock when it begins.
     pub now: u64,
     /// The bandwidth figure.

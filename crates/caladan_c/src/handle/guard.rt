@@ -1,41 +1,41 @@
-//! What C holds of a gate.
+//! What C holds of a guard.
 
 ghost use Rattle.std.specs.Prelude.{◌≡◌, Option, Some, None};
 ghost use Rattle.std.specs.Option.{is_some, option_map};
 
-use super::gate_pointer::GatePointer;
+use super::guard_pointer::GuardPointer;
 use super::loose::Loose;
-use crate::gate::Gate;
+use crate::table_guard::TableGuard;
 use std::alloc::Global;
 use std::mem;
 
 /// What C holds: whether it is open, and where what it keeps lies.
 #[repr(C)]
 #[derive(Drop)]
-pub struct GateHandle {
+pub struct GuardHandle {
     live: bool,
-    pub pointer: GatePointer,
+    pub pointer: GuardPointer,
     ghost honest: { live ≡ is_some pointer.kept },
 }
 
-impl GateHandle {
+impl GuardHandle {
     /// A handle that keeps nothing.
-    pub fn closed(alloc: Global) -> GateHandle
+    pub fn closed(alloc: Global) -> GuardHandle
         ensures { result.pointer.kept ≡ None }
     {
-        GateHandle {
+        GuardHandle {
             live: false,
-            pointer: GatePointer::to_nothing(alloc),
+            pointer: GuardPointer::to_nothing(alloc),
         }
     }
 
     /// An open handle. It takes no memory.
-    pub fn of(kept: Box<Gate>) -> GateHandle
+    pub fn of(kept: Box<TableGuard>) -> GuardHandle
         ensures { result.pointer.kept ≡ Some kept.value }
     {
-        GateHandle {
+        GuardHandle {
             live: true,
-            pointer: GatePointer::of_loose(Loose::of(kept)),
+            pointer: GuardPointer::of_loose(Loose::of(kept)),
         }
     }
 
@@ -47,11 +47,11 @@ impl GateHandle {
     }
 
     /// What it keeps, which it keeps no longer.
-    pub fn take(&mut self, alloc: Global) -> Option<Box<Gate>>
+    pub fn take(&mut self, alloc: Global) -> Option<Box<TableGuard>>
         ensures taken { self.old.pointer.kept ≡ option_map (λ kept. kept.value) result }
         ensures closed { self.new.pointer.kept ≡ None }
     {
-        let GateHandle { live, pointer } = mem::replace(self, GateHandle::closed(alloc));
+        let GuardHandle { live, pointer } = mem::replace(self, GuardHandle::closed(alloc));
         if live {
             Some(pointer.into_loose().into_box())
         } else {

@@ -1,12 +1,12 @@
 -- `to_nothing` makes a null pointer, which owns nothing.
 use Rattle.caladan_c.proofs.HandleLemmas.Walking.{refl, sym, subst, None, List, [], ◌∷◌, ◌++◌, T, lit<, Ty, ty_ptr, ty_struct, tcons, tnil, Ura, Val, vnull, vstruct, vcons, vnil, has_ty, WT, SProp, ent, emp, id⊢, ftrue, fsep, Memory, Routine, WpFn, Tables, Logic, Fun, tables, tables_of, WpFn-mono, Item, ‵, raw, ◌⊛◌, ◌$◌, ◌∵◌, !, qed, by, move, drop, use1, join, split, fsplit, fjoin, fpack, feq_i, suffices, done, agg, no_more, and_then, lit, returns, enter, alloc_all, pass_all, free_all, look_at, get, sets, yes, Valss, RawPtr, null_ptr, type_at, nothing, within, shape, to, triple_of, entered, says, Stays, stay_dropped, walk_of, ends_at, Goes-dropped, walk_Meets, α, handle_tells, and_tt}
 use Rattle.std.specs.contracts.alloc.Global as Heap
-use Rattle.caladan_c.specs.contracts.handle.gate_pointer.GatePointer as Pointer
-use Rattle.caladan_c.proofs.HandleLemmas.AsGateBox.{E, FromAlloc as From}
-use Rattle.caladan_c.specs.contracts.handle.gate_pointer.GatePointer.to_nothing as F
-use Rattle.caladan_c.specs.contracts.handle.gate_pointer.GatePointer.to_nothing.Key.{name as #self}
-use Rattle.caladan_c.proofs.handle.gate_pointer.GatePointer.to_nothing.Statement as stated
-use Rattle.caladan_c.proofs.handle.gate_pointer.GatePointer.to_nothing.Code as code
+use Rattle.caladan_c.specs.contracts.handle.guard_pointer.GuardPointer as Pointer
+use Rattle.caladan_c.proofs.HandleLemmas.AsGuardBox.{E, FromAlloc as From}
+use Rattle.caladan_c.specs.contracts.handle.guard_pointer.GuardPointer.to_nothing as F
+use Rattle.caladan_c.specs.contracts.handle.guard_pointer.GuardPointer.to_nothing.Key.{name as #self}
+use Rattle.caladan_c.proofs.handle.guard_pointer.GuardPointer.to_nothing.Statement as stated
+use Rattle.caladan_c.proofs.handle.guard_pointer.GuardPointer.to_nothing.Code as code
 
 abbrev stayed : Stays (F.ended).signature.params (F.ended).kept
 stayed = (stay_dropped From yes, tt)

@@ -1,4 +1,4 @@
--- A gate, as contracts see it, and what C learns of opening one and of handing it a pass.
+-- A guard, as contracts see it, and what C learns of opening one and of handing it a pass.
 use Rattle.std.specs.Prelude.{◌≡◌, ℕ, [], List, map, Option, Result, Ok, Err}
 use Rattle.std.specs.Option.{IsSomeAnd}
 use Rattle.cal_machine.specs.Table.{Table}
@@ -24,35 +24,40 @@ use Rattle.caladan_c.specs.declared.told.Told.{Told}
 use Rattle.caladan_c.specs.declared.told.refused.ToldRefused.{ToldRefused}
 
 -- its table, and the guard of the passes so far
-pub record Gated : Type 0 where
+pub record GuardView : Type 0 where
   pub table : Table
   pub guard : Guard
 
--- a gate of this table, after no pass
-pub record IsNewGate (read : Table) (gate : Gated) : Type 0 where
-  pub table : gate.table ≡ read
-  pub permitted : IsPermittedHistory gate.table []
-  pub after : IsStateAfter (board_in gate.guard) []
+-- a guard of this table, after no pass
+pub record IsNewGuard (read : Table) (opened : GuardView) : Type 0 where
+  pub table : opened.table ≡ read
+  pub permitted : IsPermittedHistory opened.table []
+  pub after : IsStateAfter (board_in opened.guard) []
 
--- the number follows from the text: 0 and a gate of its table, or its first fault's
-abbrev pub SaysGate : Result Table ConfigFault → ℕ → Option Gated → Type 0
-SaysGate (Ok table) number kept = (number ≡ 0) × IsSomeAnd kept (IsNewGate table)
-SaysGate (Err fault) number kept = number ≡ number_of fault
+-- the number follows from the text: 0 and a guard of its table, or its first fault's
+abbrev pub SaysGuard : Result Table ConfigFault → ℕ → Option GuardView → Type 0
+SaysGuard (Ok table) number kept = (number ≡ 0) × IsSomeAnd kept (IsNewGuard table)
+SaysGuard (Err fault) number kept = number ≡ number_of fault
 
--- the pass went through: these actions are the ones that C told, and each is permitted at its
--- place; with the pass the history is permitted, and the gate's guard keeps the state after it
-pub record WentThrough (old : Gated) (history : List PassEntry) (given : Input) (told : List Told)
-    (new : Gated) : Type 0 where
+-- the pass went through
+pub record WentThrough (old : GuardView) (history : List PassEntry) (given : Input) (told : List Told)
+    (new : GuardView) : Type 0 where
+  -- its actions are the ones that C told
   pub chosen : List Action
   pub actions : map told_of chosen ≡ told
+  -- it may be given its input
   pub input : IsInput old.table history given
+  -- each action is permitted at its place
   pub permitted : ArePermitted (setting old.table history given) chosen
+  -- the table stays
   pub table : new.table ≡ old.table
+  -- with the pass the history is permitted
   pub goes_on : IsPermittedHistory new.table (and_then history given chosen)
+  -- and the guard keeps the state after it
   pub after : IsStateAfter (board_in new.guard) (and_then history given chosen)
 
 -- the pass was stopped: of the actions that C told this is the first that is not permitted, and why
-pub record WasStopped (old : Gated) (history : List PassEntry) (given : Input) (told : List Told)
+pub record WasStopped (old : GuardView) (history : List PassEntry) (given : Input) (told : List Told)
     (refused : Refused) : Type 0 where
   pub chosen : List Action
   pub actions : map told_of chosen ≡ told
@@ -93,7 +98,7 @@ told_refused_of refused =
     record { place = refused.place; why = why_number refused.why; names = why_names refused.why }
 
 -- the pass was stopped, and C was told where and why
-pub record WasStoppedAt (old : Gated) (history : List PassEntry) (given : Input) (told : List Told)
+pub record WasStoppedAt (old : GuardView) (history : List PassEntry) (given : Input) (told : List Told)
     (out : ToldRefused) : Type 0 where
   pub refused : Refused
   pub stopped : WasStopped old history given told refused

@@ -1,10 +1,10 @@
 -- `of_loose` moves two fields, and what they own goes with them.
 use Rattle.caladan_c.proofs.HandleLemmas.Walking.{refl, sym, subst, Some, List, [], ◌∷◌, ◌++◌, Ura, Val, SProp, ent, emp, id⊢, ftrue, fsep, Memory, Routine, WpFn, Tables, Logic, Fun, tables, tables_of, WpFn-mono, Item, ‵, raw, ◌⊛◌, ◌$◌, ◌∵◌, !, qed, by, move, drop, use1, join, split, fsplit, fjoin, suffices, done, whole, sub, agg, stop, fld, no_more, and_then, of_opd, returns, enter, alloc_all, pass_all, free_all, look_at, get, get_in, sets, yes, type_at, nothing, triple_of, entered, says, Stays, stay_dropped, walk_of, ends_at, Goes-dropped, walk_Meets, D, B, word, box_typed, box_out, box_in}
-use Rattle.caladan_c.proofs.HandleLemmas.AsGateBox.{E, FromLoose as From}
-use Rattle.caladan_c.specs.contracts.handle.gate_pointer.GatePointer.of_loose as F
-use Rattle.caladan_c.specs.contracts.handle.gate_pointer.GatePointer.of_loose.Key.{name as #self}
-use Rattle.caladan_c.proofs.handle.gate_pointer.GatePointer.of_loose.Statement as stated
-use Rattle.caladan_c.proofs.handle.gate_pointer.GatePointer.of_loose.Code as code
+use Rattle.caladan_c.proofs.HandleLemmas.AsGuardBox.{E, FromLoose as From}
+use Rattle.caladan_c.specs.contracts.handle.guard_pointer.GuardPointer.of_loose as F
+use Rattle.caladan_c.specs.contracts.handle.guard_pointer.GuardPointer.of_loose.Key.{name as #self}
+use Rattle.caladan_c.proofs.handle.guard_pointer.GuardPointer.of_loose.Statement as stated
+use Rattle.caladan_c.proofs.handle.guard_pointer.GuardPointer.of_loose.Code as code
 
 abbrev stayed : Stays (F.ended).signature.params (F.ended).kept
 stayed = (stay_dropped From yes, tt)
