@@ -4,6 +4,17 @@
 /// what stands first.
 macro_rules! asked {
     ($Handle:ident: $handle:ident, $alloc:ident; $closed:expr;
+        mut $kept:ident => $question:expr; $answer:ident => $then:expr) => {
+        match $handle.take($alloc) {
+            None => $closed,
+            Some(mut $kept) => {
+                let $answer = $question;
+                *$handle = $Handle::of($kept);
+                $then
+            }
+        }
+    };
+    ($Handle:ident: $handle:ident, $alloc:ident; $closed:expr;
         $kept:ident => $question:expr; $answer:ident => $then:expr) => {
         match $handle.take($alloc) {
             None => $closed,
@@ -28,6 +39,19 @@ macro_rules! looked_up {
                 }
                 None => Refusal::NoSuch as u8,
             })
+    };
+}
+
+/// Lets go of what a handle keeps: 0.
+macro_rules! let_go {
+    ($handle:ident, $alloc:ident) => {
+        match $handle.take($alloc) {
+            None => Refusal::Closed as u8,
+            Some(kept) => {
+                drop(kept);
+                0
+            }
+        }
     };
 }
 

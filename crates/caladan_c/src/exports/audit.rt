@@ -111,22 +111,12 @@ pub extern "C" fn caladan_audit_pass(
         (result ≡ 19) }
     ensures refused { result ≢ 0 → handle.new.pointer.kept ≡ handle.old.pointer.kept }
 {
-    match handle.take(alloc) {
-        None => Refusal::Closed as u8,
-        Some(mut kept) => {
-            let given = HandedIn {
-                now,
-                bandwidth,
-                looks,
-            };
-            let answer = kept.next_recorded(alloc, given, judged, actions);
-            *handle = AuditHandle::of(kept);
-            match answer {
-                Ok(()) => 0,
-                Err(refusal) => refusal.number(),
-            }
-        }
-    }
+    asked!(AuditHandle: handle, alloc; Refusal::Closed as u8;
+        mut kept => kept.next_recorded(alloc, HandedIn { now, bandwidth, looks }, judged, actions);
+        answer => match answer {
+            Ok(()) => 0,
+            Err(refusal) => refusal.number(),
+        })
 }
 
 /// What the audit says of the passes so far: 0 each is legal; 20 one is not, and `pass` is the
@@ -163,11 +153,5 @@ pub extern "C" fn caladan_audit_close(alloc: Global, handle: &mut AuditHandle) -
     ensures closed { is_some handle.old.pointer.kept ≡ true → result ≡ 0 }
     ensures after { handle.new.pointer.kept ≡ None }
 {
-    match handle.take(alloc) {
-        None => Refusal::Closed as u8,
-        Some(kept) => {
-            drop(kept);
-            0
-        }
-    }
+    let_go!(handle, alloc)
 }

@@ -161,26 +161,16 @@ pub extern "C" fn caladan_guard_pass(
         (judged.new ≡ judged.old) }
     ensures told { result ≢ 18 → refused.new ≡ refused.old }
 {
-    match handle.take(alloc) {
-        None => Refusal::Closed as u8,
-        Some(mut kept) => {
-            let given = HandedIn {
-                now,
-                bandwidth,
-                looks,
-            };
-            let answer = kept.pass_told(given, judged, actions);
-            *handle = GuardHandle::of(kept);
-            match answer {
-                Ok(None) => 0,
-                Ok(Some(first)) => {
-                    *refused = tell_refused(first);
-                    Finding::Stopped as u8
-                }
-                Err(refusal) => refusal.number(),
+    asked!(GuardHandle: handle, alloc; Refusal::Closed as u8;
+        mut kept => kept.pass_told(HandedIn { now, bandwidth, looks }, judged, actions);
+        answer => match answer {
+            Ok(None) => 0,
+            Ok(Some(first)) => {
+                *refused = tell_refused(first);
+                Finding::Stopped as u8
             }
-        }
-    }
+            Err(refusal) => refusal.number(),
+        })
 }
 
 /// Who has a core after the passes that went through: 0; 10 the handle is closed; 16 the table has
@@ -235,11 +225,5 @@ pub extern "C" fn caladan_guard_close(alloc: Global, handle: &mut GuardHandle) -
     ensures closed { is_some handle.old.pointer.kept ≡ true → result ≡ 0 }
     ensures after { handle.new.pointer.kept ≡ None }
 {
-    match handle.take(alloc) {
-        None => Refusal::Closed as u8,
-        Some(kept) => {
-            drop(kept);
-            0
-        }
-    }
+    let_go!(handle, alloc)
 }

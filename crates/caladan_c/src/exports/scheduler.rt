@@ -165,25 +165,15 @@ pub extern "C" fn caladan_pass(
         × (actions.new ≡ actions.old) × (judged.new ≡ judged.old) × (made.new ≡ 0) }
 {
     *made = 0;
-    match handle.take(alloc) {
-        None => Refusal::Closed as u8,
-        Some(mut kept) => {
-            let given = HandedIn {
-                now,
-                bandwidth,
-                looks,
-            };
-            let answer = kept.pass_told(given, judged, actions);
-            *handle = SchedulerHandle::of(kept);
-            match answer {
-                Ok(count) => {
-                    *made = count;
-                    0
-                }
-                Err(refusal) => refusal.number(),
+    asked!(SchedulerHandle: handle, alloc; Refusal::Closed as u8;
+        mut kept => kept.pass_told(HandedIn { now, bandwidth, looks }, judged, actions);
+        answer => match answer {
+            Ok(count) => {
+                *made = count;
+                0
             }
-        }
-    }
+            Err(refusal) => refusal.number(),
+        })
 }
 
 /// Who has a core after the passes so far: 0; 10 the handle is closed; 16 the table has no such
@@ -238,11 +228,5 @@ pub extern "C" fn caladan_close(alloc: Global, handle: &mut SchedulerHandle) -> 
     ensures closed { is_some handle.old.pointer.kept ≡ true → result ≡ 0 }
     ensures after { handle.new.pointer.kept ≡ None }
 {
-    match handle.take(alloc) {
-        None => Refusal::Closed as u8,
-        Some(kept) => {
-            drop(kept);
-            0
-        }
-    }
+    let_go!(handle, alloc)
 }

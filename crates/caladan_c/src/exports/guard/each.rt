@@ -109,26 +109,16 @@ pub extern "C" fn caladan_guard_pass_each(
     ensures unjudged { result ≢ 0 → result ≢ 18 → judged.new ≡ judged.old }
     ensures told { result ≢ 18 → refused.new ≡ refused.old }
 {
-    match handle.take(alloc) {
-        None => Refusal::Closed as u8,
-        Some(mut kept) => {
-            let given = HandedIn {
-                now,
-                bandwidth,
-                looks,
-            };
-            let answer = kept.pass_each_told(given, judged, actions);
-            *handle = GuardHandle::of(kept);
-            match answer {
-                Ok(None) => 0,
-                Ok(Some(first)) => {
-                    *refused = tell_refused(first);
-                    Finding::Stopped as u8
-                }
-                Err(refusal) => refusal.number(),
+    asked!(GuardHandle: handle, alloc; Refusal::Closed as u8;
+        mut kept => kept.pass_each_told(HandedIn { now, bandwidth, looks }, judged, actions);
+        answer => match answer {
+            Ok(None) => 0,
+            Ok(Some(first)) => {
+                *refused = tell_refused(first);
+                Finding::Stopped as u8
             }
-        }
-    }
+            Err(refusal) => refusal.number(),
+        })
 }
 
 /// Which look a plain pass of the guard may not be given: 0 each fits; 15 one does not fit what its

@@ -93,25 +93,15 @@ pub extern "C" fn caladan_pass_each(
         × (actions.new ≡ actions.old) × (judged.new ≡ judged.old) × (made.new ≡ 0) }
 {
     *made = 0;
-    match handle.take(alloc) {
-        None => Refusal::Closed as u8,
-        Some(mut kept) => {
-            let given = HandedIn {
-                now,
-                bandwidth,
-                looks,
-            };
-            let answer = kept.pass_each_told(given, judged, actions);
-            *handle = SchedulerHandle::of(kept);
-            match answer {
-                Ok(count) => {
-                    *made = count;
-                    0
-                }
-                Err(refusal) => refusal.number(),
+    asked!(SchedulerHandle: handle, alloc; Refusal::Closed as u8;
+        mut kept => kept.pass_each_told(HandedIn { now, bandwidth, looks }, judged, actions);
+        answer => match answer {
+            Ok(count) => {
+                *made = count;
+                0
             }
-        }
-    }
+            Err(refusal) => refusal.number(),
+        })
 }
 
 /// Which look a plain pass may not be given: 0 each fits; 15 one does not fit what its thread
