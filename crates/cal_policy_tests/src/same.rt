@@ -1,4 +1,4 @@
-//! What several of these tests take.
+//! That what was found is what was meant.
 
 use std::fmt::Debug;
 use std::process::Abort;
