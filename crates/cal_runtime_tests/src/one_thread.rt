@@ -1,10 +1,8 @@
-//! What several of these tests take: a table, records, and what passes see and do.
+//! A table of one thread, records, and what passes see and do.
 
 use cal_policy::{Action, PassEntry, Seen};
 use cal_signal::Record;
 use std::alloc::{AllocError, Global};
-use std::fmt::Debug;
-use std::process::Abort;
 
 /// Two cores and one latency-critical task of one thread, congested at a delay above 10.
 pub const ONE_THREAD: &[u8] = b"cores = 2
@@ -16,11 +14,6 @@ limit = 1
 delay = 10
 request = 50
 ";
-
-/// What was found is what was meant. Where it is not, the test ends and shows both.
-pub fn assert_same<R: Abort, T: PartialEq + Debug + Drop>(rt: &R, found: T, meant: T) {
-    assert_eq!(rt; found, meant);
-}
 
 /// A record of these words, in their order.
 pub fn record(words: [u64; 9]) -> Record {

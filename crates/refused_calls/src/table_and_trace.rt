@@ -13,7 +13,7 @@ use std::io;
 
 /// An input of a task table and a trace.
 #[derive(Drop)]
-pub struct Given<'a> {
+pub struct TableAndTrace<'a> {
     /// All of it.
     pub text: &'a [u8],
     /// The text of the table.
@@ -24,14 +24,14 @@ pub struct Given<'a> {
     pub trace: &'a [u8],
 }
 
-impl<'a> Given<'a> {
+impl<'a> TableAndTrace<'a> {
     /// The input that a text spells.
-    pub fn of(alloc: Global, text: &'a [u8]) -> io::Result<Given<'a>> {
+    pub fn of(alloc: Global, text: &'a [u8]) -> io::Result<TableAndTrace<'a>> {
         let Some((table, trace)) = split(text) else {
             return Err(wrong());
         };
         match Config::read(alloc, table) {
-            Ok(config) => Ok(Given {
+            Ok(config) => Ok(TableAndTrace {
                 text,
                 table,
                 config,
