@@ -13,7 +13,7 @@ use Rattle.cal_trace.specs.Signals.{last_shown, looks_in, begun, take_form, take
 use Rattle.cal_trace.specs.declared.fault.FaultKind.TheVariants as kind
 use Rattle.cal_trace.specs.declared.rows.look_rows.PassRow.{PassRow}
 use Rattle.cal_trace.specs.Signals.Fitting.{IsFittingSoFar}
-use Rattle.cal_trace.specs.Signals.Reading.{file_of, pass_at_hand, so_far, HasGiven, IsKept, IsKeptFitting}
+use Rattle.cal_trace.specs.Signals.Reading.{file_of, pass_at_hand, so_far, HasGiven, KeepsSignals, KeepsFittingSignals}
 use Rattle.cal_trace.specs.declared.signals.file.SignalRows.{SignalRows}
 use Rattle.cal_trace.specs.declared.signals.reading.Form.{Form}
 use Rattle.cal_trace.specs.declared.signals.reading.SignalReading.{SignalReading}
@@ -28,7 +28,7 @@ use Rattle.cal_trace.proofs.SignalLemmas.LastShown.{shown-begun}
 -- nothing was given yet
 pub HasGiven-none : (threads : ℕ) (text : List ℕ) (version : Version) (rows : List Fields) (signals : SignalRows)
     → header_of (codes "caladan-signals") (rows_of text) ≡ Ok (version, rows) → rest_of signals.rows ≡ rows → signals.rows.number ≡ 1
-    → file_of signals.reading ≡ (threads, version) → so_far [] signals.reading ≡ at_start → IsKept [] signals.reading → HasGiven threads text [] signals
+    → file_of signals.reading ≡ (threads, version) → so_far [] signals.reading ≡ at_start → KeepsSignals [] signals.reading → HasGiven threads text [] signals
 HasGiven-none threads text version rows signals header rest first file start kept =
     let is_extent : signals.reading.threads ≡ threads = ap (λ (f : ℕ × Version). f.0) file in
     let is_version : signals.reading.version ≡ version = ap (λ (f : ℕ × Version). f.1) file in
@@ -43,7 +43,7 @@ HasGiven-none threads text version rows signals header rest first file start kep
 pub kept_fitting : (form : Form) (given : List SignalPass) (fields : Fields) (result : Result (Option SignalPass) FaultKind) (old new : SignalReading)
     → IsFittingSoFar old.threads (so_far given old) → file_of new ≡ file_of old
     → Takes (λ closed. so_far (with_closed given closed) new) result (take_form old.threads (so_far given old) (Some form) fields)
-    → IfOk result (λ closed. IsKept (with_closed given closed) new) → IfOk result (λ closed. IsKeptFitting (with_closed given closed) new)
+    → IfOk result (λ closed. KeepsSignals (with_closed given closed) new) → IfOk result (λ closed. KeepsFittingSignals (with_closed given closed) new)
 kept_fitting form given fields (Err k) old new fit file takes kept = tt
 kept_fitting form given fields (Ok closed) old new fit file takes kept =
     let same : new.threads ≡ old.threads = ap (λ (f : ℕ × Version). f.0) file in
@@ -71,10 +71,10 @@ shown-ended threads k so_far next fields e =
     ended (Ok count) e = ap (λ (s : SoFar SignalPass). last_shown k (passes_of s)) (sym (same_ok _ next e)) ∙ ap (last_shown k) (append-nil (passes_of so_far))
 
 -- what is kept, after a row by which no thread showed anything
-pub kept-closed : (given : List SignalPass) (result : Result (Option SignalPass) FaultKind) (taken : Result (SoFar SignalPass) FaultKind) (old new : SignalReading) → IsKept given old
+pub kept-closed : (given : List SignalPass) (result : Result (Option SignalPass) FaultKind) (taken : Result (SoFar SignalPass) FaultKind) (old new : SignalReading) → KeepsSignals given old
     → ((k : ℕ) (next : SoFar SignalPass) → taken ≡ Ok next → last_shown k (passes_of next) ≡ last_shown k (passes_of (so_far given old)))
     → Takes (λ closed. so_far (with_closed given closed) new) result taken → IfOk result (λ closed. IsCounted pass_at_hand (with_closed given closed) new.passes)
-    → new.shown ≡ old.shown → new.threads ≡ old.threads → IfOk result (λ closed. IsKept (with_closed given closed) new)
+    → new.shown ≡ old.shown → new.threads ≡ old.threads → IfOk result (λ closed. KeepsSignals (with_closed given closed) new)
 kept-closed given (Err k) taken old new kept same takes counted shown threads = tt
 kept-closed given (Ok closed) taken old new kept same takes counted shown threads = record {
   counted = counted;
