@@ -7,7 +7,7 @@ use Rattle.cal_policy.specs.History.{is_banned}
 use Rattle.cal_policy.specs.Setting.{Setting, setting_at, so_far}
 use Rattle.cal_guard.specs.declared.refusal.Why.TheVariants.{Banned}
 use Rattle.cal_guard.specs.Refusals.{unless, wrong_to_book, wrong_to_send}
-use Rattle.cal_guard.proofs.passing.wrong_to_grant.Goals as goal
+use Rattle.cal_guard.proofs.passing.Passing.wrong_to_grant.Goals as goal
 
 pub returns : goal.returns
 returns c = λ h acts agrees sent.

@@ -12,7 +12,7 @@ use Rattle.cal_policy.specs.Board.{kept_holder, placement_of}
 use Rattle.cal_policy.specs.Board.Counts.{is_over}
 use Rattle.cal_guard.specs.declared.refusal.Why.TheVariants.{AtGuarantee}
 use Rattle.cal_guard.specs.Refusals.{unless, wrong_to_send, wrong_to_revoke}
-use Rattle.cal_guard.proofs.passing.wrong_to_revoke.Goals as goal
+use Rattle.cal_guard.proofs.passing.Passing.wrong_to_revoke.Goals as goal
 
 of_held : (s : Setting) (acts : List Action) (h : Holder) (p : Placement) → Held p ≡ kept_holder h →
     option_or (unless (is_over s.table (so_far s acts) (owner_of s.table p.thread)) AtGuarantee) (wrong_to_send s acts p.thread) ≡ wrong_to_revoke s acts h
