@@ -127,6 +127,25 @@ pub(crate) fn end_run(
     })
 }
 
+/// Ends a run whose history was told pass by pass, and whose passes, turns and rounds were all made.
+/// Fails only when out of memory.
+pub fn end_told(
+    alloc: Global,
+    config: &Config,
+    arrivals: &Arrivals,
+    parts: Parts,
+) -> Result<(), AllocError>
+    requires fits { FitsTable config.now arrivals.now }
+    requires parts { AreParts config.now arrivals.now (length arrivals.now.passes)
+        (length arrivals.now.turns) (rounds_of arrivals.now) parts }
+    ensures { IfOk result (λ _. (outcome : Outcome) × IsRun config.now arrivals.now outcome
+        × (outcome.history ≡ parts.scheduler.history)) }
+{
+    let rest = end_run(alloc, config, arrivals, parts)?;
+    let _ = rest;
+    Ok(())
+}
+
 /// The outcome of a run that ended with these. Fails only when out of memory.
 fn with_events(alloc: Global, config: &Config, end: RunEnd) -> Result<Outcome, AllocError>
     requires run { AreOfOneRun config.now end.history end.journals }

@@ -7,7 +7,7 @@ pub mod tallies;
 pub mod worker;
 
 ghost use Rattle.std.specs.Prelude.{◌≡◌, ◌≤◌, ◌++◌, ◌∷◌, [], List, Some, length, slice_get};
-ghost use Rattle.std.specs.Prelude.{slice_set, OnOk};
+ghost use Rattle.std.specs.Prelude.{slice_set, OnOk, ⊤};
 ghost use Rattle.cal_kthread.specs.Turn.Entries.{entries_of};
 ghost use Rattle.cal_kthread.specs.declared.journal.entry.Entry.{Entry};
 ghost use Rattle.cal_kthread.specs.declared.kernel_thread.TheConstants.{MOST_ENTRIES};
@@ -41,4 +41,22 @@ pub trait Collector {
             length (journal ++ entries_of entries) ≤ MOST_ENTRIES →
             OnOk result (holds self.new history
             (slice_set journals k (journal ++ entries_of entries))) };
+}
+
+/// Collects nothing.
+#[derive(Drop)]
+pub(crate) struct Nobody;
+
+impl Collector for Nobody {
+    type Fault = AllocError;
+
+    ghost holds = { λ nobody history journals. ⊤ };
+
+    fn add_pass(&mut self, _entry: PassEntry) -> Result<(), AllocError> {
+        Ok(())
+    }
+
+    fn add_turn(&mut self, _k: usize, _entries: TurnEntries) -> Result<(), AllocError> {
+        Ok(())
+    }
 }

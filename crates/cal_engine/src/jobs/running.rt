@@ -1,10 +1,11 @@
 //! Whole runs on the arrivals of an input.
 
-ghost use Rattle.std.specs.Prelude.{◌≡◌, ◌≢◌, Err, IfOk, IfErr, IfSome};
+ghost use Rattle.std.specs.Prelude.{◌≡◌, ◌≢◌, ◌⊎◌, Err, IfOk, IfErr, IfSome};
 ghost use Rattle.cal_trace.specs.Arrivals.FitsTable.{FitsTable};
 ghost use Rattle.cal_engine.specs.Outcome.{Decided};
 ghost use Rattle.cal_engine.specs.Runs.{within_limit};
-ghost use Rattle.cal_engine.specs.Running.{run_front, run_input_of, IsTextOfRun, Runs, TellsRun};
+ghost use Rattle.cal_engine.specs.Running.{run_front, run_input_of, Begins, IsTextOfRun, Runs};
+ghost use Rattle.cal_engine.specs.Running.{TellsRun};
 
 use crate::fault::RunFault;
 use crate::input::parts::run_input;
@@ -12,6 +13,7 @@ use crate::input::read_input;
 use crate::jobs::answer::write_after_front;
 use crate::jobs::front::Front;
 use crate::jobs::run_text::{run_text, tallied_summary};
+use crate::jobs::telling::tell_lockstep;
 use cal_machine::Config;
 use cal_run::{lockstep_end, lockstep_tallied};
 use cal_trace::Arrivals;
@@ -48,14 +50,38 @@ pub fn run_lockstep<R: Read + Drop, W: Write>(
     ensures exact { IfSome (R.remaining reader) (λ input.
         Runs answer result input (within_limit input (run_input_of input))
         (W.contents writer.old) (W.contents writer.new)) }
-    // Nothing is written before the run was made.
-    ensures untouched { IfErr result (λ fault. fault ≢ RunFault.Write → writer.new ≡ writer.old) }
+    // Nothing is written before the input was accepted.
+    ensures untouched { IfErr result (λ fault. fault ≢ RunFault.Write →
+        fault ≢ RunFault.Memory → writer.new ≡ writer.old) }
+    // Where memory was refused in the midst of the run, whole passes of its history were written.
+    ensures begun { IfErr result (λ fault. fault ≡ RunFault.Memory →
+        (writer.new ≡ writer.old) ⊎ IfSome (R.remaining reader) (λ input.
+        Begins answer input (within_limit input (run_input_of input))
+        (W.contents writer.old) (W.contents writer.new))) }
     // No thread is started, and no gate asked.
     ensures alone { IfErr result (λ fault. (fault ≢ RunFault.Spawn) × (fault ≢ RunFault.Gate)) }
 {
     let input = read_input(alloc, &mut reader)?;
-    let text = lockstep_text(alloc, answer, input.as_slice())?;
-    write_after_front(run_front(answer), input.as_slice(), text.as_slice(), writer)
+    match answer {
+        RunAnswer::History | RunAnswer::WithTable => {
+            told_input(alloc, run_front(answer), input.as_slice(), writer)
+        }
+        _ => {
+            let text = lockstep_text(alloc, answer, input.as_slice())?;
+            write_after_front(run_front(answer), input.as_slice(), text.as_slice(), writer)
+        }
+    }
+}
+
+/// Makes a run on one thread on the arrivals of an input, and writes its history pass by pass.
+fn told_input<W: Write>(
+    alloc: Global,
+    front: Front,
+    input: &[u8],
+    writer: &mut W,
+) -> Result<(), RunFault> {
+    let (config, arrivals) = run_input(alloc, input)?;
+    tell_lockstep(alloc, front, input, &config, &arrivals, writer)
 }
 
 /// What stands before the text of a run.
