@@ -1,7 +1,7 @@
 //! The words of caladan_sim with `--explain`.
 
-ghost use Rattle.std.specs.Prelude.{◌≡◌, ◌≢◌, IfErr, IfOk};
-ghost use Rattle.cal_engine.specs.Program.{DoesJob};
+ghost use Rattle.std.specs.Prelude.{◌≡◌, ◌≢◌, IfErr, IfOk, false};
+ghost use Rattle.cal_engine.specs.Program.{is_told_job, DoesJob};
 
 use crate::ending::{RefusedInput, end_explained};
 use cal_engine::{
@@ -115,7 +115,7 @@ fn do_job<H: Threads + Wait + Sync, W: Write>(
     ensures job { DoesJob job result input.now (W.contents output.old) (W.contents output.new) }
     ensures status { IfOk result (λ status. status ≢ 2) }
     ensures untouched { IfErr result (λ fault. fault ≢ RunFault.Write →
-        fault ≢ RunFault.Memory → output.new ≡ output.old) }
+        (fault ≡ RunFault.Memory → is_told_job job ≡ false) → output.new ≡ output.old) }
 {
     match job {
         Job::Decide => {

@@ -1,6 +1,7 @@
 //! A run on one thread whose history is written pass by pass.
 
-ghost use Rattle.std.specs.Prelude.{◌≡◌, ◌⊎◌, ◌++◌, IfOk, IfErr, OnOk, length};
+ghost use Rattle.std.specs.Prelude.{◌≡◌, ◌⊎◌, ◌++◌, List, length, option_to_list, IfOk, IfErr};
+ghost use Rattle.std.specs.Prelude.{OnOk};
 ghost use Rattle.std.specs.List.{flat_map};
 ghost use Rattle.std.specs.Io.KnownBytes.{Appends};
 ghost use Rattle.cal_run.specs.Parts.{AreParts, rounds_of};
@@ -84,6 +85,9 @@ fn tell_rounds<W: Write>(
     ensures made { IfOk result (λ _. AreParts parts.old.scheduler.table arrivals.now
         (length arrivals.now.passes) (length arrivals.now.turns) (rounds_of arrivals.now)
         parts.new) }
+    ensures first { IfOk result (λ _. AreFirstPasses
+        (record { table = parts.old.scheduler.table; arrivals = arrivals.now })
+        parts.new.scheduler.history) }
     ensures told { OnOk result (Appends (W.contents writer.old) (W.contents writer.new)
         (lines_of (flat_map entry_rows parts.new.scheduler.history))) }
     ensures stopped { IfErr result (λ fault. fault ≡ RunFault.Memory → (history : List EntryOfPass)
@@ -94,11 +98,28 @@ fn tell_rounds<W: Write>(
 {
     nothing_is_legal();
     for r in 0..rounds_to_make(arrivals) {
-        if let Some(entry) = told_round(parts, arrivals, r)? {
-            tell_pass(&entry, text, writer)?;
-        }
+        let entry = told_round(parts, arrivals, r)?;
+        tell_entry(entry, text, writer)?;
     }
     Ok(())
+}
+
+/// Writes the rows of a pass, if one was made.
+fn tell_entry<W: Write>(
+    entry: Option<PassEntry>,
+    text: &mut Vec<u8>,
+    writer: &mut W,
+) -> Result<(), RunFault>
+    ensures bytes { OnOk result (Appends (W.contents writer.old) (W.contents writer.new)
+        (lines_of (flat_map entry_rows (option_to_list entry)))) }
+    ensures unwritten { IfErr result (λ fault. fault ≡ RunFault.Memory →
+        writer.new ≡ writer.old) }
+    ensures kind { IfErr result (λ fault. (fault ≡ RunFault.Memory) ⊎ (fault ≡ RunFault.Write)) }
+{
+    match entry {
+        Some(entry) => tell_pass(&entry, text, writer),
+        None => Ok(()),
+    }
 }
 
 /// Writes the rows of a pass: first into memory, and then at once.
