@@ -53,5 +53,5 @@ pub ended : (front : List ℕ) (a b c : Option (List ℕ)) (history : List PassE
     → Appends b c (line_of (end_fields passes)) → Appends a c (front ++ history_text history)
 ended front a b c history passes many p q =
     let e = append_assoc front (begun_text history) (line_of (end_fields passes)) ∙ ap (λ n. front ++ (begun_text history ++ line_of (end_fields n))) (sym many)
-        ∙ ap (λ t. front ++ t) (sym (begun_ends history)) in
+    ∙ ap (λ t. front ++ t) (sym (begun_ends history)) in
     subst (Appends a c) e (Appends-trans a b c _ _ p q)
