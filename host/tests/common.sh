@@ -84,10 +84,10 @@ works() { # works: a best-effort process of its own gets cores, and does somethi
     "$bin/load" be -n "$name" -u 1 -k 200 -s 1.5 -c "$build/counter" > "$build/process.works" 2>&1
     [ "$(counter)" -gt 0 ]; note $? "$what: a successor got no core: $(cat "$build/process.works")"
 }
-# is_served FILE: most requests of a latency-critical load, of which there were some, were served.
+# is_served FILE [OF]: more than one of OF requests of a latency-critical load, of which there were some, were served.
 is_served() {
-    local made unserved
+    local made unserved of=${2-2}
     made=$(grep -oE '"requests": [0-9]+' "$1" | grep -oE '[0-9]+') unserved=$(grep -oE '"unserved": [0-9]+' "$1" | grep -oE '[0-9]+')
-    [ "${made:-0}" -gt 0 ] && [ $((unserved * 2)) -lt "$made" ]
+    [ "${made:-0}" -gt 0 ] && [ -n "$unserved" ] && [ $(((made - unserved) * of)) -gt "$made" ]
 }
-served() { is_served "$1"; note $? "$what: requests were not served: $(head -n 3 "$1")"; }
+served() { is_served "$@"; note $? "$what: requests were not served: $(head -n 3 "$1")"; }

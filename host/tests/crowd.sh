@@ -1,4 +1,5 @@
-# crowd.sh: all ill-doers at once, beside an honest latency-critical and an honest best-effort process.
+# crowd.sh: all ill-doers at once, beside an honest latency-critical and an honest best-effort process. Nothing is promised
+# of time, least of all where processes crowd on two processors, so the honest ones have room, and are asked to go on.
 
 crowd() { # crowd SECONDS
     local seconds=$1 loops=() honest
@@ -12,11 +13,11 @@ crowd() { # crowd SECONDS
     ill 3 deaf last punches noise & loops+=($!)
     ill 4 foreign closes wordy deaf & loops+=($!)
     ill 5 visits noise half foreign wordy & loops+=($!)
-    lc -s $((seconds - 3)) > "$build/process.lc" 2>&1; note $? "$what: the latency-critical one: $(cat "$build/process.lc")"
+    lc -q 500 -s $((seconds - 3)) > "$build/process.lc" 2>&1; note $? "$what: the latency-critical one: $(cat "$build/process.lc")"
     wait $honest; note $? "$what: the best-effort one ended with another status: $(grep 'of task [01]' "$build/said")"
     touch "$build/enough"
     wait "${loops[@]}"
-    served "$build/process.lc"
+    served "$build/process.lc" 10
     [ "$(counter)" -gt 0 ]; note $? "$what: the best-effort one did nothing"
     end
     ! grep -qE "of task [01] (is|cannot)" "$build/said"; note $? "$what: $(grep -E 'of task [01] ' "$build/said")"

@@ -65,8 +65,7 @@ fn make_round<C: Collector>(
         OnOk result (C.holds collector.new parts.new.scheduler.history
         (journals_of parts.new.workers.items)) }
 {
-    let entry = pass_of_round(&mut parts.scheduler, arrivals, r)?;
-    collect_pass(entry, collector)?;
+    pass_of_round(&mut parts.scheduler, arrivals, r, collector)?;
     turns_of_round(parts.workers.as_mut_slice(), arrivals, r, collector)?;
     watch_of_round(&mut parts.watch);
     Ok(())
@@ -90,7 +89,7 @@ pub fn told_round(
     ensures legal { IfOk result (λ _.
         IsLegal parts.old.scheduler.table parts.new.scheduler.history) }
 {
-    let entry = pass_of_round(&mut parts.scheduler, arrivals, r)?;
+    let entry = told_pass(&mut parts.scheduler, arrivals, r)?;
     turns_of_round(parts.workers.as_mut_slice(), arrivals, r, &mut Nobody)?;
     watch_of_round(&mut parts.watch);
     Ok(entry)
@@ -106,7 +105,7 @@ pub fn rounds_to_make(arrivals: &Arrivals) -> usize
 }
 
 /// Pass `r`, if there is one, and its entry. Fails only when out of memory.
-fn pass_of_round(
+fn told_pass(
     scheduler: &mut BareScheduler,
     arrivals: &Arrivals,
     r: usize,
@@ -128,16 +127,26 @@ fn pass_of_round(
     Ok(Some(entry))
 }
 
-/// The entry of a pass, if one was made, goes to the collector.
-fn collect_pass<C: Collector>(entry: Option<PassEntry>, collector: &mut C) -> Result<(), C::Fault>
-    ensures { (history : List EntryOfPass) (journals : List (List Entry)) →
-        C.holds collector.old history journals →
-        OnOk result (C.holds collector.new (history ++ option_to_list entry) journals) }
+/// Pass `r`, if there is one.
+fn pass_of_round<C: Collector>(
+    scheduler: &mut BareScheduler,
+    arrivals: &Arrivals,
+    r: usize,
+    collector: &mut C,
+) -> Result<(), C::Fault>
+    requires fits { FitSomeTable arrivals.now }
+    requires passed { HasPassed arrivals.now (min r (length arrivals.now.passes)) scheduler.old }
+    ensures passed { IfOk result (λ _.
+        HasPassed arrivals.now (min (r + 1) (length arrivals.now.passes)) scheduler.new) }
+    ensures seat { scheduler_seat_of scheduler.new ≡ scheduler_seat_of scheduler.old }
+    ensures collected { (journals : List (List Entry)) →
+        C.holds collector.old scheduler.old.history journals →
+        OnOk result (C.holds collector.new scheduler.new.history journals) }
 {
-    match entry {
-        Some(entry) => collector.add_pass(entry),
-        None => Ok(()),
+    if r >= arrivals.passes.as_slice().len() {
+        return Ok(());
     }
+    collector.make_pass(scheduler, arrivals, r)
 }
 
 /// Turn `r` of each thread, in thread order, if there is one.

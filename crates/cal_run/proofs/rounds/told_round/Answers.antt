@@ -21,11 +21,11 @@ returns-clause-made c =
     let same : seats_of workers ≡ seats_of before.workers.items = c.in_ok-turns_of_round.ensures.seats ∙ ap seats_of c.as_mut_slice.ensures.value in
     let many : length workers ≡ length before.workers.items =
     sym (length-map workers (λ (w : Worker). seat_of w.thread)) ∙ ap (λ (l : List Seat). length l) same ∙ length-map before.workers.items (λ (w : Worker). seat_of w.thread) in
-    let after : Parts = record { scheduler = c.pass_of_round.new.scheduler; workers = with_items before.workers workers; watch = c.watch_of_round.new.watch } in
+    let after : Parts = record { scheduler = c.told_pass.new.scheduler; workers = with_items before.workers workers; watch = c.watch_of_round.new.watch } in
     let is : after.workers.items ≡ workers = with_items_is before.workers workers (omega (arith, many, before.workers.ok.0)) in
     let P : List Worker → Type 0 = λ l. HaveMade c.args.arrivals.now (min (c.args.r + 1) (length c.args.arrivals.now.turns)) l in
     round_more before.scheduler.table c.args.arrivals.now c.args.r before after c.requires.before
-    c.pass_of_round.ensures.seat (ap seats_of is ∙ same) c.watch_of_round.ensures.seat
+    c.told_pass.ensures.seat (ap seats_of is ∙ same) c.watch_of_round.ensures.seat
     c.in_ok-entry.ensures.passed (subst P (sym is) c.in_ok-turns_of_round.ensures.made) c.watch_of_round.ensures.rounds
 
 pub returns-clause-legal : goal.returns-clause-legal

@@ -1,0 +1,130 @@
+//! The turns in which the kernel threads of a run worked at requests, as their journals tell.
+
+use cal_machine::Config;
+use cal_measure::{TimedTurn, services_of, timed_of, turns_of};
+use cal_run::RunEnd;
+use std::alloc::{AllocError, Global};
+use std::collections::HashSet;
+
+/// A turn in which a kernel thread worked at a request.
+#[derive(Clone, Copy)]
+pub struct WorkTurn {
+    /// The request's name.
+    pub request: u64,
+    /// When the turn began, in clock ticks.
+    pub stamp: u64,
+    /// When it ended, in clock ticks.
+    pub ends: u64,
+    /// Whether it did the last of the request's work.
+    pub serves: bool,
+}
+
+/// The turns of a thread, each with its end, in a run with this last clock.
+fn turns_at(
+    alloc: Global,
+    end: &RunEnd,
+    last: u64,
+    thread: u8,
+) -> Result<Vec<TimedTurn>, AllocError> {
+    match end.journals.as_slice().get(thread as usize) {
+        Some(journal) => {
+            let turns = turns_of(alloc, journal.as_slice())?;
+            timed_of(alloc, turns.as_slice(), last)
+        }
+        None => Ok(Vec::new(alloc)),
+    }
+}
+
+/// The first request that a thread had left: the one at work, where there was one.
+fn first_left(end: &RunEnd, thread: u8) -> Option<u64> {
+    let left = end.left.as_slice().get(thread as usize)?;
+    let request = left.as_slice().get(0)?;
+    Some(request.id)
+}
+
+/// The requests that were served in these turns, in order, and then this one.
+fn requests_in(
+    alloc: Global,
+    turns: &[TimedTurn],
+    left: Option<u64>,
+) -> Result<Vec<u64>, AllocError> {
+    let mut services = Vec::new(alloc);
+    services_of(turns, &mut services)?;
+    let mut requests = Vec::new(alloc);
+    for service in services.as_slice() {
+        requests.push(service.id)?;
+    }
+    if let Some(request) = left {
+        requests.push(request)?;
+    }
+    Ok(requests)
+}
+
+/// A turn of the thread that is at this request, if it worked.
+fn work_in(turn: &TimedTurn, request: Option<u64>) -> Option<WorkTurn> {
+    if !turn.at_work {
+        return None;
+    }
+    Some(WorkTurn {
+        request: request?,
+        stamp: turn.stamp,
+        ends: turn.ends,
+        serves: turn.served.is_some(),
+    })
+}
+
+/// The turns in which a thread worked, in order, in a run with this last clock. A thread is at one
+/// request until that is served, so each turn is at the first that was not served before it.
+fn work_turns(
+    alloc: Global,
+    end: &RunEnd,
+    last: u64,
+    thread: u8,
+) -> Result<Vec<WorkTurn>, AllocError> {
+    let turns = turns_at(alloc, end, last, thread)?;
+    let requests = requests_in(alloc, turns.as_slice(), first_left(end, thread))?;
+    let mut place = 0usize;
+    let mut worked = Vec::new(alloc);
+    for turn in turns.as_slice() {
+        if let Some(work) = work_in(turn, requests.as_slice().get(place).copied()) {
+            worked.push(work)?;
+        }
+        if turn.served.is_some() {
+            place = place.saturating_add(1);
+        }
+    }
+    Ok(worked)
+}
+
+/// The turns in which each thread worked, by threads and then in order, in a run with this last
+/// clock. Fails only when out of memory.
+pub fn work_of(
+    alloc: Global,
+    config: &Config,
+    end: &RunEnd,
+    last: u64,
+) -> Result<Vec<Vec<WorkTurn>>, AllocError> {
+    let mut work = Vec::new(alloc);
+    for thread in 0..config.threads() as u8 {
+        let turns = work_turns(alloc, end, last, thread)?;
+        work.push(turns)?;
+    }
+    Ok(work)
+}
+
+/// Adds the requests of these turns.
+fn note_begun(begun: &mut HashSet<u64>, turns: &[WorkTurn]) -> Result<(), AllocError> {
+    for turn in turns {
+        begun.insert(turn.request)?;
+    }
+    Ok(())
+}
+
+/// The requests at which the threads worked. Fails only when out of memory.
+pub fn begun_in(alloc: Global, work: &[Vec<WorkTurn>]) -> Result<HashSet<u64>, AllocError> {
+    let mut begun = HashSet::new(alloc);
+    for turns in work {
+        note_begun(&mut begun, turns.as_slice())?;
+    }
+    Ok(begun)
+}
