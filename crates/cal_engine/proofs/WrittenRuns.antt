@@ -1,5 +1,6 @@
 -- The text of a run that was written.
-use Rattle.std.proofs.Common.{ℕ, List, Option, Result, Ok, Err, IsOk, IfErr, OnOk, ◌≡◌, ◌⊎◌, inl, inr, true, false, ◌++◌, refl, sym, subst}
+use Rattle.std.proofs.Common.{ℕ, List, Option, Result, Ok, Err, IsOk, IfErr, OnOk, ◌≡◌, ◌⊎◌, inl, inr, true, ◌++◌, refl, sym, subst}
+use Rattle.std.proofs.lemmas.Bool.{false≢true}
 use Rattle.std.specs.Io.KnownBytes.{Appends}
 use Rattle.cal_engine.specs.Front.{front_of}
 use Rattle.cal_engine.specs.Outcome.{Failed}
@@ -38,14 +39,19 @@ told_run : (answer : RunAnswer) (given : List ℕ) (input : Result RunInput RunF
 told_run answer given (Err f) old new is tells = absurd tells
 told_run History given (Ok input) old new is tells = record { outcome = tells.outcome; run = tells.run; written = tells.written }
 told_run WithTable given (Ok input) old new is tells = record { outcome = tells.outcome; run = tells.run; written = tells.written }
-told_run Summary given (Ok input) old new is tells = let no : false ≡ true = is in cc
-told_run Report given (Ok input) old new is tells = let no : false ≡ true = is in cc
+told_run Summary given (Ok input) old new is tells = absurd (false≢true is)
+told_run Report given (Ok input) old new is tells = absurd (false≢true is)
 
 -- a history was written pass by pass, or the fault is the input's
 pub told_runs : {T : Type 0} (answer : RunAnswer) (result : Result T RunFault) (given : List ℕ) (input : Result RunInput RunFault) (old new : Option (List ℕ)) → is_told answer ≡ true
     → OnOk result (Tells (front_of (run_front answer) given) input old new) → IfErr result (λ f. Failed f input) → Runs answer result given input old new
 told_runs answer (Ok done) given input old new is tells failed = told_run answer given input old new is tells
 told_runs answer (Err f) given input old new is tells failed = failed
+
+-- the fault of a run that is told is the input's, once the input gives a run
+pub told_fault : (f : RunFault) (input : RunInput) → (f ≡ fault.Memory) ⊎ (f ≡ fault.Write) → Failed f (Ok input)
+told_fault f input (inl is) = subst (λ (g : RunFault). Failed g (Ok input)) (sym is) tt
+told_fault f input (inr is) = subst (λ (g : RunFault). Failed g (Ok input)) (sym is) refl
 
 -- the second of two, seen in another way
 pub second : {A B C : Type 0} → (B → C) → A ⊎ B → A ⊎ C

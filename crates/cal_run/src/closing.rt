@@ -10,6 +10,7 @@ ghost use Rattle.cal_run.specs.Outcome.{IsRun, IsRunEnd, outcome_of};
 ghost use Rattle.cal_run.specs.Parts.{AreParts, rounds_of};
 ghost use Rattle.cal_run.specs.Workers.{journals_of};
 ghost use Rattle.cal_run.specs.declared.fault.SimFault.TheVariants.{Memory};
+ghost use Rattle.cal_run.specs.declared.outcome.Outcome.{Outcome};
 ghost use Rattle.cal_trace.specs.Arrivals.FitsTable.{FitsTable};
 
 use crate::closing::pages_and_rings::close_threads;

@@ -66,14 +66,22 @@ pub fn run_lockstep<R: Read + Drop, W: Write>(
     ensures alone { IfErr result (λ fault. (fault ≢ RunFault.Spawn) × (fault ≢ RunFault.Gate)) }
 {
     let input = read_input(alloc, &mut reader)?;
+    let given = input.as_slice();
     let front = run_front(answer);
+    if is_told(answer) {
+        return told_input(alloc, front, given, writer);
+    }
+    let text = lockstep_text(alloc, answer, given)?;
+    write_after_front(front, given, text.as_slice(), writer)
+}
+
+/// Whether a run is written pass by pass: where its history is asked for.
+fn is_told(answer: RunAnswer) -> bool
+    ensures { result ≡ is_told answer }
+{
     match answer {
-        RunAnswer::History => told_input(alloc, front, input.as_slice(), writer),
-        RunAnswer::WithTable => told_input(alloc, front, input.as_slice(), writer),
-        _ => {
-            let text = lockstep_text(alloc, answer, input.as_slice())?;
-            write_after_front(front, input.as_slice(), text.as_slice(), writer)
-        }
+        RunAnswer::History | RunAnswer::WithTable => true,
+        RunAnswer::Summary | RunAnswer::Report => false,
     }
 }
 

@@ -1,4 +1,4 @@
-use Rattle.std.proofs.Common.{◌≡◌, ◌++◌, ℕ, List, Err, inr, length, sym, subst, rules}
+use Rattle.std.proofs.Common.{◌≡◌, ◌++◌, ℕ, List, Err, inr, length, sym, ap, subst, ◌∙◌, rules}
 use Rattle.std.proofs.lemmas.Result.{on_ok_weaker, IfErr-weaker}
 use Rattle.cal_machine.specs.Table.{Table}
 use Rattle.cal_policy.specs.declared.history.entry.PassEntry.{PassEntry}
@@ -46,11 +46,20 @@ returns-in_err-end_told-clause-begun g c =
       written = begun (front_of c.args.front c.args.input.now) _ _ _ c.in_ok-text.text.items history c.in_ok-text.ensures.text (rw c.as_slice.ensures.value at c.in_ok-write_answer.ensures.bytes) c.in_ok-tell_rounds.ensures.told;
     }))
 
+-- or before its last row
+pub returns-clause-begun : goal.returns-clause-begun
+returns-clause-begun g c =
+    let history = c.tell_rounds.new.parts.scheduler.history in
+    let P : Table → Type 0 = λ t. AreFirstPasses (record { table = t; arrivals = c.args.arrivals.now }) history in
+    let first = subst P c.in_ok-parts.ensures.parts.together.same_table c.in_ok-tell_rounds.ensures.first in
+    let before = begun (front_of c.args.front c.args.input.now) _ _ _ c.in_ok-text.text.items history c.in_ok-text.ensures.text (rw c.as_slice.ensures.value at c.in_ok-write_answer.ensures.bytes) c.in_ok-tell_rounds.ensures.told in
+    IfErr-weaker c.tell_end.result _ _ (λ f unwritten is. inr (record { history = history; first = first; written = rw (unwritten is) before })) c.tell_end.ensures.unwritten
+
 pub returns-clause-told : goal.returns-clause-told
 returns-clause-told g c =
     let front = front_of c.args.front c.args.input.now in
     let history = c.tell_rounds.new.parts.scheduler.history in
     let run = c.in_ok-end_told.ensures in
-    let many = all_passed c.args.arrivals.now history c.in_ok-tell_rounds.ensures.made.passes in
+    let many = all_passed c.args.arrivals.now history c.in_ok-tell_rounds.ensures.made.passes ∙ sym (ap (λ l. length l) c.as_slice-2.ensures) in
     let before = begun front _ _ _ c.in_ok-text.text.items history c.in_ok-text.ensures.text (rw c.as_slice.ensures.value at c.in_ok-write_answer.ensures.bytes) c.in_ok-tell_rounds.ensures.told in
     on_ok_weaker c.tell_end.result (λ last. record { outcome = run.0; run = run.1; written = rw run.2 (ended front _ _ _ history _ many before last) }) c.tell_end.ensures.bytes

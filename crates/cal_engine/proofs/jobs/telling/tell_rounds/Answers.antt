@@ -59,4 +59,8 @@ returns-in_err-tell_entry-clause-stopped g c =
     let table = c.args.parts.now.scheduler.table in
     let before = c.loop-r.invariant in
     let same : c.from_residual-in_err-tell_entry.result ≡ Err c.in_err-tell_entry.field-0.0 = search rules in
-    rw same (λ is. (c.loop-r.parts.scheduler.history, first_passes table c.args.arrivals.now _ _ before.legal before.made.passes, rw (sym (c.in_err-tell_entry.ensures.unwritten is)) before.told))
+    rw same (λ is. (c.loop-r.parts.scheduler.history, first_passes table c.args.arrivals.now _ _ before.legal before.made.passes, rw (c.in_err-tell_entry.ensures.unwritten is) before.told))
+
+pub returns-clause-first : goal.returns-clause-first
+returns-clause-first g c =
+    first_passes c.args.parts.now.scheduler.table c.args.arrivals.now _ _ c.loop-r.invariant.legal c.loop-r.invariant.made.passes
