@@ -1,11 +1,10 @@
 //! A refusal explained.
 
-use crate::parts::{bytes_of, part_after};
 use crate::refusal::{Lines, Refusal, TraceKind};
 use crate::separator::tell_separator;
 use crate::table::{TableText, tell_table};
-use crate::text::after;
 use crate::trace::{RefusedTrace, tell_trace};
+use cal_places::{after, bytes_of, part_after};
 use std::alloc::{AllocError, Global};
 
 /// Why an input was refused, as lines that each begin with two blanks and end in a line feed: where,

@@ -7,13 +7,9 @@
 #![tactic(auto)]
 
 mod explaining;
-mod limits;
-mod near;
-mod parts;
 mod refusal;
 mod separator;
 mod table;
-mod text;
 mod trace;
 
 pub use explaining::explanation;

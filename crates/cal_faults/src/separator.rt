@@ -1,7 +1,7 @@
 //! An input in which no line is the separator.
 
 use crate::refusal::TraceKind;
-use crate::text::tell_place;
+use cal_places::tell_place;
 use std::alloc::AllocError;
 use std::fmt::Write;
 

@@ -5,13 +5,12 @@ mod keys;
 mod sums;
 mod toml_text;
 
-use crate::near::nearest;
 use crate::table::finding::find_key;
 use crate::table::keys::{Spot, TASK_KEYS, TOP_KEYS, first_spot, is_among, put_want};
 use crate::table::sums::{tell_guarantees, tell_threads};
 use crate::table::toml_text::tell_no_toml;
-use crate::text::tell_place;
 use cal_machine::ConfigFault;
+use cal_places::{nearest, tell_place};
 use std::alloc::{AllocError, Global};
 use std::fmt::Write;
 use toml::{Table, Value};

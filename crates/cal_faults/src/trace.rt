@@ -10,7 +10,6 @@ mod ranges;
 mod rows;
 
 use crate::refusal::TraceKind;
-use crate::text::{after, tell_place};
 use crate::trace::before::Before;
 use crate::trace::earlier::{tell_backwards, tell_repeated};
 use crate::trace::fields::{tell_fields, tell_number};
@@ -19,6 +18,7 @@ use crate::trace::order::tell_order;
 use crate::trace::ranges::tell_range;
 use crate::trace::rows::{Rows, field_start};
 use cal_machine::{Config, ConfigFault};
+use cal_places::{after, tell_place};
 use cal_trace::{FaultKind, TraceFault};
 use std::alloc::{AllocError, Global};
 

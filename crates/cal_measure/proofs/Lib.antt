@@ -3,3 +3,4 @@ pub mod Steps
 pub mod Counting
 pub mod Passes
 pub mod Whole
+pub mod SpanLemmas

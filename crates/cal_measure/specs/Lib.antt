@@ -10,3 +10,4 @@ pub mod Requests
 pub mod States
 pub mod Actions
 pub mod Cores
+pub mod Spans

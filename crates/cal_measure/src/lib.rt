@@ -1,8 +1,9 @@
-//! The outcome of a run in numbers: of each task's requests how long they took, of its cores how
-//! many it had and why it lost them.
+//! What came of a run: of each task's requests how long they took, of its cores how many it had and
+//! why it lost them, in numbers; and who had which core from which pass to which.
 //!
 //! The numbers are defined over the journals and the history of a run (`specs/`), and each one is
-//! proved to be that of its definition. What is measured, and how, is Doranjei's.
+//! proved to be that of its definition. What is measured, and how, is Doranjei's. Who had which
+//! core, and which cores were banned, are the spans of a history and its bans (`spans`).
 #![tactic(auto)]
 
 mod actions;
@@ -14,6 +15,7 @@ mod ends;
 mod requests;
 mod services;
 mod shares;
+mod spans;
 mod spread;
 mod states;
 mod totals;
@@ -28,6 +30,13 @@ pub use ends::{TimedTurn, timed_of};
 pub use requests::{TaskRequests, requests_of, responses_of};
 pub use services::{Service, services_of};
 pub use shares::thousandths;
+pub use spans::bans::{BanSpan, BanTracker};
+pub use spans::laws::{
+    holders_are_shown, shown_are_holders, shown_are_stays, spans_are_apart, stays_are_holders,
+    stays_are_shown,
+};
+pub use spans::span::{Left, Span};
+pub use spans::tracking::{Tracker, spans_of};
 pub use spread::{Spread, Time, spread_of};
 pub use states::{CoreState, is_congested};
 pub use turns::{Turn, turns_of};

@@ -7,73 +7,31 @@ pub mod strips;
 pub mod style;
 pub mod words;
 
-ghost use Rattle.std.specs.Prelude.{◌≡◌, ◌≢◌, IfErr};
-
 use crate::compared::sheet::{CANVAS, Graphs};
 use crate::compared::steps::draw_plot;
 use crate::compared::strips::draw_strips;
 use crate::compared::style::{dash_of, draw_style};
 use crate::compared::words::{tell_runs, tell_tasks};
 use crate::page::Page;
-use cal_engine::{RunFault, read_input};
-use cal_tables::{ComparisonFault, Courses, Labels, Variation, courses_of, courses_of_values};
+use cal_tables::{Courses, Labels, Variation};
 use std::alloc::Global;
-use std::io::{Read, Write};
 
-/// Reads an input of tables and arrivals to its end, makes a whole run of each table on one thread,
-/// and draws what came of each task as one SVG that stands alone, under these labels. With a
-/// variation the input has one table, and the runs are those of the tables that it gives. Nothing
-/// is written before the runs were made and the picture is in memory.
-///
-/// The faults are those of the word `compare`, in its order.
-pub fn draw_comparison<R: Read + Drop, W: Write>(
+/// The picture of what came of each task of an input, run with each of its tables or, with a
+/// variation, with each table that its values give: one SVG that stands alone, under these labels.
+pub fn comparison_page(
     alloc: Global,
-    mut reader: R,
+    courses: &Courses,
     variation: Option<Variation<'_>>,
     labels: Labels<'_>,
-    writer: &mut W,
-) -> Result<(), ComparisonFault>
-    // Nothing is written before the runs were made.
-    ensures untouched { IfErr result (λ fault.
-        fault ≢ ComparisonFault.Run RunFault.Write → writer.new ≡ writer.old) }
-{
-    let input = read_input(alloc, &mut reader)?;
-    let page = drawn(alloc, input.as_slice(), variation, labels)?;
-    let text = page.whole()?;
-    match writer.write_all(text.as_bytes()) {
-        Ok(()) => Ok(()),
-        Err(_) => Err(ComparisonFault::from(RunFault::Write)),
-    }
-}
-
-/// The runs of an input: of its tables, or of those that its table gives with some values.
-fn courses(
-    alloc: Global,
-    input: &[u8],
-    variation: Option<Variation<'_>>,
-) -> Result<Courses, ComparisonFault> {
-    match variation {
-        Some(variation) => courses_of_values(alloc, input, variation),
-        None => courses_of(alloc, input),
-    }
-}
-
-/// The whole picture, in memory.
-fn drawn(
-    alloc: Global,
-    input: &[u8],
-    variation: Option<Variation<'_>>,
-    labels: Labels<'_>,
-) -> Result<Page, ComparisonFault> {
-    let courses = courses(alloc, input, variation)?;
-    let graphs = Graphs::new(&courses, variation, labels);
+) -> Page {
+    let graphs = Graphs::new(courses, variation, labels);
     let mut page = Page::new(alloc);
     draw_frame(&graphs, &mut page);
     draw_style(&graphs, &mut page);
     draw_heading(&graphs, &mut page);
     draw_tasks(&graphs, &mut page);
     page.put("</svg>\n");
-    Ok(page)
+    page
 }
 
 /// The size of the paper, and what the picture is in words.

@@ -1,15 +1,24 @@
-//! Pictures, as SVG: the text of one while it is written, the colours of a light and a dark ground,
-//! and the picture of several runs on the same arrivals.
+//! What is drawn: as SVG a history, several runs on the same arrivals, and runs whose load rises; as
+//! trace events a history or a run.
 //!
-//! What is drawn is only tested; that drawing ends, and stays within what it draws from, is proved.
+//! What is drawn of a history are its spans (`cal_measure`), and what its tasks have by the policy's
+//! own `Board`. How it is drawn is only tested; that drawing ends, and stays within what it draws
+//! from, is proved.
 #![tactic(auto)]
 
 mod colours;
 mod compared;
+mod counting;
+mod history;
+mod loads;
 mod page;
 mod scale;
+mod story;
+mod timeline;
 
-pub use colours::{Paper, Scheme, Shade, paper_of, shade_of};
-pub use compared::draw_comparison;
+pub use compared::comparison_page;
+pub use counting::count_passes;
+pub use history::{Drawn, Shown, draw_picture};
+pub use loads::{LoadCurves, LoadTimes, RunTimes, TimeLimit, draw_load_curves};
 pub use page::Page;
-pub use scale::{TimeScale, scaled};
+pub use timeline::write_timeline;

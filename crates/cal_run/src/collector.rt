@@ -6,20 +6,24 @@ pub mod scheduler;
 pub mod tallies;
 pub mod worker;
 
-ghost use Rattle.std.specs.Prelude.{◌≡◌, ◌≤◌, ◌++◌, ◌∷◌, [], List, Some, length, slice_get};
-ghost use Rattle.std.specs.Prelude.{slice_set, OnOk};
+ghost use Rattle.std.specs.Prelude.{◌≡◌, ◌≤◌, ◌<◌, ◌+◌, ◌++◌, List, Some, length, slice_get};
+ghost use Rattle.std.specs.Prelude.{slice_set, IfOk, OnOk};
 ghost use Rattle.cal_kthread.specs.Turn.Entries.{entries_of};
 ghost use Rattle.cal_kthread.specs.declared.journal.entry.Entry.{Entry};
 ghost use Rattle.cal_kthread.specs.declared.kernel_thread.TheConstants.{MOST_ENTRIES};
 ghost use Rattle.cal_policy.specs.declared.history.entry.PassEntry.{PassEntry as EntryOfPass};
+ghost use Rattle.cal_run.specs.Parts.{HasPassed, scheduler_seat_of};
+ghost use Rattle.cal_run.specs.Workers.{FitSomeTable};
 
 use cal_kthread::TurnEntries;
-use cal_policy::PassEntry;
+use cal_sched::BareScheduler;
+use cal_trace::Arrivals;
 use std::alloc::AllocError;
 
-/// Who is handed the entry of each pass of a run and what each turn adds to its thread's journal,
-/// when it is made. What nobody collects is kept by nobody: neither the scheduler of a run nor its
-/// threads keep any of it.
+/// Who collects what the passes of a run do and what each turn adds to its thread's journal, when it
+/// is made. What nobody collects is kept by nobody: neither the scheduler of a run nor its threads
+/// keep any of it. Who has a use for the entry of a pass makes the pass with its entry; who has none
+/// makes it without.
 pub trait Collector {
     /// Why it takes no more.
     type Fault: From<AllocError> + Drop;
@@ -27,11 +31,21 @@ pub trait Collector {
     /// What it holds of these passes and of these journals, which are in thread order.
     ghost holds: { Self → List EntryOfPass → List (List Entry) → Type 0 };
 
-    /// Takes the entry of the next pass.
-    fn add_pass(&mut self, entry: PassEntry) -> Result<(), Self::Fault>
-        ensures { (history : List EntryOfPass) (journals : List (List Entry)) →
-            holds self.old history journals →
-            OnOk result (holds self.new (history ++ entry ∷ []) journals) };
+    /// Makes pass `p` of those given, the next one, and takes of it what it collects.
+    fn make_pass(
+        &mut self,
+        scheduler: &mut BareScheduler,
+        arrivals: &Arrivals,
+        p: usize,
+    ) -> Result<(), Self::Fault>
+        requires fits { FitSomeTable arrivals.now }
+        requires given { p < length arrivals.now.passes }
+        requires passed { HasPassed arrivals.now p scheduler.old }
+        ensures passed { IfOk result (λ _. HasPassed arrivals.now (p + 1) scheduler.new) }
+        ensures seat { scheduler_seat_of scheduler.new ≡ scheduler_seat_of scheduler.old }
+        ensures collected { (journals : List (List Entry)) →
+            holds self.old scheduler.old.history journals →
+            OnOk result (holds self.new scheduler.new.history journals) };
 
     /// Takes what a turn of thread `k` added to its journal.
     fn add_turn(&mut self, k: usize, entries: TurnEntries) -> Result<(), Self::Fault>

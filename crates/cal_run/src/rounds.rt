@@ -3,7 +3,7 @@
 pub mod passes;
 pub mod watch;
 
-ghost use Rattle.std.specs.Prelude.{◌≡◌, ◌+◌, ◌++◌, List, length, min, option_to_list, IfOk, OnOk};
+ghost use Rattle.std.specs.Prelude.{◌≡◌, ◌+◌, List, length, min, IfOk, OnOk};
 ghost use Rattle.cal_kthread.specs.declared.journal.entry.Entry.{Entry};
 ghost use Rattle.cal_policy.specs.declared.history.entry.PassEntry.{PassEntry as EntryOfPass};
 ghost use Rattle.cal_run.specs.Parts.{AreParts, HasPassed, rounds_of, scheduler_seat_of};
@@ -12,14 +12,11 @@ ghost use Rattle.cal_run.specs.Workers.{FitSomeTable, HaveMade, journals_of, sea
 
 use crate::collector::Collector;
 use crate::parts::Parts;
-use crate::rounds::passes::pass_given;
 use crate::rounds::watch::watch_of_round;
 use crate::workers::turn_each;
 use crate::workers::worker::Worker;
-use cal_policy::PassEntry;
 use cal_sched::BareScheduler;
 use cal_trace::Arrivals;
-use std::alloc::AllocError;
 
 /// All passes, turns and rounds of the watch, one round after the other. What each pass and each
 /// turn hands out goes to the collector. Fails only when out of memory, or where the collector does.
@@ -63,44 +60,32 @@ fn make_round<C: Collector>(
         OnOk result (C.holds collector.new parts.new.scheduler.history
         (journals_of parts.new.workers.items)) }
 {
-    let entry = pass_of_round(&mut parts.scheduler, arrivals, r)?;
-    collect_pass(entry, collector)?;
+    pass_of_round(&mut parts.scheduler, arrivals, r, collector)?;
     turns_of_round(parts.workers.as_mut_slice(), arrivals, r, collector)?;
     watch_of_round(&mut parts.watch);
     Ok(())
 }
 
-/// Pass `r`, if there is one, and its entry. Fails only when out of memory.
-fn pass_of_round(
+/// Pass `r`, if there is one.
+fn pass_of_round<C: Collector>(
     scheduler: &mut BareScheduler,
     arrivals: &Arrivals,
     r: usize,
-) -> Result<Option<PassEntry>, AllocError>
+    collector: &mut C,
+) -> Result<(), C::Fault>
     requires fits { FitSomeTable arrivals.now }
     requires passed { HasPassed arrivals.now (min r (length arrivals.now.passes)) scheduler.old }
     ensures passed { IfOk result (λ _.
         HasPassed arrivals.now (min (r + 1) (length arrivals.now.passes)) scheduler.new) }
-    ensures entered { IfOk result (λ entry.
-        scheduler.new.history ≡ scheduler.old.history ++ option_to_list entry) }
     ensures seat { scheduler_seat_of scheduler.new ≡ scheduler_seat_of scheduler.old }
+    ensures collected { (journals : List (List Entry)) →
+        C.holds collector.old scheduler.old.history journals →
+        OnOk result (C.holds collector.new scheduler.new.history journals) }
 {
     if r >= arrivals.passes.as_slice().len() {
-        return Ok(None);
+        return Ok(());
     }
-    let entry = pass_given(scheduler, arrivals, r)?;
-    Ok(Some(entry))
-}
-
-/// The entry of a pass, if one was made, goes to the collector.
-fn collect_pass<C: Collector>(entry: Option<PassEntry>, collector: &mut C) -> Result<(), C::Fault>
-    ensures { (history : List EntryOfPass) (journals : List (List Entry)) →
-        C.holds collector.old history journals →
-        OnOk result (C.holds collector.new (history ++ option_to_list entry) journals) }
-{
-    match entry {
-        Some(entry) => collector.add_pass(entry),
-        None => Ok(()),
-    }
+    collector.make_pass(scheduler, arrivals, r)
 }
 
 /// Turn `r` of each thread, in thread order, if there is one.

@@ -1,8 +1,8 @@
 //! A sweep from its words to what is written of it.
 
 ghost use Rattle.std.specs.Prelude.{◌≡◌, ◌≢◌, IfErr, IfOk};
-ghost use Rattle.cal_sweep.specs.Objectives.{status_of};
-ghost use Rattle.cal_sweep.specs.Sweeps.{of_writer};
+ghost use Rattle.cal_sweep.specs.Objectives.{EndsSweep, status_of};
+ghost use Rattle.cal_sweep.specs.Sweeps.{of_writer, varying_of};
 
 use crate::fault::SweepFault;
 use crate::naming::SweepNames;
@@ -10,11 +10,11 @@ use crate::picture::picture_of;
 use crate::runs::{Sweep, swept};
 use crate::table::sheet_of;
 use crate::verdict::{say_misses, status_of};
-use crate::words::{Asked, SweepForm, SweepWords, asked_of};
-use cal_engine::{RunFault, read_input};
+use crate::words::{Asked, SweepForm};
+use cal_engine::RunFault;
 use cal_tables::ComparisonFault;
 use std::alloc::{AllocError, Global};
-use std::io::{Read, Write};
+use std::io::Write;
 use std::thread::Threads;
 
 /// What is written of a sweep, in memory.
@@ -33,8 +33,9 @@ fn text_of(
     }
 }
 
-/// Writes a sweep under these names, and answers the exit status: 1 where one of the runs of its last load misses the
-/// objective, and 0 else. Of a miss a line is written to `errors`, with its numbers.
+/// Writes a sweep under these names, and answers the exit status: 1 where one of the runs of its
+/// last load misses the objective, and 0 else. Of a miss a line is written to `errors`, with its
+/// numbers.
 ///
 /// The fault is `Write`, or `Memory` before anything is written.
 pub fn end_sweep<'a, W: Write, E: Write>(
@@ -62,27 +63,29 @@ pub fn end_sweep<'a, W: Write, E: Write>(
     Ok(status)
 }
 
-/// Reads a task table, makes the runs that words ask for, writes what came of them under these
-/// names, and answers the exit status: 1 where one of the runs of the last load misses the objective, and 0 else. What
-/// follows a separator line in the input is not read. The variation is that of the words.
+/// Makes the runs of an input's task table that are asked for, writes what came of them under these
+/// names, and answers the exit status: 1 where one of the runs of the last load misses the
+/// objective, and 0 else. What follows a separator line in the input is not read.
 ///
-/// The faults of words that need no table come first, then those of the input, then those of
-/// `swept`. Nothing is written before all runs were made and the text is in memory.
-pub fn answer_sweep<'a, H: Threads + Sync, R: Read + Drop, W: Write, E: Write>(
-    rt: &H,
+/// The faults are those of `swept`, and then `Write`. Nothing is written before all runs were made
+/// and the text is in memory.
+pub fn answer_sweep<'a, W: Write, E: Write>(
+    rt: &(impl Threads + Sync),
     alloc: Global,
-    mut reader: R,
-    words: &SweepWords<'a>,
+    input: &[u8],
+    asked: &Asked<'a>,
     names: SweepNames<'_>,
+    form: SweepForm,
     output: &mut W,
     errors: &mut E,
 ) -> Result<u8, SweepFault<'a>>
+    // A sweep of the input was made, and the status is that of its runs.
+    ensures status { IfOk result (EndsSweep input.now (varying_of names.entry.variation)
+        asked.now.loads.items asked.now.objective) }
     // Nothing is written before the runs were made.
     ensures untouched { IfErr result (λ fault.
         fault ≢ SweepFault.Run of_writer → output.new ≡ output.old) }
 {
-    let asked = asked_of(alloc, words)?;
-    let input = read_input(alloc, &mut reader)?;
-    let sweep = swept(rt, alloc, input.as_slice(), &asked, names.variation)?;
-    end_sweep(alloc, &sweep, &asked, names, words.form, output, errors)
+    let sweep = swept(rt, alloc, input, asked, names)?;
+    end_sweep(alloc, &sweep, asked, names, form, output, errors)
 }

@@ -11,6 +11,8 @@ use std::alloc::{AllocError, AllocFailed};
 pub enum SweepFault<'a> {
     /// A word is refused.
     Word(WordFault<'a>),
+    /// There are so many names, and the table has so many tasks.
+    Names { names: usize, tasks: usize },
     /// The input is refused, or a table that a value makes; or memory, or the writer.
     Run(ComparisonFault),
 }

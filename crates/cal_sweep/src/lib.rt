@@ -3,7 +3,7 @@
 //! and an objective that its requests may keep or miss: as a table, as CSV or as a picture.
 //!
 //! That each run is one of its table, and by which numbers the objective is missed, is proved
-//! (`swept`, `end_sweep`). Which arrivals are made, and how all is written and drawn, is only
+//! (`swept`, `answer_sweep`). Which arrivals are made, and how all is written and drawn, is only
 //! tested.
 #![tactic(auto)]
 

@@ -1,5 +1,7 @@
 //! What the tables, the tasks and the clock ticks of a sweep are called.
 
+use crate::fault::SweepFault;
+use cal_machine::Config;
 use cal_tables::{Labels, Variation};
 
 /// What the tables, the tasks and the clock ticks of a sweep are called.
@@ -10,4 +12,14 @@ pub struct SweepNames<'a> {
     pub variation: Option<Variation<'a>>,
     /// What tasks and clock ticks are called.
     pub labels: Labels<'a>,
+}
+
+/// Whether there are no names of tasks, or as many as a table has tasks. The fault is `Names`.
+pub fn are_counted<'a>(table: &Config, labels: Labels<'_>) -> Result<(), SweepFault<'a>> {
+    let (names, tasks) = (labels.names.len(), table.tasks());
+    if names == 0 || names == tasks {
+        Ok(())
+    } else {
+        Err(SweepFault::Names { names, tasks })
+    }
 }

@@ -1,8 +1,8 @@
 //! An objective: within how many clock ticks so many of a task's requests are to be answered.
 
-ghost use Rattle.std.specs.Prelude.{◌≡◌, slice_get};
+ghost use Rattle.std.specs.Prelude.{◌≡◌};
 ghost use Rattle.cal_tables.specs.Rows.{time_in};
-ghost use Rattle.cal_sweep.specs.Objectives.{is_kept, is_within, response_at, response_in};
+ghost use Rattle.cal_sweep.specs.Objectives.{is_kept, is_within, response_at};
 
 use cal_load::{LoadFault, Why, number_of, refused};
 use cal_measure::Time;

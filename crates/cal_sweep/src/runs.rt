@@ -5,6 +5,7 @@ ghost use Rattle.cal_sweep.specs.Sweeps.{AreSweptLoads, AreSweptRuns, AreTablesO
 ghost use Rattle.cal_sweep.specs.Sweeps.{IsRunOn, IsSweptLoad, IsSweptRun, varying_of};
 
 use crate::fault::SweepFault;
+use crate::naming::{SweepNames, are_counted};
 use crate::words::Asked;
 use cal_engine::RunFault;
 use cal_load::{Count, Made, are_known, made_arrivals};
@@ -122,7 +123,7 @@ fn swept_load<'a>(
     Ok(SweptLoad { load, runs })
 }
 
-/// The runs of each of these loads, as many loads at a time as there are processors, and one after
+/// The runs of each of these loads, at most two loads at a time for each processor, and one after
 /// the other where no thread can be started; or the fault of the first load that has one. What is
 /// answered does not depend on the threads. Fails only when out of memory.
 fn answered_loads<'a>(
@@ -185,22 +186,23 @@ fn tables_of(
 /// The table of an input, or those that it gives with each value of a variation, and for each load
 /// in turn a run of each of these tables on arrivals that are made for it with this load.
 ///
-/// The fault is that of the table, then that of the first word that names a task which it has not,
-/// then that of the first value that makes the table faulty; then that of the first run that has
-/// one. `Memory` may come at any place.
+/// The fault is that of the table, then `Names` where the names are not as many as its tasks, then
+/// that of the first word that names a task which it has not, then that of the first value that
+/// makes the table faulty; then that of the first run that has one. `Memory` may come at any place.
 pub fn swept<'a>(
     rt: &(impl Threads + Sync),
     alloc: Global,
     input: &[u8],
     asked: &Asked<'a>,
-    variation: Option<Variation<'_>>,
+    names: SweepNames<'_>,
 ) -> Result<Sweep, SweepFault<'a>>
-    ensures { IfOk result (λ sweep. IsSweep input.now (varying_of variation.entry)
+    ensures { IfOk result (λ sweep. IsSweep input.now (varying_of names.entry.variation)
         asked.now.loads.items sweep.tables.items sweep.loads.items) }
 {
     let table = Config::read(alloc, table_part(input))?;
+    are_counted(&table, names.labels)?;
     are_known(&table, asked.tasks.as_slice(), asked.named.as_slice())?;
-    let tables = tables_of(alloc, table, variation)?;
+    let tables = tables_of(alloc, table, names.variation)?;
     let loads = swept_loads(rt, alloc, tables.as_slice(), asked, asked.loads.as_slice())?;
     Ok(Sweep { tables, loads })
 }

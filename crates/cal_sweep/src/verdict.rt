@@ -2,7 +2,7 @@
 
 ghost use Rattle.std.specs.Prelude.{◌≡◌};
 ghost use Rattle.std.specs.List.{list_any};
-ghost use Rattle.cal_sweep.specs.Objectives.{is_missed, is_missed_at, is_missed_by, status_of};
+ghost use Rattle.cal_sweep.specs.Objectives.{is_missed, is_missed_by, status_of};
 
 use crate::naming::SweepNames;
 use crate::objective::{Objective, is_kept, rank_word, response_at};

@@ -1,3 +1,1 @@
-pub mod Counted
-pub mod Placed
 pub mod RecordedRuns

@@ -1,4 +1,1 @@
-pub mod Counting
 pub mod Recording
-pub mod Standing
-pub mod Walking

@@ -3,7 +3,6 @@
 pub mod arriving;
 pub mod checking;
 pub mod comparing;
-pub mod counting;
 pub mod drawing;
 pub mod explaining;
 pub mod measuring;

@@ -4,7 +4,7 @@
 ghost use Rattle.std.specs.Prelude.{◌≡◌, ◌≢◌, IfErr};
 
 use crate::command_words::command_line::{Job, Request, help, words};
-use crate::edge::beside::{Beside, open_beside};
+use crate::edge::beside::open_beside;
 use crate::edge::failure::Failure;
 use crate::edge::noted::Noted;
 use crate::edge::sources::{open_named, read_tables, said_of_reading};
@@ -18,8 +18,8 @@ use crate::jobs::naming::{names_of, refuse_count, refuse_words_of_labels};
 use crate::jobs::recording::record;
 use crate::jobs::sweeping::answer_swept;
 use crate::refusing::{end_refusal, refused_input};
-use crate::timeline::write_timeline;
 use cal_engine::{RunFault, read_input, refuse_words, words_after_first};
+use cal_picture::write_timeline;
 use cal_refusals::RefusedInput;
 use cal_tables::Labels;
 use std::alloc::Global;

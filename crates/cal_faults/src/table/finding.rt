@@ -1,7 +1,7 @@
 //! Where a key stands in the text of a table.
 
 use crate::table::keys::Spot;
-use crate::text::before;
+use cal_places::before;
 
 /// The part of a table that a line belongs to.
 #[derive(Clone, Copy, PartialEq, Eq)]

@@ -3,27 +3,18 @@
 use crate::table::TableText;
 use crate::table::keys::{Spot, number_at, number_of, tasks_of};
 use cal_machine::MOST_THREADS;
+use cal_places::Sum;
 use std::alloc::AllocError;
 use std::fmt::Write;
 use toml::Table;
 
 /// What the tasks have at a key together, and the task at which that passes the most.
-#[derive(Clone, Copy)]
-struct Sum {
-    all: i64,
-    passing: Option<usize>,
-}
-
 fn sum_at(table: &Table, key: &str, most: i64) -> Sum {
-    let mut all = 0i64;
-    let mut passing = None;
+    let mut sum = Sum::none();
     for task in 0..tasks_of(table).len() {
-        all = all.saturating_add(number_of(table, task, key));
-        if most < all && passing.is_none() {
-            passing = Some(task);
-        }
+        sum = sum.with(task, number_of(table, task, key), most);
     }
-    Sum { all, passing }
+    sum
 }
 
 /// Puts that the tasks are guaranteed more cores than there are.

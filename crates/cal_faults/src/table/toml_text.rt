@@ -2,7 +2,7 @@
 
 use crate::separator::{begins_trace, is_utf16, tell_joined};
 use crate::table::TableText;
-use crate::text::{after, before, line_at, tell_place};
+use cal_places::{after, before, line_at, tell_place};
 use std::alloc::AllocError;
 use std::fmt::Write;
 use toml::de::Error;

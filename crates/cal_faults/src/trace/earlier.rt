@@ -1,9 +1,9 @@
 //! A row that does not go with an earlier one.
 
-use crate::text::{after, tell_place};
 use crate::trace::Case;
 use crate::trace::forms::name_at;
 use crate::trace::rows::Rows;
+use cal_places::{after, tell_place};
 use std::alloc::{AllocError, Global};
 use std::fmt::Write;
 

@@ -1,11 +1,10 @@
 //! A row with the wrong fields, or a field that is no number.
 
-use crate::near::nearest;
 use crate::refusal::TraceKind;
-use crate::text::put_bytes;
 use crate::trace::Case;
 use crate::trace::forms::{fields_of, form_of, name_at, words_of};
 use crate::trace::rows::are_digits;
+use cal_places::{nearest, put_bytes};
 use std::alloc::AllocError;
 use std::fmt::Write;
 

@@ -1,11 +1,10 @@
 //! A trace that does not begin with a header of a kind that is read.
 
-use crate::near::nearest;
 use crate::refusal::TraceKind;
 use crate::separator::{is_utf16, tell_headers};
-use crate::text::{after, tell_place};
 use crate::trace::RefusedTrace;
 use crate::trace::rows::Rows;
+use cal_places::{after, nearest, tell_place};
 use std::alloc::{AllocError, Global};
 use std::fmt::Write;
 

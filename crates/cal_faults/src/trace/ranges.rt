@@ -1,11 +1,11 @@
 //! A number that is out of its range, or one row too many.
 
-use crate::limits::{most_request_misses, most_turns, most_work};
 use crate::refusal::TraceKind;
 use crate::trace::Case;
 use crate::trace::before::is_look;
 use crate::trace::forms::name_at;
 use cal_machine::{MOST_CORES, MOST_LIMIT};
+use cal_places::{most_request_misses, most_turns, most_work};
 use cal_policy::{MOST_ACTIONS, MOST_PASSES};
 use cal_signal::MOST_MISSES;
 use std::alloc::AllocError;

@@ -1,6 +1,6 @@
 //! The rows of a trace, one at a time, each with its place.
 
-use crate::text::after;
+use cal_places::after;
 use csv::{ByteRecord, ErrorKind, Reader, ReaderBuilder};
 use std::alloc::{AllocError, Global};
 

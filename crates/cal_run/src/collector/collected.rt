@@ -6,8 +6,11 @@ ghost use Rattle.cal_run.specs.Collecting.{AreEmpty};
 
 use crate::collector::Collector;
 use crate::collector::open_journal::OpenJournal;
+use crate::rounds::passes::pass_given;
 use cal_kthread::{Journal, TurnEntries};
 use cal_policy::PassEntry;
+use cal_sched::BareScheduler;
+use cal_trace::Arrivals;
 use std::alloc::{AllocError, Global};
 
 /// The history and the journals of a run while it is made.
@@ -72,7 +75,13 @@ impl Collector for OpenCollection {
     ghost holds = { λ collection history journals.
         (collection.history.items ≡ history) × (collection.journals.items ≡ journals) };
 
-    fn add_pass(&mut self, entry: PassEntry) -> Result<(), AllocError> {
+    fn make_pass(
+        &mut self,
+        scheduler: &mut BareScheduler,
+        arrivals: &Arrivals,
+        p: usize,
+    ) -> Result<(), AllocError> {
+        let entry = pass_given(scheduler, arrivals, p)?;
         self.history.push(entry)?;
         Ok(())
     }

@@ -6,16 +6,20 @@ ghost use Rattle.cal_trace.specs.Report.Summary.{IsTallyOf};
 ghost use Rattle.cal_trace.specs.declared.report.tally.TheConstants.Tally.{NONE};
 
 use crate::collector::Collector;
+use crate::rounds::passes::step_given;
 use cal_kthread::TurnEntries;
-use cal_policy::PassEntry;
-use cal_trace::Tally;
+use cal_policy::Actions;
+use cal_sched::BareScheduler;
+use cal_trace::{Arrivals, Tally};
 use std::alloc::{AllocError, Global};
 
-/// What each kernel thread did so far, counted, in thread order. Passes are let go of, so its
-/// memory does not grow with a run.
+/// What each kernel thread did so far, counted, in thread order. Passes are made without an entry,
+/// so its memory does not grow with a run.
 #[derive(Drop)]
 pub(crate) struct Tallies {
     pub(crate) tallies: Vec<Tally>,
+    /// Room for the actions of a pass.
+    pub(crate) actions: Actions,
 }
 
 impl Tallies {
@@ -23,11 +27,12 @@ impl Tallies {
     pub(crate) fn new(alloc: Global, threads: usize) -> Result<Tallies, AllocError>
         ensures { IfOk result (λ all. all.tallies.items ≡ replicate threads NONE) }
     {
+        let actions = Actions::reserved(alloc)?;
         let mut tallies = Vec::new(alloc);
         for _ in 0..threads {
             tallies.push(Tally::NONE)?;
         }
-        Ok(Tallies { tallies })
+        Ok(Tallies { tallies, actions })
     }
 }
 
@@ -36,7 +41,13 @@ impl Collector for Tallies {
 
     ghost holds = { λ all history journals. AllZip IsTallyOf journals all.tallies.items };
 
-    fn add_pass(&mut self, _entry: PassEntry) -> Result<(), AllocError> {
+    fn make_pass(
+        &mut self,
+        scheduler: &mut BareScheduler,
+        arrivals: &Arrivals,
+        p: usize,
+    ) -> Result<(), AllocError> {
+        step_given(scheduler, arrivals, p, &mut self.actions);
         Ok(())
     }
 

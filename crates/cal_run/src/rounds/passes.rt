@@ -4,7 +4,7 @@ ghost use Rattle.std.specs.Prelude.{◌≡◌, ◌+◌, ◌<◌, ◌++◌, ◌�
 ghost use Rattle.cal_run.specs.Parts.{HasPassed, scheduler_seat_of};
 ghost use Rattle.cal_run.specs.Workers.{FitSomeTable};
 
-use cal_policy::PassEntry;
+use cal_policy::{Actions, PassEntry};
 use cal_sched::{BareScheduler, PassFault};
 use cal_trace::Arrivals;
 use std::alloc::AllocError;
@@ -32,4 +32,24 @@ pub fn pass_given(
         Err(PassFault::Memory) => Err(AllocError),
         Err(PassFault::HistoryFull) => unreachable!(),
     }
+}
+
+/// Pass `p` of those given, as `pass_given` makes it, but with no entry: its actions come into `out`.
+/// Takes no memory.
+pub(crate) fn step_given(
+    scheduler: &mut BareScheduler,
+    arrivals: &Arrivals,
+    p: usize,
+    out: &mut Actions,
+)
+    requires fits { FitSomeTable arrivals.now }
+    requires given { p < length arrivals.now.passes }
+    requires passed { HasPassed arrivals.now p scheduler.old }
+    ensures passed { HasPassed arrivals.now (p + 1) scheduler.new }
+    ensures seat { scheduler_seat_of scheduler.new ≡ scheduler_seat_of scheduler.old }
+{
+    let given = arrivals.passes.as_slice()[p];
+    let Ok(()) = scheduler.step(given.now, given.bandwidth, out) else {
+        unreachable!()
+    };
 }

@@ -1,9 +1,9 @@
 //! An input checked: what it is, or why it is refused.
 
-use crate::jobs::counting::count_passes;
 use cal_engine::{RunFault, read_parts, split_input};
 use cal_faults::is_table_alone;
 use cal_machine::Config;
+use cal_picture::count_passes;
 use cal_trace::{FaultKind, read_arrivals, read_signals};
 use std::alloc::{AllocError, Global};
 use std::io::Write;

@@ -1,8 +1,8 @@
 //! The history of an input drawn.
 
 use crate::fault::{end_without_pass, end_without_task};
-use crate::picture::{Drawn, Shown, draw_picture};
 use cal_engine::RunFault;
+use cal_picture::{Drawn, Shown, draw_picture};
 use cal_tables::Labels;
 use std::alloc::Global;
 use std::io::{BufWriter, Write};

@@ -1,8 +1,8 @@
 //! The names of tasks and the unit of clock ticks that words give.
 
 use cal_engine::RunFault;
-use cal_machine::{Config, ConfigFault};
-use cal_tables::{ComparisonFault, Labels, letters, read_tables, table_part};
+use cal_machine::Config;
+use cal_tables::{ComparisonFault, Labels, letters, read_tables};
 use std::alloc::{AllocError, Global};
 use std::io::Write;
 
@@ -132,32 +132,15 @@ pub fn refuse_count<E: Write>(
         Err(ComparisonFault::Run(RunFault::Memory)) => return Err(RunFault::Memory),
         Err(_) => return Ok(None),
     };
-    Ok(refuse_other(labels, most_tasks(tables.as_slice()), errors))
-}
-
-/// The same of an input of which the table alone is read.
-pub fn refuse_count_of_table<E: Write>(
-    alloc: Global,
-    labels: Labels<'_>,
-    input: &[u8],
-    errors: &mut E,
-) -> Result<Option<u8>, RunFault> {
-    if labels.names.is_empty() {
+    let (names, tasks) = (labels.names.len(), most_tasks(tables.as_slice()));
+    if names == tasks {
         return Ok(None);
     }
-    match Config::read(alloc, table_part(input)) {
-        Ok(table) => Ok(refuse_other(labels, table.tasks(), errors)),
-        Err(ConfigFault::Memory) => Err(RunFault::Memory),
-        Err(_) => Ok(None),
-    }
+    Ok(Some(refuse_other_count(names, tasks, errors)))
 }
 
-/// Says that there are more or fewer names than so many tasks, and answers the exit status, where
-/// that is so.
-fn refuse_other<E: Write>(labels: Labels<'_>, tasks: usize, errors: &mut E) -> Option<u8> {
-    let names = labels.names.len();
-    if names == tasks {
-        return None;
-    }
-    Some(refuse(LabelFault::Count { names, tasks }, errors))
+/// Says that there are so many names, and that the table has so many tasks, and answers the exit
+/// status, 2.
+pub fn refuse_other_count<E: Write>(names: usize, tasks: usize, errors: &mut E) -> u8 {
+    refuse(LabelFault::Count { names, tasks }, errors)
 }

@@ -2,10 +2,10 @@
 
 use crate::command_words::variation::{key_of, values_of};
 use crate::fault::{end_comparison, explain_comparison};
-use crate::jobs::naming::refuse_count_of_table;
+use crate::jobs::naming::refuse_other_count;
 use crate::refusing::{end_refusal, refuse_word, table_alone};
 use cal_engine::{RunFault, read_input};
-use cal_sweep::{SweepFault, SweepNames, SweepWords, answer_sweep, asked_of};
+use cal_sweep::{Asked, SweepFault, SweepForm, SweepNames, SweepWords, answer_sweep, asked_of};
 use cal_tables::{ComparisonFault, Labels, Variation};
 use std::alloc::Global;
 use std::io::{Read, Write};
@@ -23,20 +23,18 @@ pub fn answer_swept<H: Threads + Sync, R: Read + Drop, W: Write, E: Write>(
     errors: &mut E,
 ) -> Result<u8, RunFault> {
     // Words that need no table are refused before anything is read.
-    if let Err(fault) = asked_of(alloc, words) {
-        return refuse(alloc, b"", fault, None, errors);
-    }
+    let asked = match asked_of(alloc, words) {
+        Ok(asked) => asked,
+        Err(fault) => return refuse(alloc, b"", fault, None, errors),
+    };
     let input = read_input(alloc, &mut reader)?;
     let input = input.as_slice();
-    if let Some(status) = refuse_count_of_table(alloc, labels, input, errors)? {
-        return Ok(status);
-    }
     let Some(vary) = words.vary else {
         let names = SweepNames {
             variation: None,
             labels,
         };
-        return end_swept(rt, alloc, input, words, names, output, errors);
+        return end_swept(rt, alloc, input, &asked, names, words.form, output, errors);
     };
     let values = values_of(alloc, vary)?;
     let names = SweepNames {
@@ -46,7 +44,7 @@ pub fn answer_swept<H: Threads + Sync, R: Read + Drop, W: Write, E: Write>(
         }),
         labels,
     };
-    end_swept(rt, alloc, input, words, names, output, errors)
+    end_swept(rt, alloc, input, &asked, names, words.form, output, errors)
 }
 
 /// Makes the runs, and answers the exit status: a fault names the word or the value that has it.
@@ -54,12 +52,13 @@ fn end_swept<H: Threads + Sync, W: Write, E: Write>(
     rt: &H,
     alloc: Global,
     input: &[u8],
-    words: &SweepWords<'_>,
+    asked: &Asked<'_>,
     names: SweepNames<'_>,
+    form: SweepForm,
     output: &mut W,
     errors: &mut E,
 ) -> Result<u8, RunFault> {
-    match answer_sweep(rt, alloc, input, words, names, output, errors) {
+    match answer_sweep(rt, alloc, input, asked, names, form, output, errors) {
         Ok(status) => Ok(status),
         Err(fault) => refuse(alloc, input, fault, names.variation, errors),
     }
@@ -76,6 +75,7 @@ fn refuse<E: Write>(
 ) -> Result<u8, RunFault> {
     match fault {
         SweepFault::Word(fault) => Ok(refuse_word(&fault, errors)),
+        SweepFault::Names { names, tasks } => Ok(refuse_other_count(names, tasks, errors)),
         SweepFault::Run(ComparisonFault::Run(fault)) => {
             end_refusal(alloc, table_alone(input), fault, errors)
         }

@@ -1,7 +1,6 @@
 use Rattle.std.proofs.Common.{◌≡◌, ◌+◌, List, sym, ap, subst, ◌∙◌, length, min, arith}
 use Rattle.std.specs.Vec.{with_items}
 use Rattle.std.proofs.lemmas.List.{length-map, with_items_is}
-use Rattle.cal_policy.specs.declared.history.entry.PassEntry.{PassEntry}
 use Rattle.cal_run.specs.Workers.{HaveMade, Seat, journals_of, seat_of, seats_of}
 use Rattle.cal_run.specs.declared.parts.Parts.{Parts}
 use Rattle.cal_run.specs.declared.workers.worker.Worker.{Worker}
@@ -26,7 +25,7 @@ returns-clause-made g c =
     let P : List Worker → Type 0 = λ l. HaveMade c.args.arrivals.now (min (c.args.r + 1) (length c.args.arrivals.now.turns)) l in
     round_more before.scheduler.table c.args.arrivals.now c.args.r before after c.requires.before
     c.pass_of_round.ensures.seat (ap seats_of is ∙ same) c.watch_of_round.ensures.seat
-    c.in_ok-entry.ensures.passed (subst P (sym is) c.in_ok-turns_of_round.ensures.made) c.watch_of_round.ensures.rounds
+    c.in_ok-pass_of_round.ensures.passed (subst P (sym is) c.in_ok-turns_of_round.ensures.made) c.watch_of_round.ensures.rounds
 
 pub returns-clause-collected : goal.returns-clause-collected
 returns-clause-collected g c = λ held.
@@ -37,9 +36,8 @@ returns-clause-collected g c = λ held.
     sym (length-map workers (λ (w : Worker). seat_of w.thread)) ∙ ap (λ (l : List Seat). length l) same ∙ length-map before.workers.items (λ (w : Worker). seat_of w.thread) in
     let is : (with_items before.workers workers).items ≡ workers = with_items_is before.workers workers (omega (arith, many, before.workers.ok.0)) in
     let history = c.pass_of_round.new.scheduler.history in
-    let H : List PassEntry → Type 0 = λ h. g.C.Collector.holds c.collect_pass.new.collector h (journals_of before.workers.items) in
-    let passed : g.C.Collector.holds c.collect_pass.new.collector history (journals_of before.workers.items) =
-    subst H (sym c.in_ok-entry.ensures.entered) (c.in_ok-collect_pass.ensures before.scheduler.history (journals_of before.workers.items) held) in
-    let P : List Worker → Type 0 = λ l. g.C.Collector.holds c.collect_pass.new.collector history (journals_of l) in
+    let passed : g.C.Collector.holds c.pass_of_round.new.collector history (journals_of before.workers.items) =
+    c.in_ok-pass_of_round.ensures.collected (journals_of before.workers.items) held in
+    let P : List Worker → Type 0 = λ l. g.C.Collector.holds c.pass_of_round.new.collector history (journals_of l) in
     let Q : List Worker → Type 0 = λ l. g.C.Collector.holds c.turns_of_round.new.collector history (journals_of l) in
     subst Q (sym is) (c.in_ok-turns_of_round.ensures.collected history (subst P (sym c.as_mut_slice.ensures.value) passed))

@@ -1,6 +1,0 @@
-use Rattle.cal_guard.specs.Guarded.{board_in}
-use Rattle.cal_policy.specs.State.{IsReady}
-use Rattle.cal_guest.proofs.long_run.long_run.Given as goal
-
-abbrev pub invariant-loop-i : goal.invariant-loop-i
-invariant-loop-i l = IsReady l.config (board_in l.guard)

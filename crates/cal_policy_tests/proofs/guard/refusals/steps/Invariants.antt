@@ -1,6 +1,0 @@
-use Rattle.cal_guard.specs.Guarded.{board_in}
-use Rattle.cal_policy.specs.State.{IsReady}
-use Rattle.cal_policy_tests.proofs.guard.refusals.steps.Given as goal
-
-abbrev pub invariant-loop-k : goal.invariant-loop-k
-invariant-loop-k l = IsReady l.config (board_in l.guard)

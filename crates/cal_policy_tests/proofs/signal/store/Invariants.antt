@@ -1,5 +1,0 @@
-use Rattle.std.proofs.Common.{◌≡◌}
-use Rattle.cal_policy_tests.proofs.signal.store.Given as goal
-
-abbrev pub invariant-loop : goal.invariant-loop
-invariant-loop l = l.page.page ≡ l.initial.page.page

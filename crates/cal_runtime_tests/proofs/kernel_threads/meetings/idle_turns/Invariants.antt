@@ -1,6 +1,0 @@
-use Rattle.std.proofs.Common.{◌≡◌}
-use Rattle.cal_kthread.specs.Team.{place_of}
-use Rattle.cal_runtime_tests.proofs.kernel_threads.meetings.idle_turns.Given as goal
-
-abbrev pub invariant-loop-now : goal.invariant-loop-now
-invariant-loop-now l = place_of l.thread.thread ≡ place_of l.initial.thread.thread

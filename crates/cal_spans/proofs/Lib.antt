@@ -1,4 +1,0 @@
-pub mod StaysKept
-pub mod BansKept
-pub mod Showing
-pub mod HoldersKept

@@ -1,6 +1,0 @@
-use Rattle.std.proofs.Common.{None}
-use Rattle.cal_policy.proofs.ListLemmas.OneMore.{get_or_same}
-use Rattle.cal_spans.proofs.tracking.Tracker.new.Goals as goal
-
-pub returns : goal.returns
-returns c = record { same = λ k lt. rw c.no_stays.ensures (get_or_same 256 k None) }

@@ -1,4 +1,0 @@
-pub mod Spans
-pub mod BanSpans
-pub mod Tracking
-pub mod Laws

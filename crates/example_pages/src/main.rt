@@ -1,0 +1,23 @@
+//! Each crate in use that a runtime calls, a file for each: what its page shows is from here, and is
+//! proved and run. Beside it, example_uses is a small runtime as a whole, and example_guest another
+//! policy.
+#![tactic(auto)]
+
+mod commands;
+mod decisions;
+mod guarded;
+mod kernel_threads;
+mod signals;
+
+fn main(rt: HostRuntime) -> anyhow::Result<()> {
+    println!(rt; "cal_signal")?;
+    signals::show(&rt)?;
+    println!(rt; "cal_command")?;
+    commands::show(&rt)?;
+    println!(rt; "cal_policy")?;
+    decisions::show(&rt)?;
+    println!(rt; "cal_guard")?;
+    guarded::show(&rt)?;
+    println!(rt; "cal_kthread")?;
+    kernel_threads::show(&rt)
+}

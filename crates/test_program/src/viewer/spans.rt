@@ -1,0 +1,53 @@
+//! The spans of a history that was worked by hand.
+
+use crate::viewer::given::{DISORDERLY, HISTORY, TABLE};
+use cal_machine::Config;
+use cal_measure::{Left, Span, spans_of};
+use cal_policy::Cause;
+use cal_trace::read_history;
+use std::alloc::Global;
+use std::test::Fail;
+
+/// The spans of this history on two cores.
+fn spans(alloc: Global, history: &str) -> Result<Vec<Span>, Fail> {
+    let config = Config::read(alloc, TABLE.as_bytes())?;
+    let history = read_history(alloc, &config, history.as_bytes())?;
+    Ok(spans_of(alloc, 2, history.as_slice())?)
+}
+
+/// A span of a thread on a core by a grant of this class, which was not revoked.
+fn span(core: u8, thread: u8, class: u8, from: usize, to: Option<usize>) -> Span {
+    Span {
+        core,
+        thread,
+        class,
+        from,
+        left: None,
+        to,
+    }
+}
+
+#[test]
+fn spans_of_a_worked_history(rt: HostRuntime) -> Result<(), Fail> {
+    let left = Left {
+        pass: 1,
+        cause: Cause::Preempt { task: 0 },
+    };
+    let preempted = Span {
+        left: Some(left),
+        ..span(0, 1, 3, 0, Some(2))
+    };
+    let wanted = [preempted, span(0, 0, 1, 2, None), span(1, 2, 2, 2, None)];
+    assert_eq!(rt; spans(rt.alloc(), HISTORY)?.as_slice(), wanted.as_slice());
+    Ok(())
+}
+
+#[test]
+fn what_does_not_fit_counts_for_nothing(rt: HostRuntime) -> Result<(), Fail> {
+    let wanted = [span(0, 1, 3, 0, Some(1)), span(0, 2, 2, 1, Some(1))];
+    assert_eq!(rt;
+        spans(rt.alloc(), DISORDERLY)?.as_slice(),
+        wanted.as_slice()
+    );
+    Ok(())
+}
