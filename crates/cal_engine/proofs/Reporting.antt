@@ -14,7 +14,7 @@ use Rattle.cal_trace.specs.declared.signals.file.SignalRows.{SignalRows}
 use Rattle.cal_trace.specs.declared.signals.SignalPass.{SignalPass}
 use Rattle.cal_trace.proofs.RowLemmas.Refusals.{decided}
 use Rattle.cal_engine.specs.Deciding.{Tells}
-use Rattle.cal_engine.specs.Outcome.{run_report, report_of, ConfigDecided, Decided, Failed, Gives, Reported, Reports}
+use Rattle.cal_engine.specs.Outcome.{run_report, report_of, ConfigDecided, Decided, Failed, IsWhatInputSays, Reported, Reports}
 use Rattle.cal_engine.specs.Runs.{Run, decided_on}
 use Rattle.cal_engine.specs.declared.fault.RunFault.{RunFault}
 use Rattle.cal_engine.specs.declared.fault.RunFault.TheVariants as fault
@@ -87,7 +87,7 @@ refused_signals table signals f h =
 -- signals that were all decided
 pub whole_report : {T : Type 0} (view : T → List ℕ) (result : Result T RunFault) (table : Table) (signals : Result (List SignalPass) TraceFault) (given : List SignalPass)
     (history : List PassEntry) → signals ≡ Ok given → IsDecided table given history → IfOk result (λ t. view t ≡ report_text table history) → IfErr result (λ f. f ≡ fault.Memory)
-    → Gives view result (report_of (decided_on table signals))
+    → IsWhatInputSays view result (report_of (decided_on table signals))
 whole_report view (Ok t) table signals given history gives so_far made kind =
     ap (λ s. report_of (decided_on table s)) gives ∙ ap Ok (ap (report_text table) (sym so_far.done) ∙ sym made)
 whole_report view (Err f) table signals given history gives so_far made kind =

@@ -41,9 +41,10 @@ Failed fault.Write outcome = IsOk outcome
 Failed f outcome = Decided f (outcome ≡ Err f)
 
 -- the answer, seen by view, is what the input says
-abbrev pub Gives : {X Y : Type 0} → (X → Y) → Result X RunFault → Result Y RunFault → Type 0
-Gives view (Ok x) outcome = outcome ≡ Ok (view x)
-Gives view (Err f) outcome = Decided f (outcome ≡ Err f)
+abbrev pub IsWhatInputSays : {X Y : Type 0} → (X → Y) → Result X RunFault → Result Y RunFault →
+    Type 0
+IsWhatInputSays view (Ok x) outcome = outcome ≡ Ok (view x)
+IsWhatInputSays view (Err f) outcome = Decided f (outcome ≡ Err f)
 
 -- the report of a run
 abbrev pub run_report : Run → List ℕ

@@ -17,7 +17,7 @@ mod shell;
 
 pub use cal_policy::Verdict;
 pub use command_words::command_line::{Job, VERSION, words};
-pub use command_words::given::given_words;
+pub use command_words::words_given::given_words;
 pub use fault::{RunFault, fault_line, fault_line_as, status};
 pub use input::parts::{read_parts, run_input};
 pub use input::separator::split_input;

@@ -5,6 +5,7 @@ use Rattle.cal_machine.specs.Table.{Table}
 use Rattle.cal_machine.specs.declared.thread_set.ThreadSet.{ThreadSet}
 use Rattle.cal_machine.specs.ThreadSet.{has_thread}
 use Rattle.cal_machine.specs.declared.numbering.TheConstants.{MOST_THREADS}
+use Rattle.cal_policy.specs.declared.board.Board.{Board}
 use Rattle.cal_policy.specs.declared.history.action.Action.{Action}
 use Rattle.cal_policy.specs.declared.history.action_list.TheConstants.{MOST_ACTIONS}
 use Rattle.cal_policy.specs.History.{holder_of}
@@ -16,12 +17,13 @@ use Rattle.cal_policy.specs.declared.judgement.open_input.FoundLook.{FoundLook}
 use Rattle.cal_policy.specs.declared.pass.terms.Terms.{Terms}
 use Rattle.cal_policy.specs.Judgement.OpenInput.{judged_looks}
 use Rattle.cal_policy.specs.Judgement.OpenPass.{IsOpenAt, ShowNoted}
-use Rattle.cal_policy.specs.Setting.{Setting, setting, setting_at, so_far}
+use Rattle.cal_policy.specs.Setting.{Setting, Begun, setting, setting_at, so_far}
 use Rattle.cal_policy.specs.Board.{NamesTable}
-use Rattle.cal_policy.specs.State.{Stands}
+use Rattle.cal_policy.specs.State.{IsStateAfter, Stands}
 use Rattle.cal_guard.specs.declared.pass_looks.PassLooks.{PassLooks}
 use Rattle.cal_guard.specs.declared.pass_looks.PassLooks.TheVariants.{Listed, Noted}
 use Rattle.cal_guard.specs.declared.passing.Passing.{Passing}
+use Rattle.cal_guard.specs.Permitted.{IsPermittedHistory}
 use Rattle.cal_guard.specs.Refusals.{was_sent}
 
 -- the set has the threads that were sent a command in this pass
@@ -82,3 +84,14 @@ pub record IsInside (passing : Passing) (s : Setting) (acts : List Action) : Typ
   pub made : passing.made ≡ length acts
   pub few : length acts ≤ MOST_ACTIONS
   pub low : HeldAreLow s.table (so_far s acts)
+
+-- it is so within each pass on these terms that this state may be in, after the actions of it so far
+abbrev pub InsideOn : Table → Terms → Passing → (Setting → List Action → Type 0) → Type 0
+InsideOn table terms passing is = (h : Begun) (acts : List Action) →
+    IsInside passing (setting_at table terms h) acts → is (setting_at table terms h) acts
+
+-- it is so after each permitted history that leaves this board, of each input that the pass on these
+-- terms and looks goes by
+abbrev pub GoingBy : Table → Terms → PassLooks → Board → (List PassEntry → Input → Type 0) → Type 0
+GoingBy table terms looks board is = (h : List PassEntry) (input : Input) →
+    GoesBy table terms looks h input → IsPermittedHistory table h → IsStateAfter board h → is h input

@@ -4,21 +4,17 @@
 ghost use Rattle.std.specs.Prelude.{◌≡◌, ◌++◌, ◌↔◌, [], ℕ, List};
 ghost use Rattle.std.specs.Prelude.{IsOk, IfOk, IfErr, OnErr};
 ghost use Rattle.cal_machine.specs.Table.{Table};
-ghost use Rattle.cal_policy.specs.declared.history.action.Action.{Action};
 ghost use Rattle.cal_policy.specs.declared.history.entry.PassEntry.{PassEntry};
 ghost use Rattle.cal_machine.specs.TableTasks.{threads_of_table};
-ghost use Rattle.cal_policy.specs.declared.judgement.open_input.FoundLook.{FoundLook};
 ghost use Rattle.cal_policy.specs.Judgement.Judging.{IsInput};
-ghost use Rattle.cal_policy.specs.Judgement.OpenInput.{judged_input};
-ghost use Rattle.cal_policy.specs.Judgement.OpenPass.{IsOpenAt};
 ghost use Rattle.cal_policy.specs.Setting.{setting};
 ghost use Rattle.cal_policy.specs.Board.{HasSizes};
 ghost use Rattle.cal_policy.specs.State.{IsReady, IsStateAfter};
 ghost use Rattle.cal_guard.specs.Permitted.{ArePermitted, IsPermittedHistory};
 ghost use Rattle.cal_guard.specs.Refusals.{MayEndWith, IsFirstWrong};
-ghost use Rattle.cal_guard.specs.Guarded.{board_in, IsWithin};
-ghost use Rattle.cal_guard.specs.Guarded.{and_then};
-ghost use Rattle.cal_guard.specs.Passing.{AreFew, AreLooks, GoesBy};
+ghost use Rattle.cal_guard.specs.Guarded.{board_in, and_then, IsWithin};
+ghost use Rattle.cal_guard.specs.Guarded.{AfterPermitted, AfterPermittedOpen, InPass, InOpenPass};
+ghost use Rattle.cal_guard.specs.Passing.{AreFew, AreLooks, GoingBy};
 ghost use Rattle.cal_policy.specs.declared.history.input.Input.{Input};
 
 use crate::histories::{doing_nothing_is_permitted, permitted_goes_on};
@@ -82,9 +78,8 @@ impl Guard {
     pub fn begin(&mut self, config: &Config, input: &Input)
         requires of { IsReady config.now (board_in self.old) }
         requires sizes { HasSizes config.now input.now }
-        ensures within { (h : List PassEntry) → IsPermittedHistory config.now h →
-            IsStateAfter (board_in self.old) h →
-            IsWithin self.new (setting config.now h input.entry.now) [] }
+        ensures within { AfterPermitted config.now self.old (λ h.
+            IsWithin self.new (setting config.now h input.entry.now) []) }
         ensures of { IsReady config.now (board_in self.new) }
     {
         config.limits();
@@ -103,15 +98,12 @@ impl Guard {
     ) -> Result<(), Refused>
         requires of { IsReady config.now (board_in self.old) }
         requires sizes { HasSizes config.now input.now }
-        ensures exact { (h : List PassEntry) (acts : List Action) →
-            IsWithin self.old (setting config.now h input.entry.now) acts →
-            IsOk result ↔ MayEndWith (setting config.now h input.entry.now) acts actions.now }
-        ensures taken { IsOk result → (h : List PassEntry) (acts : List Action) →
-            IsWithin self.old (setting config.now h input.entry.now) acts →
-            IsWithin self.new (setting config.now h input.entry.now) (acts ++ actions.now) }
-        ensures first { IfErr result (λ refused. (h : List PassEntry) (acts : List Action) →
-            IsWithin self.old (setting config.now h input.entry.now) acts →
-            IsFirstWrong (setting config.now h input.entry.now) acts actions.now refused) }
+        ensures exact { InPass config.now self.old input.entry.now (λ s acts.
+            IsOk result ↔ MayEndWith s acts actions.now) }
+        ensures taken { IsOk result → InPass config.now self.old input.entry.now (λ s acts.
+            IsWithin self.new s (acts ++ actions.now)) }
+        ensures first { IfErr result (λ refused. InPass config.now self.old input.entry.now
+            (λ s acts. IsFirstWrong s acts actions.now refused)) }
         ensures unchanged { OnErr result (self.new ≡ self.old) }
         ensures of { IsReady config.now (board_in self.new) }
     {
@@ -123,10 +115,9 @@ impl Guard {
     /// Begins the next pass, on the looks that came in of it, without any action yet.
     pub fn begin_noted(&mut self, config: &Config, looks: &OpenPass)
         requires { IsReady config.now (board_in self.old) }
-        ensures within { (h : List PassEntry) (found : List FoundLook) (now bandwidth : ℕ) →
-            IsPermittedHistory config.now h → IsStateAfter (board_in self.old) h →
-            IsOpenAt config.now h found looks.entry.now → IsWithin self.new
-            (setting config.now h (judged_input config.now h now bandwidth found)) [] }
+        ensures within { (now bandwidth : ℕ) →
+            AfterPermittedOpen config.now self.old now bandwidth looks.entry.now (λ h input.
+            IsWithin self.new (setting config.now h input) []) }
         ensures of { IsReady config.now (board_in self.new) }
     {
         config.limits();
@@ -146,18 +137,14 @@ impl Guard {
     ) -> Result<(), Refused>
         requires of { IsReady config.now (board_in self.old) }
         requires all { looks.now.count ≡ threads_of_table config.now }
-        ensures exact { (h : List PassEntry) (found : List FoundLook) (acts : List Action) →
-            IsOpenAt config.now h found looks.entry.now →
-            let s = setting config.now h (judged_input config.now h now bandwidth found) in
-            IsWithin self.old s acts → IsOk result ↔ MayEndWith s acts actions.now }
-        ensures taken { IsOk result → (h : List PassEntry) (found : List FoundLook)
-            (acts : List Action) → IsOpenAt config.now h found looks.entry.now →
-            let s = setting config.now h (judged_input config.now h now bandwidth found) in
-            IsWithin self.old s acts → IsWithin self.new s (acts ++ actions.now) }
-        ensures first { IfErr result (λ refused. (h : List PassEntry) (found : List FoundLook)
-            (acts : List Action) → IsOpenAt config.now h found looks.entry.now →
-            let s = setting config.now h (judged_input config.now h now bandwidth found) in
-            IsWithin self.old s acts → IsFirstWrong s acts actions.now refused) }
+        ensures exact { InOpenPass config.now self.old now bandwidth looks.entry.now (λ s acts.
+            IsOk result ↔ MayEndWith s acts actions.now) }
+        ensures taken { IsOk result →
+            InOpenPass config.now self.old now bandwidth looks.entry.now (λ s acts.
+            IsWithin self.new s (acts ++ actions.now)) }
+        ensures first { IfErr result (λ refused.
+            InOpenPass config.now self.old now bandwidth looks.entry.now (λ s acts.
+            IsFirstWrong s acts actions.now refused)) }
         ensures unchanged { OnErr result (self.new ≡ self.old) }
         ensures of { IsReady config.now (board_in self.new) }
     {
@@ -190,18 +177,14 @@ impl Guard {
     ) -> Result<(), Refused>
         requires of { IsReady config.now (board_in self.old) }
         requires few { AreFew looks }
-        ensures exact { (h : List PassEntry) (input : Input) →
-            GoesBy config.now terms.entry.now looks.entry h input →
-            IsPermittedHistory config.now h → IsStateAfter (board_in self.old) h →
-            IsOk result ↔ ArePermitted (setting config.now h input) chosen.now }
-        ensures keeps { IsOk result → (h : List PassEntry) (input : Input) →
-            GoesBy config.now terms.entry.now looks.entry h input →
-            IsPermittedHistory config.now h → IsStateAfter (board_in self.old) h →
-            IsStateAfter (board_in self.new) (and_then h input chosen.now) }
-        ensures first { IfErr result (λ refused. (h : List PassEntry) (input : Input) →
-            GoesBy config.now terms.entry.now looks.entry h input →
-            IsPermittedHistory config.now h → IsStateAfter (board_in self.old) h →
-            IsFirstWrong (setting config.now h input) [] chosen.now refused) }
+        ensures exact { GoingBy config.now terms.entry.now looks.entry (board_in self.old)
+            (λ h input. IsOk result ↔ ArePermitted (setting config.now h input) chosen.now) }
+        ensures keeps { IsOk result →
+            GoingBy config.now terms.entry.now looks.entry (board_in self.old) (λ h input.
+            IsStateAfter (board_in self.new) (and_then h input chosen.now)) }
+        ensures first { IfErr result (λ refused.
+            GoingBy config.now terms.entry.now looks.entry (board_in self.old) (λ h input.
+            IsFirstWrong (setting config.now h input) [] chosen.now refused)) }
         ensures unchanged { OnErr result (self.new ≡ self.old) }
         ensures of { IsReady config.now (board_in self.new) }
     {
@@ -216,18 +199,15 @@ impl Guard {
     pub fn step(&mut self, config: &Config, input: &Input, chosen: &[Action]) -> Result<(), Refused>
         requires of { IsReady config.now (board_in self.old) }
         requires sizes { HasSizes config.now input.now }
-        ensures exact { (h : List PassEntry) → IsPermittedHistory config.now h →
-            IsStateAfter (board_in self.old) h →
-            IsOk result ↔ ArePermitted (setting config.now h input.entry.now) chosen.now }
-        ensures keeps { IsOk result → (h : List PassEntry) → IsPermittedHistory config.now h →
-            IsStateAfter (board_in self.old) h →
-            IsStateAfter (board_in self.new) (and_then h input.entry.now chosen.now) }
-        ensures permitted { IsOk result → (h : List PassEntry) → IsPermittedHistory config.now h →
-            IsStateAfter (board_in self.old) h → IsInput config.now h input.entry.now →
-            IsPermittedHistory config.now (and_then h input.entry.now chosen.now) }
-        ensures first { IfErr result (λ refused. (h : List PassEntry) →
-            IsPermittedHistory config.now h → IsStateAfter (board_in self.old) h →
-            IsFirstWrong (setting config.now h input.entry.now) [] chosen.now refused) }
+        ensures exact { AfterPermitted config.now self.old (λ h.
+            IsOk result ↔ ArePermitted (setting config.now h input.entry.now) chosen.now) }
+        ensures keeps { IsOk result → AfterPermitted config.now self.old (λ h.
+            IsStateAfter (board_in self.new) (and_then h input.entry.now chosen.now)) }
+        ensures permitted { IsOk result → AfterPermitted config.now self.old (λ h.
+            IsInput config.now h input.entry.now →
+            IsPermittedHistory config.now (and_then h input.entry.now chosen.now)) }
+        ensures first { IfErr result (λ refused. AfterPermitted config.now self.old (λ h.
+            IsFirstWrong (setting config.now h input.entry.now) [] chosen.now refused)) }
         ensures unchanged { OnErr result (self.new ≡ self.old) }
         ensures of { IsReady config.now (board_in self.new) }
     {
@@ -255,26 +235,17 @@ impl Guard {
     ) -> Result<(), Refused>
         requires of { IsReady config.now (board_in self.old) }
         requires all { looks.now.count ≡ threads_of_table config.now }
-        ensures exact { (h : List PassEntry) (found : List FoundLook) →
-            IsPermittedHistory config.now h → IsStateAfter (board_in self.old) h →
-            IsOpenAt config.now h found looks.entry.now →
-            let s = setting config.now h (judged_input config.now h now bandwidth found) in
-            IsOk result ↔ ArePermitted s chosen.now }
-        ensures keeps { IsOk result → (h : List PassEntry) (found : List FoundLook) →
-            IsPermittedHistory config.now h → IsStateAfter (board_in self.old) h →
-            IsOpenAt config.now h found looks.entry.now →
-            let input = judged_input config.now h now bandwidth found in
-            IsStateAfter (board_in self.new) (and_then h input chosen.now) }
-        ensures permitted { IsOk result → (h : List PassEntry) (found : List FoundLook) →
-            IsPermittedHistory config.now h → IsStateAfter (board_in self.old) h →
-            IsOpenAt config.now h found looks.entry.now →
-            let input = judged_input config.now h now bandwidth found in
-            IsPermittedHistory config.now (and_then h input chosen.now) }
-        ensures first { IfErr result (λ refused. (h : List PassEntry) (found : List FoundLook) →
-            IsPermittedHistory config.now h → IsStateAfter (board_in self.old) h →
-            IsOpenAt config.now h found looks.entry.now →
-            let s = setting config.now h (judged_input config.now h now bandwidth found) in
-            IsFirstWrong s [] chosen.now refused) }
+        ensures exact { AfterPermittedOpen config.now self.old now bandwidth looks.entry.now
+            (λ h input. IsOk result ↔ ArePermitted (setting config.now h input) chosen.now) }
+        ensures keeps { IsOk result →
+            AfterPermittedOpen config.now self.old now bandwidth looks.entry.now (λ h input.
+            IsStateAfter (board_in self.new) (and_then h input chosen.now)) }
+        ensures permitted { IsOk result →
+            AfterPermittedOpen config.now self.old now bandwidth looks.entry.now (λ h input.
+            IsPermittedHistory config.now (and_then h input chosen.now)) }
+        ensures first { IfErr result (λ refused.
+            AfterPermittedOpen config.now self.old now bandwidth looks.entry.now (λ h input.
+            IsFirstWrong (setting config.now h input) [] chosen.now refused)) }
         ensures unchanged { OnErr result (self.new ≡ self.old) }
         ensures of { IsReady config.now (board_in self.new) }
     {

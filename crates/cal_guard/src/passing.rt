@@ -22,7 +22,7 @@ ghost use Rattle.cal_guard.specs.Permitted.{IsPermitted, IsPermittedHistory, cor
 ghost use Rattle.cal_guard.specs.Refusals as refusals;
 ghost use Rattle.cal_guard.specs.Refusals.{MayEndWith, IsFirstWrong};
 ghost use Rattle.cal_guard.specs.Passing.{IsSetOfSent, IsAfter, IsInside, MayFollow};
-ghost use Rattle.cal_guard.specs.Passing.{AreFew, AreLooks, AreShown, next_setting};
+ghost use Rattle.cal_guard.specs.Passing.{AreFew, AreLooks, AreShown, InsideOn, next_setting};
 
 use crate::pass_looks::PassLooks;
 use crate::refusal::{Refused, Why};
@@ -62,35 +62,6 @@ fn wrong_to_send(terms: &Terms, sent: &ThreadSet, thread: u8) -> Option<Why>
     unless(!terms.full.has(thread as usize), Why::NoRoom).or(unsent)
 }
 
-/// What is wrong with revoking the core.
-fn wrong_to_revoke(
-    config: &Config,
-    terms: &Terms,
-    board: &Board,
-    sent: &ThreadSet,
-    core: u8,
-) -> Option<Why>
-    requires table { IsTable config.now }
-    requires ready { IsReady config.now board.now }
-    requires core { core < config.now.cores }
-    ensures { (h : Begun) (acts : List Action) →
-        let s = setting_at config.now terms.entry.now h in
-        Agrees board.now (so_far s acts) → IsSetOfSent sent.now s acts →
-        result ≡ refusals.wrong_to_revoke s acts (holder_of (so_far s acts) core) }
-{
-    match board.holding.holders[core as usize] {
-        Holder::Held(placement) => {
-            let task = config.task_of(placement.thread as usize);
-            unless(is_over(config, board, task), Why::AtGuarantee).or(wrong_to_send(
-                terms,
-                sent,
-                placement.thread,
-            ))
-        }
-        Holder::Free | Holder::Leaving(..) => Some(Why::DoesNotFit),
-    }
-}
-
 /// What is wrong with one more core for the task.
 fn wrong_to_book(config: &Config, board: &Board, task: usize) -> Option<Why>
     requires table { IsTable config.now }
@@ -103,55 +74,6 @@ fn wrong_to_book(config: &Config, board: &Board, task: usize) -> Option<Why>
     let booked = survey_of(config, board).booked[task];
     let below_cap = config.is_latency_critical(task) || booked < cap_of(config, board, task);
     unless(booked < config.task(task).limit, Why::AtLimit).or(unless(below_cap, Why::AtCap))
-}
-
-/// What is wrong with granting the core to the thread.
-fn wrong_to_grant(
-    config: &Config,
-    terms: &Terms,
-    board: &Board,
-    sent: &ThreadSet,
-    core: u8,
-    thread: u8,
-) -> Option<Why>
-    requires table { IsTable config.now }
-    requires ready { IsReady config.now board.now }
-    requires core { core < config.now.cores }
-    requires thread { thread < threads_of_table config.now }
-    ensures { (h : Begun) (acts : List Action) →
-        let s = setting_at config.now terms.entry.now h in
-        Agrees board.now (so_far s acts) → IsSetOfSent sent.now s acts →
-        result ≡ refusals.wrong_to_grant s acts core thread }
-{
-    let task = config.task_of(thread as usize);
-    let books = wrong_to_book(config, board, task).or(wrong_to_send(terms, sent, thread));
-    unless(!is_banned(board, core), Why::Banned).or(books)
-}
-
-/// What is wrong with an action that fits the state, by its kind.
-fn wrong_to_make(
-    config: &Config,
-    terms: &Terms,
-    board: &Board,
-    sent: &ThreadSet,
-    action: Action,
-) -> Option<Why>
-    requires table { IsTable config.now }
-    requires ready { IsReady config.now board.now }
-    requires names { NamesTable config.now action }
-    ensures { (h : Begun) (acts : List Action) →
-        let s = setting_at config.now terms.entry.now h in
-        Stands board.now s acts → IsSetOfSent sent.now s acts →
-        result ≡ refusals.wrong_to_make s acts action }
-{
-    match action {
-        Action::Free { core } => unless(is_left(board, core), Why::NotLeft),
-        Action::Revoke { core, .. } => wrong_to_revoke(config, terms, board, sent, core),
-        Action::Grant { core, thread, .. } => {
-            wrong_to_grant(config, terms, board, sent, core, thread)
-        }
-        Action::Unban { .. } | Action::Ban { .. } | Action::Cap { .. } => None,
-    }
 }
 
 /// The core that an action revokes.
@@ -351,15 +273,73 @@ impl Passing {
         self.made = 0;
     }
 
+    /// What is wrong with revoking the core.
+    fn wrong_to_revoke(&self, config: &Config, terms: &Terms, core: u8) -> Option<Why>
+        requires table { IsTable config.now }
+        requires ready { IsReady config.now self.now.board }
+        requires core { core < config.now.cores }
+        ensures { (h : Begun) (acts : List Action) →
+            let s = setting_at config.now terms.entry.now h in
+            Agrees self.now.board (so_far s acts) → IsSetOfSent self.now.sent s acts →
+            result ≡ refusals.wrong_to_revoke s acts (holder_of (so_far s acts) core) }
+    {
+        match self.board.holding.holders[core as usize] {
+            Holder::Held(placement) => {
+                let task = config.task_of(placement.thread as usize);
+                unless(is_over(config, &self.board, task), Why::AtGuarantee).or(wrong_to_send(
+                    terms,
+                    &self.sent,
+                    placement.thread,
+                ))
+            }
+            Holder::Free | Holder::Leaving(..) => Some(Why::DoesNotFit),
+        }
+    }
+
+    /// What is wrong with granting the core to the thread.
+    fn wrong_to_grant(&self, config: &Config, terms: &Terms, core: u8, thread: u8) -> Option<Why>
+        requires table { IsTable config.now }
+        requires ready { IsReady config.now self.now.board }
+        requires core { core < config.now.cores }
+        requires thread { thread < threads_of_table config.now }
+        ensures { (h : Begun) (acts : List Action) →
+            let s = setting_at config.now terms.entry.now h in
+            Agrees self.now.board (so_far s acts) → IsSetOfSent self.now.sent s acts →
+            result ≡ refusals.wrong_to_grant s acts core thread }
+    {
+        let task = config.task_of(thread as usize);
+        let books = wrong_to_book(config, &self.board, task).or(wrong_to_send(
+            terms, &self.sent, thread,
+        ));
+        unless(!is_banned(&self.board, core), Why::Banned).or(books)
+    }
+
+    /// What is wrong with an action that fits the state, by its kind.
+    fn wrong_to_make(&self, config: &Config, terms: &Terms, action: Action) -> Option<Why>
+        requires table { IsTable config.now }
+        requires ready { IsReady config.now self.now.board }
+        requires names { NamesTable config.now action }
+        ensures { (h : Begun) (acts : List Action) →
+            let s = setting_at config.now terms.entry.now h in
+            Stands self.now.board s acts → IsSetOfSent self.now.sent s acts →
+            result ≡ refusals.wrong_to_make s acts action }
+    {
+        match action {
+            Action::Free { core } => unless(is_left(&self.board, core), Why::NotLeft),
+            Action::Revoke { core, .. } => self.wrong_to_revoke(config, terms, core),
+            Action::Grant { core, thread, .. } => self.wrong_to_grant(config, terms, core, thread),
+            Action::Unban { .. } | Action::Ban { .. } | Action::Cap { .. } => None,
+        }
+    }
+
     /// What is wrong with the next action.
     fn wrong_with(&self, config: &Config, terms: &Terms, action: Action) -> Option<Why>
         requires table { IsTable config.now }
         requires ready { IsReady config.now self.now.board }
         ensures names { IfNone result (NamesTable config.now action) }
         ensures few { IfNone result (self.now.made < MOST_ACTIONS) }
-        ensures wrong { (h : Begun) (acts : List Action) →
-            let s = setting_at config.now terms.entry.now h in
-            IsInside self.now s acts → result ≡ refusals.wrong_with s acts action }
+        ensures wrong { InsideOn config.now terms.entry.now self.now (λ s acts.
+            result ≡ refusals.wrong_with s acts action) }
     {
         if self.made >= MOST_ACTIONS {
             return Some(Why::TooMany);
@@ -368,7 +348,7 @@ impl Passing {
             return Some(Why::DoesNotFit);
         }
         let revoked = core_revoked_by(action);
-        let made = wrong_to_make(config, terms, &self.board, &self.sent, action);
+        let made = self.wrong_to_make(config, terms, action);
         made.or(left_undone(config, &self.board, revoked))
     }
 
@@ -400,19 +380,16 @@ impl Passing {
     ) -> Result<(), Refused>
         requires table { IsTable config.now }
         requires ready { IsReady config.now self.old.board }
-        ensures exact { (h : Begun) (acts : List Action) →
-            let s = setting_at config.now terms.entry.now h in
-            IsInside self.old s acts → IsOk result ↔ MayEndWith s acts actions.now }
-        ensures inside { IsOk result → (h : Begun) (acts : List Action) →
-            let s = setting_at config.now terms.entry.now h in
-            IsInside self.old s acts → IsInside self.new s (acts ++ actions.now) }
+        ensures exact { InsideOn config.now terms.entry.now self.old (λ s acts.
+            IsOk result ↔ MayEndWith s acts actions.now) }
+        ensures inside { IsOk result → InsideOn config.now terms.entry.now self.old (λ s acts.
+            IsInside self.new s (acts ++ actions.now)) }
         ensures after { IsOk result → (s : Setting) (acts : List Action) →
             IsAfter self.old s acts → IsAfter self.new s (acts ++ actions.now) }
         ensures follow { IsOk result → MayFollow config.now self.old.made actions.now }
         ensures made { IsOk result → self.new.made ≡ self.old.made + length actions.now }
-        ensures first { IfErr result (λ refused. (h : Begun) (acts : List Action) →
-            let s = setting_at config.now terms.entry.now h in
-            IsInside self.old s acts → IsFirstWrong s acts actions.now refused) }
+        ensures first { IfErr result (λ refused. InsideOn config.now terms.entry.now self.old
+            (λ s acts. IsFirstWrong s acts actions.now refused)) }
         ensures ready { IsReady config.now self.new.board }
     {
         for (place, action) in actions.iter().enumerate() {

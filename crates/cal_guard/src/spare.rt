@@ -3,14 +3,13 @@
 
 ghost use Rattle.std.specs.Prelude.{◌≡◌, ◌++◌, ◌↔◌, [], List, IsOk, IfErr, OnErr};
 ghost use Rattle.cal_machine.specs.Table.{Table, IsTable};
-ghost use Rattle.cal_policy.specs.declared.history.action.Action.{Action};
 ghost use Rattle.cal_policy.specs.declared.history.entry.PassEntry.{PassEntry};
 ghost use Rattle.cal_policy.specs.declared.history.input.Input.{Input};
-ghost use Rattle.cal_policy.specs.Setting.{Begun, setting, setting_at};
+ghost use Rattle.cal_policy.specs.Setting.{setting};
 ghost use Rattle.cal_policy.specs.State.{IsReady, IsStateAfter};
 ghost use Rattle.cal_guard.specs.Permitted.{ArePermitted, IsPermittedHistory};
 ghost use Rattle.cal_guard.specs.Refusals.{MayEndWith, IsFirstWrong};
-ghost use Rattle.cal_guard.specs.Passing.{IsInside, AreFew, AreLooks, GoesBy};
+ghost use Rattle.cal_guard.specs.Passing.{IsInside, AreFew, AreLooks, InsideOn, GoingBy};
 ghost use Rattle.cal_guard.specs.Spare.{AreTwins, IsSpareOf};
 
 use crate::pass_looks::PassLooks;
@@ -68,15 +67,12 @@ pub fn offer_both(
 ) -> Result<(), Refused>
     requires ready { IsReady config.now passing.old.board }
     requires spare { IsSpareOf passing.old spare.old }
-    ensures exact { (h : Begun) (acts : List Action) →
-        let s = setting_at config.now terms.entry.now h in
-        IsInside passing.old s acts → IsOk result ↔ MayEndWith s acts actions.now }
-    ensures inside { IsOk result → (h : Begun) (acts : List Action) →
-        let s = setting_at config.now terms.entry.now h in
-        IsInside passing.old s acts → IsInside passing.new s (acts ++ actions.now) }
-    ensures first { IfErr result (λ refused. (h : Begun) (acts : List Action) →
-        let s = setting_at config.now terms.entry.now h in
-        IsInside passing.old s acts → IsFirstWrong s acts actions.now refused) }
+    ensures exact { InsideOn config.now terms.entry.now passing.old (λ s acts.
+        IsOk result ↔ MayEndWith s acts actions.now) }
+    ensures inside { IsOk result → InsideOn config.now terms.entry.now passing.old (λ s acts.
+        IsInside passing.new s (acts ++ actions.now)) }
+    ensures first { IfErr result (λ refused. InsideOn config.now terms.entry.now passing.old
+        (λ s acts. IsFirstWrong s acts actions.now refused)) }
     ensures unchanged { OnErr result (passing.new ≡ passing.old) }
     ensures ready { IsReady config.now passing.new.board }
     ensures spare { IsSpareOf passing.new spare.new }
@@ -108,18 +104,14 @@ pub fn step_both(
     requires few { AreFew looks }
     requires ready { IsReady config.now passing.old.board }
     requires spare { IsSpareOf passing.old spare.old }
-    ensures exact { (h : List PassEntry) (input : Input) →
-        GoesBy config.now terms.entry.now looks.entry h input → IsPermittedHistory config.now h →
-        IsStateAfter passing.old.board h →
-        IsOk result ↔ ArePermitted (setting config.now h input) chosen.now }
-    ensures inside { IsOk result → (h : List PassEntry) (input : Input) →
-        GoesBy config.now terms.entry.now looks.entry h input → IsPermittedHistory config.now h →
-        IsStateAfter passing.old.board h →
-        IsInside passing.new (setting config.now h input) chosen.now }
-    ensures first { IfErr result (λ refused. (h : List PassEntry) (input : Input) →
-        GoesBy config.now terms.entry.now looks.entry h input → IsPermittedHistory config.now h →
-        IsStateAfter passing.old.board h →
-        IsFirstWrong (setting config.now h input) [] chosen.now refused) }
+    ensures exact { GoingBy config.now terms.entry.now looks.entry passing.old.board (λ h input.
+        IsOk result ↔ ArePermitted (setting config.now h input) chosen.now) }
+    ensures inside { IsOk result →
+        GoingBy config.now terms.entry.now looks.entry passing.old.board (λ h input.
+        IsInside passing.new (setting config.now h input) chosen.now) }
+    ensures first { IfErr result (λ refused.
+        GoingBy config.now terms.entry.now looks.entry passing.old.board (λ h input.
+        IsFirstWrong (setting config.now h input) [] chosen.now refused)) }
     ensures unchanged { OnErr result (passing.new ≡ passing.old) }
     ensures ready { IsReady config.now passing.new.board }
     ensures spare { IsSpareOf passing.new spare.new }

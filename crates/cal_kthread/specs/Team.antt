@@ -11,7 +11,7 @@ use Rattle.cal_kthread.specs.Queue.{QueueId}
 use Rattle.cal_kthread.specs.Queue.Rule.{queue_shares, weigh}
 use Rattle.cal_kthread.specs.End.Rest.{RestView}
 use Rattle.cal_kthread.specs.Turn.Thread.{ThreadView}
-use Rattle.cal_kthread.specs.declared.turn.victims.Victim.{Victim}
+use Rattle.cal_kthread.specs.declared.turn.sources.Source.{Source}
 
 -- the place of a thread in its team: its queue, how many of the queue's shares its own end has, and
 -- its thieves, each with the number of the thread that it steals from and with that thread's queue
@@ -20,21 +20,21 @@ pub record Place : Type 0 where
   pub shares : ℕ
   pub thieves : List (ℕ × QueueId)
 
-abbrev pub thief_place : Victim → ℕ × QueueId
+abbrev pub thief_place : Source → ℕ × QueueId
 thief_place v = (v.number, v.thief.queue)
 
 abbrev pub place_of : ThreadView → Place
 place_of t = record {
   queue = t.queue.queue;
   shares = t.queue.shares;
-  thieves = map thief_place t.victims;
+  thieves = map thief_place t.sources;
 }
 
 abbrev pub place_of_rest : RestView → Place
 place_of_rest r = record {
   queue = r.queue.queue;
   shares = r.queue.shares;
-  thieves = map thief_place r.victims;
+  thieves = map thief_place r.sources;
 }
 
 -- how many thieves steal from the thread k: those of one thread, and those of all

@@ -18,7 +18,7 @@ use Rattle.cal_kthread.specs.declared.journal.entry.Entry.TheVariants.{Arrived, 
 use Rattle.cal_kthread.specs.declared.journal.entry.Entry.TheVariants.{Served, Yielded, Published}
 use Rattle.cal_kthread.specs.declared.kernel_thread.TheConstants.{MOST_ENTRIES, TURN_ENTRIES}
 use Rattle.cal_kthread.specs.declared.queue.waiting.Waiting.{Waiting}
-use Rattle.cal_kthread.specs.declared.turn.victims.Victim.{Victim}
+use Rattle.cal_kthread.specs.declared.turn.sources.Source.{Source}
 use Rattle.cal_kthread.specs.Journal.{core_after}
 use Rattle.cal_signal.specs.Records.{running_word}
 use Rattle.cal_signal.specs.declared.record.TheConstants.{MOST_MISSES}
@@ -77,21 +77,21 @@ abbrev pub begun : ℕ → Waiting → Current
 begun now waiting = record { waiting = waiting; remaining = waiting.request.work; started = now }
 
 -- the others, of whom the one at this place was robbed of this request
-abbrev pub robbed : List Victim → ℕ → Waiting → List Victim
+abbrev pub robbed : List Source → ℕ → Waiting → List Source
 robbed [] place waiting = []
 robbed (v ∷ vs) zero waiting =
     record v { thief = record v.thief { had = v.thief.had ++ waiting ∷ [] } } ∷ vs
 robbed (v ∷ vs) (suc place) waiting = v ∷ robbed vs place waiting
 
 -- the number of the thread at this place
-abbrev pub number_at : List Victim → ℕ → ℕ
-number_at victims place = slice_index (map (λ (v : Victim). v.number) victims) place
+abbrev pub number_at : List Source → ℕ → ℕ
+number_at sources place = slice_index (map (λ (v : Source). v.number) sources) place
 
 abbrev pub stolen : ℕ → Option (ℕ × Waiting) → ThreadView → ThreadView × Option Entry
 stolen now None t = (t, None)
 stolen now (Some theft) t = (
-  record t { victims = robbed t.victims theft.0 theft.1; current = Some (begun now theft.1) },
-  Some (Stole (number_at t.victims theft.0) theft.1.request.id),
+  record t { sources = robbed t.sources theft.0 theft.1; current = Some (begun now theft.1) },
+  Some (Stole (number_at t.sources theft.0) theft.1.request.id),
 )
 
 -- the next of its own becomes current, else what was stolen
@@ -195,7 +195,7 @@ pub record Answers : Type 0 where
 
 -- the place of what was stolen is that of one of the others
 abbrev pub AreAnswers : Answers → KernelView → Type 0
-AreAnswers answers k = IfSome answers.theft (λ theft. theft.0 < length k.thread.victims)
+AreAnswers answers k = IfSome answers.theft (λ theft. theft.0 < length k.thread.sources)
 
 -- the journal with what a step puts into it
 abbrev pub noted : List Entry → Option Entry → List Entry

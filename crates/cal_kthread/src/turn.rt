@@ -2,6 +2,6 @@
 
 pub mod current;
 pub mod entries;
+pub mod sources;
 pub mod steps;
 pub mod thread;
-pub mod victims;

@@ -32,17 +32,23 @@ MayBeEmpty s x holders.Free = Unit {0}
 MayBeEmpty s x (holders.Held placement) = IsOverWithRoom s x placement.thread
 MayBeEmpty s x (holders.Leaving placement cause) = Unit {0}
 
--- a request runs too long on core c: a thread of a latency-critical task holds the core, and its
--- kept record shows it at work there at a request begun too long ago
+-- a request runs too long on core c
 pub record RunsTooLong (s : Setting) (x : List Action) (c thread : ℕ) : Type 0 where
+  -- the machine has the core
   pub own : c < s.table.cores
+  -- this thread holds it
   pub placement : placements.Placement
   pub held : holder_of x c ≡ holders.Held placement
   pub runs : placement.thread ≡ thread
+  -- its task is latency-critical
   pub critical : is_latency_critical s.table (owner_of s.table thread) ≡ true
+  -- its kept record shows it on this core
   pub shown : (kept_now s thread).running ≡ c + 1
+  -- at work at a request
   pub at_work : (kept_now s thread).started ≢ 0
+  -- which was begun before now
   pub begun : (kept_now s thread).started < s.input.now
+  -- longer ago than its task allows
   pub too_long : request_of s.table (owner_of s.table thread)
       < s.input.now - (kept_now s thread).started
 

@@ -43,38 +43,52 @@ pub record HasMisses (s : Setting) (x : List Action) (t : ℕ) : Type 0 where
   pub none_lesser : (other : ℕ) → IsCandidate s x other → task_misses s other ≡ task_misses s t →
       t ≤ other
 
--- for bandwidth: the figure is over the limit, and of the cores of the task with the most misses
--- this is the highest; the action just before has capped that task one below what it holds
+-- the core is revoked for bandwidth
 pub record IsForBandwidth (s : Setting) (acts : List Action) (core : ℕ) : Type 0 where
+  -- the figure is over the limit
   pub over_limit : s.table.bandwidth_limit < s.input.bandwidth
+  -- the task that loses the core, and the actions before its cap
   pub victim : ℕ
   pub earlier : List Action
+  -- the action just before has capped it one below what it holds
   pub capped : acts ≡ earlier ++ Cap victim (held_by s.table (so_far s acts) victim - 1) ∷ []
+  -- no task that could lose a core has had more misses
   pub misses : HasMisses s (so_far s acts) victim
+  -- the core is one that it can lose
   pub loses : CanLose s (so_far s acts) victim core
+  -- and the highest of them
   pub none_higher : (c : ℕ) → CanLose s (so_far s acts) victim c → c ≤ core
 
--- for task t: it is congested and books less than its limit; of all pairs of class and core that
--- are possible for it this is the least, and the core may be preempted for it, which no core is
--- being left for
+-- the core is revoked for task t
 pub record IsForTask (s : Setting) (acts : List Action) (core t : ℕ) : Type 0 where
+  -- the table has the task
   pub own : t < length s.table.tasks
+  -- it is congested
   pub congested : is_congested s t ≡ true
+  -- it books less than its limit
   pub below_limit : booked_by s.table (so_far s acts) t < limit_of s.table t
+  -- the class of the core
   pub class : CoreClass
+  -- of all pairs of class and core that are possible for the task this is the least
   pub least : IsLeastPossible s acts t class core
+  -- the core may be preempted for it, and no core is being left for it
   pub preemptible : IsPreemptible s acts t class core
 
--- for a ban beside core `by`: the action just before is the ban of this core, which was due; the
--- core is held by a task that is over
+-- the core is revoked for a ban beside core `by`
 pub record IsForBan (s : Setting) (acts : List Action) (core by : ℕ) : Type 0 where
+  -- the actions before the ban, and the thread that it is for
   pub earlier : List Action
   pub thread : ℕ
+  -- the action just before is the ban of this core
   pub just_before : acts ≡ earlier ++ Ban core thread (kept_now s thread).started ∷ []
+  -- which is the sibling of core `by`
   pub beside : core ≡ sibling_of by
+  -- for which it was due
   pub due : IsDue s (so_far s earlier) by thread
+  -- a thread holds the core
   pub placement : placements.Placement
   pub held : holder_of (so_far s acts) core ≡ holders.Held placement
+  -- whose task is over, and whose ring has room
   pub over : IsOverWithRoom s (so_far s acts) placement.thread
 
 -- a revocation of this core, after the actions acts of the pass, is for what its cause says

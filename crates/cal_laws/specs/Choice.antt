@@ -25,15 +25,18 @@ pub record IsFreeWithRoom (s : Setting) (x : List Action) (k : ℕ) : Type 0 whe
   pub free : cores_of_thread s.table x k ≡ 0
   pub room : has_room s k ≡ true
 
--- of the threads of task t that are free with room no other has a greater delay, and none on a
--- tie has a lesser number
+-- of the threads of task t that are free with room this one has waited longest
 pub record HasGreatestDelay (s : Setting) (x : List Action) (t thread : ℕ) : Type 0 where
+  -- its number among those of the task
   pub number : ℕ
   pub own : number < limit_of s.table t
   pub numbered : thread ≡ thread_of s.table t number
+  -- it is free, and its ring has room
   pub candidate : IsFreeWithRoom s x thread
+  -- no other such thread of the task has a greater delay
   pub none_greater : (j : ℕ) → j < limit_of s.table t → IsFreeWithRoom s x (thread_of s.table t j) →
       thread_delay s (thread_of s.table t j) ≤ thread_delay s thread
+  -- and none with as great a one has a lesser number
   pub none_lesser : (j : ℕ) → j < limit_of s.table t → IsFreeWithRoom s x (thread_of s.table t j) →
       thread_delay s (thread_of s.table t j) ≡ thread_delay s thread → number ≤ j
 
@@ -77,15 +80,19 @@ pub record IsOther (s : Setting) (x : List Action) (t : ℕ) (class : CoreClass)
   pub not_beside : ¬ IsHeldBy s.table x t (sibling_of core)
   pub not_last : ¬ WentLastTo s.table x t core
 
--- a core that may be preempted for task t: t is latency-critical and no core is being left for it;
--- the core is held by a thread whose ring has room, and was not granted in this pass
+-- a core that may be preempted for task t
 pub record MayBePreempted (s : Setting) (acts : List Action) (t core : ℕ) : Type 0 where
+  -- the task is latency-critical
   pub critical : is_latency_critical s.table t ≡ true
+  -- no core is being left for it
   pub none_leaves : (c : ℕ) (left : placements.Placement) → c < s.table.cores →
       holder_of (so_far s acts) c ≢ holders.Leaving left (causes.Preempt t)
+  -- a thread holds the core
   pub placement : placements.Placement
   pub held : holder_of (so_far s acts) core ≡ holders.Held placement
+  -- whose ring has room
   pub room : has_room s placement.thread ≡ true
+  -- and the core was not granted in this pass
   pub not_granted : is_granted_in acts core ≡ false
 
 -- another latency-critical task may be preempted for task t: it holds more than it is guaranteed,
@@ -139,18 +146,23 @@ pub record IsLeastPossible (s : Setting) (acts : List Action) (t : ℕ) (class :
       IsPossible s acts t other_class other_core →
       ¬ IsLessPair other_class other_core class core
 
--- a grant of the class of this number: the thread's task is congested and may book one more core;
--- core and thread are the best that the task can have
+-- a grant of the class of this number
 pub record IsBestGrant (s : Setting) (acts : List Action) (core thread number : ℕ) : Type 0 where
+  -- the task of the thread
   pub task : ℕ
   pub own : task < length s.table.tasks
   pub owner : owner_of s.table thread ≡ task
+  -- it is congested
   pub congested : is_congested s task ≡ true
+  -- it may book one more core
   pub room : may_book s (so_far s acts) task ≡ true
+  -- the class of the core, in which cores are granted
   pub class : CoreClass
   pub numbered : number ≡ class_number class
   pub idle : is_idle class ≡ true
+  -- of all pairs of class and core that are possible for the task this is the least
   pub least : IsLeastPossible s acts task class core
+  -- of its threads this one has waited longest
   pub longest : HasGreatestDelay s (so_far s acts) task thread
 
 -- each grant is the best that its task can have

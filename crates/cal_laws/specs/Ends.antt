@@ -8,7 +8,7 @@ use Rattle.cal_policy.specs.declared.history.entry.PassEntry.{PassEntry}
 use Rattle.cal_policy.specs.History.{actions_of, holder_of}
 use Rattle.cal_policy.specs.Board.Counts.{held_by, cap_of}
 use Rattle.cal_policy.specs.Pass.{IsLegal}
-use Rattle.cal_laws.specs.Point.{Point, IsPoint, actions_at, next_at}
+use Rattle.cal_laws.specs.Point.{Point, IsPoint, point_at, actions_at, next_at}
 use Rattle.cal_laws.specs.Exclusion.{HaveOneCore, IsByLastRun}
 use Rattle.cal_laws.specs.Limits.{IsWithinLimit}
 use Rattle.cal_laws.specs.Bans.{NoneHeld}
@@ -16,13 +16,8 @@ use Rattle.cal_laws.specs.Runs.{RunsStand}
 
 -- after all actions of the last pass, which is this entry
 abbrev pub end_of : Table → List PassEntry → PassEntry → Point
-end_of table history entry = record {
-  table = table;
-  history = history;
-  pass = length history - 1;
-  entry = entry;
-  made = length entry.actions;
-}
+end_of table history entry =
+    point_at table history (length history - 1) entry (length entry.actions)
 
 -- at that point all actions of the history are made, and none comes next
 pub record IsEnd (history : List PassEntry) (here : Point) : Type 0 where

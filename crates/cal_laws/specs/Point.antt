@@ -15,6 +15,11 @@ pub record Point : Type 0 where
   pub entry : PassEntry
   pub made : ℕ
 
+-- a point of these
+abbrev pub point_at : Table → List PassEntry → ℕ → PassEntry → ℕ → Point
+point_at table history pass entry made =
+    record { table = table; history = history; pass = pass; entry = entry; made = made }
+
 -- what the pass at this point goes by: the table, the passes before it, its input
 abbrev pub setting_at : Point → Setting
 setting_at here = setting_of here.table (take here.pass here.history) here.entry

@@ -8,7 +8,7 @@ use Rattle.cal_policy.specs.declared.history.entry.PassEntry.{PassEntry}
 use Rattle.cal_policy.specs.History.{holder_of, commands_to}
 use Rattle.cal_policy.specs.Board.{placement_of}
 use Rattle.cal_policy.specs.Setting.{kept_now}
-use Rattle.cal_laws.specs.Point.{Point, IsPoint, setting_at, actions_at, next_at}
+use Rattle.cal_laws.specs.Point.{Point, IsPoint, point_at, setting_at, actions_at, next_at}
 
 -- command number `number` to thread k is a Run of core c; commands are numbered from 1
 pub record IsRunOf (x : List Action) (k number c : ℕ) : Type 0 where
@@ -29,28 +29,18 @@ pub record IsLeft (here : Point) (k number c : ℕ) : Type 0 where
   pub taken : number ≤ (kept_now (setting_at here) k).taken
   pub on_none : (kept_now (setting_at here) k).running ≡ 0
 
--- so it was at a point of the history, whose actions and that Free are the first of the actions x
+-- so it was at a point of the history
 pub record WasLeft (table : Table) (history : List PassEntry) (x : List Action)
     (k number c : ℕ) : Type 0 where
+  -- in this pass, after so many of its actions
   pub pass : ℕ
   pub entry : PassEntry
   pub made : ℕ
   pub is_pass : slice_get history pass ≡ Some entry
-  pub left : IsLeft (record {
-    table = table;
-    history = history;
-    pass = pass;
-    entry = entry;
-    made = made;
-  }) k number c
+  pub left : IsLeft (point_at table history pass entry made) k number c
+  -- the actions up to that point and that Free are the first of the actions x
   pub after : List Action
-  pub earlier : x ≡ actions_at (record {
-    table = table;
-    history = history;
-    pass = pass;
-    entry = entry;
-    made = made;
-  }) ++ Free c ∷ after
+  pub earlier : x ≡ actions_at (point_at table history pass entry made) ++ Free c ∷ after
 
 -- after the actions x of the history each Run that was sent is of a core of the machine, and
 -- stands, or was left

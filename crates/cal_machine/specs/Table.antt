@@ -14,23 +14,33 @@ pub record Table : Type 0 where
   pub bandwidth_limit : ℕ
   pub tasks : List Task
 
--- What each task of an accepted table is: a limit of 1 to MOST_LIMIT, no more guaranteed than
--- the limit, and nothing at all to a best-effort task.
+-- What each task of an accepted table is.
 pub record IsTask (task : Task) : Type 0 where
+  -- it may have a core
   pub some_limit : 1 ≤ task.limit
+  -- and no more than MOST_LIMIT
   pub limit : task.limit ≤ MOST_LIMIT
+  -- no more are guaranteed to it than it may have
   pub guaranteed : task.guaranteed ≤ task.limit
+  -- no threshold is above the last tick
   pub delay : task.delay ≤ MOST_TICKS
   pub request : task.request ≤ MOST_TICKS
+  -- nothing at all is guaranteed to a best-effort task
   pub best_effort : task.kind ≡ BestEffort → task.guaranteed ≡ 0
 
--- What each accepted table is: a machine, 1 to MOST_TASKS tasks, each within its limits; together
--- they are guaranteed no more cores than there are, and have at most MOST_THREADS kernel threads.
+-- What each accepted table is.
 pub record IsTable (table : Table) : Type 0 where
+  -- its cores make a machine
   pub machine : IsMachine table.cores
+  -- no threshold is above the last tick
   pub bandwidth_limit : table.bandwidth_limit ≤ MOST_TICKS
+  -- it has a task
   pub some_task : 1 ≤ length table.tasks
+  -- and no more than MOST_TASKS
   pub tasks : length table.tasks ≤ MOST_TASKS
+  -- each task is within its limits
   pub each : All IsTask table.tasks
+  -- together they are guaranteed no more cores than there are
   pub guarantees : guaranteed_in table.tasks ≤ table.cores
+  -- and have at most MOST_THREADS kernel threads
   pub threads : threads_in table.tasks ≤ MOST_THREADS

@@ -1,6 +1,6 @@
 //! How many passes an input has.
 
-ghost use Rattle.cal_engine.specs.Outcome.{Gives};
+ghost use Rattle.cal_engine.specs.Outcome.{IsWhatInputSays};
 ghost use Rattle.cal_engine.specs.Runs.{recorded_run_of};
 ghost use Rattle.cal_picture.specs.Counting.{passes_in};
 
@@ -10,7 +10,7 @@ use std::alloc::Global;
 /// Reads the history of an input to its end, and answers how many passes it has; none is kept. The
 /// faults come in this order: `Separator`, `Config`, `Trace`; `Memory` may come at any place.
 pub fn count_passes(alloc: Global, input: &[u8]) -> Result<usize, RunFault>
-    ensures { Gives (λ count. count) result (passes_in (recorded_run_of input.now)) }
+    ensures { IsWhatInputSays (λ count. count) result (passes_in (recorded_run_of input.now)) }
 {
     let (_config, mut history) = recorded_passes(alloc, input)?;
     let mut count = 0usize;

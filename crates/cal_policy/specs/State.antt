@@ -34,16 +34,21 @@ use Rattle.cal_policy.specs.Setting.{Setting, so_far}
 use Rattle.cal_signal.specs.Records.{zero_record}
 use Rattle.cal_signal.specs.Shown.{nothing_shown}
 
--- the board is ready for passes on the table: its threads are the table's, its counts are those of
--- its cores, its sets have each core where its holder, its ban and its thread's kept record say,
--- and each thread where its kept record says
+-- the board is ready for passes on the table
 pub record IsReady (table : Table) (b : Board) : Type 0 where
+  -- no thread that it names is past the last that a table may have
   pub sound : BoardSound MOST_THREADS b
+  -- nor past the last of this table
   pub own : BoardSound (threads_of_table table) b
+  -- its counts are those of its cores
   pub counts : Surveys table (holder_in b.holding) b.survey
+  -- each core is in the sets where its holder and its ban say
   pub sets : Sorts (holder_in b.holding) b.sets
+  -- and in those of the cores that are open where both say
   pub opens : Opens (holder_in b.holding) b.sets.banned b.open_cores
+  -- each thread is in the sets where its kept record says
   pub keeping : KeepsSets b.keeping
+  -- each core that its thread's kept record does not show is in the set of those
   pub shows : Shows (holder_in b.holding) (kept_in b.keeping) b.unshown
 
 -- what a pass is decided by: an accepted table, and a board that is ready for it

@@ -4,7 +4,7 @@ ghost use Rattle.std.specs.Prelude.{◌<◌, ◌^◌, ◌++◌, ◌∷◌, ◌�
 ghost use Rattle.cal_machine.specs.Table.{Table};
 ghost use Rattle.cal_policy.specs.Auditor.{IsAuditOf, IsAuditorOf};
 ghost use Rattle.cal_policy.specs.State.{IsReady, IsStateAfter};
-ghost use Rattle.cal_policy.specs.Book.{board_in};
+ghost use Rattle.cal_policy.specs.Book.{board_in, AfterLegal};
 ghost use Rattle.cal_policy.specs.Pass.{IsPass, IsLegal};
 ghost use Rattle.cal_policy.specs.Verdict.{IsVerdict};
 ghost use Rattle.cal_policy.specs.declared.history.entry.PassEntry.{PassEntry};
@@ -38,12 +38,10 @@ pub struct Auditor {
 fn is_next(config: &Config, book: &mut Book, entry: &PassEntry, actions: &mut Actions) -> bool
     requires of { IsReady config.now (board_in book.old) }
     ensures of { IsReady config.now (board_in book.new) }
-    ensures exact { (h : List PassEntry) → IsLegal config.now h →
-        IsStateAfter (board_in book.old) h →
-        IsTrue result ↔ IsPass config.now h entry.now }
-    ensures agrees { IsTrue result → (h : List PassEntry) → IsLegal config.now h →
-        IsStateAfter (board_in book.old) h →
-        IsStateAfter (board_in book.new) (h ++ entry.now ∷ []) }
+    ensures exact { AfterLegal config.now book.old (λ h.
+        IsTrue result ↔ IsPass config.now h entry.now) }
+    ensures agrees { IsTrue result → AfterLegal config.now book.old (λ h.
+        IsStateAfter (board_in book.new) (h ++ entry.now ∷ [])) }
 {
     if !book.fits(config, &entry.input) {
         return false;

@@ -4,17 +4,15 @@ ghost use Rattle.std.specs.Prelude.{◌≡◌, ℕ, ◌<◌, ◌++◌, ◌∷◌
 ghost use Rattle.std.specs.Prelude.{length, take, slice_get, IfOk, IsTrue};
 ghost use Rattle.cal_machine.specs.Table.{Table, IsTable};
 ghost use Rattle.cal_machine.specs.TableTasks.{threads_of_table};
-ghost use Rattle.cal_policy.specs.declared.judgement.open_input.FoundLook.{FoundLook};
 ghost use Rattle.cal_policy.specs.declared.history.entry.PassEntry.{PassEntry};
 ghost use Rattle.cal_policy.specs.History.{actions_of, looks_of};
 ghost use Rattle.cal_policy.specs.Judgement.OpenInput.{judged_input};
-ghost use Rattle.cal_policy.specs.Judgement.OpenPass.{IsOpenAt};
 ghost use Rattle.cal_policy.specs.Judgement.Judging.{judged, IsInput};
 ghost use Rattle.cal_policy.specs.Setting.{setting};
 ghost use Rattle.cal_policy.specs.Pass.{pass_of, IsLegal};
 ghost use Rattle.cal_policy.specs.Board.{HasSizes, KeepsBefore};
 ghost use Rattle.cal_policy.specs.State.{IsReady, IsStateAfter};
-ghost use Rattle.cal_policy.specs.Book.{board_in, IsSentBy};
+ghost use Rattle.cal_policy.specs.Book.{board_in, AfterLegalOn, AfterLegalOpen, IsSentBy};
 
 use crate::board::Board;
 use crate::board::holders::core_changed_by;
@@ -123,27 +121,22 @@ impl Book {
         requires of { IsReady config.now (board_in self.old) }
         requires sizes { HasSizes config.now input.now }
         requires empty { out.old ≡ [] }
-        ensures acts { (h : List PassEntry) → IsLegal config.now h →
-            IsStateAfter (board_in self.old) h →
-            IsInput config.now h input.entry.now →
-            out.new ≡ pass_of (setting config.now h input.entry.now) }
-        ensures agrees { (h : List PassEntry) → IsLegal config.now h →
-            IsStateAfter (board_in self.old) h →
-            IsInput config.now h input.entry.now →
+        ensures acts { AfterLegalOn config.now self.old input.entry.now (λ h.
+            out.new ≡ pass_of (setting config.now h input.entry.now)) }
+        ensures agrees { AfterLegalOn config.now self.old input.entry.now (λ h.
             IsStateAfter (board_in self.new) (h ++ record {
               input = input.entry.now;
               actions = out.new;
-            } ∷ []) }
+            } ∷ [])) }
         // The misses of the records kept before this pass's looks are kept too.
-        ensures before { (h : List PassEntry) → IsLegal config.now h →
-            IsStateAfter (board_in self.old) h →
-            IsInput config.now h input.entry.now →
-            KeepsBefore self.new.board.value.keeping (looks_of h) }
+        ensures before { AfterLegalOn config.now self.old input.entry.now (λ h.
+            KeepsBefore self.new.board.value.keeping (looks_of h)) }
         ensures of { IsReady config.now (board_in self.new) }
     {
         config.limits();
         decide(config, input, &mut self.board, out);
     }
+
     /// Appends the actions of the next pass, at this clock and bandwidth figure and on the looks
     /// that came in, one of each thread, to an empty list, and takes the pass into the book. It is
     /// `step` on the input that is made of these looks, with no list of looks made.
@@ -159,20 +152,16 @@ impl Book {
         requires of { IsReady config.now (board_in self.old) }
         requires all { looks.now.count ≡ threads_of_table config.now }
         requires empty { out.old ≡ [] }
-        ensures acts { (h : List PassEntry) (found : List FoundLook) → IsLegal config.now h →
-            IsStateAfter (board_in self.old) h → IsOpenAt config.now h found looks.entry.now →
-            out.new ≡ pass_of (setting config.now h (judged_input config.now h now bandwidth
-            found)) }
-        ensures agrees { (h : List PassEntry) (found : List FoundLook) → IsLegal config.now h →
-            IsStateAfter (board_in self.old) h → IsOpenAt config.now h found looks.entry.now →
-            IsStateAfter (board_in self.new) (h ++ record {
-              input = judged_input config.now h now bandwidth found;
+        ensures acts { AfterLegalOpen config.now self.old now bandwidth looks.entry.now (λ h input.
+            out.new ≡ pass_of (setting config.now h input)) }
+        ensures agrees { AfterLegalOpen config.now self.old now bandwidth looks.entry.now
+            (λ h input. IsStateAfter (board_in self.new) (h ++ record {
+              input = input;
               actions = out.new;
-            } ∷ []) }
+            } ∷ [])) }
         // The misses of the records kept before this pass's looks are kept too.
-        ensures before { (h : List PassEntry) (found : List FoundLook) → IsLegal config.now h →
-            IsStateAfter (board_in self.old) h → IsOpenAt config.now h found looks.entry.now →
-            KeepsBefore self.new.board.value.keeping (looks_of h) }
+        ensures before { AfterLegalOpen config.now self.old now bandwidth looks.entry.now
+            (λ h input. KeepsBefore self.new.board.value.keeping (looks_of h)) }
         ensures of { IsReady config.now (board_in self.new) }
     {
         config.limits();

@@ -1,4 +1,4 @@
 -- The turns of kernel threads and what comes to them.
 pub mod NextRequest
 pub mod Turns
-pub mod Given
+pub mod GivenTurns

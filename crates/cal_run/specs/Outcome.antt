@@ -21,7 +21,7 @@ use Rattle.cal_linear.specs.Steps.{journal_at}
 use Rattle.cal_trace.specs.Report.Summary.{IsTallyOf}
 use Rattle.cal_trace.specs.declared.arrivals.Arrivals.{Arrivals}
 use Rattle.cal_trace.specs.declared.arrivals.GivenPass.{GivenPass}
-use Rattle.cal_run.specs.Workers.Given.{IsGiven, turns_given}
+use Rattle.cal_run.specs.Workers.GivenTurns.{IsGiven, turns_given}
 use Rattle.cal_run.specs.declared.outcome.Outcome.{Outcome}
 use Rattle.cal_run.specs.declared.parts.opening.TheConstants.{MOST_ROUNDS}
 use Rattle.cal_run.specs.declared.outcome.RunEnd.{RunEnd}

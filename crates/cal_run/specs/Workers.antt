@@ -1,5 +1,5 @@
 -- Where a kernel thread stands among the turns that it is given.
-pub mod Given
+pub mod GivenTurns
 use Rattle.std.specs.Prelude.{◌≡◌, ◌<◌, ◌≤◌, ◌⊎◌, ℕ, List, [], map, take, Some, slice_get}
 use Rattle.atomic_table.specs.Seated.{TableId}
 use Rattle.cal_command.specs.Rings.{RingId}
@@ -11,7 +11,7 @@ use Rattle.cal_kthread.specs.declared.journal.entry.Entry.{Entry}
 use Rattle.cal_trace.specs.Arrivals.FitsTable.{Fits}
 use Rattle.cal_trace.specs.declared.arrivals.Arrival.{Arrival}
 use Rattle.cal_trace.specs.declared.arrivals.Arrivals.{Arrivals}
-use Rattle.cal_run.specs.Workers.Given.{turns_given}
+use Rattle.cal_run.specs.Workers.GivenTurns.{turns_given}
 use Rattle.cal_run.specs.declared.workers.worker.Worker.{Worker}
 
 -- the arrivals fit some table

@@ -49,15 +49,18 @@ pass_on table before input = record {
   actions = pass_of (setting table before input);
 }
 
--- One pass more: one look at each page and one question to each ring, in thread order; the looks as
--- they are judged, the answers and the figures that were given make the input of the pass, and the
--- policy its actions; what was sent on each ring by then are its commands.
+-- One pass more.
 pub record IsPassed (now bandwidth : ℕ) (before after : SchedulerView) : Type 0 where
+  -- what was found of each thread, and the rings after they were asked
   pub found : List FoundLook
   pub asked : List SenderView
+  -- one look at each page and one question to each ring, in thread order
   pub finds : HaveFound before.observers after.observers before.senders asked found
+  -- the looks as they are judged, the answers and the figures that were given make the input of
+  -- the pass, and the policy its actions
   pub history : after.history ≡ before.history
       ++ pass_on before.table before.history
       (judged_input before.table before.history now bandwidth found) ∷ []
+  -- what was sent on each ring by then are its commands
   pub sends : HaveSent asked after.senders after.history
   pub table : after.table ≡ before.table

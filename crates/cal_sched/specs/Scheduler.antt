@@ -28,14 +28,19 @@ abbrev pub HaveSentNothing : List SenderView → Type 0
 HaveSentNothing senders = (k : ℕ) (sender : SenderView) → slice_get senders k ≡ Some sender →
     sender.sent ≡ []
 
--- The history is legal. What its passes found of a thread is, in order, what the thread's observer
--- found, and what was sent on its ring are its commands.
+-- What a scheduler keeps from pass to pass.
 pub record IsKept (s : SchedulerView) : Type 0 where
+  -- its history is legal
   pub legal : IsLegal s.table s.history
+  -- and no longer than a history may be
   pub few : length s.history ≤ MOST_PASSES
+  -- it has a page of each thread
   pub pages : length s.observers ≡ threads_of_table s.table
+  -- and a ring
   pub rings : length s.senders ≡ threads_of_table s.table
+  -- what its passes found of a thread is, in order, what the thread's observer found
   pub looks : (k : ℕ) (observer : ObserverView) → slice_get s.observers k ≡ Some observer →
       observer.looks ≡ looks_at s.history k
+  -- what was sent on a thread's ring are its commands
   pub sent : (k : ℕ) (sender : SenderView) → slice_get s.senders k ≡ Some sender →
       sender.sent ≡ commands_to (actions_of s.history) k

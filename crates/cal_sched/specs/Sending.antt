@@ -11,18 +11,22 @@ use Rattle.cal_policy.specs.History.{actions_of, commands_to}
 use Rattle.cal_policy.specs.Pass.{IsLegal}
 use Rattle.cal_machine.specs.TableTasks.{threads_of_table}
 
--- The history is legal, the book agrees with it, and the last of its passes was sent nothing of
--- yet: each ring has the commands of the passes before, and room is known on each where the pass
--- was told of room.
+-- The commands of the last pass may be sent.
 pub record MaySend (table : Table) (book : Book) (history : List PassEntry)
     (senders : List SenderView) : Type 0 where
+  -- the passes before it
   pub before : List PassEntry
   pub last : PassEntry
   pub whole : history ≡ before ++ last ∷ []
+  -- the history is legal
   pub legal : IsLegal table history
+  -- the book keeps the state after it
   pub agrees : IsStateAfter (board_in book) history
+  -- there is a ring for each thread
   pub rings : length senders ≡ threads_of_table table
+  -- which has the commands of the passes before, and none of this one
   pub sent : (k : ℕ) (sender : SenderView) → slice_get senders k ≡ Some sender →
       sender.sent ≡ commands_to (actions_of before) k
+  -- room is known on each ring where the pass was told of room
   pub room : (k : ℕ) (sender : SenderView) → slice_get senders k ≡ Some sender →
       slice_index_or last.input.rooms k false ≡ true → HasRoom sender

@@ -35,46 +35,26 @@ module _ {T : Type 0} (words : T → List ℕ) (of : List ℕ → T) (n : ℕ) (
 
   -- the split in publisher and observer
   pub splits : (id : ℕ) (v : V) → Splits Rule id v (publisher_part v) (observer_part v)
-  splits id v s r at = let K = Knows words n first (version s) r.published r.stored in let k = r.each_seat id v at in record {
-    published = r.published;
-    stored = r.stored;
-    wide = r.wide;
-    page = r.page;
-    place = r.place;
-    at_rest = r.at_rest;
-    short = r.short;
-    written = r.written;
-    unwritten = r.unwritten;
-    publisher = sole_cut_beside (λ x. x.publishes) s.views id v (publisher_part v) (observer_part v) at refl refl r.publisher;
-    observer = sole_split (λ x. x.observes) s.views id v (publisher_part v) (observer_part v) at refl refl r.observer;
-    watcher = sole_split (λ x. x.watches) s.views id v (publisher_part v) (observer_part v) at refl refl r.watcher;
-    each_seat = λ j d e. ⊎_elim
-        (keeping.seats_stay words n follows first K s.views id (publisher_part v) record { as_publisher = k.as_publisher; as_observer = λ h. cc } (λ i x _. r.each_seat i x) j d)
-        (λ (t : observer_part v ≡ d). subst K t record { as_publisher = λ h. cc; as_observer = λ h. let o = k.as_observer h in record { below = o.below; first = o.first; short = o.short; same = o.same; fits = o.fits } })
-        (at_snoc (set s.views id (publisher_part v)) (observer_part v) d j e);
-  }
+  splits id v s r at = let K = Knows words n first (version s) r.published r.stored in let k = r.each_seat id v at in keeping.reseated words n follows first s r _ _
+      (sole_cut_beside (λ x. x.publishes) s.views id v (publisher_part v) (observer_part v) at refl refl r.publisher)
+      (sole_split (λ x. x.observes) s.views id v (publisher_part v) (observer_part v) at refl refl r.observer)
+      (sole_split (λ x. x.watches) s.views id v (publisher_part v) (observer_part v) at refl refl r.watcher)
+      (λ j d e. ⊎_elim
+      (keeping.seats_stay words n follows first K s.views id (publisher_part v) record { as_publisher = k.as_publisher; as_observer = λ h. cc } (λ i x _. r.each_seat i x) j d)
+      (λ (t : observer_part v ≡ d). subst K t record { as_publisher = λ h. cc; as_observer = λ h. let o = k.as_observer h in record { below = o.below; first = o.first; short = o.short; same = o.same; fits = o.fits } })
+      (at_snoc (set s.views id (publisher_part v)) (observer_part v) d j e))
 
   -- the split that cuts off the second observer, of a view that has both observers' parts
   pub splits_watcher : (id : ℕ) (v : V) → v.observes ≡ true → v.watches ≡ true → Splits Rule id v (without_watcher v) (watcher_part v)
   splits_watcher id v observes watches s r at = let K = Knows words n first (version s) r.published r.stored in let k = r.each_seat id v at in
-      let o = k.as_observer (ap (λ b. b || v.watches) observes) in record {
-        published = r.published;
-        stored = r.stored;
-        wide = r.wide;
-        page = r.page;
-        place = r.place;
-        at_rest = r.at_rest;
-        short = r.short;
-        written = r.written;
-        unwritten = r.unwritten;
-        publisher = sole_cut_beside (λ x. x.publishes) s.views id v (without_watcher v) (watcher_part v) at refl refl r.publisher;
-        observer = sole_cut_beside (λ x. x.observes) s.views id v (without_watcher v) (watcher_part v) at refl refl r.observer;
-        watcher = sole_split (λ x. x.watches) s.views id v (without_watcher v) (watcher_part v) at refl refl r.watcher;
-        each_seat = λ j d e. ⊎_elim
-            (keeping.seats_stay words n follows first K s.views id (without_watcher v) record { as_publisher = k.as_publisher; as_observer = λ h. record { below = o.below; first = o.first; short = o.short; same = o.same; fits = o.fits } } (λ i x _. r.each_seat i x) j d)
-            (λ (t : watcher_part v ≡ d). subst K t record { as_publisher = λ h. cc; as_observer = λ h. record { below = o.below; first = o.first; short = o.short; same = o.same; fits = o.fits } })
-            (at_snoc (set s.views id (without_watcher v)) (watcher_part v) d j e);
-      }
+      let o = k.as_observer (ap (λ b. b || v.watches) observes) in keeping.reseated words n follows first s r _ _
+      (sole_cut_beside (λ x. x.publishes) s.views id v (without_watcher v) (watcher_part v) at refl refl r.publisher)
+      (sole_cut_beside (λ x. x.observes) s.views id v (without_watcher v) (watcher_part v) at refl refl r.observer)
+      (sole_split (λ x. x.watches) s.views id v (without_watcher v) (watcher_part v) at refl refl r.watcher)
+      (λ j d e. ⊎_elim
+      (keeping.seats_stay words n follows first K s.views id (without_watcher v) record { as_publisher = k.as_publisher; as_observer = λ h. record { below = o.below; first = o.first; short = o.short; same = o.same; fits = o.fits } } (λ i x _. r.each_seat i x) j d)
+      (λ (t : watcher_part v ≡ d). subst K t record { as_publisher = λ h. cc; as_observer = λ h. record { below = o.below; first = o.first; short = o.short; same = o.same; fits = o.fits } })
+      (at_snoc (set s.views id (without_watcher v)) (watcher_part v) d j e))
 
   -- a seat with the publisher's part alone takes in an observer's, whose part of the new view may
   -- have learned more
@@ -82,22 +62,12 @@ module _ {T : Type 0} (words : T → List ℕ) (of : List ℕ → T) (n : ℕ) (
       → (both.publishes ≡ true) × (both.observes ≡ w.observes) × (both.watches ≡ w.watches) × (both.version ≡ v.version) × (both.published ≡ v.published) × (both.stored ≡ v.stored)
       → ((x : ℕ) (page : List T) → v.version ≡ x → v.published ≡ page → x / 2 ≡ length page → Observes words n first x page w → Observes words n first x page both) → Joins Rule id v other w both no_part
   joins_as id v other w both publishes blind unwatching part same more s r at apart there = let K = Knows words n first (version s) r.published r.stored in let p = (r.each_seat id v at).as_publisher publishes in
-      let o = (r.each_seat other w (sym (set_else s.views id other both apart) ∙ there)).as_observer part in record {
-        published = r.published;
-        stored = r.stored;
-        wide = r.wide;
-        page = r.page;
-        place = r.place;
-        at_rest = r.at_rest;
-        short = r.short;
-        written = r.written;
-        unwritten = r.unwritten;
-        publisher = sole_kept (λ x. x.publishes) s.views id other v w both no_part at apart there publishes same.0 refl r.publisher;
-        observer = sole_joined (λ x. x.observes) s.views id other v w both no_part at apart there blind same.1 refl r.observer;
-        watcher = sole_joined (λ x. x.watches) s.views id other v w both no_part at apart there unwatching same.2 refl r.watcher;
-        each_seat = keeping.seats_stay words n follows first K (set s.views id both) other no_part record { as_publisher = λ h. cc; as_observer = λ h. cc } (λ j d _.
-            keeping.seats_stay words n follows first K s.views id both record { as_publisher = λ _. (same.3 ∙ p.0, same.4 ∙ p.1, same.5 ∙ p.2); as_observer = λ _. more (version s) r.published p.0 p.1 r.place o } (λ i x _. r.each_seat i x) j d);
-      }
+      let o = (r.each_seat other w (sym (set_else s.views id other both apart) ∙ there)).as_observer part in keeping.reseated words n follows first s r _ _
+      (sole_kept (λ x. x.publishes) s.views id other v w both no_part at apart there publishes same.0 refl r.publisher)
+      (sole_joined (λ x. x.observes) s.views id other v w both no_part at apart there blind same.1 refl r.observer)
+      (sole_joined (λ x. x.watches) s.views id other v w both no_part at apart there unwatching same.2 refl r.watcher)
+      (keeping.seats_stay words n follows first K (set s.views id both) other no_part record { as_publisher = λ h. cc; as_observer = λ h. cc } (λ j d _.
+      keeping.seats_stay words n follows first K s.views id both record { as_publisher = λ _. (same.3 ∙ p.0, same.4 ∙ p.1, same.5 ∙ p.2); as_observer = λ _. more (version s) r.published p.0 p.1 r.place o } (λ i x _. r.each_seat i x) j d))
 
   -- the join of publisher and observer
   pub joins : (id : ℕ) (v : V) (other : ℕ) (w : V) → v.publishes ≡ true → v.observes ≡ false → v.watches ≡ false → sees w ≡ true → Joins Rule id v other w (both_parts v w) no_part

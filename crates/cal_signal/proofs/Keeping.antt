@@ -1,13 +1,13 @@
 -- What the steps of a page share: the seats that stay as they are, and a version that rises.
 use Rattle.std.proofs.Common.{◌≡◌, ◌≢◌, ℕ, ◌<◌, ◌≤◌, List, [], ◌∷◌, ◌++◌, get_or, set, sym, subst, ⊎_elim, arith}
 use Rattle.std.proofs.lemmas.List.{set-get_or}
-use mathlib.Core.Option.{some}
+use mathlib.Core.Option.{Option, some}
 use lib.ListN.{get_elem?}
 use Rattle.atomic_table.specs.Table.{State, Me, keeps, stepped}
 use Rattle.atomic_table.proofs.Lists.{at_set, at_snoc}
 use Rattle.cal_signal.specs.declared.view.View.{View}
 use Rattle.cal_signal.specs.Pages.{FitsFrom}
-use Rattle.cal_signal.specs.Rule.{Observes, Knows, Kept}
+use Rattle.cal_signal.specs.Rule.{Sole, Observes, Knows, Kept}
 use Rattle.cal_signal.proofs.Parting.{sole_set}
 
 module _ {T : Type 0} (words : T → List ℕ) (n : ℕ) (follows : T → T → Type 0) (first : T) where
@@ -32,10 +32,13 @@ module _ {T : Type 0} (words : T → List ℕ) (n : ℕ) (follows : T → T → 
   seats_stay K vs me w mine others j d e = ⊎_elim (λ (t : (j ≡ me) × (w ≡ d)). subst K t.1 mine)
       (λ (t : (j ≢ me) × (get_elem? vs j ≡ some d)). others j d t.0 t.1) (at_set vs me j w d e)
 
-  -- a step that changes no word, and no part
-  pub unmoved : (s : St) (r : Rule s) (i me : ℕ) (cs : List (ℕ × Unit {0})) (v w : V) → get_elem? s.views me ≡ some v → (w.publishes ≡ v.publishes) × (w.observes ≡ v.observes) × (w.watches ≡ v.watches)
-      → Knows words n first (version s) r.published r.stored w → Rule (stepped s i (get_or s.words i 0) me cs w keeps)
-  unmoved s r i me cs v w at same mine = subst (λ (ws : List ℕ). Rule record { words = ws; homes = s.homes; views = set s.views me w }) (sym (set-get_or s.words i 0)) record {
+  -- where no word changes, the seats may be others: each part stands in one of them, and each of them
+  -- knows what its parts let it know
+  pub reseated : (s : St) (r : Rule s) (homes : List (Option (Unit {0}))) (views : List V)
+      → Sole (λ v. v.publishes) views → Sole (λ v. v.observes) views → Sole (λ v. v.watches) views
+      → ((j : ℕ) (v : V) → get_elem? views j ≡ some v → Knows words n first (version s) r.published r.stored v)
+      → Rule record { words = s.words; homes = homes; views = views }
+  reseated s r homes views publisher observer watcher each = record {
     published = r.published;
     stored = r.stored;
     wide = r.wide;
@@ -45,11 +48,20 @@ module _ {T : Type 0} (words : T → List ℕ) (n : ℕ) (follows : T → T → 
     short = r.short;
     written = r.written;
     unwritten = r.unwritten;
-    publisher = sole_set (λ x. x.publishes) s.views me v w at same.0 r.publisher;
-    observer = sole_set (λ x. x.observes) s.views me v w at same.1 r.observer;
-    watcher = sole_set (λ x. x.watches) s.views me v w at same.2 r.watcher;
-    each_seat = seats_stay (Knows words n first (version s) r.published r.stored) s.views me w mine (λ j d _. r.each_seat j d);
+    publisher = publisher;
+    observer = observer;
+    watcher = watcher;
+    each_seat = each;
   }
+
+  -- a step that changes no word, and no part
+  pub unmoved : (s : St) (r : Rule s) (i me : ℕ) (cs : List (ℕ × Unit {0})) (v w : V) → get_elem? s.views me ≡ some v → (w.publishes ≡ v.publishes) × (w.observes ≡ v.observes) × (w.watches ≡ v.watches)
+      → Knows words n first (version s) r.published r.stored w → Rule (stepped s i (get_or s.words i 0) me cs w keeps)
+  unmoved s r i me cs v w at same mine = subst (λ (ws : List ℕ). Rule record { words = ws; homes = s.homes; views = set s.views me w }) (sym (set-get_or s.words i 0)) (reseated s r s.homes (set s.views me w)
+      (sole_set (λ x. x.publishes) s.views me v w at same.0 r.publisher)
+      (sole_set (λ x. x.observes) s.views me v w at same.1 r.observer)
+      (sole_set (λ x. x.watches) s.views me v w at same.2 r.watcher)
+      (seats_stay (Knows words n first (version s) r.published r.stored) s.views me w mine (λ j d _. r.each_seat j d)))
 
   -- one more version that is not above
   pub below_snoc : (ls : List ℕ) (x v : ℕ) → x ≤ v → ((k y : ℕ) → get_elem? ls k ≡ some y → y ≤ v) → (k y : ℕ) → get_elem? (ls ++ x ∷ []) k ≡ some y → y ≤ v

@@ -53,42 +53,68 @@ pub record Sits (s : PageSeat) (z : TableId) : Type 0 where
   pub words : z.words ≡ WORDS + 1
   pub empty : s.me.1 ≡ []
 
--- its seat has the publisher's part and no other
+-- what a publisher keeps beside its seat: the last place and the record there
 pub record IsPublisher (s : PageSeat) (z : TableId) (place : ℕ) (last : Record) : Type 0 where
+  -- its seat is at this page
   pub sits : Sits s z
+  -- the seat has the publisher's part and no other
   pub part : parts_of s.me.0 ≡ (true, false, false)
+  -- the version that it stored last is that of the place, and even
   pub version : s.me.0.version ≡ 2 * place
+  -- no record is being written
   pub stored : s.me.0.stored ≡ []
+  -- so many records were published
   pub placed : place ≡ length s.me.0.published
+  -- and this is the last of them
   pub ends : last ≡ last_published s.me.0.published
+  -- no place is above the last that a page has
   pub bound : place ≤ LAST_PLACE
 
 -- the same while the next record is being written
 pub record IsOpen (s : PageSeat) (z : TableId) (place : ℕ) (pending : Record)
     (count : ℕ) : Type 0 where
+  -- its seat is at this page
   pub sits : Sits s z
+  -- the seat has the publisher's part and no other
   pub part : parts_of s.me.0 ≡ (true, false, false)
+  -- the version that it stored last is odd
   pub version : s.me.0.version ≡ 2 * place + 1
+  -- a record has no more words than that
   pub some_left : count ≤ WORDS
+  -- the first words of the pending record are stored
   pub stored : s.me.0.stored ≡ take count (words_of pending)
+  -- so many records were published before it
   pub placed : place ≡ length s.me.0.published
+  -- there is a place for it
   pub bound : place + 1 ≤ LAST_PLACE
+  -- and it may follow the last of them
   pub follows : MayFollow (last_published s.me.0.published) pending
 
--- its seat has an observer's part
+-- what an observer keeps beside its seat: the place below which it sees no record any more
 pub record IsObserver (s : PageSeat) (z : TableId) (floor : ℕ) : Type 0 where
+  -- its seat is at this page
   pub sits : Sits s z
+  -- the seat has an observer's part
   pub part : sees s.me.0 ≡ true
+  -- the floor is the place of its last successful look
   pub low : floor ≡ floor_of s.me.0.looks
 
 -- the same in the middle of a look
 pub record IsLooking (s : PageSeat) (z : TableId) (floor first : ℕ) (words : List ℕ)
     (count : ℕ) : Type 0 where
+  -- its seat is at this page
   pub sits : Sits s z
+  -- the seat has an observer's part
   pub part : sees s.me.0 ≡ true
+  -- the floor is the place of its last successful look
   pub low : floor ≡ floor_of s.me.0.looks
+  -- the look began at an even version
   pub even : first % 2 ≡ 0
+  -- which the seat knows
   pub begun : s.me.0.first ≡ first
+  -- there is a place for each word of a record
   pub wide : length words ≡ WORDS
+  -- no more are loaded than that
   pub some_left : count ≤ WORDS
+  -- the words that were loaded are the first of these
   pub read : s.me.0.read ≡ take count words

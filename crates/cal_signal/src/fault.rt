@@ -5,7 +5,7 @@ use thiserror::Error;
 /// `fault as u8` is its number, 1 to 3.
 #[derive(Clone, Copy, Debug, PartialEq, Eq, Error)]
 pub enum PublishFault {
-    /// It isn't later than the last record.
+    /// It is not later than the last record.
     #[error("the record is not later than the last one")]
     Backwards = 1,
     /// Its core number or its count of misses is too great.

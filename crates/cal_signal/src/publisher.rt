@@ -1,6 +1,11 @@
 //! The end of a page that publishes.
-ghost use Rattle.std.specs.Prelude.{◌≡◌, ◌+◌, ◌++◌, [], ◌∷◌, length, MatchResult};
+ghost use Rattle.std.specs.Prelude.{◌≡◌, ◌+◌, ◌++◌, [], ◌∷◌, length};
+ghost use Rattle.std.specs.Prelude.{Err, IfOk, OnErr, MatchResult};
+ghost use Rattle.cal_signal.specs.declared.fault.PublishFault.TheVariants.{Backwards, BadShape};
+ghost use Rattle.cal_signal.specs.declared.fault.PublishFault.TheVariants.{Exhausted};
+ghost use Rattle.cal_signal.specs.declared.publisher.TheConstants.{LAST_PLACE};
 ghost use Rattle.cal_signal.specs.Pages.{last_published};
+ghost use Rattle.cal_signal.specs.Records.{IsLater, IsShaped};
 ghost use Rattle.cal_signal.specs.Faults.{MayPublish, IsRefusal};
 
 use crate::fault::PublishFault;
@@ -67,15 +72,24 @@ impl Publisher {
 
     /// Publishes a record, and answers its place, which is one above the last. Waits for nobody.
     ///
-    /// A refused record leaves the page unchanged: `Backwards` where it isn't later than the last
-    /// record, else `BadShape` where it isn't shaped, else `Exhausted` where the last place is
+    /// A refused record leaves the page unchanged: `Backwards` where it is not later than the last
+    /// record, else `BadShape` where it is not shaped, else `Exhausted` where the last place is
     /// `LAST_PLACE`.
     pub fn publish(&mut self, rec: Record) -> Result<u64, PublishFault>
         ensures page { self.new.page ≡ self.old.page }
-        ensures published { MatchResult result
-            (λ place. MayPublish self.old.published rec × (place ≡ length self.old.published + 1)
-            × (self.new.published ≡ self.old.published ++ rec ∷ []))
-            (λ fault. IsRefusal self.old.published rec fault × (self.new ≡ self.old)) }
+        ensures published { IfOk result (λ place. MayPublish self.old.published rec
+            × (place ≡ length self.old.published + 1)
+            × (self.new.published ≡ self.old.published ++ rec ∷ [])) }
+
+        // A record that is not later is reported as such, even if it is not shaped either.
+        ensures backwards { result ≡ Err Backwards →
+            ¬ IsLater (last_published self.old.published) rec }
+        ensures bad_shape { result ≡ Err BadShape →
+            IsLater (last_published self.old.published) rec × (¬ IsShaped rec) }
+        ensures exhausted { result ≡ Err Exhausted →
+            IsLater (last_published self.old.published) rec × IsShaped rec
+            × (length self.old.published ≡ LAST_PLACE) }
+        ensures refused { OnErr result (self.new ≡ self.old) }
     {
         self.check(&rec)?;
         let version = self.place * 2;

@@ -5,7 +5,7 @@ use Rattle.cal_trace.specs.declared.arrivals.Arrivals.{Arrivals}
 use Rattle.cal_run.specs.Workers.{HasMade, HaveMade, seat_of, seats_of}
 use Rattle.cal_run.specs.declared.workers.worker.Worker.{Worker}
 use Rattle.cal_threads.specs.Gates.{LetsThrough}
-use Rattle.cal_threads.specs.Promises.{HasMadeTurns, IsKept, IsOf}
+use Rattle.cal_threads.specs.Promises.{HasMadeTurns, IsPromiseKept, IsOf}
 use Rattle.cal_threads.specs.declared.kernel_threads.Turned.{Turned}
 use Rattle.cal_threads.proofs.Pairs.{pairs_at, pairs_map, pairs_place}
 
@@ -52,7 +52,7 @@ all_seated arrivals before after pairs = pairs_map (λ (w : Worker). seat_of w.t
 
 -- what keeps the promise of a kernel thread has made the turns that are given to that thread
 module _ {G : Type 0} (answers : G → ℕ → ℕ → Bool → Type 0) (threads : ℕ) (arrivals : Arrivals) (gate : G) (was : Worker) (promise : Turned G) (is : Worker)
-    (of : IsOf threads arrivals gate was promise) (kept : IsKept answers promise is) where
+    (of : IsOf threads arrivals gate was promise) (kept : IsPromiseKept answers promise is) where
   pub kept_of : HasMadeTurns arrivals was.number was is
   kept_of =
       let P : Worker → Type 0 = λ w. HasMadeTurns promise.arrivals.now promise.k w is in

@@ -3,12 +3,20 @@ use Rattle.std.specs.Prelude.{◌≡◌, ℕ, ◌<◌, Bool, Result, MatchResult
 use Rattle.cal_sched.specs.Scheduler.{SchedulerView}
 use Rattle.cal_sched.specs.Watching.{WatchView}
 use Rattle.cal_trace.specs.declared.arrivals.Arrivals.{Arrivals}
-use Rattle.cal_run.specs.Parts.{HasPassed, scheduler_seat_of, watch_seat_of}
+use Rattle.cal_machine.specs.Table.{Table}
+use Rattle.cal_run.specs.Parts.{AreParts, HasPassed, rounds_of, scheduler_seat_of, watch_seat_of}
+use Rattle.cal_run.specs.declared.parts.Parts.{Parts}
 use Rattle.cal_run.specs.Workers.{HasMade, seat_of}
 use Rattle.cal_run.specs.declared.workers.worker.Worker.{Worker}
 use Rattle.cal_run.specs.declared.fault.SimFault.{SimFault}
 use Rattle.cal_threads.specs.Gates.{EndedBy, LetsThrough, MayRefuse}
 use Rattle.cal_threads.specs.declared.kernel_threads.Turned.{Turned}
+
+-- the parts of a run on these arrivals that has come to its end: all passes, turns and rounds are
+-- made
+abbrev pub HaveRun : Table → Arrivals → Parts → Type 0
+HaveRun table arrivals =
+    AreParts table arrivals (length arrivals.passes) (length arrivals.turns) (rounds_of arrivals)
 
 -- the scheduler is in its seat, and has made all its passes
 pub record HasMadePasses (arrivals : Arrivals) (before after : SchedulerView) : Type 0 where
@@ -48,7 +56,7 @@ module _ {G : Type 0} where
       LetsThrough (answers promise.gate.now promise.k) (length promise.arrivals.now.turns)
 
   -- the promise is kept by this kernel thread
-  pub record IsKept (answers : G → ℕ → ℕ → Bool → Type 0) (promise : Turned G)
+  pub record IsPromiseKept (answers : G → ℕ → ℕ → Bool → Type 0) (promise : Turned G)
       (worker : Worker) : Type 0 where
     pub turns : HasMadeTurns promise.arrivals.now promise.k promise.was.value worker
     pub asked : MayGoOn answers promise
@@ -61,4 +69,4 @@ module _ {G : Type 0} where
   -- what the thread that made this promise may come back with
   abbrev pub MayGive : (G → ℕ → ℕ → Bool → Type 0) → Turned G → Result Worker SimFault → Type 0
   MayGive answers promise result =
-      MatchResult result (IsKept answers promise) (EndedBy (MayEnd answers promise))
+      MatchResult result (IsPromiseKept answers promise) (EndedBy (MayEnd answers promise))

@@ -7,7 +7,7 @@ ghost use Rattle.cal_run.specs.Workers.{FitSomeTable, HaveMade, seats_of};
 ghost use Rattle.cal_run.specs.declared.fault.SimFault.TheVariants.{Gate as GateFault, Spawn};
 ghost use Rattle.cal_threads.specs.Faults.{IsLeastOfAll};
 ghost use Rattle.cal_threads.specs.Gates.{LetsEachThrough, MayRefuseOne};
-ghost use Rattle.cal_threads.specs.Promises.{IsKept, IsOf, MayEnd, MayGive};
+ghost use Rattle.cal_threads.specs.Promises.{IsPromiseKept, IsOf, MayEnd, MayGive};
 
 use crate::answers::Answers;
 use crate::faults::{both_or_least_fault, least};
@@ -118,7 +118,7 @@ fn join_workers<'a, G: Gate>(
 ) -> (Result<Vec<CollectingWorker>, SimFault>, Answers)
     requires empty { workers.items ≡ [] }
     requires room { vec_len threads ≤ vec_capacity workers }
-    ensures made { IfOk result.0 (λ v. AllZip (λ t w. IsKept G.answers_turn t.promise w)
+    ensures made { IfOk result.0 (λ v. AllZip (λ t w. IsPromiseKept G.answers_turn t.promise w)
         threads.entry.items v.items) }
     ensures answered { AllZip (λ t r. MayGive G.answers_turn t.promise r)
         threads.entry.items result.1.noted }

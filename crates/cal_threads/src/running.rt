@@ -1,14 +1,14 @@
 //! A run of all parts in threads of their own, and back.
 
-ghost use Rattle.std.specs.Prelude.{◌≡◌, ◌⊎◌, IfOk, IfErr, MatchResult, length, vec_len};
+ghost use Rattle.std.specs.Prelude.{◌≡◌, IfOk, IfErr, MatchResult, length, vec_len};
 ghost use Rattle.cal_run.specs.Collecting.{IsCollectedOf};
-ghost use Rattle.cal_run.specs.Parts.{AreParts, HasPassed, rounds_of};
+ghost use Rattle.cal_run.specs.Parts.{AreParts, HasPassed};
 ghost use Rattle.cal_run.specs.Workers.{FitSomeTable, HaveMade, seats_of};
 ghost use Rattle.cal_run.specs.declared.fault.SimFault.TheVariants.{Gate as GateFault, Memory};
 ghost use Rattle.cal_run.specs.declared.fault.SimFault.TheVariants.{Spawn};
 ghost use Rattle.cal_threads.specs.Gates.{EndedBy, LetsEachThrough, LetsThrough};
-ghost use Rattle.cal_threads.specs.Gates.{MayRefuse, MayRefuseOne};
-ghost use Rattle.cal_threads.specs.Promises.{AsksEachPass, HasMadePasses, HasMadeRounds};
+ghost use Rattle.cal_threads.specs.Gates.{MayRefuse, MayRefuseOne, MayRefuseRun};
+ghost use Rattle.cal_threads.specs.Promises.{AsksEachPass, HasMadePasses, HasMadeRounds, HaveRun};
 
 use crate::faults::both_or_least_fault;
 use crate::gate::Gate;
@@ -72,17 +72,14 @@ pub fn run_threads<R: Threads + Wait + Sync, G: Gate + Sync>(
 ) -> Result<(Parts, Collected), SimFault>
     requires fits { FitSomeTable arrivals.now }
     requires parts { AreParts parts.scheduler.table arrivals.now 0 0 0 parts }
-    ensures ran { IfOk result (λ run. AreParts parts.scheduler.table arrivals.now
-        (length arrivals.now.passes) (length arrivals.now.turns) (rounds_of arrivals.now) run.0) }
+    ensures ran { IfOk result (λ run. HaveRun parts.scheduler.table arrivals.now run.0) }
     ensures collected { IfOk result (λ run. IsCollectedOf run.0 run.1) }
     ensures passes_asked { IfOk result (λ _.
         LetsThrough (G.answers_pass gate.now) (length arrivals.now.passes)) }
     ensures turns_asked { IfOk result (λ _. LetsEachThrough
         (G.answers_turn gate.now) (vec_len parts.workers) (length arrivals.now.turns)) }
-    ensures ended { IfErr result (λ e. e ≡ GateFault →
-        MayRefuse (G.answers_pass gate.now) (length arrivals.now.passes)
-        ⊎ MayRefuseOne (G.answers_turn gate.now) (vec_len parts.workers)
-        (length arrivals.now.turns)) }
+    ensures ended { IfErr result (λ e. e ≡ GateFault → MayRefuseRun
+        (G.answers_pass gate.now) (G.answers_turn gate.now) (vec_len parts.workers) arrivals.now) }
 {
     thread::scope(
         thread::scope_env(),
@@ -90,19 +87,17 @@ pub fn run_threads<R: Threads + Wait + Sync, G: Gate + Sync>(
         move |scope| -> Result<(Parts, Collected), SimFault>
             requires fits { FitSomeTable arrivals.now }
             requires parts { AreParts parts.scheduler.table arrivals.now 0 0 0 parts }
-            ensures ran { IfOk result (λ run. AreParts parts.scheduler.table arrivals.entry.now
-                (length arrivals.entry.now.passes) (length arrivals.entry.now.turns)
-                (rounds_of arrivals.entry.now) run.0) }
+            ensures ran { IfOk result (λ run.
+                HaveRun parts.scheduler.table arrivals.entry.now run.0) }
             ensures collected { IfOk result (λ run. IsCollectedOf run.0 run.1) }
             ensures passes_asked { IfOk result (λ _.
                 LetsThrough (G.answers_pass gate.entry.now) (length arrivals.entry.now.passes)) }
             ensures turns_asked { IfOk result (λ _.
                 LetsEachThrough (G.answers_turn gate.entry.now) (vec_len parts.workers)
                 (length arrivals.entry.now.turns)) }
-            ensures ended { IfErr result (λ e. e ≡ GateFault →
-                MayRefuse (G.answers_pass gate.entry.now) (length arrivals.entry.now.passes)
-                ⊎ MayRefuseOne (G.answers_turn gate.entry.now) (vec_len parts.workers)
-                (length arrivals.entry.now.turns)) }
+            ensures ended { IfErr result (λ e. e ≡ GateFault → MayRefuseRun
+                (G.answers_pass gate.entry.now) (G.answers_turn gate.entry.now)
+                (vec_len parts.workers) arrivals.entry.now) }
         { run_within(rt, scope, alloc, arrivals, gate, parts) },
     )
 }
@@ -118,17 +113,14 @@ fn run_within<'s, R: Threads, E, G: Gate + Sync>(
 ) -> Result<(Parts, Collected), SimFault>
     requires fits { FitSomeTable arrivals.now }
     requires parts { AreParts parts.scheduler.table arrivals.now 0 0 0 parts }
-    ensures ran { IfOk result (λ run. AreParts parts.scheduler.table arrivals.now
-        (length arrivals.now.passes) (length arrivals.now.turns) (rounds_of arrivals.now) run.0) }
+    ensures ran { IfOk result (λ run. HaveRun parts.scheduler.table arrivals.now run.0) }
     ensures collected { IfOk result (λ run. IsCollectedOf run.0 run.1) }
     ensures passes_asked { IfOk result (λ _.
         LetsThrough (G.answers_pass gate.now) (length arrivals.now.passes)) }
     ensures turns_asked { IfOk result (λ _. LetsEachThrough
         (G.answers_turn gate.now) (vec_len parts.workers) (length arrivals.now.turns)) }
-    ensures ended { IfErr result (λ e. e ≡ GateFault →
-        MayRefuse (G.answers_pass gate.now) (length arrivals.now.passes)
-        ⊎ MayRefuseOne (G.answers_turn gate.now) (vec_len parts.workers)
-        (length arrivals.now.turns)) }
+    ensures ended { IfErr result (λ e. e ≡ GateFault → MayRefuseRun
+        (G.answers_pass gate.now) (G.answers_turn gate.now) (vec_len parts.workers) arrivals.now) }
 {
     let Parts {
         scheduler,

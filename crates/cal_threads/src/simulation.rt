@@ -1,13 +1,13 @@
 //! A run in threads, from a table and arrivals to its outcome.
 
-ghost use Rattle.std.specs.Prelude.{◌≡◌, ◌⊎◌, IfOk, IfErr, length};
+ghost use Rattle.std.specs.Prelude.{◌≡◌, IfOk, IfErr, length};
 ghost use Rattle.cal_machine.specs.TableTasks.{threads_of_table};
 ghost use Rattle.cal_run.specs.Outcome.Headline.{Headline};
 ghost use Rattle.cal_run.specs.Outcome.{EachStandsOnce, IsRun, IsRunEnd};
 ghost use Rattle.cal_run.specs.Outcome.{outcome_of};
 ghost use Rattle.cal_run.specs.declared.fault.SimFault.TheVariants.{Gate as GateFault};
 ghost use Rattle.cal_threads.specs.Gates.{LetsEachThrough, LetsThrough};
-ghost use Rattle.cal_threads.specs.Gates.{MayRefuse, MayRefuseOne};
+ghost use Rattle.cal_threads.specs.Gates.{MayRefuseRun};
 ghost use Rattle.cal_trace.specs.Arrivals.FitsTable.{FitsTable};
 
 use crate::gate::Gate;
@@ -46,9 +46,8 @@ pub fn simulate<R: Threads + Wait + Sync, G: Gate + Sync>(
     ensures turns_asked { IfOk result (λ _. LetsEachThrough
         (G.answers_turn gate.now) (threads_of_table config.now) (length arrivals.now.turns)) }
     ensures gate { IfErr result (λ fault. fault ≡ GateFault →
-        MayRefuse (G.answers_pass gate.now) (length arrivals.now.passes)
-        ⊎ MayRefuseOne (G.answers_turn gate.now) (threads_of_table config.now)
-        (length arrivals.now.turns)) }
+        MayRefuseRun (G.answers_pass gate.now) (G.answers_turn gate.now)
+        (threads_of_table config.now) arrivals.now) }
 {
     config.limits();
     headline_of_runs();
@@ -76,9 +75,8 @@ pub fn simulation_end<R: Threads + Wait + Sync, G: Gate + Sync>(
     ensures turns_asked { IfOk result (λ _. LetsEachThrough
         (G.answers_turn gate.now) (threads_of_table config.now) (length arrivals.now.turns)) }
     ensures gate { IfErr result (λ fault. fault ≡ GateFault →
-        MayRefuse (G.answers_pass gate.now) (length arrivals.now.passes)
-        ⊎ MayRefuseOne (G.answers_turn gate.now) (threads_of_table config.now)
-        (length arrivals.now.turns)) }
+        MayRefuseRun (G.answers_pass gate.now) (G.answers_turn gate.now)
+        (threads_of_table config.now) arrivals.now) }
 {
     config.limits();
     headline_of_runs();

@@ -1,7 +1,7 @@
 -- Arrivals that were read fit: the checks of their rows say so.
 use Rattle.std.proofs.Common.{◌≡◌, ◌<◌, ◌≤◌, ◌==◌, ◌&&◌, ◌⊎◌, inl, inr, not, nat_le, nat_lt, ℕ, Bool, true, false, List, [], ◌∷◌, ◌++◌, length, Option, Some, None, Result, Ok, Err, codes, refl, sym, subst, arith, length-append, unwrap_or, if◌then◌else◌, IfOk}
 use Rattle.std.proofs.lemmas.Bool.{and_parts, or_cases, or_parts, not-true, ltb-true, leb-true, eqb-true, eqb-false}
-use Rattle.cal_trace.specs.Rows.Answers.{Gives}
+use Rattle.cal_trace.specs.Rows.Answers.{IsWhatRowsSay}
 use Rattle.cal_trace.specs.Arrivals.{SoFar, at_start, form_of, take_row, take_form, whole, last_in, turn_row, comes_after, is_given, is_size, arrival_row, add_pass, add_turn, add_arrival, add_end, is_none_yet, rows_in, arrivals_of}
 use Rattle.cal_trace.specs.declared.arrivals.reading.TheConstants.{MOST_TURNS, MOST_WORK, MOST_REQUEST_MISSES}
 use Rattle.cal_trace.specs.Rows.RowFields.{has_numbers, number_at}
@@ -199,6 +199,6 @@ arrivals_fit threads rows arrivals e =
     (λ so_far arrivals fits is. subst (Fits threads) (whole_given so_far arrivals so_far.ended is) fits)
     at_start (in_version_one (header_of (codes "caladan-arrivals") rows)) arrivals (nothing_fits threads) e
 
-pub given_fit : (threads : ℕ) (rows : List Fields) (answer : Result Arrivals TraceFault) → Gives (λ arrivals. arrivals) answer (arrivals_of threads rows) → IfOk answer (Fits threads)
+pub given_fit : (threads : ℕ) (rows : List Fields) (answer : Result Arrivals TraceFault) → IsWhatRowsSay (λ arrivals. arrivals) answer (arrivals_of threads rows) → IfOk answer (Fits threads)
 given_fit threads rows (Ok arrivals) e = arrivals_fit threads rows arrivals e
 given_fit threads rows (Err fault) e = tt

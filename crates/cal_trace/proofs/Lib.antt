@@ -2,6 +2,6 @@ pub mod RowLemmas
 pub mod SignalLemmas
 pub mod ListLemmas
 pub mod HistoryLemmas
-pub mod Given
+pub mod GivenSignals
 pub mod ArrivalsFit
 pub mod Tallies

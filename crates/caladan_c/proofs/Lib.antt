@@ -1,6 +1,6 @@
 pub mod HandleLemmas
 mod Passed
-mod Gating
+mod Guarding
 mod OneMore
 mod NoneSuch
 mod OneByOne

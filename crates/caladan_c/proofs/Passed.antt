@@ -12,14 +12,14 @@ use Rattle.cal_policy.specs.Judgement.Judging.{IsInput}
 use Rattle.cal_policy.specs.Laws.{LegalIsShort, OnePassMoreIsLegal}
 use Rattle.cal_policy.specs.Pass.{pass_of, IsLegal, IsPass}
 use Rattle.cal_policy.specs.Setting.{setting}
-use Rattle.caladan_c.specs.Passing.{IsPassed, passed}
+use Rattle.caladan_c.specs.Passing.{MadePass, passed}
 use Rattle.caladan_c.specs.Standing.{Standing}
 
 -- the pass was made on an input that it may be given
 pub passed_after : (s : Standing) (h : List PassEntry) (input given : Input) (acts : List Action) (book : Book)
     → OnePassMoreIsLegal → LegalIsShort → IsTable s.table → IsLegal s.table h → input ≡ given → IsInput s.table h input
     → acts ≡ pass_of (setting s.table h input) → IsStateAfter (board_in book) (h ++ record { input = input; actions = acts } ∷ [])
-    → IsPassed s h given (record { table = s.table; book = book; made = acts })
+    → MadePass s h given (record { table = s.table; book = book; made = acts })
 passed_after s h input given acts book more short table was same is made agrees =
     let entry : PassEntry = record { input = input; actions = acts } in
     let pass : IsPass s.table h entry = record { input = is; actions = made } in

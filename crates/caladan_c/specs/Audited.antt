@@ -18,13 +18,13 @@ pub record Audited : Type 0 where
   pub auditor : Auditor
 
 -- it was handed these passes, and what it says is true of them
-abbrev pub Audits : Audited → List PassEntry → Type 0
-Audits audit history = IsAuditOf audit.table history audit.auditor
+abbrev pub HasAudited : Audited → List PassEntry → Type 0
+HasAudited audit history = IsAuditOf audit.table history audit.auditor
 
 -- an audit of this table, of no pass
 pub record IsNewAudit (read : Table) (audit : Audited) : Type 0 where
   pub table : audit.table ≡ read
-  pub audits : Audits audit []
+  pub audits : HasAudited audit []
 
 -- the number follows from the text: 0 and an audit of its table, or its first fault's
 abbrev pub SaysAudit : Result Table ConfigFault → ℕ → Option Audited → Type 0
@@ -32,14 +32,14 @@ SaysAudit (Ok table) number kept = (number ≡ 0) × IsSomeAnd kept (IsNewAudit 
 SaysAudit (Err fault) number kept = number ≡ number_of fault
 
 -- the audit took this entry as the next pass of its history
-pub record HasTaken (old : Audited) (entry : PassEntry) (new : Audited) : Type 0 where
+pub record TookNext (old : Audited) (entry : PassEntry) (new : Audited) : Type 0 where
   pub table : new.table ≡ old.table
-  pub audits : (h : List PassEntry) → length h < 2 ^ 64 → Audits old h →
-      Audits new (h ++ entry ∷ [])
+  pub audits : (h : List PassEntry) → length h < 2 ^ 64 → HasAudited old h →
+      HasAudited new (h ++ entry ∷ [])
 
 -- what was recorded is a pass, and the audit took it as the next one of its history
 pub record TookRecorded (old : Audited) (now bandwidth : ℕ) (looks : List Found) (judged : List ℕ)
     (actions : List Told) (new : Audited) : Type 0 where
   pub entry : PassEntry
   pub recorded : IsRecorded now bandwidth looks judged actions entry
-  pub taken : HasTaken old entry new
+  pub taken : TookNext old entry new

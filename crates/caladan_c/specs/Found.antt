@@ -8,7 +8,7 @@ use Rattle.cal_policy.specs.declared.history.entry.PassEntry.{PassEntry}
 use Rattle.cal_policy.specs.declared.history.input.Input.{Input}
 use Rattle.cal_policy.specs.Judgement.OpenInput.{judged_input}
 use Rattle.caladan_c.specs.declared.found.Found.{Found}
-use Rattle.caladan_c.specs.declared.given.Given.{Given}
+use Rattle.caladan_c.specs.declared.handed_in.HandedIn.{HandedIn}
 
 -- the look: busy where `busy` is not 0, else of the record
 abbrev pub look_in : Found → Look
@@ -25,6 +25,6 @@ input_of table history now bandwidth looks =
     judged_input table history now bandwidth (map found_of looks)
 
 -- the same of what C handed in as one value
-abbrev pub input_given : Table → List PassEntry → Given → Input
+abbrev pub input_given : Table → List PassEntry → HandedIn → Input
 input_given table history given =
     input_of table history given.now given.bandwidth given.looks.now

@@ -1,6 +1,6 @@
 -- What a pointer owns: where it keeps something, the same as a box of that, else nothing.
 pub mod Audit
-pub mod Gate
+pub mod Guard
 use Rattle.std.specs.Prelude.{Option, Some, None}
 use base.Fml.{Fml, ftrue}
 use base.Stored.{Coded}

@@ -8,4 +8,4 @@ pub mod Passing
 pub mod Opening
 pub mod Recorded
 pub mod Audited
-pub mod Gated
+pub mod GuardView

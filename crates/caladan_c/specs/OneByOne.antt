@@ -18,7 +18,7 @@ use Rattle.cal_policy.specs.Judgement.OpenPass.{IsOpenAt}
 use Rattle.cal_policy.specs.declared.judgement.open_pass.OpenPass.{OpenPass}
 use Rattle.caladan_c.specs.Found.{look_in, found_of}
 use Rattle.caladan_c.specs.declared.found.Found.{Found}
-use Rattle.caladan_c.specs.declared.given.Given.{Given}
+use Rattle.caladan_c.specs.declared.handed_in.HandedIn.{HandedIn}
 
 -- the input of the pass, of what was found of each thread: each refused look is taken as busy
 abbrev pub input_of_each : Table → List PassEntry → ℕ → ℕ → List Found → Input
@@ -26,7 +26,7 @@ input_of_each table history now bandwidth looks =
     taken_input table history now bandwidth (map found_of looks)
 
 -- the same of what C handed in as one value
-abbrev pub input_given_each : Table → List PassEntry → Given → Input
+abbrev pub input_given_each : Table → List PassEntry → HandedIn → Input
 input_given_each table history given =
     input_of_each table history given.now given.bandwidth given.looks.now
 

@@ -17,15 +17,20 @@ abbrev pub passed : Table → List PassEntry → Input → PassEntry
 passed table history input =
     record { input = input; actions = pass_of (setting table history input) }
 
--- the input was one that the pass may be given, and its actions are the policy's; with the pass the
--- history is legal, and the scheduler's book keeps the state after it
-pub record IsPassed (old : Standing) (history : List PassEntry) (given : Input) (new : Standing)
+-- the policy made the pass
+pub record MadePass (old : Standing) (history : List PassEntry) (given : Input) (new : Standing)
     : Type 0 where
+  -- it may be given its input
   pub input : IsInput old.table history given
+  -- its actions are the policy's
   pub actions : new.made ≡ pass_of (setting old.table history given)
+  -- and no more than there is room for
   pub short : length new.made ≤ MOST_ACTIONS
+  -- the table stays
   pub table : new.table ≡ old.table
+  -- with the pass the history is legal
   pub legal : IsLegal new.table (history ++ passed old.table history given ∷ [])
+  -- and the book keeps the state after it
   pub after : IsStateAfter (board_in new.book) (history ++ passed old.table history given ∷ [])
 
 -- room for a judgement of each look, and for the most actions that a pass has

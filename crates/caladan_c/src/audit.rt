@@ -29,13 +29,13 @@ impl Model for Audit {
     ghost invariant = { λ a. IsAuditorOf a.config a.auditor };
 }
 
-ghost use Rattle.caladan_c.specs.Audited.{Audits, HasTaken};
+ghost use Rattle.caladan_c.specs.Audited.{HasAudited, TookNext};
 
 impl Audit {
     /// An audit of this table that was handed no pass, or the table's fault.
     pub fn open(alloc: Global, table: &[u8]) -> Result<Audit, ConfigFault>
         ensures table { Gives (λ audit. audit.table) result (table_in table.now) }
-        ensures new { IfOk result (λ audit. Audits audit []) }
+        ensures new { IfOk result (λ audit. HasAudited audit []) }
     {
         let config = Config::read(alloc, table)?;
         let auditor = Auditor::open(alloc, &config)?;
@@ -44,14 +44,14 @@ impl Audit {
 
     /// Takes the next pass of the history. Any entry may be given.
     pub fn next(&mut self, entry: &PassEntry)
-        ensures { HasTaken self.old entry.now self.new }
+        ensures { TookNext self.old entry.now self.new }
     {
         self.auditor.next(&self.config, entry);
     }
 
     /// What the audit says of the passes so far.
     pub fn verdict(&self) -> Verdict
-        ensures { (h : List PassEntry) → Audits self.now h → IsVerdict self.now.table h result }
+        ensures { (h : List PassEntry) → HasAudited self.now h → IsVerdict self.now.table h result }
     {
         self.auditor.verdict()
     }

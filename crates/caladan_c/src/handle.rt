@@ -2,8 +2,8 @@
 
 pub mod audit;
 mod audit_pointer;
-pub mod gate;
-mod gate_pointer;
+pub mod guard;
+mod guard_pointer;
 mod loose;
 mod pointer;
 pub mod scheduler;

@@ -11,14 +11,14 @@ mod exports;
 
 // what the handles keep, and where
 mod audit;
-mod gate;
 mod handle;
 mod scheduler;
+mod table_guard;
 
 // what C hands in, and what it is told
 mod answer;
 mod found;
-mod given;
+mod handed_in;
 mod input;
 mod recorded;
 mod told;

@@ -16,7 +16,7 @@ ghost use Rattle.caladan_c.specs.Told.{judgement_of, told_of};
 
 use crate::answer::Refusal;
 use crate::found::{Found, found_look};
-use crate::given::Given;
+use crate::handed_in::HandedIn;
 use crate::told::{Told, tell};
 use cal_policy::{Action, ActionList, Cause, Input, PassEntry, Rooms, Seen, SeenList};
 use cal_signal::Look;
@@ -180,7 +180,7 @@ fn actions_in(alloc: Global, told: &[Told]) -> Result<ActionList, Refusal>
 /// The pass that was recorded.
 pub fn entry_of(
     alloc: Global,
-    given: Given<'_>,
+    given: HandedIn<'_>,
     judged: &[u8],
     told: &[Told],
 ) -> Result<PassEntry, Refusal>

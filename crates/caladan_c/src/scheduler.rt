@@ -3,11 +3,10 @@
 mod each;
 mod facts;
 
-ghost use Rattle.std.specs.Prelude.{◌≡◌, ◌≤◌, Err, IfOk, IfErr, OnErr, List, [], length};
+ghost use Rattle.std.specs.Prelude.{◌≡◌, ◌≤◌, Err, IfOk, IfErr, OnErr, [], length};
 ghost use Rattle.std.specs.Prelude.{nat_lt};
 ghost use Rattle.cal_machine.specs.Outcome.{Gives};
 ghost use Rattle.cal_machine.specs.Reading.{table_in};
-ghost use Rattle.cal_policy.specs.declared.history.entry.PassEntry.{PassEntry};
 ghost use Rattle.cal_policy.specs.Judgement.Judging.{IsInput};
 ghost use Rattle.cal_machine.specs.TableTasks.{threads_of_table};
 ghost use Rattle.cal_policy.specs.History.{actions_of, holder_of};
@@ -17,7 +16,7 @@ ghost use Rattle.caladan_c.specs.Told.{counts_of};
 ghost use Rattle.std.specs.Option.{is_some, IfSome};
 
 use crate::answer::Refusal;
-use crate::given::Given;
+use crate::handed_in::HandedIn;
 use crate::told::counts::{Counts, counts_of_task};
 use crate::told::holder::holder_on;
 use crate::told::judgement::tell_looks;
@@ -52,10 +51,10 @@ impl Model for Scheduler {
     ghost invariant = { λ s. IsReady s.config (board_in s.book) };
 }
 
-ghost use Rattle.cal_policy.specs.Book.{board_in};
+ghost use Rattle.cal_policy.specs.Book.{board_in, AfterLegal};
 ghost use Rattle.cal_policy.specs.Pass.{IsLegal};
 ghost use Rattle.cal_policy.specs.State.{IsStateAfter};
-ghost use Rattle.caladan_c.specs.Passing.{IsPassed};
+ghost use Rattle.caladan_c.specs.Passing.{MadePass};
 ghost use Rattle.caladan_c.specs.Told.{AreJudgements};
 ghost use Rattle.caladan_c.specs.declared.answer.Refusal.TheVariants.{Unfit};
 
@@ -103,9 +102,8 @@ impl Scheduler {
     /// Who has a core, where the table has it.
     pub fn holder(&self, core: u8) -> Option<Holder>
         ensures there { is_some result ≡ nat_lt core self.now.table.cores }
-        ensures holder { IfSome result (λ holder. (h : List PassEntry) → IsLegal self.now.table h →
-            IsStateAfter (board_in self.now.book) h →
-            holder ≡ kept_holder (holder_of (actions_of h) core)) }
+        ensures holder { IfSome result (λ holder. AfterLegal self.now.table self.now.book (λ h.
+            holder ≡ kept_holder (holder_of (actions_of h) core))) }
     {
         holder_on(&self.config, self.book.board(), core)
     }
@@ -113,27 +111,23 @@ impl Scheduler {
     /// How many cores a task holds, how many it books, and its cap, where the table has it.
     pub fn counts(&self, task: usize) -> Option<Counts>
         ensures there { is_some result ≡ nat_lt task (length self.now.table.tasks) }
-        ensures counts { IfSome result (λ counted. (h : List PassEntry) → IsLegal self.now.table h →
-            IsStateAfter (board_in self.now.book) h →
-            counted ≡ counts_of self.now.table (actions_of h) task) }
+        ensures counts { IfSome result (λ counted. AfterLegal self.now.table self.now.book (λ h.
+            counted ≡ counts_of self.now.table (actions_of h) task)) }
     {
         counts_of_task(&self.config, self.book.board(), task)
     }
 
     /// Makes the next pass, whose actions are then in `made`, and tells what was judged of each
     /// look; or says that it may not be given these looks. It takes no memory.
-    pub fn pass(&mut self, given: Given<'_>, judged: &mut [u8]) -> Result<(), Refusal>
+    pub fn pass(&mut self, given: HandedIn<'_>, judged: &mut [u8]) -> Result<(), Refusal>
         requires count { length given.looks.now ≡ threads_of_table self.old.table }
         requires room { threads_of_table self.old.table ≤ length judged.old }
-        ensures passed { IfOk result (λ _. (h : List PassEntry) → IsLegal self.old.table h →
-            IsStateAfter (board_in self.old.book) h →
-            IsPassed self.old h (input_given self.old.table h given.entry) self.new) }
-        ensures judged { IfOk result (λ _. (h : List PassEntry) → IsLegal self.old.table h →
-            IsStateAfter (board_in self.old.book) h →
-            AreJudgements (input_given self.old.table h given.entry).seen judged.new) }
-        ensures unfit { result ≡ Err Unfit → (h : List PassEntry) → IsLegal self.old.table h →
-            IsStateAfter (board_in self.old.book) h →
-            IsInput self.old.table h (input_given self.old.table h given.entry) → ⊥ }
+        ensures passed { IfOk result (λ _. AfterLegal self.old.table self.old.book (λ h.
+            MadePass self.old h (input_given self.old.table h given.entry) self.new)) }
+        ensures judged { IfOk result (λ _. AfterLegal self.old.table self.old.book (λ h.
+            AreJudgements (input_given self.old.table h given.entry).seen judged.new)) }
+        ensures unfit { result ≡ Err Unfit → AfterLegal self.old.table self.old.book (λ h.
+            IsInput self.old.table h (input_given self.old.table h given.entry) → ⊥) }
         ensures why { IfErr result (λ why. why ≡ Unfit) }
         ensures refused { OnErr result ((self.new ≡ self.old) × (judged.new ≡ judged.old)) }
     {

@@ -1,7 +1,7 @@
 //! Copies.
 
 use crate::attempt::{answer, begin, wrong};
-use crate::given::Given;
+use crate::table_and_trace::TableAndTrace;
 use crate::texts::{write_event, write_passes};
 use cal_policy::PassEntry;
 use cal_world::Event;
@@ -9,7 +9,7 @@ use std::io::Write;
 use std::{io, slice};
 
 /// The table.
-pub fn table(rt: &HostRuntime, given: &Given) -> io::Result<bool> {
+pub fn table(rt: &HostRuntime, given: &TableAndTrace) -> io::Result<bool> {
     begin(rt)?;
     let Some(config) = answer(rt, given.config.copy(rt.alloc()))? else {
         return Ok(false);
@@ -19,7 +19,7 @@ pub fn table(rt: &HostRuntime, given: &Given) -> io::Result<bool> {
 }
 
 /// Each pass of a run.
-pub fn entries(rt: &HostRuntime, given: &Given) -> io::Result<bool> {
+pub fn entries(rt: &HostRuntime, given: &TableAndTrace) -> io::Result<bool> {
     let outcome = given.run(rt.alloc())?;
     for entry in outcome.history.as_slice() {
         if !copy_entry(rt, entry)? && !copy_entry(rt, entry)? {
@@ -39,7 +39,7 @@ fn copy_entry(rt: &HostRuntime, entry: &PassEntry) -> io::Result<bool> {
 }
 
 /// Each event of a run.
-pub fn events(rt: &HostRuntime, given: &Given) -> io::Result<bool> {
+pub fn events(rt: &HostRuntime, given: &TableAndTrace) -> io::Result<bool> {
     let outcome = given.run(rt.alloc())?;
     for event in outcome.events.as_slice() {
         if !copy_event(rt, event)? && !copy_event(rt, event)? {

@@ -1,8 +1,8 @@
 //! What the programs do with an input.
 
 use crate::attempt::{Fault, answer, begin, wrong};
-use crate::given::Given;
 use crate::runs::write_verdict;
+use crate::table_and_trace::TableAndTrace;
 use cal_engine::{RunAnswer, decide, run_audit, run_lockstep, run_sim};
 use cal_tables::{Labels, NumberForm, compare, measure};
 use cal_trace::read_history;
@@ -34,7 +34,7 @@ fn write_text<T: Drop, E: Into<Fault> + Drop>(
 }
 
 /// The report of signals.
-pub fn decided(rt: &HostRuntime, given: &Given) -> io::Result<bool> {
+pub fn decided(rt: &HostRuntime, given: &TableAndTrace) -> io::Result<bool> {
     let mut text = writer(rt.alloc())?;
     begin(rt)?;
     let made = decide(rt.alloc(), given.text, &mut text);
@@ -42,7 +42,7 @@ pub fn decided(rt: &HostRuntime, given: &Given) -> io::Result<bool> {
 }
 
 /// The report of a history.
-pub fn audited(rt: &HostRuntime, given: &Given) -> io::Result<bool> {
+pub fn audited(rt: &HostRuntime, given: &TableAndTrace) -> io::Result<bool> {
     let mut text = writer(rt.alloc())?;
     begin(rt)?;
     let made = run_audit(rt.alloc(), given.text, &mut text);
@@ -50,7 +50,7 @@ pub fn audited(rt: &HostRuntime, given: &Given) -> io::Result<bool> {
 }
 
 /// The history of a run on one thread.
-pub fn on_one_thread(rt: &HostRuntime, given: &Given) -> io::Result<bool> {
+pub fn on_one_thread(rt: &HostRuntime, given: &TableAndTrace) -> io::Result<bool> {
     let mut text = writer(rt.alloc())?;
     begin(rt)?;
     let made = run_lockstep(rt.alloc(), given.text, RunAnswer::History, &mut text);
@@ -61,7 +61,7 @@ pub fn on_one_thread(rt: &HostRuntime, given: &Given) -> io::Result<bool> {
 pub fn in_threads<H: Threads + Wait + Sync>(
     host: &H,
     rt: &HostRuntime,
-    given: &Given,
+    given: &TableAndTrace,
 ) -> io::Result<bool> {
     let mut text = writer(rt.alloc())?;
     begin(rt)?;
@@ -77,7 +77,7 @@ pub fn in_threads<H: Threads + Wait + Sync>(
 }
 
 /// The numbers of a run.
-pub fn measured(rt: &HostRuntime, given: &Given) -> io::Result<bool> {
+pub fn measured(rt: &HostRuntime, given: &TableAndTrace) -> io::Result<bool> {
     let mut text = writer(rt.alloc())?;
     begin(rt)?;
     let made = measure(
@@ -91,7 +91,7 @@ pub fn measured(rt: &HostRuntime, given: &Given) -> io::Result<bool> {
 }
 
 /// The numbers of the runs of some tables.
-pub fn compared(rt: &HostRuntime, given: &Given) -> io::Result<bool> {
+pub fn compared(rt: &HostRuntime, given: &TableAndTrace) -> io::Result<bool> {
     let mut text = writer(rt.alloc())?;
     begin(rt)?;
     let made = compare(

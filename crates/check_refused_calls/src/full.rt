@@ -1,15 +1,15 @@
 //! A history to its last pass, and a journal to its last turn.
 
 use crate::attempt::wrong;
-use crate::given::Given;
 use crate::scheduling::open;
+use crate::table_and_trace::TableAndTrace;
 use cal_kthread::{KernelThread, TurnFault};
 use cal_sched::PassFault;
 use std::io;
 use std::io::Write;
 
 /// Passes until one is refused.
-pub fn full_history(rt: &HostRuntime, given: &Given) -> io::Result<bool> {
+pub fn full_history(rt: &HostRuntime, given: &TableAndTrace) -> io::Result<bool> {
     let mut scheduler = open(rt.alloc(), given)?.scheduler;
     for pass in 1..=1_100_000_u64 {
         if let Err(fault) = scheduler.pass(pass, 0) {
@@ -28,7 +28,7 @@ pub fn full_history(rt: &HostRuntime, given: &Given) -> io::Result<bool> {
 }
 
 /// Turns of the first thread until one is refused.
-pub fn full_journal(rt: &HostRuntime, given: &Given) -> io::Result<bool> {
+pub fn full_journal(rt: &HostRuntime, given: &TableAndTrace) -> io::Result<bool> {
     let mut thread = first_of(open(rt.alloc(), given)?.threads)?;
     for turn in 1..=1_100_000_u64 {
         let now = thread.clock().saturating_add(1);

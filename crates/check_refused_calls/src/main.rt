@@ -11,25 +11,25 @@ mod attempt;
 mod copies;
 mod engines;
 mod full;
-mod given;
 mod opening;
 mod order;
 mod policy;
 mod reading;
 mod runs;
 mod scheduling;
+mod table_and_trace;
 mod texts;
 mod turning;
 mod worlds;
 mod writing;
 
 use attempt::wrong;
-use given::Given;
 use std::io::Read;
 use std::process::ExitCode;
 use std::sync::Wait;
 use std::thread::Threads;
 use std::{env, io};
+use table_and_trace::TableAndTrace;
 
 fn main(rt: HostRuntime) -> ExitCode {
     match call_each(&rt, &rt) {
@@ -42,7 +42,7 @@ fn main(rt: HostRuntime) -> ExitCode {
 fn call_each<H: Threads + Wait + Sync>(host: &H, rt: &HostRuntime) -> io::Result<()> {
     let mut text = Vec::new(rt.alloc());
     rt.stdin().read_to_end(&mut text)?;
-    let given = Given::of(rt.alloc(), text.as_slice())?;
+    let given = TableAndTrace::of(rt.alloc(), text.as_slice())?;
     for word in env::args(rt)?.skip(1) {
         let word = word.as_str();
         if !call(host, rt, word, &given)? && !call(host, rt, word, &given)? {
@@ -57,7 +57,7 @@ fn call<H: Threads + Wait + Sync>(
     host: &H,
     rt: &HostRuntime,
     word: &str,
-    given: &Given,
+    given: &TableAndTrace,
 ) -> io::Result<bool> {
     match word {
         "read_table" => reading::read_table(rt, given),
@@ -76,7 +76,7 @@ fn call_more<H: Threads + Wait + Sync>(
     host: &H,
     rt: &HostRuntime,
     word: &str,
-    given: &Given,
+    given: &TableAndTrace,
 ) -> io::Result<bool> {
     match word {
         "audit" => policy::audit_whole(rt, given),
@@ -103,7 +103,7 @@ fn call_whole<H: Threads + Wait + Sync>(
     host: &H,
     rt: &HostRuntime,
     word: &str,
-    given: &Given,
+    given: &TableAndTrace,
 ) -> io::Result<bool> {
     match word {
         "linearise" => order::of_run(rt, given),

@@ -1,7 +1,7 @@
 //! Pages, rings, books and guards of nothing yet.
 
 use crate::attempt::{answer, begin};
-use crate::given::Given;
+use crate::table_and_trace::TableAndTrace;
 use cal_command::open_ring;
 use cal_guard::Guard;
 use cal_machine::Command;
@@ -48,7 +48,7 @@ pub fn ring(rt: &HostRuntime) -> io::Result<bool> {
 }
 
 /// A book of no history.
-pub fn book(rt: &HostRuntime, given: &Given) -> io::Result<bool> {
+pub fn book(rt: &HostRuntime, given: &TableAndTrace) -> io::Result<bool> {
     begin(rt)?;
     let Some(_book) = answer(rt, Book::open(rt.alloc(), &given.config))? else {
         return Ok(false);
@@ -58,7 +58,7 @@ pub fn book(rt: &HostRuntime, given: &Given) -> io::Result<bool> {
 }
 
 /// A guard of no history.
-pub fn guard(rt: &HostRuntime, given: &Given) -> io::Result<bool> {
+pub fn guard(rt: &HostRuntime, given: &TableAndTrace) -> io::Result<bool> {
     begin(rt)?;
     let Some(_guard) = answer(rt, Guard::open(rt.alloc(), &given.config))? else {
         return Ok(false);

@@ -3,7 +3,7 @@
 ghost use Rattle.cal_linear.specs.Runs.{AreOfOneRun, AreWatched};
 
 use crate::attempt::{answer, begin, wrong};
-use crate::given::Given;
+use crate::table_and_trace::TableAndTrace;
 use crate::texts::write_events;
 use cal_linear::{fitting_looks_are_publications, linearise};
 use cal_machine::Config;
@@ -11,7 +11,7 @@ use cal_run::{Outcome, lockstep};
 use std::io;
 
 /// The steps of a run on one thread.
-pub fn of_run(rt: &HostRuntime, given: &Given) -> io::Result<bool> {
+pub fn of_run(rt: &HostRuntime, given: &TableAndTrace) -> io::Result<bool> {
     let arrivals = given.arrivals(rt.alloc())?;
     given.config.limits();
     fitting_looks_are_publications();

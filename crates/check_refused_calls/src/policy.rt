@@ -1,7 +1,7 @@
 //! Audits.
 
 use crate::attempt::{answer, begin};
-use crate::given::Given;
+use crate::table_and_trace::TableAndTrace;
 use cal_machine::Config;
 use cal_policy::{Auditor, PassEntry, Verdict, audit};
 use std::alloc::{AllocError, Global};
@@ -9,7 +9,7 @@ use std::io;
 use std::io::Write;
 
 /// The audit of a whole history.
-pub fn audit_whole(rt: &HostRuntime, given: &Given) -> io::Result<bool> {
+pub fn audit_whole(rt: &HostRuntime, given: &TableAndTrace) -> io::Result<bool> {
     let history = given.history(rt.alloc())?;
     begin(rt)?;
     let made = audit(rt.alloc(), &given.config, history.as_slice());
@@ -17,7 +17,7 @@ pub fn audit_whole(rt: &HostRuntime, given: &Given) -> io::Result<bool> {
 }
 
 /// The audit of a history that is handed over one pass after the other.
-pub fn audit_in_turn(rt: &HostRuntime, given: &Given) -> io::Result<bool> {
+pub fn audit_in_turn(rt: &HostRuntime, given: &TableAndTrace) -> io::Result<bool> {
     let history = given.history(rt.alloc())?;
     begin(rt)?;
     let made = audit_each(rt.alloc(), &given.config, history.as_slice());

@@ -1,7 +1,7 @@
 //! Readings of texts.
 
 use crate::attempt::{Fault, answer, begin};
-use crate::given::Given;
+use crate::table_and_trace::TableAndTrace;
 use crate::texts::{write_each, write_passes};
 use cal_machine::Config;
 use cal_trace::{SignalPass, SignalRows, read_arrivals, read_history, read_signals};
@@ -10,7 +10,7 @@ use std::io;
 use std::io::Write;
 
 /// The table.
-pub fn read_table(rt: &HostRuntime, given: &Given) -> io::Result<bool> {
+pub fn read_table(rt: &HostRuntime, given: &TableAndTrace) -> io::Result<bool> {
     begin(rt)?;
     let Some(config) = answer(rt, Config::read(rt.alloc(), given.table))? else {
         return Ok(false);
@@ -20,7 +20,7 @@ pub fn read_table(rt: &HostRuntime, given: &Given) -> io::Result<bool> {
 }
 
 /// The trace as arrivals.
-pub fn arrivals(rt: &HostRuntime, given: &Given) -> io::Result<bool> {
+pub fn arrivals(rt: &HostRuntime, given: &TableAndTrace) -> io::Result<bool> {
     begin(rt)?;
     let made = read_arrivals(rt.alloc(), &given.config, given.trace);
     let Some(arrivals) = answer(rt, made)? else {
@@ -33,7 +33,7 @@ pub fn arrivals(rt: &HostRuntime, given: &Given) -> io::Result<bool> {
 }
 
 /// The trace as a history.
-pub fn history(rt: &HostRuntime, given: &Given) -> io::Result<bool> {
+pub fn history(rt: &HostRuntime, given: &TableAndTrace) -> io::Result<bool> {
     begin(rt)?;
     let made = read_history(rt.alloc(), &given.config, given.trace);
     let Some(history) = answer(rt, made)? else {
@@ -44,7 +44,7 @@ pub fn history(rt: &HostRuntime, given: &Given) -> io::Result<bool> {
 }
 
 /// The trace as signals, all at once.
-pub fn signals(rt: &HostRuntime, given: &Given) -> io::Result<bool> {
+pub fn signals(rt: &HostRuntime, given: &TableAndTrace) -> io::Result<bool> {
     begin(rt)?;
     let made = read_signals(rt.alloc(), &given.config, given.trace);
     let Some(signals) = answer(rt, made)? else {
@@ -56,7 +56,7 @@ pub fn signals(rt: &HostRuntime, given: &Given) -> io::Result<bool> {
 
 /// The passes of the signals, one after the other as they are read, from the first one on where one
 /// was refused.
-pub fn signal_rows(rt: &HostRuntime, given: &Given) -> io::Result<bool> {
+pub fn signal_rows(rt: &HostRuntime, given: &TableAndTrace) -> io::Result<bool> {
     begin(rt)?;
     let Some(passes) = answer(rt, passes_in_turn(rt.alloc(), given))? else {
         return Ok(false);
@@ -65,7 +65,7 @@ pub fn signal_rows(rt: &HostRuntime, given: &Given) -> io::Result<bool> {
     Ok(true)
 }
 
-fn passes_in_turn(alloc: Global, given: &Given) -> Result<Vec<SignalPass>, Fault> {
+fn passes_in_turn(alloc: Global, given: &TableAndTrace) -> Result<Vec<SignalPass>, Fault> {
     let mut rows = SignalRows::open(alloc, &given.config, given.trace)?;
     let mut passes = Vec::new(alloc);
     while let Some(pass) = rows.next()? {

@@ -1,7 +1,7 @@
 //! Whole runs.
 
 use crate::attempt::{answer, begin, wrong};
-use crate::given::Given;
+use crate::table_and_trace::TableAndTrace;
 use crate::texts::write_outcome;
 use cal_policy::{PassEntry, Verdict, audit};
 use cal_run::lockstep;
@@ -12,7 +12,7 @@ use std::sync::Wait;
 use std::thread::Threads;
 
 /// A run on one thread.
-pub fn on_one_thread(rt: &HostRuntime, given: &Given) -> io::Result<bool> {
+pub fn on_one_thread(rt: &HostRuntime, given: &TableAndTrace) -> io::Result<bool> {
     let arrivals = given.arrivals(rt.alloc())?;
     begin(rt)?;
     let made = lockstep(rt.alloc(), &given.config, &arrivals);
@@ -28,7 +28,7 @@ pub fn on_one_thread(rt: &HostRuntime, given: &Given) -> io::Result<bool> {
 pub fn in_threads<H: Threads + Wait + Sync>(
     host: &H,
     rt: &HostRuntime,
-    given: &Given,
+    given: &TableAndTrace,
 ) -> io::Result<bool> {
     let arrivals = given.arrivals(rt.alloc())?;
     begin(rt)?;
@@ -41,7 +41,11 @@ pub fn in_threads<H: Threads + Wait + Sync>(
 }
 
 /// That a history is legal, and how many passes it has.
-pub fn write_verdict(rt: &HostRuntime, given: &Given, history: &[PassEntry]) -> io::Result<()> {
+pub fn write_verdict(
+    rt: &HostRuntime,
+    given: &TableAndTrace,
+    history: &[PassEntry],
+) -> io::Result<()> {
     let passes = history.len();
     match audit(rt.alloc(), &given.config, history)? {
         Verdict::Legal => writeln!(&mut rt.stdout(), "legal, {passes} passes"),

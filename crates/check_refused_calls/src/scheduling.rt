@@ -5,7 +5,7 @@ ghost use Rattle.cal_machine.specs.TableTasks.{threads_of_table};
 ghost use Rattle.cal_sched.specs.Scheduler.{HaveSeenNothing, HaveSentNothing};
 
 use crate::attempt::{Fault, answer, begin, end, tell, wrong};
-use crate::given::Given;
+use crate::table_and_trace::TableAndTrace;
 use crate::texts::{write_lists, write_passes};
 use cal_command::Sender;
 use cal_kthread::{KernelThread, Team, open_threads};
@@ -20,7 +20,7 @@ use std::io::Write;
 const ROUNDS: u64 = 3;
 
 /// The kernel threads of the table.
-pub fn threads(rt: &HostRuntime, given: &Given) -> io::Result<bool> {
+pub fn threads(rt: &HostRuntime, given: &TableAndTrace) -> io::Result<bool> {
     begin(rt)?;
     let Some(team) = answer(rt, open_threads(rt.alloc(), &given.config))? else {
         return Ok(false);
@@ -39,7 +39,7 @@ pub struct Opened {
 }
 
 /// A scheduler and kernel threads that did nothing yet.
-pub fn open(alloc: Global, given: &Given) -> io::Result<Opened> {
+pub fn open(alloc: Global, given: &TableAndTrace) -> io::Result<Opened> {
     let Team {
         threads,
         observers,
@@ -54,7 +54,7 @@ pub fn open(alloc: Global, given: &Given) -> io::Result<Opened> {
 }
 
 /// A scheduler over the threads of a team, and a first pass of it.
-pub fn scheduler(rt: &HostRuntime, given: &Given) -> io::Result<bool> {
+pub fn scheduler(rt: &HostRuntime, given: &TableAndTrace) -> io::Result<bool> {
     let Team {
         observers,
         senders,
@@ -96,7 +96,7 @@ fn scheduler_of(
 }
 
 /// A watch over the pages of a team, and its rounds.
-pub fn watch(rt: &HostRuntime, given: &Given) -> io::Result<bool> {
+pub fn watch(rt: &HostRuntime, given: &TableAndTrace) -> io::Result<bool> {
     let Team { watchers, .. } = open_threads(rt.alloc(), &given.config)?;
     let mut watch = watch_of(rt, watchers)?;
     for _ in 0..ROUNDS {

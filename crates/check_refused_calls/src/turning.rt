@@ -3,8 +3,8 @@
 ghost use Rattle.std.specs.Prelude.{◌≡◌};
 
 use crate::attempt::{answer, begin, wrong};
-use crate::given::Given;
 use crate::scheduling::{Opened, open};
+use crate::table_and_trace::TableAndTrace;
 use crate::texts::{write_each, write_passes};
 use cal_kthread::{KernelThread, Request};
 use cal_sched::Scheduler;
@@ -17,7 +17,7 @@ const TURNS: u64 = 100;
 const PASSES: u64 = 12;
 
 /// Turns of each thread, before each pass.
-pub fn turns(rt: &HostRuntime, given: &Given) -> io::Result<bool> {
+pub fn turns(rt: &HostRuntime, given: &TableAndTrace) -> io::Result<bool> {
     let Opened {
         mut scheduler,
         mut threads,
@@ -55,7 +55,7 @@ fn write_journals(rt: &HostRuntime, threads: &[KernelThread]) -> io::Result<()> 
 }
 
 /// Passes, each after a turn of each thread.
-pub fn passes(rt: &HostRuntime, given: &Given) -> io::Result<bool> {
+pub fn passes(rt: &HostRuntime, given: &TableAndTrace) -> io::Result<bool> {
     let Opened {
         mut scheduler,
         mut threads,

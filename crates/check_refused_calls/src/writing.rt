@@ -4,7 +4,7 @@
 ghost use Rattle.cal_policy.specs.Judgement.Orderly.{IsOrderly};
 
 use crate::attempt::{answer, begin, wrong};
-use crate::given::Given;
+use crate::table_and_trace::TableAndTrace;
 use cal_machine::Config;
 use cal_policy::{PassEntry, orderly};
 use cal_trace::{write_history, write_report};
@@ -12,7 +12,7 @@ use std::io;
 use std::io::Write;
 
 /// The history of a run, as a file.
-pub fn history(rt: &HostRuntime, given: &Given) -> io::Result<bool> {
+pub fn history(rt: &HostRuntime, given: &TableAndTrace) -> io::Result<bool> {
     let outcome = given.run(rt.alloc())?;
     begin(rt)?;
     let mut text = Vec::new(rt.alloc());
@@ -25,7 +25,7 @@ pub fn history(rt: &HostRuntime, given: &Given) -> io::Result<bool> {
 }
 
 /// The report of a run.
-pub fn report(rt: &HostRuntime, given: &Given) -> io::Result<bool> {
+pub fn report(rt: &HostRuntime, given: &TableAndTrace) -> io::Result<bool> {
     let outcome = given.run(rt.alloc())?;
     let history = outcome.history.as_slice();
     if orderly(&given.config, history) {

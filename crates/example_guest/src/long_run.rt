@@ -6,7 +6,7 @@ ghost use Rattle.cal_policy.specs.State.{IsReady};
 use crate::made::record;
 use cal_guard::Guard;
 use cal_machine::Config;
-use cal_policy::{Action, Cause, Input, Look, Rooms, SeenList};
+use cal_policy::{Action, Cause, FoundLook, Input, Look};
 use std::alloc::{AllocError, Global};
 
 /// The look at thread `k` in pass `i`: thread 1 took all that was sent to it, and runs in each
@@ -43,18 +43,12 @@ fn action(i: u64) -> Action {
 
 /// The input of pass `i`, in which each ring has room.
 fn input_of(alloc: Global, config: &Config, guard: &Guard, i: u64) -> Result<Input, AllocError> {
-    let mut seen = Vec::new(alloc);
-    let mut rooms = Vec::new(alloc);
+    let mut found = Vec::new(alloc);
     for k in 0..config.threads() {
-        seen.push(guard.board().judge(config, k, look(i, k)))?;
-        rooms.push(true)?;
+        let look = look(i, k);
+        found.push(FoundLook { look, room: true })?;
     }
-    Ok(Input {
-        now: i,
-        bandwidth: 0,
-        seen: SeenList::new(seen),
-        rooms: Rooms::new(rooms),
-    })
+    guard.board().input(alloc, config, i, 0, &found)
 }
 
 /// Makes pass `i`, and tells whether the guard let it through.

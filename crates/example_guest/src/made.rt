@@ -1,6 +1,6 @@
 //! The made looks: what three kernel threads would show over seven passes.
 
-use cal_policy::{Look, Record};
+use cal_policy::{FoundLook, Look, Record};
 
 /// Two cores; a latency-critical task of one thread, guaranteed a core, and a best-effort one of
 /// two.
@@ -35,11 +35,19 @@ pub fn record(words: [u64; 4]) -> Record {
 
 impl Made {
     /// The look at thread `k`'s page.
-    pub fn look(&self, k: usize) -> Look {
+    fn look(&self, k: usize) -> Look {
         let [number, stamp, taken, running, oldest] = self.shown.get(k).copied().unwrap_or([0; 5]);
         Look::Whole {
             number,
             rec: record([stamp, taken, running, oldest]),
+        }
+    }
+
+    /// What is found of thread `k`.
+    pub fn found(&self, k: usize) -> FoundLook {
+        FoundLook {
+            look: self.look(k),
+            room: self.full != Some(k),
         }
     }
 }

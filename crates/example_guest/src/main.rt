@@ -14,7 +14,7 @@ mod made;
 
 use cal_guard::{Guard, Refused, is_permitted};
 use cal_machine::Config;
-use cal_policy::{Action, ActionList, Input, PassEntry, Rooms, SeenList};
+use cal_policy::{Action, ActionList, Input, PassEntry};
 use first_come::FirstCome;
 use long_run::long_run;
 use made::{Made, PASSES, TABLE};
@@ -28,18 +28,11 @@ fn input_of(
     guard: &Guard,
     made: &Made,
 ) -> Result<Input, AllocError> {
-    let mut seen = Vec::new(alloc);
-    let mut rooms = Vec::new(alloc);
+    let mut found = Vec::new(alloc);
     for k in 0..config.threads() {
-        seen.push(guard.board().judge(config, k, made.look(k)))?;
-        rooms.push(made.full != Some(k))?;
+        found.push(made.found(k))?;
     }
-    Ok(Input {
-        now: made.now,
-        bandwidth: 0,
-        seen: SeenList::new(seen),
-        rooms: Rooms::new(rooms),
-    })
+    guard.board().input(alloc, config, made.now, 0, &found)
 }
 
 /// Lets the chosen actions through, or else those before the first that is not permitted. Tells how

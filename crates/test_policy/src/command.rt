@@ -2,7 +2,7 @@
 ghost use Rattle.std.specs.Prelude.{◌≡◌};
 ghost use Rattle.cal_command.specs.Commands.{IsSendable};
 
-use crate::given::assert_same;
+use crate::same::assert_same;
 use cal_command::{Command, Sender, Taker, close_ring, open_ring};
 use std::alloc::{AllocError, Global};
 use std::sync::Wait;

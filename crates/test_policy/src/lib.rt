@@ -9,8 +9,6 @@
 #[cfg(test)]
 mod command;
 #[cfg(test)]
-mod given;
-#[cfg(test)]
 mod guard;
 #[cfg(test)]
 mod lists;
@@ -18,6 +16,8 @@ mod lists;
 mod machine;
 #[cfg(test)]
 mod policy;
+#[cfg(test)]
+mod same;
 #[cfg(test)]
 mod signal;
 #[cfg(test)]

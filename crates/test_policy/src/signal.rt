@@ -3,7 +3,7 @@ ghost use Rattle.std.specs.Prelude.{◌≡◌};
 
 mod rows;
 
-use crate::given::assert_same;
+use crate::same::assert_same;
 use cal_signal::{
     Look, Observer, OpenLook, OpenPage, PublishFault, Publisher, Record, close_page, close_watched,
     look_open, open_page, open_watched, read_back,

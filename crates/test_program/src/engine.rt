@@ -2,5 +2,5 @@
 //! fail, and what it then ends with.
 
 mod ends;
-mod given;
+mod one_pass;
 mod programs;

@@ -5,14 +5,16 @@
 #![tactic(auto)]
 
 #[cfg(test)]
-mod given;
-#[cfg(test)]
 mod in_threads;
 #[cfg(test)]
 mod kernel_threads;
+#[cfg(test)]
+mod one_thread;
 pub mod order;
 #[cfg(test)]
 mod runs;
+#[cfg(test)]
+mod same;
 #[cfg(test)]
 mod scheduler;
 #[cfg(test)]

@@ -6,7 +6,7 @@ ghost use Rattle.cal_sched.specs.Scheduler.{HaveSeenNothing, HaveSentNothing};
 mod passes;
 mod watches;
 
-use crate::given::ONE_THREAD;
+use crate::one_thread::ONE_THREAD;
 use cal_command::{Sender, Taker, open_ring};
 use cal_machine::Config;
 use cal_sched::Scheduler;

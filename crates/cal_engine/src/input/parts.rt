@@ -2,7 +2,7 @@
 
 ghost use Rattle.std.specs.Prelude.{IfOk};
 ghost use Rattle.cal_trace.specs.Arrivals.FitsTable.{FitsTable};
-ghost use Rattle.cal_engine.specs.Outcome.{Gives};
+ghost use Rattle.cal_engine.specs.Outcome.{IsWhatInputSays};
 ghost use Rattle.cal_engine.specs.Running.{run_input_of};
 ghost use Rattle.cal_engine.specs.Runs.{parts_of};
 
@@ -16,7 +16,7 @@ use std::alloc::Global;
 ///
 /// The fault is `Separator` where no line is the separator, else the table's.
 pub fn read_parts(alloc: Global, input: &[u8]) -> Result<(Config, &[u8]), RunFault>
-    ensures { Gives (λ parts. record { table = parts.0; trace = parts.1.now }) result
+    ensures { IsWhatInputSays (λ parts. record { table = parts.0; trace = parts.1.now }) result
         (parts_of input.now) }
 {
     let Some((table, trace)) = split_input(input) else {
@@ -29,7 +29,7 @@ pub fn read_parts(alloc: Global, input: &[u8]) -> Result<(Config, &[u8]), RunFau
 /// The task table of an input, and the arrivals for its threads. The faults are those of the word
 /// `lockstep`, in its order: `Separator`, `Config`, `Trace`; `Memory` may come at any place.
 pub fn run_input(alloc: Global, input: &[u8]) -> Result<(Config, Arrivals), RunFault>
-    ensures exact { Gives (λ r. record { table = r.0; arrivals = r.1 }) result
+    ensures exact { IsWhatInputSays (λ r. record { table = r.0; arrivals = r.1 }) result
         (run_input_of input.now) }
     ensures fits { IfOk result (λ r. FitsTable r.0 r.1) }
 {

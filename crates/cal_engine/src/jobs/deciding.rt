@@ -15,7 +15,7 @@ ghost use Rattle.cal_trace.specs.Signals.{signals_of};
 ghost use Rattle.cal_trace.specs.Signals.Fitting.{AreFittingPasses};
 ghost use Rattle.cal_trace.specs.Signals.Reading.{HasGiven, IsOpen};
 ghost use Rattle.cal_engine.specs.Deciding.{decided, decided_pass, input_of, Tells};
-ghost use Rattle.cal_engine.specs.Outcome.{report_of, Gives, Reports};
+ghost use Rattle.cal_engine.specs.Outcome.{report_of, IsWhatInputSays, Reports};
 ghost use Rattle.cal_engine.specs.Runs.{decided_on, decided_run_of, within_limit};
 
 use crate::fault::RunFault;
@@ -54,7 +54,8 @@ pub fn decide<R: Read + Drop, W: Write>(
 
 /// The report of the history that an input's signals lead to, in memory.
 fn decided_report(alloc: Global, input: &[u8]) -> Result<Vec<u8>, RunFault>
-    ensures { Gives (λ report. report.items) result (report_of (decided_run_of input.now)) }
+    ensures { IsWhatInputSays (λ report. report.items) result
+        (report_of (decided_run_of input.now)) }
 {
     let (config, trace) = read_parts(alloc, input)?;
     report_signals(alloc, &config, trace)
@@ -62,7 +63,7 @@ fn decided_report(alloc: Global, input: &[u8]) -> Result<Vec<u8>, RunFault>
 
 /// The report of the history that these signals lead to, in memory.
 fn report_signals(alloc: Global, config: &Config, trace: &[u8]) -> Result<Vec<u8>, RunFault>
-    ensures { Gives (λ report. report.items) result
+    ensures { IsWhatInputSays (λ report. report.items) result
         (report_of (decided_on config.now (signals_of (threads_in config.now.tasks)
         (rows_of trace.now)))) }
 {
@@ -81,7 +82,7 @@ fn report_passes(
     requires given { (trace : List ℕ) × HasGiven (threads_in config.now.tasks) trace []
         signals.old }
     ensures { (trace : List ℕ) → HasGiven (threads_in config.now.tasks) trace [] signals.old →
-        Gives (λ report. report.items) result
+        IsWhatInputSays (λ report. report.items) result
         (report_of (decided_on config.now (signals_of (threads_in config.now.tasks)
         (rows_of trace)))) }
 {
@@ -152,7 +153,7 @@ impl OpenReport {
 
 /// The task table of an input, and the history that its signals lead to.
 pub fn decided_run(alloc: Global, input: &[u8]) -> Result<(Config, Vec<PassEntry>), RunFault>
-    ensures exact { Gives (λ r. record { table = r.0; history = r.1.items }) result
+    ensures exact { IsWhatInputSays (λ r. record { table = r.0; history = r.1.items }) result
         (decided_run_of input.now) }
     ensures legal { IfOk result (λ r. IsLegal r.0 r.1.items) }
 {

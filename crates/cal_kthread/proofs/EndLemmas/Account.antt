@@ -10,9 +10,9 @@ use Rattle.cal_kthread.specs.Turn.Agreement.{IsJournalOf, held}
 use Rattle.cal_kthread.specs.Turn.Thread.{ThreadView}
 use Rattle.cal_kthread.specs.declared.turn.current.Current.{Current}
 use Rattle.cal_kthread.specs.declared.journal.entry.Entry.{Entry}
-use Rattle.cal_kthread.specs.declared.turn.victims.Victim.{Victim}
+use Rattle.cal_kthread.specs.declared.turn.sources.Source.{Source}
 use Rattle.cal_kthread.specs.declared.queue.waiting.Waiting.{Waiting}
-use Rattle.cal_kthread.specs.End.Account.{IsAccounted, KeepsItsWork, IsSettled, IsDrained, Gathers, HasArrived, stripped, taken_of, stolen_weight, handed_of, kept_of, victims_at, times, names_of, requests_of, waiting_names, StaysSettled}
+use Rattle.cal_kthread.specs.End.Account.{IsAccounted, KeepsItsWork, IsSettled, IsDrained, Gathers, HasArrived, stripped, taken_of, stolen_weight, handed_of, kept_of, sources_at, times, names_of, requests_of, waiting_names, StaysSettled}
 use Rattle.cal_kthread.specs.End.HandingOut.{HandsOutSome}
 use Rattle.cal_kthread.specs.Journal.{arrivals_of, served_of}
 use Rattle.cal_kthread.specs.Places.{Each, one_if}
@@ -21,7 +21,7 @@ use Rattle.cal_kthread.specs.Queue.Rule.{weigh, TookWhatCame}
 use Rattle.cal_kthread.specs.End.Rest.{EndView, RestView, HandsOut, HandsOutOf, to_hand_out}
 use Rattle.cal_kthread.specs.Team.{Place, place_of_rest, thief_place, lent, lent_to}
 use Rattle.cal_kthread.proofs.ListSums.{weigh-append, weigh-set, weigh-one-more, weigh-map, weigh-each, weigh-plus, member, heavy, each-set, map-append, map-at, within, at-get_or}
-use Rattle.cal_kthread.proofs.TeamLemmas.Gathering.{place, victims_of}
+use Rattle.cal_kthread.proofs.TeamLemmas.Gathering.{place, sources_of}
 
 abbrev queued : (Waiting → ℕ) → EndView → ℕ
 queued h e = weigh h e.rest.queue.had + handed_of h e
@@ -36,14 +36,14 @@ Gone ends = (gone : List Waiting) × ((p : ℕ → ℕ) → weigh p (waiting_nam
 -- a thread whose turns are over keeps what it kept in its turns
 pub ended : (e : EndView) (entries : List Entry) (t u : ThreadView) (current : Option Waiting) → IsJournalOf entries t → u ≡ t → e.journal ≡ entries
     → current ≡ option_map (λ (c : Current). c.waiting) u.current
-    → e.rest ≡ record { queue = u.queue; victims = u.victims; held = option_to_list current ++ option_to_list u.front; left = [] }
+    → e.rest ≡ record { queue = u.queue; sources = u.sources; held = option_to_list current ++ option_to_list u.front; left = [] }
     → e.rest.queue.handed ≡ [] → KeepsItsWork e
 ended e entries t u current agrees same entries_are current_is rest_is none_handed = let a = subst (IsJournalOf entries) (sym same) agrees in record {
   gone = a.served.0;
   arrived = ap (λ (r : RestView). requests_of r.queue.pushed) rest_is ∙ sym a.arrivals ∙ ap arrivals_of (sym entries_are);
   served = sym a.served.1 ∙ ap served_of (sym entries_are);
   kept = λ h. let b = a.served.2 h in let c : weigh h e.rest.queue.had ≡ weigh h u.queue.had = ap (λ (r : RestView). weigh h r.queue.had) rest_is in
-      let d : stolen_weight h e.rest.victims ≡ stolen_weight h u.victims = ap (λ (r : RestView). stolen_weight h r.victims) rest_is in
+      let d : stolen_weight h e.rest.sources ≡ stolen_weight h u.sources = ap (λ (r : RestView). stolen_weight h r.sources) rest_is in
       let f : weigh h e.rest.queue.handed ≡ 0 = ap (weigh h) none_handed in let g : weigh h e.rest.left ≡ 0 = ap (λ (r : RestView). weigh h r.left) rest_is in
       let i : weigh h e.rest.held ≡ weigh h (held u) = ap (λ (r : RestView). weigh h r.held) rest_is ∙ ap (λ (o : Option Waiting). weigh h (option_to_list o ++ option_to_list u.front)) current_is in
       omega (arith, b, c, d, f, g, i);
@@ -59,15 +59,15 @@ collected (e ∷ es) all = let r = all 0 e refl in let t = collected es (λ i. a
   λ h. let a = weigh-append h r.gone t.0 in let b = r.kept h in let c = t.2 h in omega (arith, a, b, c),
 )
 
-nothing-lent : (j : ℕ) (ends : List EndView) → Each (λ e. e.rest.victims ≡ []) ends → lent j (map place ends) ≡ 0
+nothing-lent : (j : ℕ) (ends : List EndView) → Each (λ e. e.rest.sources ≡ []) ends → lent j (map place ends) ≡ 0
 nothing-lent j [] all = refl
-nothing-lent j (e ∷ es) all = let a : lent_to j (place e) ≡ 0 = ap (λ (vs : List Victim). weigh (λ (t : ℕ × QueueId). one_if (nat_eq t.0 j)) (map thief_place vs)) (all 0 e refl) in
+nothing-lent j (e ∷ es) all = let a : lent_to j (place e) ≡ 0 = ap (λ (vs : List Source). weigh (λ (t : ℕ × QueueId). one_if (nat_eq t.0 j)) (map thief_place vs)) (all 0 e refl) in
     let b = nothing-lent j es (λ i. all (suc i)) in omega (arith, a, b)
 
 module _ (before after : List EndView) (work : Each KeepsItsWork before) (gathered : Gathers before after)
-    (none : (j : ℕ) → j < length after → victims_at j after ≡ []) where
-  no-victims : Each (λ e. e.rest.victims ≡ []) after
-  no-victims j e at = sym (at-get_or (map victims_of after) j (victims_of e) [] (at_map victims_of after j e at)) ∙ none j (within after j e at)
+    (none : (j : ℕ) → j < length after → sources_at j after ≡ []) where
+  no-sources : Each (λ e. e.rest.sources ≡ []) after
+  no-sources j e at = sym (at-get_or (map sources_of after) j (sources_of e) [] (at_map sources_of after j e at)) ∙ none j (within after j e at)
 
   -- an end is one of those before, but for its shares and its thieves
   was : (j : ℕ) (e : EndView) → get_elem? after j ≡ some e → (o : EndView) × (get_elem? before j ≡ some o) × (stripped o ≡ stripped e)
@@ -85,10 +85,10 @@ module _ (before after : List EndView) (work : Each KeepsItsWork before) (gather
     gone = gone.0;
     arrived = arrived;
     served = λ p. gone.1 p ∙ sym (same-sum (served_weight p));
-    shares = λ j e at. let s = gathered.team.shares j (place e) (at_map place after j e at) in let n = nothing-lent j after no-victims in omega (arith, s, n);
+    shares = λ j e at. let s = gathered.team.shares j (place e) (at_map place after j e at) in let n = nothing-lent j after no-sources in omega (arith, s, n);
     kept = λ h.
         let a = weigh-each (λ e. taken_of h e + handed_of h e) (queued h) after
-        (λ j e at. let v : stolen_weight h e.rest.victims ≡ 0 = ap (stolen_weight h) (no-victims j e at) in omega (arith, v)) in
+        (λ j e at. let v : stolen_weight h e.rest.sources ≡ 0 = ap (stolen_weight h) (no-sources j e at) in omega (arith, v)) in
         let b = weigh-plus (taken_of h) (handed_of h) after in let c = weigh-plus (taken_of h) (handed_of h) before in
         let d = gathered.taken h in let e = same-sum (handed_of h) in let f = gone.2 h in let g = same-sum (kept_of h) in omega (arith, a, b, c, d, e, f, g);
   }
@@ -97,7 +97,7 @@ module _ (before after : List EndView) (work : Each KeepsItsWork before) (gather
 pub moved : (held : List Waiting) (w : Waiting) (before after : RestView) → before.held ≡ held → HandsOutOf held w before after → HandsOutSome before after
 moved [] w before after empty is = record {
   place = ap place_of_rest is;
-  victims = ap (λ (r : RestView). r.victims) is;
+  sources = ap (λ (r : RestView). r.sources) is;
   pushed = ap (λ (r : RestView). r.queue.pushed) is;
   had = ap (λ (r : RestView). r.queue.had) is;
   kept = λ h. let a : weigh h after.queue.handed ≡ weigh h (before.queue.handed ++ w ∷ []) = ap (λ (r : RestView). weigh h r.queue.handed) is in
@@ -106,7 +106,7 @@ moved [] w before after empty is = record {
 }
 moved (x ∷ xs) w before after holds (same, is) = record {
   place = ap place_of_rest is;
-  victims = ap (λ (r : RestView). r.victims) is;
+  sources = ap (λ (r : RestView). r.sources) is;
   pushed = ap (λ (r : RestView). r.queue.pushed) is;
   had = ap (λ (r : RestView). r.queue.had) is;
   kept = λ h. let a : weigh h after.queue.handed ≡ weigh h before.queue.handed = ap (λ (r : RestView). weigh h r.queue.handed) is in
@@ -132,7 +132,7 @@ module _ (before after : EndView) (w : Waiting) (hands : HandsOut w before.rest 
     gone = work.gone;
     arrived = ap requests_of m.pushed ∙ work.arrived ∙ sym (ap arrivals_of j);
     served = work.served ∙ sym (ap served_of j);
-    kept = λ h. let a = work.kept h in let b = m.kept h in let c = ap (weigh h) m.had in let d = ap (stolen_weight h) m.victims in omega (arith, a, b, c, d);
+    kept = λ h. let a = work.kept h in let b = m.kept h in let c = ap (weigh h) m.had in let d = ap (stolen_weight h) m.sources in omega (arith, a, b, c, d);
   }
 
 -- each request that is handed out leaves one fewer

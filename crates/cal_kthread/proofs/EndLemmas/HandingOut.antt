@@ -17,7 +17,7 @@ use Rattle.cal_kthread.proofs.ListSums.{map-append, map-at, map-set-like, within
 pub one-more : (first before after : RestView) (w : Waiting) → HandsOutSome first before → HandsOut w before after → HandsOutSome first after
 one-more first before after w so_far hands = let m = moved before.held w before after refl hands in record {
   place = m.place ∙ so_far.place;
-  victims = m.victims ∙ so_far.victims;
+  sources = m.sources ∙ so_far.sources;
   pushed = m.pushed ∙ so_far.pushed;
   had = m.had ∙ so_far.had;
   kept = λ h. let a = so_far.kept h in let b = m.kept h in omega (arith, a, b);

@@ -4,8 +4,8 @@ use Rattle.std.proofs.lemmas.List.{get_or-set_other, get_or-set_same, map-set, l
 use mathlib.Core.Option.{some}
 use lib.ListN.{get_elem?}
 use Rattle.crossbeam_deque.proofs.Lists.{at_map}
-use Rattle.cal_kthread.specs.End.Account.{Gathers, stripped, taken_of, stolen_weight, victims_at}
-use Rattle.cal_kthread.specs.declared.turn.victims.Victim.{Victim}
+use Rattle.cal_kthread.specs.End.Account.{Gathers, stripped, taken_of, stolen_weight, sources_at}
+use Rattle.cal_kthread.specs.declared.turn.sources.Source.{Source}
 use Rattle.cal_kthread.specs.declared.queue.waiting.Waiting.{Waiting}
 use Rattle.cal_kthread.specs.Queue.{QueueId}
 use Rattle.cal_kthread.specs.Queue.Rule.{weigh}
@@ -17,26 +17,26 @@ use Rattle.cal_kthread.proofs.ListSums.{weigh-append, weigh-set, weigh-one-more,
 abbrev pub place : EndView → Place
 place e = place_of_rest e.rest
 
-abbrev pub victims_of : EndView → List Victim
-victims_of e = e.rest.victims
+abbrev pub sources_of : EndView → List Source
+sources_of e = e.rest.sources
 
-module _ (ends : List EndView) (k : ℕ) (giver gave : EndView) (v : Victim) where
+module _ (ends : List EndView) (k : ℕ) (giver gave : EndView) (v : Source) where
   abbrev given : RestView
   given = gave.rest
 
   abbrev between : List EndView
   between = set ends k gave
 
-  module _ (team : IsTeam (map place ends)) (at : get_elem? ends k ≡ some giver) (gave_is : gave ≡ record giver { rest = record giver.rest { victims = gave.rest.victims } })
-      (last : giver.rest.victims ≡ gave.rest.victims ++ v ∷ []) where
-    given_is : given ≡ record giver.rest { victims = given.victims }
+  module _ (team : IsTeam (map place ends)) (at : get_elem? ends k ≡ some giver) (gave_is : gave ≡ record giver { rest = record giver.rest { sources = gave.rest.sources } })
+      (last : giver.rest.sources ≡ gave.rest.sources ++ v ∷ []) where
+    given_is : given ≡ record giver.rest { sources = given.sources }
     given_is = ap (λ (e : EndView). e.rest) gave_is
 
-    place-gave : place gave ≡ record (place giver) { thieves = map thief_place given.victims }
+    place-gave : place gave ≡ record (place giver) { thieves = map thief_place given.sources }
     place-gave = ap place_of_rest given_is
 
-    last-thief : (place giver).thieves ≡ map thief_place given.victims ++ (v.number, v.thief.queue) ∷ []
-    last-thief = ap (map thief_place) last ∙ map-append thief_place given.victims (v ∷ [])
+    last-thief : (place giver).thieves ≡ map thief_place given.sources ++ (v.number, v.thief.queue) ∷ []
+    last-thief = ap (map thief_place) last ∙ map-append thief_place given.sources (v ∷ [])
 
     queue-gave : (place gave).queue ≡ (place giver).queue
     queue-gave = ap (λ (r : RestView). r.queue.queue) given_is
@@ -46,9 +46,9 @@ module _ (ends : List EndView) (k : ℕ) (giver gave : EndView) (v : Victim) whe
 
     -- the thread from which the thief steals is there, and the queue is its own
     pub keeper : (e : EndView) × (get_elem? between v.number ≡ some e) × (e.rest.queue.queue ≡ v.thief.queue)
-    keeper = let t : get_elem? (place giver).thieves (length (map thief_place given.victims)) ≡ some (v.number, v.thief.queue) =
-        subst (λ ts. get_elem? ts (length (map thief_place given.victims)) ≡ some (v.number, v.thief.queue)) (sym last-thief) (at-end (map thief_place given.victims) (v.number, v.thief.queue)) in
-        let q = team.thieves k (place giver) (at_map place ends k giver at) (length (map thief_place given.victims)) (v.number, v.thief.queue) t in
+    keeper = let t : get_elem? (place giver).thieves (length (map thief_place given.sources)) ≡ some (v.number, v.thief.queue) =
+        subst (λ ts. get_elem? ts (length (map thief_place given.sources)) ≡ some (v.number, v.thief.queue)) (sym last-thief) (at-end (map thief_place given.sources) (v.number, v.thief.queue)) in
+        let q = team.thieves k (place giver) (at_map place ends k giver at) (length (map thief_place given.sources)) (v.number, v.thief.queue) t in
         let p = map-at (λ (p : Place). p.queue) (map place between) v.number v.thief.queue (subst (λ qs. get_elem? qs v.number ≡ some v.thief.queue) (sym queues-between) q) in
         let e = map-at place between v.number p.0 p.1 in (e.0, e.1, ap (λ (p : Place). p.queue) e.2 ∙ p.2)
       where
@@ -77,7 +77,7 @@ module _ (ends : List EndView) (k : ℕ) (giver gave : EndView) (v : Victim) whe
       place-took = ap place_of_rest taken_is
 
       abbrev given_place : Place
-      given_place = record (place giver) { thieves = map thief_place given.victims }
+      given_place = record (place giver) { thieves = map thief_place given.sources }
 
       places-between : map place between ≡ set (map place ends) k given_place
       places-between = map-set place ends k gave ∙ ap (λ (p : Place). set (map place ends) k p) place-gave
@@ -87,7 +87,7 @@ module _ (ends : List EndView) (k : ℕ) (giver gave : EndView) (v : Victim) whe
           ∙ ap (λ (ps : List Place). set ps v.number (record (place owner) { shares = (place owner).shares + 1 })) places-between
 
       team-after : IsTeam (map place after)
-      team-after = subst IsTeam (sym places-after) (returned (map place ends) k (place giver) (map thief_place given.victims) v.number v.thief.queue (place owner)
+      team-after = subst IsTeam (sym places-after) (returned (map place ends) k (place giver) (map thief_place given.sources) v.number v.thief.queue (place owner)
           team (at_map place ends k giver at) last-thief (subst (λ ps. get_elem? ps v.number ≡ some (place owner)) places-between (at_map place between v.number owner there)))
 
       same-after : map stripped after ≡ map stripped ends
@@ -97,28 +97,28 @@ module _ (ends : List EndView) (k : ℕ) (giver gave : EndView) (v : Victim) whe
       taken-after : (h : Waiting → ℕ) → weigh (taken_of h) after ≡ weigh (taken_of h) ends
       taken-after h = let a = weigh-set (taken_of h) ends k giver gave at in let b = weigh-set (taken_of h) between v.number owner took there in
           let c : weigh h given.queue.had ≡ weigh h giver.rest.queue.had = ap (λ (r : RestView). weigh h r.queue.had) given_is in
-          let d : stolen_weight h giver.rest.victims ≡ stolen_weight h (given.victims ++ v ∷ []) = ap (stolen_weight h) last in
-          let e = weigh-one-more (λ (u : Victim). weigh h u.thief.had) given.victims v in
+          let d : stolen_weight h giver.rest.sources ≡ stolen_weight h (given.sources ++ v ∷ []) = ap (stolen_weight h) last in
+          let e = weigh-one-more (λ (u : Source). weigh h u.thief.had) given.sources v in
           let f : weigh h taken.queue.had ≡ weigh h (owner.rest.queue.had ++ v.thief.had) = ap (λ (r : RestView). weigh h r.queue.had) taken_is in
           let g = weigh-append h owner.rest.queue.had v.thief.had in
-          let i : stolen_weight h taken.victims ≡ stolen_weight h owner.rest.victims = ap (λ (r : RestView). stolen_weight h r.victims) taken_is in
+          let i : stolen_weight h taken.sources ≡ stolen_weight h owner.rest.sources = ap (λ (r : RestView). stolen_weight h r.sources) taken_is in
           omega (arith, a, b, c, d, e, f, g, i)
 
       pub gathers : Gathers ends after
       gathers = record { team = team-after; same = same-after; taken = taken-after }
 
-      victims-after : map victims_of after ≡ set (map victims_of ends) k given.victims
-      victims-after = map-set-like victims_of between v.number owner took there (ap (λ (r : RestView). r.victims) taken_is) ∙ map-set victims_of ends k gave
+      sources-after : map sources_of after ≡ set (map sources_of ends) k given.sources
+      sources-after = map-set-like sources_of between v.number owner took there (ap (λ (r : RestView). r.sources) taken_is) ∙ map-set sources_of ends k gave
 
-      pub others-stay : (j : ℕ) → j ≢ k → victims_at j after ≡ victims_at j ends
-      others-stay j apart = ap (λ (l : List (List Victim)). get_or l j []) victims-after ∙ get_or-set_other (map victims_of ends) k j given.victims [] apart
+      pub others-stay : (j : ℕ) → j ≢ k → sources_at j after ≡ sources_at j ends
+      others-stay j apart = ap (λ (l : List (List Source)). get_or l j []) sources-after ∙ get_or-set_other (map sources_of ends) k j given.sources [] apart
 
-      pub one-fewer : length (victims_at k after) + 1 ≡ length (victims_at k ends)
-      one-fewer = let w = within ends k giver at in let l = length-map ends victims_of in
-          let n : victims_at k after ≡ given.victims = ap (λ (l : List (List Victim)). get_or l k []) victims-after ∙ get_or-set_same (map victims_of ends) k given.victims [] (omega (arith, w, l)) in
-          let o : victims_at k ends ≡ given.victims ++ v ∷ [] = at-get_or (map victims_of ends) k (victims_of giver) [] (at_map victims_of ends k giver at) ∙ last in
-          let a = ap (λ (vs : List Victim). length vs) n in let b = ap (λ (vs : List Victim). length vs) o in let c = longer given.victims in omega (arith, a, b, c)
+      pub one-fewer : length (sources_at k after) + 1 ≡ length (sources_at k ends)
+      one-fewer = let w = within ends k giver at in let l = length-map ends sources_of in
+          let n : sources_at k after ≡ given.sources = ap (λ (l : List (List Source)). get_or l k []) sources-after ∙ get_or-set_same (map sources_of ends) k given.sources [] (omega (arith, w, l)) in
+          let o : sources_at k ends ≡ given.sources ++ v ∷ [] = at-get_or (map sources_of ends) k (sources_of giver) [] (at_map sources_of ends k giver at) ∙ last in
+          let a = ap (λ (vs : List Source). length vs) n in let b = ap (λ (vs : List Source). length vs) o in let c = longer given.sources in omega (arith, a, b, c)
         where
-          longer : (vs : List Victim) → length (vs ++ v ∷ []) ≡ length vs + 1
+          longer : (vs : List Source) → length (vs ++ v ∷ []) ≡ length vs + 1
           longer [] = refl
           longer (u ∷ us) = let e = longer us in omega (arith, e)

@@ -13,10 +13,10 @@ use Rattle.cal_kthread.specs.Queue.Rule.{weigh}
 use Rattle.cal_kthread.specs.Team.{Place, IsTeam, lent, lent_to, queues_of, place_of, thief_place}
 use Rattle.cal_kthread.specs.Turn.Thread.{KernelView, ThreadView}
 use Rattle.cal_kthread.specs.declared.journal.entry.Entry.{Entry}
-use Rattle.cal_kthread.specs.declared.turn.victims.Victim.{Victim}
+use Rattle.cal_kthread.specs.declared.turn.sources.Source.{Source}
 use Rattle.cal_kthread.proofs.ListSums.{weigh-set, weigh-one-more, each-set, map-set-like, map-append, within, at-get_or}
 
-pub robs-agree : (journal : List Entry) (t u : ThreadView) (v : Victim) → v.thief.had ≡ [] → IsJournalOf journal t → u ≡ record t { victims = t.victims ++ v ∷ [] } → IsJournalOf journal u
+pub robs-agree : (journal : List Entry) (t u : ThreadView) (v : Source) → v.thief.had ≡ [] → IsJournalOf journal t → u ≡ record t { sources = t.sources ++ v ∷ [] } → IsJournalOf journal u
 robs-agree journal t u v fresh a is = subst (IsJournalOf journal) (sym is) (record {
   is_journal = a.is_journal;
   state = a.state;
@@ -26,7 +26,7 @@ robs-agree journal t u v fresh a is = subst (IsJournalOf journal) (sym is) (reco
   served = (
     a.served.0,
     a.served.1,
-    λ h. let b = a.served.2 h in let c = weigh-one-more (λ (x : Victim). weigh h x.thief.had) t.victims v in
+    λ h. let b = a.served.2 h in let c = weigh-one-more (λ (x : Source). weigh h x.thief.had) t.sources v in
         let d : weigh h v.thief.had ≡ 0 = ap (weigh h) fresh in omega (arith, b, c, d),
   );
 })
@@ -92,7 +92,7 @@ place t = place_of t.thread
 abbrev shares_of : KernelView → ℕ
 shares_of t = t.thread.queue.shares
 
-module _ (threads : List KernelView) (owner : ℕ) (lender lent_from : KernelView) (robber : ℕ) (taker robbing_now : KernelView) (v : Victim) where
+module _ (threads : List KernelView) (owner : ℕ) (lender lent_from : KernelView) (robber : ℕ) (taker robbing_now : KernelView) (v : Source) where
   abbrev middle : List KernelView
   middle = set threads owner lent_from
 
@@ -102,12 +102,12 @@ module _ (threads : List KernelView) (owner : ℕ) (lender lent_from : KernelVie
   module _ (team : IsTeam (map place threads)) (at : get_elem? threads owner ≡ some lender) (shares : 1 < shares_at owner threads)
       (lent_is : lent_from ≡ record lender { thread = record lender.thread { queue = record lender.thread.queue { shares = lender.thread.queue.shares - 1 } } })
       (there : get_elem? middle robber ≡ some taker) (number : v.number ≡ owner) (fresh : v.thief.had ≡ []) (thief : v.thief.queue ≡ lender.thread.queue.queue)
-      (robbing_is : robbing_now ≡ record taker { thread = record taker.thread { victims = taker.thread.victims ++ v ∷ [] } }) where
+      (robbing_is : robbing_now ≡ record taker { thread = record taker.thread { sources = taker.thread.sources ++ v ∷ [] } }) where
     place-lent : place lent_from ≡ record (place lender) { shares = (place lender).shares - 1 }
     place-lent = ap place lent_is
 
-    more-thieves : map thief_place (taker.thread.victims ++ v ∷ []) ≡ map thief_place taker.thread.victims ++ (owner, lender.thread.queue.queue) ∷ []
-    more-thieves = map-append thief_place taker.thread.victims (v ∷ []) ∙ (λ i. map thief_place taker.thread.victims ++ (number i, thief i) ∷ [])
+    more-thieves : map thief_place (taker.thread.sources ++ v ∷ []) ≡ map thief_place taker.thread.sources ++ (owner, lender.thread.queue.queue) ∷ []
+    more-thieves = map-append thief_place taker.thread.sources (v ∷ []) ∙ (λ i. map thief_place taker.thread.sources ++ (number i, thief i) ∷ [])
 
     place-robbing : place robbing_now ≡ record (place taker) { thieves = (place taker).thieves ++ (owner, (place lender).queue) ∷ [] }
     place-robbing = ap place robbing_is ∙ ap (λ (ts : List (ℕ × QueueId)). record (place taker) { thieves = ts }) more-thieves
@@ -143,7 +143,7 @@ module _ (threads : List KernelView) (owner : ℕ) (lender lent_from : KernelVie
     lends-linked = map-set-like shares_of middle robber taker robbing_now there (ap shares_of robbing_is) ∙ map-set shares_of threads owner lent_from
 
     robbing-thieves : thieves_of robbing_now ≡ thieves_of taker ++ owner ∷ []
-    robbing-thieves = ap thieves_of robbing_is ∙ map-append (λ (x : Victim). x.number) taker.thread.victims (v ∷ []) ∙ ap (λ (n : ℕ). thieves_of taker ++ n ∷ []) number
+    robbing-thieves = ap thieves_of robbing_is ∙ map-append (λ (x : Source). x.number) taker.thread.sources (v ∷ []) ∙ ap (λ (n : ℕ). thieves_of taker ++ n ∷ []) number
 
     taker-thieves : numbers_at robber threads ≡ thieves_of taker
     taker-thieves = ap (λ (l : List (List ℕ)). get_or l robber []) (sym (map-set-like thieves_of threads owner lender lent_from at (ap thieves_of lent_is)))
@@ -155,11 +155,11 @@ module _ (threads : List KernelView) (owner : ℕ) (lender lent_from : KernelVie
 
     middle-idle : Each StoleNothing threads → Each StoleNothing middle
     middle-idle idle = each-set StoleNothing threads owner lent_from idle
-        (subst (λ vs. Each (λ (x : Victim). x.thief.had ≡ []) vs) (sym (ap (λ (t : KernelView). t.thread.victims) lent_is)) (idle owner lender at))
+        (subst (λ vs. Each (λ (x : Source). x.thief.had ≡ []) vs) (sym (ap (λ (t : KernelView). t.thread.sources) lent_is)) (idle owner lender at))
 
     robbing-idle : StoleNothing taker → StoleNothing robbing_now
-    robbing-idle idle = subst (λ vs. Each (λ (x : Victim). x.thief.had ≡ []) vs) (sym (ap (λ (t : KernelView). t.thread.victims) robbing_is))
-        (λ i x e. ⊎_elim (idle i x) (λ (same : v ≡ x). subst (λ (y : Victim). y.thief.had ≡ []) same fresh) (at_snoc taker.thread.victims v x i e))
+    robbing-idle idle = subst (λ vs. Each (λ (x : Source). x.thief.had ≡ []) vs) (sym (ap (λ (t : KernelView). t.thread.sources) robbing_is))
+        (λ i x e. ⊎_elim (idle i x) (λ (same : v ≡ x). subst (λ (y : Source). y.thief.had ≡ []) same fresh) (at_snoc taker.thread.sources v x i e))
 
     pub lends : Lends robber owner threads linked
     lends = record {

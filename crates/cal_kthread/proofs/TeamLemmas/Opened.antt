@@ -14,7 +14,7 @@ use Rattle.cal_kthread.specs.Places.{Each, one_if}
 use Rattle.cal_kthread.specs.Queue.{QueueId}
 use Rattle.cal_kthread.specs.Team.{Place, IsTeam, lent, lent_to, thief_place}
 use Rattle.cal_kthread.specs.Turn.Thread.{KernelView, IsFresh}
-use Rattle.cal_kthread.specs.declared.turn.victims.Victim.{Victim}
+use Rattle.cal_kthread.specs.declared.turn.sources.Source.{Source}
 use Rattle.cal_kthread.specs.Queue.Rule.{weigh}
 use Rattle.cal_kthread.proofs.ListSums.{map-append, map-at, same-through, at-get_or, within}
 use Rattle.cal_machine.proofs.ThreadNumbers.{first_next}
@@ -28,11 +28,11 @@ both-more : {T U V : Type 0} (f : T → V) (g : U → V) (xs : List T) (ys : Lis
 both-more f g xs ys x y all here = map-append f xs (x ∷ []) ∙ (λ i. all i ++ here i ∷ []) ∙ sym (map-append g ys (y ∷ []))
 
 still-fresh : (t : KernelView) → IsFresh t → IsFresh (unlinked t)
-still-fresh t f = record { journal = f.journal; published = f.published; taken = f.taken; shares = refl; pushed = f.pushed; had = f.had; handed = f.handed; victims = refl; core = f.core; current = f.current; front = f.front; misses = f.misses }
+still-fresh t f = record { journal = f.journal; published = f.published; taken = f.taken; shares = refl; pushed = f.pushed; had = f.had; handed = f.handed; sources = refl; core = f.core; current = f.current; front = f.front; misses = f.misses }
 
 -- without thieves nothing was stolen
 fresh-idle : (t : KernelView) → IsFresh t → StoleNothing t
-fresh-idle t f k v e = absurd (some-ne-none v (sym (subst (λ vs. get_elem? vs k ≡ some v) f.victims e)))
+fresh-idle t f k v e = absurd (some-ne-none v (sym (subst (λ vs. get_elem? vs k ≡ some v) f.sources e)))
 
 -- the first of the threads that are still to come did nothing yet
 pub next-is-fresh : (threads before after : List KernelView) (t : KernelView) → before ++ t ∷ after ≡ threads → Each (λ thread. IsFresh (unlinked thread)) threads → t.journal ≡ []
@@ -97,20 +97,20 @@ there (x ∷ xs) (suc k) within = there xs k (omega (arith, within))
 
 pub untouched : (threads : List KernelView) → Each IsFresh threads → (k : ℕ) → k < length threads → Untouched k threads
 untouched threads fresh k within = let t = there threads k within in let f = fresh k t.0 t.1 in (
-  at-get_or (map thieves_of threads) k (thieves_of t.0) [] (at_map thieves_of threads k t.0 t.1) ∙ ap (map (λ (v : Victim). v.number)) f.victims,
+  at-get_or (map thieves_of threads) k (thieves_of t.0) [] (at_map thieves_of threads k t.0 t.1) ∙ ap (map (λ (v : Source). v.number)) f.sources,
   at-get_or (map (λ (x : KernelView). x.thread.queue.shares) threads) k t.0.thread.queue.shares 0 (at_map (λ (x : KernelView). x.thread.queue.shares) threads k t.0 t.1) ∙ f.shares,
 )
 
 nothing-lent : (j : ℕ) (threads : List KernelView) → Each IsFresh threads → lent j (map place threads) ≡ 0
 nothing-lent j [] fresh = refl
-nothing-lent j (t ∷ ts) fresh = let a : lent_to j (place t) ≡ 0 = ap (λ (vs : List Victim). weigh (λ (x : ℕ × QueueId). one_if (nat_eq x.0 j)) (map thief_place vs)) (fresh 0 t refl).victims in
+nothing-lent j (t ∷ ts) fresh = let a : lent_to j (place t) ≡ 0 = ap (λ (vs : List Source). weigh (λ (x : ℕ × QueueId). one_if (nat_eq x.0 j)) (map thief_place vs)) (fresh 0 t refl).sources in
     let b = nothing-lent j ts (λ k. fresh (suc k)) in omega (arith, a, b)
 
 -- threads without thieves are a team
 pub fresh-team : (threads : List KernelView) → Each IsFresh threads → IsTeam (map place threads)
 fresh-team threads fresh = record {
   thieves = λ k p e i x f. let t = map-at place threads k p e in
-      let none : p.thieves ≡ [] = sym (ap (λ (q : Place). q.thieves) t.2) ∙ ap (map thief_place) (fresh k t.0 t.1).victims in
+      let none : p.thieves ≡ [] = sym (ap (λ (q : Place). q.thieves) t.2) ∙ ap (map thief_place) (fresh k t.0 t.1).sources in
       absurd (some-ne-none x (sym (subst (λ l. get_elem? l i ≡ some x) none f)));
   shares = λ k p e. let t = map-at place threads k p e in let s : p.shares ≡ 16 = sym (ap (λ (q : Place). q.shares) t.2) ∙ (fresh k t.0 t.1).shares in
       let n = nothing-lent k threads fresh in omega (arith, s, n);

@@ -9,7 +9,7 @@ use Rattle.cal_command.specs.Rings.{RingId, TakerView}
 use Rattle.cal_signal.specs.Ends.{PublisherView}
 use Rattle.cal_kthread.specs.declared.turn.current.Current.{Current}
 use Rattle.cal_kthread.specs.End.Rest.{EndView}
-use Rattle.cal_kthread.specs.declared.turn.victims.Victim.{Victim}
+use Rattle.cal_kthread.specs.declared.turn.sources.Source.{Source}
 use Rattle.cal_kthread.specs.declared.queue.waiting.Waiting.{Waiting}
 use Rattle.cal_kthread.specs.Queue.{QueueId, QueueView}
 use Rattle.cal_kthread.specs.Team.{IsTeam, Place, place_of, place_of_rest, thief_place}
@@ -19,7 +19,7 @@ use Rattle.cal_kthread.specs.Turn.{Answers, arrived, taken, robbed, provided, wo
 use Rattle.cal_kthread.proofs.ListSums.{map-set-like}
 
 -- a thief that stole is at the same queue
-robbed-places : (vs : List Victim) (place : ℕ) (w : Waiting) → map thief_place (robbed vs place w) ≡ map thief_place vs
+robbed-places : (vs : List Source) (place : ℕ) (w : Waiting) → map thief_place (robbed vs place w) ≡ map thief_place vs
 robbed-places [] place w = refl
 robbed-places (v ∷ vs) zero w = refl
 robbed-places (v ∷ vs) (suc place) w = ap (λ (ts : List (ℕ × QueueId)). thief_place v ∷ ts) (robbed-places vs place w)
@@ -39,9 +39,9 @@ takes : (now : ℕ) (command : Option Command) (t : ThreadView) → kept_of (tak
 takes now None t = refl
 takes now (Some command) t = refl
 
-module _ (publisher : PublisherView) (taker : TakerView) (queue : QueueView) (victims : List Victim) (misses : ℕ) where
+module _ (publisher : PublisherView) (taker : TakerView) (queue : QueueView) (sources : List Source) (misses : ℕ) where
   abbrev thread : Option ℕ → Option Current → Option Waiting → ThreadView
-  thread core current front = record { publisher = publisher; taker = taker; queue = queue; victims = victims; core = core; current = current; front = front; misses = misses }
+  thread core current front = record { publisher = publisher; taker = taker; queue = queue; sources = sources; core = core; current = current; front = front; misses = misses }
 
   provides-at : (now : ℕ) (core : Option ℕ) (current : Option Current) (front answer : Option Waiting) (theft : Option (ℕ × Waiting))
       → kept_of (provided now answer theft (thread core current front)).0 ≡ kept_of (thread core current front)
@@ -51,7 +51,7 @@ module _ (publisher : PublisherView) (taker : TakerView) (queue : QueueView) (vi
   provides-at now (Some core) None None (Some w) theft = refl
   provides-at now (Some core) None None None None = refl
   provides-at now (Some core) None None None (Some theft) =
-      ap (λ (ts : List (ℕ × QueueId)). let p : Place = record { queue = queue.queue; shares = queue.shares; thieves = ts } in (p, publisher, taker.ring)) (robbed-places victims theft.0 theft.1)
+      ap (λ (ts : List (ℕ × QueueId)). let p : Place = record { queue = queue.queue; shares = queue.shares; thieves = ts } in (p, publisher, taker.ring)) (robbed-places sources theft.0 theft.1)
 
   fronts-at : (core : Option ℕ) (current : Option Current) (front answer : Option Waiting) → kept_of (fronted answer (thread core current front)) ≡ kept_of (thread core current front)
   fronts-at core current (Some next) answer = refl
@@ -59,7 +59,7 @@ module _ (publisher : PublisherView) (taker : TakerView) (queue : QueueView) (vi
   fronts-at core current None (Some w) = refl
 
 provides : (now : ℕ) (answer : Option Waiting) (theft : Option (ℕ × Waiting)) (t : ThreadView) → kept_of (provided now answer theft t).0 ≡ kept_of t
-provides now answer theft t = provides-at t.publisher t.taker t.queue t.victims t.misses now t.core t.current t.front answer theft
+provides now answer theft t = provides-at t.publisher t.taker t.queue t.sources t.misses now t.core t.current t.front answer theft
 
 works-on : (core : Option ℕ) (current : Option Current) (t : ThreadView) → kept_of (worked_on core current t).0 ≡ kept_of t
 works-on None current t = refl
@@ -67,7 +67,7 @@ works-on (Some core) None t = refl
 works-on (Some core) (Some current) t = refl
 
 fronts : (answer : Option Waiting) (t : ThreadView) → kept_of (fronted answer t) ≡ kept_of t
-fronts answer t = fronts-at t.publisher t.taker t.queue t.victims t.misses t.core t.current t.front answer
+fronts answer t = fronts-at t.publisher t.taker t.queue t.sources t.misses t.core t.current t.front answer
 
 -- the thread as it is before its turn publishes
 abbrev pub unpublished : ℕ → Option Request → Answers → ThreadView → ThreadView

@@ -11,7 +11,7 @@ use Rattle.cal_signal.specs.Records.{MayFollow}
 use Rattle.cal_kthread.specs.declared.turn.current.Current.{Current}
 use Rattle.cal_kthread.specs.declared.journal.entry.Entry.{Entry}
 use Rattle.cal_kthread.specs.declared.journal.entry.Entry.TheVariants.{Arrived, Took, Stole, Served, Yielded}
-use Rattle.cal_kthread.specs.declared.turn.victims.Victim.{Victim}
+use Rattle.cal_kthread.specs.declared.turn.sources.Source.{Source}
 use Rattle.cal_kthread.specs.declared.queue.waiting.Waiting.{Waiting}
 use Rattle.cal_kthread.specs.Turn.Agreement.{IsJournalOf, HasServed, state_of, held, had_weight}
 use Rattle.cal_kthread.specs.Journal.{State, MayStand, changed_by, record_in, records_of, command_in, arrival_in, served_in, served_of, core_after}
@@ -101,7 +101,7 @@ takes j now (Some command) t a = let u : ThreadView = (turn.taken now (Some comm
     (unserving j e u refl (kept j t u (λ h. let r = resumes h now (core_after command) t.core t.current t.front in omega arith) a.served))
 
 -- 3
-robbed-weight : (h : Waiting → ℕ) (vs : List Victim) (place : ℕ) (w : Waiting) → place < length vs → weigh (λ (v : Victim). weigh h v.thief.had) (turn.robbed vs place w) ≡ weigh (λ (v : Victim). weigh h v.thief.had) vs + h w
+robbed-weight : (h : Waiting → ℕ) (vs : List Source) (place : ℕ) (w : Waiting) → place < length vs → weigh (λ (v : Source). weigh h v.thief.had) (turn.robbed vs place w) ≡ weigh (λ (v : Source). weigh h v.thief.had) vs + h w
 robbed-weight h [] place w within = absurd (omega arith)
 robbed-weight h (v ∷ vs) zero w within = let e = weigh-append h v.thief.had (w ∷ []) in omega arith
 robbed-weight h (v ∷ vs) (suc place) w within = let e = robbed-weight h vs place w (omega arith) in omega arith
@@ -117,14 +117,14 @@ unentered j t u a state publisher taker pushed even = record {
   served = kept j t u even a.served;
 }
 
-module _ (j : List Entry) (now : ℕ) (publisher : PublisherView) (taker : TakerView) (queue : QueueView) (victims : List Victim) (misses : ℕ) where
+module _ (j : List Entry) (now : ℕ) (publisher : PublisherView) (taker : TakerView) (queue : QueueView) (sources : List Source) (misses : ℕ) where
   abbrev thread : Option ℕ → Option Current → Option Waiting → ThreadView
-  thread core current front = record { publisher = publisher; taker = taker; queue = queue; victims = victims; core = core; current = current; front = front; misses = misses }
+  thread core current front = record { publisher = publisher; taker = taker; queue = queue; sources = sources; core = core; current = current; front = front; misses = misses }
 
   abbrev After : ThreadView × Option Entry → Type 0
   After a = IsJournalOf (turn.noted j a.1) a.0
 
-  provides-at : (core : Option ℕ) (current : Option Current) (front answer : Option Waiting) (theft : Option (ℕ × Waiting)) → IfSome theft (λ place. place.0 < length victims) → IsJournalOf j (thread core current front)
+  provides-at : (core : Option ℕ) (current : Option Current) (front answer : Option Waiting) (theft : Option (ℕ × Waiting)) → IfSome theft (λ place. place.0 < length sources) → IsJournalOf j (thread core current front)
       → After (turn.provided now answer theft (thread core current front))
   provides-at None current front answer theft within a = a
   provides-at (Some core) (Some current) front answer theft within a = a
@@ -133,8 +133,8 @@ module _ (j : List Entry) (now : ℕ) (publisher : PublisherView) (taker : Taker
       unentered j (thread (Some core) None None) (turn.provided now (Some w) theft (thread (Some core) None None)).0 a refl refl refl refl (λ h. let e = weigh-append h queue.had (w ∷ []) in omega arith)
   provides-at (Some core) None None None None within a = a
   provides-at (Some core) None None None (Some theft) within a = let t = thread (Some core) None None in let u : ThreadView = (turn.provided now None (Some theft) t).0 in
-      let e : Entry = Stole (turn.number_at victims theft.0) theft.1.request.id in
-      apart j e t u a tt refl refl refl refl refl refl refl (unserving j e u refl (kept j t u (λ h. let r = robbed-weight h victims theft.0 theft.1 within in omega arith) a.served))
+      let e : Entry = Stole (turn.number_at sources theft.0) theft.1.request.id in
+      apart j e t u a tt refl refl refl refl refl refl refl (unserving j e u refl (kept j t u (λ h. let r = robbed-weight h sources theft.0 theft.1 within in omega arith) a.served))
 
   worked-so : (core : ℕ) (current : Current) (front : Option Waiting) (total : ℕ) (last : Bool) → let t = thread (Some core) (Some current) front in IsJournalOf j t
       → After (record t { current = if last then None else Some (record current { remaining = current.remaining - 1 }); misses = total }, if last then Some (Served current.waiting.request.id) else None)
@@ -156,15 +156,15 @@ module _ (j : List Entry) (now : ℕ) (publisher : PublisherView) (taker : Taker
       unentered j t (turn.fronted (Some w) t) a refl refl refl refl
       (λ h. let e = weigh-append h queue.had (w ∷ []) in let hand = option_to_list (option_map (λ (c : Current). c.waiting) current) in let x = weigh-append h hand [] in let y = weigh-append h hand (w ∷ []) in omega arith)
 
-pub provides : (j : List Entry) (now : ℕ) (answer : Option Waiting) (theft : Option (ℕ × Waiting)) (t : ThreadView) → IfSome theft (λ place. place.0 < length t.victims) → IsJournalOf j t → let a = turn.provided now answer theft t in IsJournalOf (turn.noted j a.1) a.0
-provides j now answer theft t within a = provides-at j now t.publisher t.taker t.queue t.victims t.misses t.core t.current t.front answer theft within a
+pub provides : (j : List Entry) (now : ℕ) (answer : Option Waiting) (theft : Option (ℕ × Waiting)) (t : ThreadView) → IfSome theft (λ place. place.0 < length t.sources) → IsJournalOf j t → let a = turn.provided now answer theft t in IsJournalOf (turn.noted j a.1) a.0
+provides j now answer theft t within a = provides-at j now t.publisher t.taker t.queue t.sources t.misses t.core t.current t.front answer theft within a
 
 pub works : (j : List Entry) (t : ThreadView) → IsJournalOf j t → let a = turn.worked t in IsJournalOf (turn.noted j a.1) a.0
-works j t a = works-at j 0 t.publisher t.taker t.queue t.victims t.misses t.core t.current t.front a
+works j t a = works-at j 0 t.publisher t.taker t.queue t.sources t.misses t.core t.current t.front a
 
 -- 4
 pub fronts : (j : List Entry) (answer : Option Waiting) (t : ThreadView) → IsJournalOf j t → IsJournalOf j (turn.fronted answer t)
-fronts j answer t a = fronts-at j 0 t.publisher t.taker t.queue t.victims t.misses t.core t.current t.front answer a
+fronts j answer t a = fronts-at j 0 t.publisher t.taker t.queue t.sources t.misses t.core t.current t.front answer a
 
 -- 5
 pub publishes : (j : List Entry) (now : ℕ) (t : ThreadView) → MayFollow (last_published t.publisher.published) (turn.shown now t) → IsJournalOf j t → let p = turn.published now t in IsJournalOf (j ++ p.1 ∷ []) p.0

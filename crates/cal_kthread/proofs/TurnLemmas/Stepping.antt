@@ -6,7 +6,7 @@ use Rattle.cal_command.specs.Rings.{TakerView}
 use Rattle.cal_kthread.specs.declared.turn.current.Current.{Current}
 use Rattle.cal_kthread.specs.declared.journal.entry.Entry.{Entry}
 use Rattle.cal_kthread.specs.declared.journal.entry.Entry.TheVariants.{Took, Stole}
-use Rattle.cal_kthread.specs.declared.turn.victims.Victim.{Victim}
+use Rattle.cal_kthread.specs.declared.turn.sources.Source.{Source}
 use Rattle.cal_kthread.specs.declared.queue.waiting.Waiting.{Waiting}
 use Rattle.cal_kthread.specs.Journal.{core_after}
 use Rattle.cal_kthread.specs.Queue.{QueueView}
@@ -39,7 +39,7 @@ module _ (now : ℕ) (t : ThreadView) (answer : Option Waiting) (on : is_some t.
       → ◌≡◌ {A = Stepped} (record t { queue = queue; current = Some current; front = front }, None) (provided now answer None t)
   providing-own found is began = (λ i. (record t { queue = left i; current = Some (began i); front = gone i }, None)) ∙ finds None (Some found) is
 
-  pub providing-stolen : (place : ℕ) (w : Waiting) (victims : List Victim) (number : ℕ) → None ≡ next_of t.front answer → victims ≡ robbed t.victims place w → current ≡ begun now w → number ≡ number_at t.victims place
-      → ◌≡◌ {A = Stepped} (record t { queue = queue; victims = victims; current = Some current; front = front }, Some (Stole number w.request.id)) (provided now answer (Some (place, w)) t)
-  providing-stolen place w victims number is robbery began numbered =
-      (λ i. (record t { queue = left i; victims = robbery i; current = Some (began i); front = gone i }, Some (Stole (numbered i) w.request.id))) ∙ finds (Some (place, w)) None is
+  pub providing-stolen : (place : ℕ) (w : Waiting) (sources : List Source) (number : ℕ) → None ≡ next_of t.front answer → sources ≡ robbed t.sources place w → current ≡ begun now w → number ≡ number_at t.sources place
+      → ◌≡◌ {A = Stepped} (record t { queue = queue; sources = sources; current = Some current; front = front }, Some (Stole number w.request.id)) (provided now answer (Some (place, w)) t)
+  providing-stolen place w sources number is robbery began numbered =
+      (λ i. (record t { queue = left i; sources = robbery i; current = Some (began i); front = gone i }, Some (Stole (numbered i) w.request.id))) ∙ finds (Some (place, w)) None is

@@ -28,7 +28,7 @@ module _ (now : ℕ) (request : Option Request) (answers : Answers) (k : KernelV
       ∙ (λ i. record { number = k.number; journal = noted (noted (noted (noted (noted k.journal (arriving i).1) (took i).1) (provision i).1) (work i).1) (Some (publication i).1); thread = (publication i).0 })
 
   -- and the thread and its journal agree after them
-  pub agrees : IsJournalOf k.journal k.thread → IfSome answers.theft (λ theft. theft.0 < length b.0.victims) → MayFollow (last_published e.publisher.published) (shown now e) → IsJournalOf j f.0
+  pub agrees : IsJournalOf k.journal k.thread → IfSome answers.theft (λ theft. theft.0 < length b.0.sources) → MayFollow (last_published e.publisher.published) (shown now e) → IsJournalOf j f.0
   agrees before within follows =
       let one : IsJournalOf (noted k.journal a.1) a.0 = subst (λ (z : Stepped). IsJournalOf (noted k.journal z.1) z.0) (sym arriving) (arrives k.journal now request k.thread before) in
       let two : IsJournalOf (noted (noted k.journal a.1) b.1) b.0 = subst (λ (z : Stepped). IsJournalOf (noted (noted k.journal a.1) z.1) z.0) (sym taking) (takes _ now answers.command a.0 one) in

@@ -12,7 +12,7 @@ use Rattle.cal_signal.specs.declared.record.Record.{Record}
 use Rattle.cal_kthread.specs.declared.turn.current.Current.{Current}
 use Rattle.cal_kthread.specs.declared.journal.entry.Entry.{Entry}
 use Rattle.cal_kthread.specs.declared.journal.entry.Entry.TheVariants.{Arrived, Served, Published}
-use Rattle.cal_kthread.specs.declared.turn.victims.Victim.{Victim}
+use Rattle.cal_kthread.specs.declared.turn.sources.Source.{Source}
 use Rattle.cal_kthread.specs.declared.queue.waiting.Waiting.{Waiting}
 use Rattle.cal_kthread.specs.Journal.{arrival_in, arrivals_of, record_in, records_of}
 use Rattle.cal_kthread.specs.Queue.{QueueView}
@@ -30,9 +30,9 @@ takes : (now : ℕ) (command : Option Command) (t : ThreadView) → IsBetween (t
 takes now None t = tt
 takes now (Some command) t = (refl, refl)
 
-module _ (publisher : PublisherView) (taker : TakerView) (queue : QueueView) (victims : List Victim) (misses : ℕ) where
+module _ (publisher : PublisherView) (taker : TakerView) (queue : QueueView) (sources : List Source) (misses : ℕ) where
   abbrev thread : Option ℕ → Option Current → Option Waiting → ThreadView
-  thread core current front = record { publisher = publisher; taker = taker; queue = queue; victims = victims; core = core; current = current; front = front; misses = misses }
+  thread core current front = record { publisher = publisher; taker = taker; queue = queue; sources = sources; core = core; current = current; front = front; misses = misses }
 
   provides-at : (now : ℕ) (core : Option ℕ) (current : Option Current) (front answer : Option Waiting) (theft : Option (ℕ × Waiting))
       → IsBetween (provided now answer theft (thread core current front)).1
@@ -44,7 +44,7 @@ module _ (publisher : PublisherView) (taker : TakerView) (queue : QueueView) (vi
   provides-at now (Some core) None None None (Some theft) = (refl, refl)
 
 provides : (now : ℕ) (answer : Option Waiting) (theft : Option (ℕ × Waiting)) (t : ThreadView) → IsBetween (provided now answer theft t).1
-provides now answer theft t = provides-at t.publisher t.taker t.queue t.victims t.misses now t.core t.current t.front answer theft
+provides now answer theft t = provides-at t.publisher t.taker t.queue t.sources t.misses now t.core t.current t.front answer theft
 
 serves : (current : Current) (last : Bool) → nat_le current.remaining 1 ≡ last → IsBetween (served current)
 serves current last is = subst (λ (b : Bool). IsBetween (if b then Some (Served current.waiting.request.id) else None)) (sym is) (either last)

@@ -4,7 +4,7 @@ use mathlib.Core.Option.{some}
 use lib.ListN.{get_elem?}
 use Rattle.cal_machine.specs.declared.request.Request.{Request}
 use Rattle.cal_kthread.specs.declared.journal.entry.Entry.{Entry}
-use Rattle.cal_kthread.specs.declared.turn.victims.Victim.{Victim}
+use Rattle.cal_kthread.specs.declared.turn.sources.Source.{Source}
 use Rattle.cal_kthread.specs.declared.queue.waiting.Waiting.{Waiting}
 use Rattle.cal_kthread.specs.Journal.{arrivals_of, served_of}
 use Rattle.cal_kthread.specs.Places.{Each, Somewhere, one_if}
@@ -41,11 +41,11 @@ abbrev pub waiting_names : List Waiting → List ℕ
 waiting_names = map (λ waiting. waiting.request.id)
 
 -- what a thread took from its own queue and what it stole, by weight
-abbrev pub stolen_weight : (Waiting → ℕ) → List Victim → ℕ
-stolen_weight h victims = weigh (λ v. weigh h v.thief.had) victims
+abbrev pub stolen_weight : (Waiting → ℕ) → List Source → ℕ
+stolen_weight h sources = weigh (λ v. weigh h v.thief.had) sources
 
 abbrev pub taken_of : (Waiting → ℕ) → EndView → ℕ
-taken_of h e = weigh h e.rest.queue.had + stolen_weight h e.rest.victims
+taken_of h e = weigh h e.rest.queue.had + stolen_weight h e.rest.sources
 
 -- what it handed out from its queue; and what it still holds and all that it handed out
 abbrev pub handed_of : (Waiting → ℕ) → EndView → ℕ
@@ -84,13 +84,13 @@ abbrev pub stripped : EndView → EndView
 stripped e = record e {
   rest = record e.rest {
     queue = record e.rest.queue { shares = 0; had = [] };
-    victims = [];
+    sources = [];
   };
 }
 
 -- the thieves of the thread k
-abbrev pub victims_at : ℕ → List EndView → List Victim
-victims_at k ends = slice_index_or (map (λ e. e.rest.victims) ends) k []
+abbrev pub sources_at : ℕ → List EndView → List Source
+sources_at k ends = slice_index_or (map (λ e. e.rest.sources) ends) k []
 
 -- Shares and what was stolen moved between the ends of a team, and nothing else.
 pub record Gathers (before after : List EndView) : Type 0 where

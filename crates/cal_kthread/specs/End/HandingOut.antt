@@ -36,7 +36,7 @@ HandedOutNothing e = e.rest.left ≡ []
 -- what is held and what was handed out balance.
 pub record HandsOutSome (before after : RestView) : Type 0 where
   pub place : place_of_rest after ≡ place_of_rest before
-  pub victims : after.victims ≡ before.victims
+  pub sources : after.sources ≡ before.sources
   pub pushed : after.queue.pushed ≡ before.queue.pushed
   pub had : after.queue.had ≡ before.queue.had
   pub kept : (h : Waiting → ℕ) →

@@ -4,14 +4,14 @@ use Rattle.cal_command.specs.Rings.{TakerView}
 use Rattle.cal_signal.specs.Ends.{PublisherView}
 use Rattle.cal_kthread.specs.declared.journal.entry.Entry.{Entry}
 use Rattle.cal_kthread.specs.declared.queue.waiting.Waiting.{Waiting}
-use Rattle.cal_kthread.specs.declared.turn.victims.Victim.{Victim}
+use Rattle.cal_kthread.specs.declared.turn.sources.Source.{Source}
 use Rattle.cal_kthread.specs.Queue.{QueueView}
 
 -- its queue, its thieves, the requests that it holds outside the queue (the current one before the
 -- front), and what was handed out so far
 pub record RestView : Type 0 where
   pub queue : QueueView
-  pub victims : List Victim
+  pub sources : List Source
   pub held : List Waiting
   pub left : List Waiting
 

@@ -11,18 +11,24 @@ use Rattle.cal_kthread.specs.Queue.Rule.{queue_shares}
 use Rattle.cal_kthread.specs.declared.turn.current.Current.{Current}
 use Rattle.cal_kthread.specs.declared.journal.entry.Entry.{Entry}
 use Rattle.cal_kthread.specs.declared.queue.waiting.Waiting.{Waiting}
-use Rattle.cal_kthread.specs.declared.turn.victims.Victim.{Victim}
+use Rattle.cal_kthread.specs.declared.turn.sources.Source.{Source}
 use Rattle.cal_kthread.specs.Queue.{QueueView}
 
--- its ends, its core, the request that it serves, the one that comes next, and its count of misses
+-- a kernel thread, as contracts see it
 pub record ThreadView : Type 0 where
+  -- its end of its page, of its ring and of its queue
   pub publisher : PublisherView
   pub taker : TakerView
   pub queue : QueueView
-  pub victims : List Victim
+  -- the queues that it steals from
+  pub sources : List Source
+  -- the core that it is on
   pub core : Option ℕ
+  -- the request that it serves
   pub current : Option Current
+  -- the one that comes next
   pub front : Option Waiting
+  -- its count of misses
   pub misses : ℕ
 
 -- the same with its number and what it did so far
@@ -50,7 +56,7 @@ pub record IsFresh (k : KernelView) : Type 0 where
   pub pushed : k.thread.queue.pushed ≡ []
   pub had : k.thread.queue.had ≡ []
   pub handed : k.thread.queue.handed ≡ []
-  pub victims : k.thread.victims ≡ []
+  pub sources : k.thread.sources ≡ []
   pub core : k.thread.core ≡ None
   pub current : k.thread.current ≡ None
   pub front : k.thread.front ≡ None

@@ -8,17 +8,22 @@ use Rattle.cal_kthread.specs.declared.journal.entry.Entry.{Entry}
 use Rattle.cal_kthread.specs.declared.journal.entry.Entry.TheVariants.{Arrived, Published}
 use Rattle.cal_kthread.specs.Journal.{arrivals_of, records_of}
 
--- What one turn adds: first the arrival of its request, where one came; then at most three entries
--- that are neither arrival nor publication; and last exactly one publication, with the next number,
--- whose stamp is the clock.
+-- What one turn adds to a journal.
 pub record IsOneTurn (now : ℕ) (request : Option Request) (before after : List Entry) : Type 0 where
+  -- what lies between its arrival and its publication, and the record that it publishes
   pub between : List Entry
   pub shows : Record
+  -- first the arrival of its request, where one came; then those between; and last a publication,
+  -- with the next number
   pub added : after ≡ before ++ option_to_list (option_map Arrived request) ++ between
       ++ Published (length (records_of before) + 1) shows ∷ []
+  -- at most three entries lie between
   pub few : length between ≤ 3
+  -- none is an arrival
   pub no_arrival : arrivals_of between ≡ []
+  -- and none a publication
   pub no_publication : records_of between ≡ []
+  -- the record's stamp is the clock
   pub stamp : shows.stamp ≡ now
 
 -- a turn's clock, and the request that came, if one did

@@ -18,8 +18,8 @@ use crate::kernel_thread::KernelThread;
 use crate::queue::Thief;
 use crate::queue::waiting::Waiting;
 use crate::turn::current::Current;
+use crate::turn::sources::Source;
 use crate::turn::thread::Thread;
-use crate::turn::victims::Victim;
 use cal_command::Taker;
 use cal_machine::{Past, Request};
 use cal_signal::Publisher;
@@ -73,7 +73,7 @@ impl KernelThread {
             × (result.taker ≡ self.thread.taker) }
         ensures rest { result.rest ≡ record {
           queue = self.thread.queue;
-          victims = self.thread.victims;
+          sources = self.thread.sources;
           held = held self.thread;
           left = [];
         } }
@@ -110,7 +110,7 @@ impl BareThread {
             × (result.taker ≡ self.thread.taker) }
         ensures rest { result.rest ≡ record {
           queue = self.thread.queue;
-          victims = self.thread.victims;
+          sources = self.thread.sources;
           held = held self.thread;
           left = [];
         } }
@@ -126,7 +126,7 @@ impl BareThread {
             publisher,
             taker,
             queue,
-            victims,
+            sources,
             current,
             front,
             ..
@@ -136,7 +136,7 @@ impl BareThread {
             journal: past,
             publisher,
             taker,
-            rest: Rest::new(queue, victims, waiting_of(current), front),
+            rest: Rest::new(queue, sources, waiting_of(current), front),
         }
     }
 }
@@ -182,13 +182,13 @@ impl<J: Kept> ThreadEnd<J> {
     }
 
     /// Gives up the last of the thieves.
-    pub(crate) fn give_back(&mut self) -> Option<Victim>
+    pub(crate) fn give_back(&mut self) -> Option<Source>
         ensures { MatchOption result
-            ((self.new ≡ self.old) × (self.old.rest.victims ≡ []))
-            (λ victim. (self.new ≡ record self.old {
-              rest = record self.old.rest { victims = self.new.rest.victims };
+            ((self.new ≡ self.old) × (self.old.rest.sources ≡ []))
+            (λ source. (self.new ≡ record self.old {
+              rest = record self.old.rest { sources = self.new.rest.sources };
             })
-            × (self.old.rest.victims ≡ self.new.rest.victims ++ victim ∷ [])) }
+            × (self.old.rest.sources ≡ self.new.rest.sources ++ source ∷ [])) }
     {
         self.rest.give_back()
     }

@@ -5,7 +5,7 @@ ghost use Rattle.cal_kthread.specs.End.Rest.{HandsOut};
 
 use crate::queue::waiting::Waiting;
 use crate::queue::{EndQueue, OwnQueue, Thief};
-use crate::turn::victims::Victim;
+use crate::turn::sources::Source;
 use std::marker::Model;
 
 /// The queue of a kernel thread whose turns are over, its thieves, and the requests that it still
@@ -15,7 +15,7 @@ use std::marker::Model;
 #[derive(Drop)]
 pub struct Rest {
     queue: EndQueue,
-    victims: Vec<Victim>,
+    sources: Vec<Source>,
     // the current request and the front, before and after they are handed out
     current: Option<Waiting>,
     front: Option<Waiting>,
@@ -31,7 +31,7 @@ impl Model for Rest {
 
     ghost view = { λ r. record {
       queue = r.queue;
-      victims = r.victims.items;
+      sources = r.sources.items;
       held = option_to_list r.current ++ option_to_list r.front;
       left = option_to_list r.current_out ++ option_to_list r.front_out ++ r.queue.handed;
     } };
@@ -43,13 +43,13 @@ impl Rest {
     /// The rest of a thread, of which nothing was handed out yet.
     pub(crate) fn new(
         queue: OwnQueue,
-        victims: Vec<Victim>,
+        sources: Vec<Source>,
         current: Option<Waiting>,
         front: Option<Waiting>,
     ) -> Rest
         ensures rest { result ≡ record {
           queue = queue;
-          victims = victims.items;
+          sources = sources.items;
           held = option_to_list current ++ option_to_list front;
           left = [];
         } }
@@ -57,7 +57,7 @@ impl Rest {
     {
         Rest {
             queue: queue.finish(),
-            victims,
+            sources,
             current,
             front,
             current_out: None,
@@ -89,13 +89,13 @@ impl Rest {
     }
 
     /// Gives up the last of the thieves.
-    pub(crate) fn give_back(&mut self) -> Option<Victim>
+    pub(crate) fn give_back(&mut self) -> Option<Source>
         ensures { MatchOption result
-            ((self.new ≡ self.old) × (self.old.victims ≡ []))
-            (λ victim. (self.new ≡ record self.old { victims = self.new.victims })
-            × (self.old.victims ≡ self.new.victims ++ victim ∷ [])) }
+            ((self.new ≡ self.old) × (self.old.sources ≡ []))
+            (λ source. (self.new ≡ record self.old { sources = self.new.sources })
+            × (self.old.sources ≡ self.new.sources ++ source ∷ [])) }
     {
-        self.victims.pop()
+        self.sources.pop()
     }
 
     /// Takes a share of its queue back, with what its thief stole.

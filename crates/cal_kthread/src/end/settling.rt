@@ -2,14 +2,14 @@
 ghost use Rattle.std.specs.Prelude.{◌≡◌, ◌≢◌, ◌+◌, ◌<◌, ℕ, [], map, length, IsTrue, IsFalse};
 ghost use Rattle.cal_machine.specs.Tasks.{threads_in};
 ghost use Rattle.cal_kthread.specs.End.Account.{KeepsItsWork, IsSettled, Gathers, stripped};
-ghost use Rattle.cal_kthread.specs.End.Account.{victims_at};
+ghost use Rattle.cal_kthread.specs.End.Account.{sources_at};
 ghost use Rattle.cal_kthread.specs.End.HandingOut.{HandedOutNothing, run_of};
 ghost use Rattle.cal_kthread.specs.Places.{Each};
 ghost use Rattle.cal_kthread.specs.Team.{IsTeam, place_of_rest};
 
 use crate::end::kernel_end::ThreadEnd;
 use crate::journal::kept::Kept;
-use crate::turn::victims::Victim;
+use crate::turn::sources::Source;
 use cal_machine::Config;
 
 /// Gathers all shares of each queue at its own end, with what was stolen from it. Asks for the ends
@@ -37,8 +37,8 @@ fn give_all<J: Kept>(ends: &mut [ThreadEnd<J>], k: usize)
     requires thread { k < length ends.old }
     requires team { IsTeam (map (λ e. place_of_rest e.rest) ends.old) }
     ensures gathered { Gathers ends.old ends.new }
-    ensures own { victims_at k ends.new ≡ [] }
-    ensures others { (j : ℕ) → j ≢ k → victims_at j ends.new ≡ victims_at j ends.old }
+    ensures own { sources_at k ends.new ≡ [] }
+    ensures others { (j : ℕ) → j ≢ k → sources_at j ends.new ≡ sources_at j ends.old }
 {
     while give_last(ends, k) {}
 }
@@ -48,13 +48,13 @@ fn give_all<J: Kept>(ends: &mut [ThreadEnd<J>], k: usize)
 fn give_last<J: Kept>(ends: &mut [ThreadEnd<J>], k: usize) -> bool
     requires thread { k < length ends.old }
     requires team { IsTeam (map (λ e. place_of_rest e.rest) ends.old) }
-    ensures none { IsFalse result → (ends.new ≡ ends.old) × (victims_at k ends.old ≡ []) }
+    ensures none { IsFalse result → (ends.new ≡ ends.old) × (sources_at k ends.old ≡ []) }
     ensures gathered { IsTrue result → Gathers ends.old ends.new }
     ensures fewer { IsTrue result →
-        length (victims_at k ends.new) + 1 ≡ length (victims_at k ends.old) }
-    ensures others { (j : ℕ) → j ≢ k → victims_at j ends.new ≡ victims_at j ends.old }
+        length (sources_at k ends.new) + 1 ≡ length (sources_at k ends.old) }
+    ensures others { (j : ℕ) → j ≢ k → sources_at j ends.new ≡ sources_at j ends.old }
 {
-    let Some(Victim { number, thief }) = ends[k].give_back() else {
+    let Some(Source { number, thief }) = ends[k].give_back() else {
         return false;
     };
     ends[number as usize].absorb(thief);

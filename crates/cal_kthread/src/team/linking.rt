@@ -8,8 +8,8 @@ ghost use Rattle.cal_kthread.specs.Team.{IsTeam, place_of};
 
 use crate::bare_thread::BareThread;
 use crate::queue::Thief;
+use crate::turn::sources::Source;
 use crate::turn::thread::Thread;
-use crate::turn::victims::Victim;
 use std::alloc::AllocError;
 
 impl Thread {
@@ -28,12 +28,12 @@ impl Thread {
     }
 
     /// One more thread from which it steals.
-    fn rob(&mut self, victim: Victim) -> Result<(), AllocError>
+    fn rob(&mut self, source: Source) -> Result<(), AllocError>
         ensures { MatchResult result
-            (λ _. self.new ≡ record self.old { victims = self.old.victims ++ victim ∷ [] })
+            (λ _. self.new ≡ record self.old { sources = self.old.sources ++ source ∷ [] })
             (λ _. self.new ≡ self.old) }
     {
-        self.victims.push(victim)?;
+        self.sources.push(source)?;
         Ok(())
     }
 }
@@ -55,17 +55,17 @@ impl BareThread {
     }
 
     /// One more thread from which it steals, with a thief that stole nothing yet.
-    fn rob(&mut self, victim: Victim) -> Result<(), AllocError>
-        requires { victim.thief.had ≡ [] }
+    fn rob(&mut self, source: Source) -> Result<(), AllocError>
+        requires { source.thief.had ≡ [] }
         ensures { MatchResult result
             (λ _. self.new ≡ record self.old {
               thread = record self.old.thread {
-                victims = self.old.thread.victims ++ victim ∷ [];
+                sources = self.old.thread.sources ++ source ∷ [];
               };
             })
             (λ _. self.new ≡ self.old) }
     {
-        self.thread.rob(victim)?;
+        self.thread.rob(source)?;
         Ok(())
     }
 }
@@ -80,11 +80,11 @@ fn link(threads: &mut [BareThread], robber: usize, owner: usize) -> Result<(), A
     ensures { IfOk result (λ _. Lends robber owner threads.old threads.new) }
 {
     let thief = threads[owner].lend()?;
-    let victim = Victim {
+    let source = Source {
         number: owner as u8,
         thief,
     };
-    threads[robber].rob(victim)?;
+    threads[robber].rob(source)?;
     Ok(())
 }
 

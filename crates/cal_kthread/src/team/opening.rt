@@ -45,7 +45,7 @@ pub(crate) fn open_thread(alloc: Global, number: u8) -> Result<Opened, AllocErro
         taker,
         taken: 0,
         queue,
-        victims: Vec::new(alloc),
+        sources: Vec::new(alloc),
         core: None,
         current: None,
         front: None,

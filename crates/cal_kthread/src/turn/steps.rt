@@ -15,8 +15,8 @@ use crate::journal::entry::Entry;
 use crate::queue::OwnQueue;
 use crate::queue::waiting::Waiting;
 use crate::turn::current::Current;
+use crate::turn::sources::steal_first;
 use crate::turn::thread::Thread;
-use crate::turn::victims::steal_first;
 use cal_command::Command;
 use cal_machine::Request;
 use cal_signal::{MOST_MISSES, Record, running_word};
@@ -34,7 +34,7 @@ impl Thread {
             (λ entry. (self.new, entry) ≡ turn.arrived now request self.old)
             (λ _. self.new ≡ self.old) }
         ensures apart { (self.new.publisher ≡ self.old.publisher)
-            × (self.new.victims ≡ self.old.victims) }
+            × (self.new.sources ≡ self.old.sources) }
     {
         let Some(request) = request else {
             return Ok(None);
@@ -51,7 +51,7 @@ impl Thread {
         ensures taken { (command : Option Command)
             × ((self.new, result) ≡ turn.taken now command self.old) }
         ensures apart { (self.new.publisher ≡ self.old.publisher)
-            × (self.new.victims ≡ self.old.victims) }
+            × (self.new.sources ≡ self.old.sources) }
     {
         let (number, command) = self.taker.take()?;
         let core = core_after(command);
@@ -65,7 +65,7 @@ impl Thread {
     ///    first of its own queue, else it tries to steal one.
     pub(crate) fn provide(&mut self, now: u64) -> Option<Entry>
         ensures provided { (own : Option Waiting) × (theft : Option (ℕ × Waiting))
-            × IfSome theft (λ place. place.0 < length self.old.victims)
+            × IfSome theft (λ place. place.0 < length self.old.sources)
             × ((self.new, result) ≡ turn.provided now own theft self.old) }
         ensures apart { self.new.publisher ≡ self.old.publisher }
     {
@@ -76,10 +76,10 @@ impl Thread {
             self.current = Some(begin(now, waiting));
             return None;
         }
-        let (place, waiting) = steal_first(&mut self.victims)?;
+        let (place, waiting) = steal_first(&mut self.sources)?;
         self.current = Some(begin(now, waiting));
         Some(Entry::Stole {
-            from: self.victims[place].number,
+            from: self.sources[place].number,
             id: waiting.request.id,
         })
     }

@@ -3,7 +3,7 @@
 use crate::queue::OwnQueue;
 use crate::queue::waiting::Waiting;
 use crate::turn::current::Current;
-use crate::turn::victims::Victim;
+use crate::turn::sources::Source;
 use cal_command::Taker;
 use cal_signal::Publisher;
 use std::marker::Model;
@@ -21,7 +21,7 @@ pub(crate) struct Thread {
     /// Its own queue.
     pub(crate) queue: OwnQueue,
     /// The other threads of its task, in the order in which it tries to steal from them.
-    pub(crate) victims: Vec<Victim>,
+    pub(crate) sources: Vec<Source>,
     /// Its core, if it is on one.
     pub(crate) core: Option<u8>,
     /// The request that it serves. Off a core it is suspended.
@@ -41,7 +41,7 @@ impl Model for Thread {
       publisher = t.publisher;
       taker = t.taker;
       queue = t.queue;
-      victims = t.victims.items;
+      sources = t.sources.items;
       core = t.core;
       current = t.current;
       front = t.front;

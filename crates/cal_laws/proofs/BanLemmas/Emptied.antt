@@ -27,7 +27,7 @@ use Rattle.cal_policy.specs.Pass.Made.{EachAfter}
 use Rattle.cal_policy.specs.Laws.{ActionIsOneMore, ChosenIsOfLeastClass}
 use Rattle.cal_laws.specs.Point.{Point, IsPoint, setting_at, made_at, actions_at, next_at}
 use Rattle.cal_laws.specs.Bans.{NoneHeld, IsJustBanned}
-use Rattle.cal_laws.proofs.PointLemmas.PassKeeps.{IsKept, nothing_more, in_turn_keeps, unbanned_of, pass_keeps}
+use Rattle.cal_laws.proofs.PointLemmas.PassKeeps.{IsKeptInPass, nothing_more, in_turn_keeps, unbanned_of, pass_keeps}
 use Rattle.cal_laws.proofs.PointLemmas.EachAction.{actions_more}
 use Rattle.cal_policy.proofs.ListLemmas.EachAfter.{each_at}
 use Rattle.cal_policy.proofs.PassLemmas.Fits.{so_far_push}
@@ -165,7 +165,7 @@ run_ban_for : ActionIsOneMore → (s : Setting) (acts : List Action) (c : ℕ) (
 run_ban_for more s acts c None r = nothing_more (λ l. IsRun s l) acts r
 run_ban_for more s acts c (Some thread) r = run_ban more s acts c thread (is_held (holder_of (so_far s acts) (sibling_of c))) refl r
 
-run_kept : ActionIsOneMore → (s : Setting) → IsKept s (λ l. IsRun s l)
+run_kept : ActionIsOneMore → (s : Setting) → IsKeptInPass s (λ l. IsRun s l)
 run_kept more s = record {
   ban = λ acts c lt r. run_ban_for more s acts c (ban_due s (so_far s acts) c) r;
   revoke = λ acts core cause r. run_one more s acts (Revoke core cause) tt r;

@@ -20,7 +20,7 @@ use Rattle.cal_policy.specs.Laws.{ActionIsOneMore, ChosenIsOfLeastClass}
 use Rattle.cal_laws.specs.Point.{Point, IsPoint, setting_at, actions_at, next_at}
 use Rattle.cal_laws.specs.Bans.{IsShown}
 use Rattle.cal_laws.proofs.BanLemmas.BanDue.{is_due}
-use Rattle.cal_laws.proofs.PointLemmas.PassKeeps.{IsKept, nothing_more, pass_keeps}
+use Rattle.cal_laws.proofs.PointLemmas.PassKeeps.{IsKeptInPass, nothing_more, pass_keeps}
 use Rattle.cal_machine.proofs.Siblings.{sibling_back}
 use Rattle.cal_policy.proofs.PassLemmas.Fits.{so_far_push}
 
@@ -132,7 +132,7 @@ ban_for_shown more s acts by n lt (Some thread) e h =
     ban_then more s acts (Ban (sibling_of by) thread (kept_now s thread).started) by n (is_held (holder_of (so_far s acts) (sibling_of by)))
     (ban_shown more s acts by thread n (is_due s acts by thread (record { core = lt; due = e })).request.shown h)
 
-shown_kept : ActionIsOneMore → (s : Setting) → IsKept s (λ l. AreShown s l s.table.cores)
+shown_kept : ActionIsOneMore → (s : Setting) → IsKeptInPass s (λ l. AreShown s l s.table.cores)
 shown_kept more s = record {
   ban = λ acts c lt h. ban_for_shown more s acts c s.table.cores lt (ban_due s (so_far s acts) c) refl h;
   revoke = λ acts core cause h. quiet more s acts (Revoke core cause) s.table.cores (λ c. refl) h;

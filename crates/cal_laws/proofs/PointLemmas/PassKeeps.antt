@@ -43,13 +43,13 @@ chosen_unbanned law s acts t core e low =
     idle_unbanned s acts t core.rank core.number (of_its_class s acts t core.rank core.number (least_class law s acts t core e).class) low
 
 -- what the actions of the last three parts keep up
-pub record IsKept (s : Setting) (Q : List Action → Type 0) : Type 0 where
+pub record IsKeptInPass (s : Setting) (Q : List Action → Type 0) : Type 0 where
   pub ban : (acts : List Action) (c : ℕ) → c < s.table.cores → Q acts → Q (acts ++ bans_at s acts c)
   pub revoke : (acts : List Action) (core : ℕ) (cause : Cause) → Q acts → Q (acts ++ Revoke core cause ∷ [])
   pub cap : (acts : List Action) (task cap : ℕ) → Q acts → Q (acts ++ Cap task cap ∷ [])
   pub grant : (acts : List Action) (core thread class : ℕ) → is_banned (so_far s acts) core ≡ false → Q acts → Q (acts ++ Grant core thread class ∷ [])
 
-module _ (s : Setting) (Q : List Action → Type 0) (kept : IsKept s Q) where
+module _ (s : Setting) (Q : List Action → Type 0) (kept : IsKeptInPass s Q) where
   cut_core_keeps : (acts : List Action) (t : ℕ) (o : Option ℕ) → Q acts → Q (acts ++ cut_at s (so_far s acts) t o)
   cut_core_keeps acts t None h = nothing_more Q acts h
   cut_core_keeps acts t (Some core) h =
@@ -114,5 +114,5 @@ module _ (s : Setting) (Q : List Action → Type 0) (kept : IsKept s Q) where
 abbrev pub unbanned_of : Setting → List Action
 unbanned_of s = frees s [] ++ unbans s (frees s [])
 
-pub pass_keeps : ChosenIsOfLeastClass → (s : Setting) (Q : List Action → Type 0) → IsKept s Q → Q (unbanned_of s) → Q (pass_of s)
+pub pass_keeps : ChosenIsOfLeastClass → (s : Setting) (Q : List Action → Type 0) → IsKeptInPass s Q → Q (unbanned_of s) → Q (pass_of s)
 pass_keeps law s Q kept h = rest_keeps s Q kept law (unbanned_of s) h

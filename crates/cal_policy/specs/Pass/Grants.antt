@@ -13,6 +13,7 @@ use Rattle.cal_machine.specs.TableTasks.{delay_of, is_latency_critical}
 use Rattle.cal_machine.specs.Machine.{sibling_of}
 use Rattle.cal_policy.specs.declared.history.action.Action.{Action}
 use Rattle.cal_policy.specs.declared.history.action.Action.TheVariants.{Revoke, Grant}
+use Rattle.cal_policy.specs.declared.history.action.Cause.{Cause}
 use Rattle.cal_policy.specs.declared.history.action.Cause.TheVariants as causes
 use Rattle.cal_policy.specs.declared.board.holders.Holder.{Holder}
 use Rattle.cal_policy.specs.declared.board.holders.Holder.TheVariants as holders
@@ -66,13 +67,17 @@ abbrev pub thread_choice : Setting → List Action → ℕ → Option (Candidate
 thread_choice s x t = best_below (λ rank best. nat_lt best rank)
     (λ j. thread_rank s x (thread_of s.table t j)) (limit_of s.table t)
 
+-- a core is revoked for task t by this cause
+abbrev pub is_for : ℕ → Cause → Bool
+is_for t (causes.Preempt task) = task == t
+is_for t (causes.Ban by) = false
+is_for t causes.Bandwidth = false
+
 -- the core is being left for task t
 abbrev pub leaves_for : ℕ → Holder → Bool
 leaves_for t holders.Free = false
 leaves_for t (holders.Held placement) = false
-leaves_for t (holders.Leaving placement (causes.Preempt task)) = task == t
-leaves_for t (holders.Leaving placement (causes.Ban by)) = false
-leaves_for t (holders.Leaving placement causes.Bandwidth) = false
+leaves_for t (holders.Leaving placement cause) = is_for t cause
 
 -- no core is being left for task t
 abbrev pub none_leaves_for : Setting → List Action → ℕ → Bool

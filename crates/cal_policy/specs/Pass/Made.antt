@@ -70,14 +70,18 @@ pub record IsBanned (s : Setting) (acts : List Action) (core thread started : �
   pub start : started ≡ (kept_now s thread).started
   pub due : IsBanDue s acts by thread
 
--- the action just before is the ban of this core, which was due for core `by` at its own place,
--- where the core was held
+-- the core is revoked because it was just banned
 pub record IsRevokedForBan (s : Setting) (acts : List Action) (core by : ℕ) : Type 0 where
+  -- the actions before the ban, and the thread that it is for
   pub earlier : List Action
   pub thread : ℕ
+  -- the action just before is the ban of this core
   pub just_before : acts ≡ earlier ++ Ban core thread (kept_now s thread).started ∷ []
+  -- it is the sibling of core `by`
   pub beside : core ≡ sibling_of by
+  -- for which the ban was due at its own place
   pub due : IsBanDue s earlier by thread
+  -- where the core was held
   pub held : is_held (holder_of (so_far s earlier) core) ≡ true
 
 -- the action just before is the cap of the victim, which loses this core
@@ -109,16 +113,21 @@ pub record IsCapRise (s : Setting) (acts : List Action) (t cap : ℕ) : Type 0 w
   pub above : cap ≡ cap_of s.table (so_far s acts) t + 1
   pub raised : IsRaised s acts t
 
--- the core was chosen for a task in a class that is granted: an idle core; and the thread is the
--- one that was chosen
+-- the core was chosen for a task in a class that is granted
 pub record IsGranted (s : Setting) (acts : List Action) (core thread class : ℕ) : Type 0 where
+  -- the task, and the thread and the core that were chosen for it
   pub task : ℕ
   pub chosen_thread : Candidate ℕ
   pub choice : Candidate CoreClass
+  -- the core is the one that was chosen
   pub core_chosen : core ≡ choice.number
+  -- so is the thread, which is counted among its task's
   pub thread_chosen : thread ≡ thread_of s.table task chosen_thread.number
+  -- and the class
   pub class_chosen : class ≡ class_number choice.rank
+  -- the core is idle
   pub granted : is_idle choice.rank ≡ true
+  -- both were chosen as the policy chooses
   pub chosen : IsChosen s acts task chosen_thread choice
 
 -- the action is one that a pass makes at this place, after the actions acts of it

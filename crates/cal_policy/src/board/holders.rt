@@ -177,11 +177,7 @@ impl Holding {
         match action {
             Action::Free { core } => self.holders[core as usize] = Holder::Free,
             Action::Revoke { core, cause } => self.revoke(core, cause),
-            Action::Grant {
-                core,
-                thread,
-                class,
-            } => self.grant(core, thread, class),
+            Action::Grant { core, thread, .. } => self.grant(core, thread),
             Action::Unban { .. } => {}
             Action::Ban { .. } => {}
             Action::Cap { .. } => {}
@@ -210,17 +206,16 @@ impl Holding {
     }
 
     /// A core is granted: the thread is sent Run and holds it.
-    fn grant(&mut self, core: u8, thread: u8, class: u8)
+    fn grant(&mut self, core: u8, thread: u8)
         requires sound { HoldingSound MOST_THREADS self.old }
         requires core { core < MOST_CORES }
         requires thread { thread < MOST_THREADS }
-        ensures agrees { (x : List Action) → HoldersAgree self.old x →
+        ensures agrees { (x : List Action) (class : ℕ) → HoldersAgree self.old x →
             HoldersAgree self.new (x ++ Grant core thread class ∷ []) }
         ensures sound { (threads : ℕ) → HoldingSound threads self.old → thread < threads →
             HoldingSound threads self.new }
         ensures others { (c : ℕ) → c ≢ core → holder_in self.new c ≡ holder_in self.old c }
     {
-        let _ = class;
         let number = one_more(self.sent[thread as usize]);
         let placement = Placement { thread, number };
         self.sent[thread as usize] = number;

@@ -8,7 +8,7 @@ ghost use Rattle.cal_machine.specs.declared.numbering.TheConstants.{MOST_THREADS
 ghost use Rattle.cal_machine.specs.TableTasks.{threads_of_table};
 ghost use Rattle.cal_policy.specs.declared.history.action.Action.{Action};
 ghost use Rattle.cal_policy.specs.History.{holder_of};
-ghost use Rattle.cal_policy.specs.Pass.Grants.{leaves_for};
+ghost use Rattle.cal_policy.specs.Pass.Grants.{is_for};
 ghost use Rattle.cal_policy.specs.Board.{placement_of};
 ghost use Rattle.cal_policy.specs.State.{IsReady, Agrees};
 ghost use Rattle.cal_policy.specs.Board.Survey.{Surveys, CountsAtMost, IsCounted, CountsOneMore};
@@ -52,14 +52,11 @@ fn uncount_one<const N: usize>(counts: &mut [u8; N], number: usize)
 }
 
 /// One more core that is being left, where it is for a task.
-fn count_awaited(counts: &mut [u8; MOST_TASKS], placement: Placement, cause: Cause)
+fn count_awaited(counts: &mut [u8; MOST_TASKS], cause: Cause)
     requires few { (t : ℕ) → t < MOST_TASKS → slice_index counts.old t < 255 }
     ensures { (t : ℕ) → t < MOST_TASKS →
-        slice_index counts.new t
-        ≡ slice_index counts.old t + (if leaves_for t (Holder.Leaving placement cause) then 1
-        else 0) }
+        slice_index counts.new t ≡ slice_index counts.old t + (if is_for t cause then 1 else 0) }
 {
-    let _ = placement;
     if let Cause::Preempt { task } = cause {
         if (task as usize) < MOST_TASKS {
             counts[task as usize] += 1;
@@ -68,15 +65,12 @@ fn count_awaited(counts: &mut [u8; MOST_TASKS], placement: Placement, cause: Cau
 }
 
 /// One core fewer that is being left, where it is for a task.
-fn uncount_awaited(counts: &mut [u8; MOST_TASKS], placement: Placement, cause: Cause)
-    requires some { (t : ℕ) → t < MOST_TASKS →
-        leaves_for t (Holder.Leaving placement cause) ≡ true → 0 < slice_index counts.old t }
+fn uncount_awaited(counts: &mut [u8; MOST_TASKS], cause: Cause)
+    requires some { (t : ℕ) → t < MOST_TASKS → is_for t cause ≡ true →
+        0 < slice_index counts.old t }
     ensures { (t : ℕ) → t < MOST_TASKS →
-        slice_index counts.old t
-        ≡ slice_index counts.new t + (if leaves_for t (Holder.Leaving placement cause) then 1
-        else 0) }
+        slice_index counts.old t ≡ slice_index counts.new t + (if is_for t cause then 1 else 0) }
 {
-    let _ = placement;
     if let Cause::Preempt { task } = cause {
         if (task as usize) < MOST_TASKS {
             counts[task as usize] -= 1;
@@ -123,7 +117,7 @@ impl Survey {
     {
         count_one(&mut self.booked, config.task_of(placement.thread as usize));
         count_one(&mut self.placed, placement.thread as usize);
-        count_awaited(&mut self.awaited, placement, cause);
+        count_awaited(&mut self.awaited, cause);
     }
 
     /// Counts one more core, by who has it.
@@ -164,7 +158,7 @@ impl Survey {
     {
         uncount_one(&mut self.booked, config.task_of(placement.thread as usize));
         uncount_one(&mut self.placed, placement.thread as usize);
-        uncount_awaited(&mut self.awaited, placement, cause);
+        uncount_awaited(&mut self.awaited, cause);
     }
 
     /// Counts one core fewer, by who had it.

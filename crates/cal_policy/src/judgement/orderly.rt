@@ -1,6 +1,6 @@
 //! Whether each action of a history fits the state before it.
 
-ghost use Rattle.std.specs.Prelude.{◌≡◌, ◌<◌, ◌&&◌, not, ◌++◌};
+ghost use Rattle.std.specs.Prelude.{◌≡◌, ℕ, ◌<◌, ◌&&◌, not, ◌++◌};
 ghost use Rattle.std.specs.Prelude.{◌∷◌, [], ◌↔◌, List, IsTrue};
 ghost use Rattle.cal_machine.specs.Machine.{sibling_of};
 ghost use Rattle.cal_machine.specs.declared.task_table.TheConstants.{MOST_TASKS};
@@ -64,12 +64,12 @@ fn may_ban(config: &Config, board: &Board, core: u8) -> bool
 }
 
 /// Whether a core may be banned for a thread.
-fn may_ban_for(config: &Config, board: &Board, core: u8, thread: u8, started: u64) -> bool
-    ensures fits { (x : List Action) → Agrees board.now x →
+fn may_ban_for(config: &Config, board: &Board, core: u8, thread: u8) -> bool
+    ensures fits { (x : List Action) (started : ℕ) → Agrees board.now x →
         result ≡ fits_state config.now x (Ban core thread started) }
-    ensures names { IsTrue result → NamesTable config.now (Ban core thread started) }
+    ensures names { (started : ℕ) → IsTrue result →
+        NamesTable config.now (Ban core thread started) }
 {
-    let _ = started;
     core < config.machine().cores()
         && (thread as usize) < config.threads()
         && may_ban(config, board, core)
@@ -93,12 +93,11 @@ fn may_cap(config: &Config, task: u8, cap: u8) -> bool
 }
 
 /// Whether a free core may be granted to a thread that has none.
-fn may_grant(config: &Config, board: &Board, core: u8, thread: u8, class: u8) -> bool
-    ensures fits { (x : List Action) → Agrees board.now x →
+fn may_grant(config: &Config, board: &Board, core: u8, thread: u8) -> bool
+    ensures fits { (x : List Action) (class : ℕ) → Agrees board.now x →
         result ≡ fits_state config.now x (Grant core thread class) }
-    ensures names { IsTrue result → NamesTable config.now (Grant core thread class) }
+    ensures names { (class : ℕ) → IsTrue result → NamesTable config.now (Grant core thread class) }
 {
-    let _ = class;
     core < config.machine().cores()
         && (thread as usize) < config.threads()
         && is_free(board, core)
@@ -114,18 +113,10 @@ pub fn is_fit(config: &Config, board: &Board, action: Action) -> bool
     match action {
         Action::Free { core } => may_free(config, board, core),
         Action::Unban { core } => may_unban(config, board, core),
-        Action::Ban {
-            core,
-            thread,
-            started,
-        } => may_ban_for(config, board, core, thread, started),
+        Action::Ban { core, thread, .. } => may_ban_for(config, board, core, thread),
         Action::Revoke { core, cause } => may_revoke(config, board, core, cause),
         Action::Cap { task, cap } => may_cap(config, task, cap),
-        Action::Grant {
-            core,
-            thread,
-            class,
-        } => may_grant(config, board, core, thread, class),
+        Action::Grant { core, thread, .. } => may_grant(config, board, core, thread),
     }
 }
 

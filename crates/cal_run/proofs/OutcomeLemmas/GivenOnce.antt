@@ -16,10 +16,10 @@ use Rattle.cal_linear.specs.Steps.{journal_at}
 use Rattle.cal_trace.specs.Arrivals.FitsTable.{ComesBefore, Fits}
 use Rattle.cal_trace.specs.declared.arrivals.Arrival.{Arrival}
 use Rattle.cal_trace.specs.declared.arrivals.Arrivals.{Arrivals}
-use Rattle.cal_run.specs.Workers.Given.{IsGiven, coming_to, request_at, turns_from, turns_given}
+use Rattle.cal_run.specs.Workers.GivenTurns.{IsGiven, coming_to, request_at, turns_from, turns_given}
 use Rattle.cal_run.specs.Workers.{IsFrom}
 use Rattle.cal_run.proofs.WorkersLemmas.NextRequest.{comes_next, three}
-use Rattle.cal_run.proofs.WorkersLemmas.Given.{given_at}
+use Rattle.cal_run.proofs.WorkersLemmas.GivenTurns.{given_at}
 use Rattle.cal_kthread.proofs.EndLemmas.OnePlace.{has}
 
 module _ {T : Type 0} where

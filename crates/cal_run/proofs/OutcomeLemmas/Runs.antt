@@ -35,7 +35,7 @@ use Rattle.cal_trace.specs.declared.arrivals.Arrival.{Arrival}
 use Rattle.cal_trace.specs.declared.arrivals.Arrivals.{Arrivals}
 use Rattle.cal_world.specs.declared.event.Event.{Event}
 use Rattle.cal_run.specs.Closing.{HaveClosed}
-use Rattle.cal_run.specs.Workers.Given.{turns_from, turns_given}
+use Rattle.cal_run.specs.Workers.GivenTurns.{turns_from, turns_given}
 use Rattle.cal_run.specs.Outcome.GivenOnce.{GivenStandOnce}
 use Rattle.cal_run.specs.Outcome.{IsRun}
 use Rattle.cal_run.specs.Parts.{AreOfOneTeam, HasPassed, rounds_of, scheduler_seat_of, watch_seat_of}

@@ -8,7 +8,7 @@ use Rattle.std.proofs.lemmas.Option.{slice_get_within, slice_get-get_or, get_or_
 use Rattle.std.specs.List.Sorted.{IsNonDecreasingBy, IsPartitionPoint}
 use Rattle.cal_trace.specs.Arrivals.FitsTable.{EachLater, ComesBefore}
 use Rattle.cal_trace.specs.declared.arrivals.Arrival.{Arrival}
-use Rattle.cal_run.specs.Workers.Given.{coming_to, request_at}
+use Rattle.cal_run.specs.Workers.GivenTurns.{coming_to, request_at}
 use Rattle.cal_run.specs.Workers.{IsBefore, IsFrom, IsNext}
 
 -- what h gives first is what it gives of the member at place n, where it gives nothing of those before

@@ -7,7 +7,7 @@ use Rattle.cal_kthread.specs.Turn.Turns.{AreTurns}
 use Rattle.cal_linear.specs.Steps.{journal_at}
 use Rattle.cal_trace.specs.Arrivals.FitsTable.{FitsTable}
 use Rattle.cal_trace.specs.declared.arrivals.Arrivals.{Arrivals}
-use Rattle.cal_run.specs.Workers.Given.{turns_given}
+use Rattle.cal_run.specs.Workers.GivenTurns.{turns_given}
 use Rattle.cal_run.specs.Outcome.{EachStandsOnce}
 use Rattle.cal_run.specs.declared.outcome.Outcome.{Outcome}
 

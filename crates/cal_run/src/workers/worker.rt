@@ -5,7 +5,7 @@ ghost use Rattle.std.specs.Prelude.{nat_lt};
 ghost use Rattle.cal_kthread.specs.Turn.Entries.{entries_of};
 ghost use Rattle.cal_trace.specs.Arrivals.FitsTable.{ComesBefore, EachLater};
 ghost use Rattle.cal_trace.specs.History.Ranges.{Each};
-ghost use Rattle.cal_run.specs.Workers.Given.{request_at};
+ghost use Rattle.cal_run.specs.Workers.GivenTurns.{request_at};
 ghost use Rattle.cal_trace.specs.declared.arrivals.Arrival.{Arrival};
 ghost use Rattle.cal_run.specs.Workers.{FitSomeTable, HasMade, IsNext, MadeNoTurn, seat_of};
 

@@ -3,7 +3,7 @@ use Rattle.std.proofs.Common.{◌≡◌, ◌≤◌, ℕ, List, [], length, Ok, a
 use Rattle.cal_policy.specs.declared.history.entry.PassEntry.{PassEntry}
 use Rattle.cal_trace.specs.Rows.SoFar.{at_start, whole}
 use Rattle.cal_trace.specs.History.{take_row}
-use Rattle.cal_trace.specs.History.Reading.{entry_at_hand, file_of, so_far, HasGiven, IsKept}
+use Rattle.cal_trace.specs.History.Reading.{entry_at_hand, file_of, so_far, HasGiven, KeepsHistory}
 use Rattle.cal_trace.specs.Rows.Header.{header_of}
 use Rattle.cal_policy.specs.declared.history.entry.TheConstants.{MOST_PASSES}
 use Rattle.cal_trace.specs.Rows.Reading.{read_under}
@@ -16,7 +16,7 @@ use Rattle.cal_trace.proofs.RowLemmas.Passes.{few_counted}
 -- nothing was given yet
 pub HasGiven-none : (extent : Extent) (text : List ℕ) (version : Version) (rows : List Fields) (history : HistoryRows)
     → header_of (codes "caladan-history") (rows_of text) ≡ Ok (version, rows) → rest_of history.rows ≡ rows → history.rows.number ≡ 1
-    → file_of history.reading ≡ (extent, version) → so_far [] history.reading ≡ at_start → IsKept [] history.reading → HasGiven extent text [] history
+    → file_of history.reading ≡ (extent, version) → so_far [] history.reading ≡ at_start → KeepsHistory [] history.reading → HasGiven extent text [] history
 HasGiven-none extent text version rows history header rest first file start kept =
     let is_extent : history.reading.extent ≡ extent = ap (λ (f : Extent × Version). f.0) file in
     let is_version : history.reading.version ≡ version = ap (λ (f : Extent × Version). f.1) file in

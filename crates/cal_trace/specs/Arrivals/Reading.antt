@@ -19,7 +19,7 @@ so_far reading = record {
 
 -- the ids at hand are those of the requests so far, and there are no more passes and turns than a
 -- file may have
-pub record IsKept (reading : ArrivalReading) : Type 0 where
+pub record KeepsArrivals (reading : ArrivalReading) : Type 0 where
   pub ids : (id : ℕ) → sets.contains nat_cmp reading.ids id ≡ is_given id reading.requests.items
   pub few_passes : vec_len reading.passes ≤ MOST_PASSES
   pub few_turns : vec_len reading.turns ≤ MOST_TURNS

@@ -33,8 +33,8 @@ abbrev pub so_far : List PassEntry → HistoryReading → SoFar PassEntry
 so_far given reading = rows.so_far entry_at_hand given reading.passes
 
 -- what is kept of the passes that were handed out
-abbrev pub IsKept : List PassEntry → HistoryReading → Type 0
-IsKept given reading = rows.IsCounted entry_at_hand given reading.passes
+abbrev pub KeepsHistory : List PassEntry → HistoryReading → Type 0
+KeepsHistory given reading = rows.IsCounted entry_at_hand given reading.passes
 
 -- what the rows are read by
 abbrev pub file_of : HistoryReading → Extent × Version
@@ -67,7 +67,7 @@ still_gives given history =
 pub record HasGiven (extent : Extent) (text : List ℕ) (given : List PassEntry)
     (history : HistoryRows) : Type 0 where
   pub of : history.reading.extent ≡ extent
-  pub kept : IsKept given history.reading
+  pub kept : KeepsHistory given history.reading
   pub same : still_gives given history ≡ history_of extent (rows_of text)
 
 -- after these passes there is one more, or they are all that the text has, or the text has this

@@ -45,6 +45,7 @@ Takes view (Ok x) outcome = outcome ≡ Ok (view x)
 Takes view (Err k) outcome = ButMemory k (outcome ≡ Err k)
 
 -- the answer, seen by view, is what the rows say
-abbrev pub Gives : {X Y : Type 0} → (X → Y) → Result X TraceFault → Result Y TraceFault → Type 0
-Gives view (Ok x) outcome = outcome ≡ Ok (view x)
-Gives view (Err fault) outcome = Decided fault.kind (outcome ≡ Err fault)
+abbrev pub IsWhatRowsSay : {X Y : Type 0} → (X → Y) → Result X TraceFault → Result Y TraceFault →
+    Type 0
+IsWhatRowsSay view (Ok x) outcome = outcome ≡ Ok (view x)
+IsWhatRowsSay view (Err fault) outcome = Decided fault.kind (outcome ≡ Err fault)

@@ -29,16 +29,16 @@ abbrev pub HasPlaces : SignalReading → Type 0
 HasPlaces reading = vec_len reading.shown ≡ reading.threads
 
 -- what is kept of the passes that were handed out, and what each thread showed last
-pub record IsKept (given : List SignalPass) (reading : SignalReading) : Type 0 where
+pub record KeepsSignals (given : List SignalPass) (reading : SignalReading) : Type 0 where
   pub counted : rows.IsCounted pass_at_hand given reading.passes
   pub shown : (k : ℕ) → k < reading.threads →
       slice_index_or reading.shown.items k nothing_shown ≡
       last_shown k (passes_of (so_far given reading))
 
 -- and these passes fit
-abbrev pub IsKeptFitting : List SignalPass → SignalReading → Type 0
-IsKeptFitting given reading =
-    IsKept given reading × IsFittingSoFar reading.threads (so_far given reading)
+abbrev pub KeepsFittingSignals : List SignalPass → SignalReading → Type 0
+KeepsFittingSignals given reading =
+    KeepsSignals given reading × IsFittingSoFar reading.threads (so_far given reading)
 
 -- what the rows are read by
 abbrev pub file_of : SignalReading → ℕ × Version
@@ -64,7 +64,7 @@ still_gives given signals =
 pub record HasGiven (threads : ℕ) (text : List ℕ) (given : List SignalPass)
     (signals : SignalRows) : Type 0 where
   pub extent : signals.reading.threads ≡ threads
-  pub kept : IsKept given signals.reading
+  pub kept : KeepsSignals given signals.reading
   pub fit : IsFittingSoFar threads (so_far given signals.reading)
   pub same : still_gives given signals ≡ signals_of threads (rows_of text)
 

@@ -2,7 +2,7 @@
 
 ghost use Rattle.std.specs.Prelude.{◌≡◌, IfOk};
 ghost use Rattle.cal_machine.specs.Tasks.{threads_in};
-ghost use Rattle.cal_trace.specs.Rows.Answers.{Gives};
+ghost use Rattle.cal_trace.specs.Rows.Answers.{IsWhatRowsSay};
 ghost use Rattle.cal_trace.specs.Arrivals.{arrivals_of};
 ghost use Rattle.cal_trace.specs.Arrivals.FitsTable.{FitsTable};
 ghost use Rattle.cal_trace.specs.Rows.{rows_of, rest_of, IsReading};
@@ -22,7 +22,7 @@ use std::alloc::Global;
 /// rows and of the checks of a row. `Memory` comes only where memory was refused. `Read` comes only
 /// where `csv` fails to read, which it does not on a text in memory. `Backwards` never comes.
 pub fn read_arrivals(alloc: Global, config: &Config, text: &[u8]) -> Result<Arrivals, TraceFault>
-    ensures gives { Gives (λ arrivals. arrivals) result
+    ensures gives { IsWhatRowsSay (λ arrivals. arrivals) result
         (arrivals_of (threads_in config.now.tasks) (rows_of text.now)) }
     ensures fits { IfOk result (FitsTable config.now) }
 {
@@ -34,7 +34,7 @@ pub fn read_arrivals(alloc: Global, config: &Config, text: &[u8]) -> Result<Arri
 fn take_arrivals(alloc: Global, threads: u8, rows: &mut Rows) -> Result<Arrivals, TraceFault>
     requires reading { IsReading rows.old }
     requires first { rows.old.number ≡ 0 }
-    ensures { Gives (λ arrivals. arrivals) result (arrivals_of threads (rest_of rows.old)) }
+    ensures { IsWhatRowsSay (λ arrivals. arrivals) result (arrivals_of threads (rest_of rows.old)) }
 {
     take_first_header(rows, b"caladan-arrivals".as_slice())?;
     take_rows(rows, ArrivalReading::new(alloc, threads))

@@ -152,13 +152,13 @@ impl ArrivalReading {
     ghost use Rattle.csv.specs.Records.{fields_of};
     ghost use Rattle.cal_trace.specs.Rows.Answers.{Takes};
     ghost use Rattle.cal_trace.specs.Arrivals.{add_arrival, at_start, take_form};
-    ghost use Rattle.cal_trace.specs.Arrivals.Reading.{so_far, IsKept};
+    ghost use Rattle.cal_trace.specs.Arrivals.Reading.{so_far, KeepsArrivals};
     ghost use Rattle.cal_trace.specs.declared.arrivals.reading.Form.TheVariants as form;
 
     /// Before the first row after the header of a file for so many threads.
     pub(crate) fn new(alloc: Global, threads: u8) -> ArrivalReading
         ensures start { so_far result ≡ at_start }
-        ensures kept { IsKept result }
+        ensures kept { KeepsArrivals result }
         ensures threads { result.threads ≡ threads }
     {
         ArrivalReading {
@@ -172,10 +172,10 @@ impl ArrivalReading {
     }
 
     fn take_pass(&mut self, row: &ByteRecord) -> Result<(), FaultKind>
-        requires { IsKept self.old }
+        requires { KeepsArrivals self.old }
         ensures takes { Takes (λ _. so_far self.new) result
             (take_form self.old.threads (so_far self.old) (Some form.Pass) (fields_of row.now)) }
-        ensures kept { OnOk result (IsKept self.new) }
+        ensures kept { OnOk result (KeepsArrivals self.new) }
         ensures file { self.new.threads ≡ self.old.threads }
     {
         if self.ended || !self.turns.is_empty() || !self.requests.is_empty() {
@@ -190,10 +190,10 @@ impl ArrivalReading {
     }
 
     fn take_turn(&mut self, row: &ByteRecord) -> Result<(), FaultKind>
-        requires { IsKept self.old }
+        requires { KeepsArrivals self.old }
         ensures takes { Takes (λ _. so_far self.new) result
             (take_form self.old.threads (so_far self.old) (Some form.Turn) (fields_of row.now)) }
-        ensures kept { OnOk result (IsKept self.new) }
+        ensures kept { OnOk result (KeepsArrivals self.new) }
         ensures file { self.new.threads ≡ self.old.threads }
     {
         if self.ended || !self.requests.is_empty() {
@@ -205,10 +205,10 @@ impl ArrivalReading {
     }
 
     fn take_arrival(&mut self, row: &ByteRecord) -> Result<(), FaultKind>
-        requires { IsKept self.old }
+        requires { KeepsArrivals self.old }
         ensures takes { Takes (λ _. so_far self.new) result
             (take_form self.old.threads (so_far self.old) (Some form.Arrival) (fields_of row.now)) }
-        ensures kept { OnOk result (IsKept self.new) }
+        ensures kept { OnOk result (KeepsArrivals self.new) }
         ensures file { self.new.threads ≡ self.old.threads }
     {
         if self.ended {
@@ -220,10 +220,10 @@ impl ArrivalReading {
     }
 
     fn add_arrival(&mut self, arrival: Arrival) -> Result<(), FaultKind>
-        requires { IsKept self.old }
+        requires { KeepsArrivals self.old }
         ensures takes { Takes (λ _. so_far self.new) result
             (add_arrival (so_far self.old) (Ok arrival)) }
-        ensures kept { OnOk result (IsKept self.new) }
+        ensures kept { OnOk result (KeepsArrivals self.new) }
         ensures file { self.new.threads ≡ self.old.threads }
     {
         if !self.ids.insert(arrival.request.id)? {
@@ -234,10 +234,10 @@ impl ArrivalReading {
     }
 
     fn take_end(&mut self, row: &ByteRecord) -> Result<(), FaultKind>
-        requires { IsKept self.old }
+        requires { KeepsArrivals self.old }
         ensures takes { Takes (λ _. so_far self.new) result
             (take_form self.old.threads (so_far self.old) (Some form.End) (fields_of row.now)) }
-        ensures kept { OnOk result (IsKept self.new) }
+        ensures kept { OnOk result (KeepsArrivals self.new) }
         ensures file { self.new.threads ≡ self.old.threads }
     {
         if self.ended {
@@ -254,7 +254,7 @@ impl ArrivalReading {
 
 impl Reading for ArrivalReading {
     ghost use Rattle.cal_trace.specs.Arrivals.{SoFar, take_row, whole};
-    ghost use Rattle.cal_trace.specs.Arrivals.Reading.{so_far, IsKept};
+    ghost use Rattle.cal_trace.specs.Arrivals.Reading.{so_far, KeepsArrivals};
 
     type Value = Arrivals;
 
@@ -266,7 +266,7 @@ impl Reading for ArrivalReading {
 
     ghost whole = { whole };
 
-    ghost IsKept = { IsKept };
+    ghost KeepsRows = { KeepsArrivals };
 
     fn take_row(&mut self, row: &ByteRecord) -> Result<(), FaultKind> {
         match form_of(row) {

@@ -2,7 +2,7 @@
 
 ghost use Rattle.std.specs.Prelude.{◌≡◌, ◌<◌, [], List, ℕ, IfOk, IfErr, IfSome};
 ghost use Rattle.cal_policy.specs.declared.history.entry.PassEntry.{PassEntry};
-ghost use Rattle.cal_trace.specs.Rows.Answers.{Decided, Gives};
+ghost use Rattle.cal_trace.specs.Rows.Answers.{Decided, IsWhatRowsSay};
 ghost use Rattle.cal_trace.specs.Rows.{rows_of};
 ghost use Rattle.cal_trace.specs.History.Reading.{extent_of, rows_left, GivesNext, HasGiven};
 ghost use Rattle.cal_trace.specs.History.Reading.{IsOpen};
@@ -88,7 +88,7 @@ pub fn read_history(
     config: &Config,
     text: &[u8],
 ) -> Result<Vec<PassEntry>, TraceFault>
-    ensures { Gives (λ history. history.items) result
+    ensures { IsWhatRowsSay (λ history. history.items) result
         (history_of (extent_of config.now) (rows_of text.now)) }
 {
     let HistoryRows {

@@ -223,13 +223,13 @@ impl HistoryReading {
     ghost use Rattle.cal_trace.specs.Rows.Answers.{Takes};
     ghost use Rattle.cal_trace.specs.Rows.SoFar.{at_start};
     ghost use Rattle.cal_trace.specs.History.{take_form};
-    ghost use Rattle.cal_trace.specs.History.Reading.{file_of, so_far, IsKept};
+    ghost use Rattle.cal_trace.specs.History.Reading.{file_of, so_far, KeepsHistory};
     ghost use Rattle.cal_trace.specs.declared.history.reading.Form.TheVariants as form;
 
     /// Before the first row after the header of a file for a table of this extent.
     pub(crate) fn new(alloc: Global, version: Version, extent: Extent) -> HistoryReading
         ensures start { so_far [] result ≡ at_start }
-        ensures kept { IsKept [] result }
+        ensures kept { KeepsHistory [] result }
         ensures file { file_of result ≡ (extent, version) }
     {
         HistoryReading {
@@ -244,8 +244,8 @@ impl HistoryReading {
             Takes (λ _. so_far given self.new) result
             (take_form self.old.extent (so_far given self.old) (Some (form.Look look))
             (fields_of row.now)) }
-        ensures kept { (given : List PassEntry) → IsKept given self.old →
-            OnOk result (IsKept given self.new) }
+        ensures kept { (given : List PassEntry) → KeepsHistory given self.old →
+            OnOk result (KeepsHistory given self.new) }
         ensures file { file_of self.new ≡ file_of self.old }
     {
         let thread = self.passes.next_thread(self.extent.threads as usize)?;
@@ -261,8 +261,8 @@ impl HistoryReading {
             Takes (λ _. so_far given self.new) result
             (take_form self.old.extent (so_far given self.old) (Some (form.Act action))
             (fields_of row.now)) }
-        ensures kept { (given : List PassEntry) → IsKept given self.old →
-            OnOk result (IsKept given self.new) }
+        ensures kept { (given : List PassEntry) → KeepsHistory given self.old →
+            OnOk result (KeepsHistory given self.new) }
         ensures file { file_of self.new ≡ file_of self.old }
     {
         match &mut self.passes.at_hand {
@@ -279,7 +279,7 @@ impl PassReading for HistoryReading {
     ghost use Rattle.cal_policy.specs.declared.history.entry.PassEntry.{PassEntry};
     ghost use Rattle.cal_trace.specs.Rows.SoFar.{SoFar, whole};
     ghost use Rattle.cal_trace.specs.History.{take_row};
-    ghost use Rattle.cal_trace.specs.History.Reading.{file_of, so_far, IsKept};
+    ghost use Rattle.cal_trace.specs.History.Reading.{file_of, so_far, KeepsHistory};
     ghost use Rattle.cal_trace.specs.declared.history.action_rows.Extent.{Extent};
     ghost use Rattle.cal_trace.specs.declared.rows.version.Version.{Version};
 
@@ -300,7 +300,7 @@ impl PassReading for HistoryReading {
     // Rows can be taken in each state.
     ghost IsReady = { λ reading. ⊤ };
 
-    ghost IsKept = { IsKept };
+    ghost KeepsPasses = { KeepsHistory };
 
     fn take_row(&mut self, row: &ByteRecord) -> Result<Option<PassEntry>, FaultKind> {
         match form_of(row, self.version) {

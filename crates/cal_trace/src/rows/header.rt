@@ -1,7 +1,7 @@
 //! The header row of a file.
 
 ghost use Rattle.std.specs.Prelude.{◌≡◌, IfOk, OnOk};
-ghost use Rattle.cal_trace.specs.Rows.Answers.{Gives};
+ghost use Rattle.cal_trace.specs.Rows.Answers.{IsWhatRowsSay};
 ghost use Rattle.cal_trace.specs.Rows.Header.{header_of, in_version_one};
 ghost use Rattle.cal_trace.specs.Rows.{IsReading, rest_of, rows_of};
 
@@ -14,7 +14,7 @@ use std::alloc::Global;
 pub(crate) fn take_header(rows: &mut Rows, name: &[u8]) -> Result<Version, TraceFault>
     requires reading { IsReading rows.old }
     requires first { rows.old.number ≡ 0 }
-    ensures gives { Gives (λ version. (version, rest_of rows.new)) result
+    ensures gives { IsWhatRowsSay (λ version. (version, rest_of rows.new)) result
         (header_of name.now (rest_of rows.old)) }
     ensures reading { OnOk result (IsReading rows.new) }
     ensures number { OnOk result (rows.new.number ≡ 1) }
@@ -38,7 +38,7 @@ pub(crate) fn open_under<'a>(
     text: &'a [u8],
     name: &[u8],
 ) -> Result<(Rows<'a>, Version), TraceFault>
-    ensures gives { Gives (λ file. (file.1, rest_of file.0)) result
+    ensures gives { IsWhatRowsSay (λ file. (file.1, rest_of file.0)) result
         (header_of name.now (rows_of text.now)) }
     ensures reading { IfOk result (λ file. IsReading file.0) }
     ensures number { IfOk result (λ file. file.0.number ≡ 1) }
@@ -55,7 +55,7 @@ pub(crate) fn open_under<'a>(
 pub(crate) fn take_first_header(rows: &mut Rows, name: &[u8]) -> Result<Version, TraceFault>
     requires reading { IsReading rows.old }
     requires first { rows.old.number ≡ 0 }
-    ensures gives { Gives (λ version. (version, rest_of rows.new)) result
+    ensures gives { IsWhatRowsSay (λ version. (version, rest_of rows.new)) result
         (in_version_one (header_of name.now (rest_of rows.old))) }
     ensures reading { OnOk result (IsReading rows.new) }
     ensures number { OnOk result (rows.new.number ≡ 1) }

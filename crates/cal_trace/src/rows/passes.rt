@@ -4,7 +4,7 @@
 ghost use Rattle.std.specs.Prelude.{◌≡◌, ◌<◌, List, [], length, Option, Some, None, Result};
 ghost use Rattle.std.specs.Prelude.{OnOk, IfOk, IfSome, if◌then◌else◌};
 ghost use Rattle.csv.specs.Records.{fields_of};
-ghost use Rattle.cal_trace.specs.Rows.Answers.{Gives, Takes};
+ghost use Rattle.cal_trace.specs.Rows.Answers.{IsWhatRowsSay, Takes};
 ghost use Rattle.cal_trace.specs.Rows.Passes.{GivesNext, with_closed};
 ghost use Rattle.cal_trace.specs.Rows.Reading.{read_on};
 ghost use Rattle.cal_trace.specs.Rows.{Fields, IsReading, rest_of};
@@ -41,16 +41,16 @@ pub(crate) trait PassReading: Sized + Drop {
     ghost IsReady: { Self → Type 0 };
 
     // What the reader keeps of the passes that were handed out is as they have it.
-    ghost IsKept: { List Self.Pass → Self → Type 0 };
+    ghost KeepsPasses: { List Self.Pass → Self → Type 0 };
 
     /// Takes one more row, and hands out the pass that it ends, if it ends one.
     fn take_row(&mut self, row: &ByteRecord) -> Result<Option<Self::Pass>, FaultKind>
         requires { IsReady self.old }
-        ensures takes { (given : List Self.Pass) → IsKept given self.old →
+        ensures takes { (given : List Self.Pass) → KeepsPasses given self.old →
             Takes (λ closed. so_far (with_closed given closed) self.new) result
             (take (file self.old) (so_far given self.old) (fields_of row.now)) }
-        ensures kept { (given : List Self.Pass) → IsKept given self.old →
-            IfOk result (λ closed. IsKept (with_closed given closed) self.new) }
+        ensures kept { (given : List Self.Pass) → KeepsPasses given self.old →
+            IfOk result (λ closed. KeepsPasses (with_closed given closed) self.new) }
         ensures ready { OnOk result (IsReady self.new) }
         ensures file { file self.new ≡ file self.old };
 
@@ -70,10 +70,10 @@ pub(crate) fn next_pass<R: PassReading>(
     requires ready { R.IsReady reading.old }
     // The passes handed out so far and those still to come are those of the rows, or their fault is
     // the one.
-    ensures gives { (given : List R.Pass) → R.IsKept given reading.old →
+    ensures gives { (given : List R.Pass) → R.KeepsPasses given reading.old →
         let file = read_on (R.take (R.file reading.old)) R.whole
         (R.so_far given reading.old) rows.old in
-        GivesNext (λ all. R.IsKept all reading.new ×
+        GivesNext (λ all. R.KeepsPasses all reading.new ×
         (read_on (R.take (R.file reading.new)) R.whole (R.so_far all reading.new) rows.new ≡
         file)) file given result }
     ensures file { R.file reading.new ≡ R.file reading.old }
@@ -113,8 +113,8 @@ pub(crate) fn all_passes<R: PassReading>(
 ) -> Result<Vec<R::Pass>, TraceFault>
     requires rows { IsReading rows.old }
     requires ready { R.IsReady reading.old }
-    requires kept { R.IsKept [] reading.old }
-    ensures { Gives (λ all. all.items) result
+    requires kept { R.KeepsPasses [] reading.old }
+    ensures { IsWhatRowsSay (λ all. all.items) result
         (read_on (R.take (R.file reading.old)) R.whole (R.so_far [] reading.old) rows.old) }
 {
     let mut passes = Vec::new(alloc);

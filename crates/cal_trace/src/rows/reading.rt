@@ -2,7 +2,7 @@
 
 ghost use Rattle.std.specs.Prelude.{◌≡◌, Result, Option, OnOk};
 ghost use Rattle.csv.specs.Records.{fields_of};
-ghost use Rattle.cal_trace.specs.Rows.Answers.{Gives, Takes};
+ghost use Rattle.cal_trace.specs.Rows.Answers.{IsWhatRowsSay, Takes};
 ghost use Rattle.cal_trace.specs.Rows.Reading.{read_on};
 ghost use Rattle.cal_trace.specs.Rows.{Fields, IsReading};
 ghost use Rattle.cal_trace.specs.declared.fault.FaultKind.{FaultKind};
@@ -28,14 +28,14 @@ pub(crate) trait Reading: Sized + Drop {
     ghost whole: { SoFar → Option Self.Value };
 
     // What the reader keeps beside is as the rows so far have it.
-    ghost IsKept: { Self → Type 0 };
+    ghost KeepsRows: { Self → Type 0 };
 
     /// Takes one more row.
     fn take_row(&mut self, row: &ByteRecord) -> Result<(), FaultKind>
-        requires { IsKept self.old }
+        requires { KeepsRows self.old }
         ensures takes { Takes (λ _. so_far self.new) result
             (take self.old (so_far self.old) (fields_of row.now)) }
-        ensures kept { OnOk result (IsKept self.new) }
+        ensures kept { OnOk result (KeepsRows self.new) }
         ensures same { take self.new ≡ take self.old };
 
     /// What the file gives, after the last row: none without an end row.
@@ -46,8 +46,8 @@ pub(crate) trait Reading: Sized + Drop {
 /// What the rows so far and those still to come give.
 pub(crate) fn take_rows<R: Reading>(rows: &mut Rows, mut reading: R) -> Result<R::Value, TraceFault>
     requires rows { IsReading rows.old }
-    requires kept { R.IsKept reading }
-    ensures { Gives (λ value. value) result
+    requires kept { R.KeepsRows reading }
+    ensures { IsWhatRowsSay (λ value. value) result
         (read_on (R.take reading) R.whole (R.so_far reading) rows.old) }
 {
     while rows.step()? {

@@ -2,7 +2,7 @@
 
 ghost use Rattle.std.specs.Prelude.{◌≡◌, ◌<◌, ℕ, [], List, IfOk, IfErr, IfSome};
 ghost use Rattle.cal_machine.specs.Tasks.{threads_in};
-ghost use Rattle.cal_trace.specs.Rows.Answers.{Decided, Gives};
+ghost use Rattle.cal_trace.specs.Rows.Answers.{Decided, IsWhatRowsSay};
 ghost use Rattle.cal_trace.specs.Rows.{rows_of};
 ghost use Rattle.cal_trace.specs.Signals.{signals_of};
 ghost use Rattle.cal_trace.specs.Signals.Reading.{GivesNext, HasGiven, IsOpen, rows_left};
@@ -73,7 +73,7 @@ impl<'a> SignalRows<'a> {
 /// `Memory` comes only where memory was refused. `Read` comes only where `csv` fails to read, which
 /// it does not on a text in memory. `Repeated` never comes.
 pub fn read_signals(alloc: Global, config: &Config, text: &[u8]) -> Result<Signals, TraceFault>
-    ensures { Gives (λ signals. signals.passes) result
+    ensures { IsWhatRowsSay (λ signals. signals.passes) result
         (signals_of (threads_in config.now.tasks) (rows_of text.now)) }
 {
     let SignalRows {

@@ -114,7 +114,7 @@ impl SignalReading {
     ghost use Rattle.cal_trace.specs.Rows.SoFar.{at_start, with_more, IsCounted};
     ghost use Rattle.cal_trace.specs.Signals.{take_form, with_look};
     ghost use Rattle.cal_trace.specs.Signals.Reading.{file_of, pass_at_hand, so_far};
-    ghost use Rattle.cal_trace.specs.Signals.Reading.{HasPlaces, IsKept};
+    ghost use Rattle.cal_trace.specs.Signals.Reading.{HasPlaces, KeepsSignals};
     ghost use Rattle.cal_trace.specs.declared.fault.FaultKind.TheVariants as kind;
     ghost use Rattle.cal_trace.specs.declared.signals.reading.Form.TheVariants as form;
     ghost use Rattle.cal_trace.specs.declared.signals.SignalPass.{SignalPass};
@@ -126,7 +126,7 @@ impl SignalReading {
         threads: usize,
     ) -> Result<SignalReading, FaultKind>
         ensures start { IfOk result (λ reading. so_far [] reading ≡ at_start) }
-        ensures kept { IfOk result (IsKept []) }
+        ensures kept { IfOk result (KeepsSignals []) }
         ensures places { IfOk result HasPlaces }
         ensures file { IfOk result (λ reading. file_of reading ≡ (threads, version)) }
         ensures memory { IfErr result (λ k. k ≡ kind.Memory) }
@@ -142,12 +142,12 @@ impl SignalReading {
 
     fn take_whole(&mut self, row: &ByteRecord) -> Result<(), FaultKind>
         requires { HasPlaces self.old }
-        ensures takes { (given : List SignalPass) → IsKept given self.old →
+        ensures takes { (given : List SignalPass) → KeepsSignals given self.old →
             Takes (λ _. so_far given self.new) result
             (take_form self.old.threads (so_far given self.old) (Some form.Whole)
             (fields_of row.now)) }
-        ensures kept { (given : List SignalPass) → IsKept given self.old →
-            OnOk result (IsKept given self.new) }
+        ensures kept { (given : List SignalPass) → KeepsSignals given self.old →
+            OnOk result (KeepsSignals given self.new) }
         ensures places { OnOk result (HasPlaces self.new) }
         ensures file { file_of self.new ≡ file_of self.old }
     {
@@ -169,12 +169,12 @@ impl SignalReading {
 
     fn take_busy(&mut self, row: &ByteRecord) -> Result<(), FaultKind>
         requires { HasPlaces self.old }
-        ensures takes { (given : List SignalPass) → IsKept given self.old →
+        ensures takes { (given : List SignalPass) → KeepsSignals given self.old →
             Takes (λ _. so_far given self.new) result
             (take_form self.old.threads (so_far given self.old) (Some form.Busy)
             (fields_of row.now)) }
-        ensures kept { (given : List SignalPass) → IsKept given self.old →
-            OnOk result (IsKept given self.new) }
+        ensures kept { (given : List SignalPass) → KeepsSignals given self.old →
+            OnOk result (KeepsSignals given self.new) }
         ensures places { OnOk result (HasPlaces self.new) }
         ensures file { file_of self.new ≡ file_of self.old }
     {
@@ -210,11 +210,11 @@ impl SignalReading {
     // Takes one more row of this form.
     fn take_form(&mut self, row: &ByteRecord, form: Form) -> Result<Option<SignalPass>, FaultKind>
         requires { HasPlaces self.old }
-        ensures takes { (given : List SignalPass) → IsKept given self.old →
+        ensures takes { (given : List SignalPass) → KeepsSignals given self.old →
             Takes (λ closed. so_far (with_closed given closed) self.new) result
             (take_form self.old.threads (so_far given self.old) (Some form) (fields_of row.now)) }
-        ensures kept { (given : List SignalPass) → IsKept given self.old →
-            IfOk result (λ closed. IsKept (with_closed given closed) self.new) }
+        ensures kept { (given : List SignalPass) → KeepsSignals given self.old →
+            IfOk result (λ closed. KeepsSignals (with_closed given closed) self.new) }
         ensures places { OnOk result (HasPlaces self.new) }
         ensures file { file_of self.new ≡ file_of self.old }
     {
@@ -239,7 +239,8 @@ impl PassReading for SignalReading {
     ghost use Rattle.cal_trace.specs.declared.signals.SignalPass.{SignalPass};
     ghost use Rattle.cal_trace.specs.Rows.SoFar.{SoFar, whole};
     ghost use Rattle.cal_trace.specs.Signals.{take_row};
-    ghost use Rattle.cal_trace.specs.Signals.Reading.{file_of, so_far, HasPlaces, IsKeptFitting};
+    ghost use Rattle.cal_trace.specs.Signals.Reading.{file_of, so_far, HasPlaces};
+    ghost use Rattle.cal_trace.specs.Signals.Reading.{KeepsFittingSignals};
     ghost use Rattle.cal_trace.specs.declared.rows.version.Version.{Version};
 
     type Pass = SignalPass;
@@ -258,7 +259,7 @@ impl PassReading for SignalReading {
 
     ghost IsReady = { HasPlaces };
 
-    ghost IsKept = { IsKeptFitting };
+    ghost KeepsPasses = { KeepsFittingSignals };
 
     fn take_row(&mut self, row: &ByteRecord) -> Result<Option<SignalPass>, FaultKind> {
         match form_of(row, self.version) {

@@ -32,6 +32,23 @@ pub record Changes (before : List Event) (event : Event) (p q : Present) : Type 
   pub all_standings : length q.standings.items ≡ length p.standings.items
   pub all_pages : length q.pages.items ≡ length p.pages.items
 
+-- the same, where all that stays is said at once, and the lengths of what changes
+pub changes : (before : List Event) (event : Event) (p q : Present)
+    → (q.sent.items ≡ p.sent.items) × (q.granted ≡ p.granted) × (q.history.items ≡ p.history.items)
+    × (length q.standings.items ≡ length p.standings.items) × (length q.pages.items ≡ length p.pages.items)
+    → StandingsAreOf q.standings.items (before ++ event ∷ []) → PagesAreOf q.pages.items (before ++ event ∷ [])
+    → q.looks.items ≡ looks_since (before ++ event ∷ []) → Changes before event p q
+changes before event p q same standings pages looks = record {
+  sent = same.0;
+  granted = same.1;
+  history = same.2;
+  standings = standings;
+  pages = pages;
+  looks = looks;
+  all_standings = same.3;
+  all_pages = same.4;
+}
+
 pub present_by : (table : Table) (before : List Event) (event : Event) (p q : Present) → entry_in event ≡ None → IsPresent table before p → Changes before event p q → IsPresent table (before ++ event ∷ []) q
 present_by table before event p q none was new =
     let same : history_in before ≡ history_in (before ++ event ∷ []) = sym (history_same before event none) in record {

@@ -14,13 +14,19 @@ use Rattle.cal_world.specs.World.{IsAllowed, IsLegalList}
 use Rattle.cal_world.specs.World.Sending.{AreSent, AreGranted}
 use Rattle.cal_world.specs.World.Standing.{StandingsAreOf, PagesAreOf}
 
+-- the plain data is what the events say
 pub record IsPresent (table : Table) (events : List Event) (present : Present) : Type 0 where
+  -- where each thread stands, and what is on its page
   pub standings : StandingsAreOf present.standings.items events
   pub pages : PagesAreOf present.pages.items events
+  -- what was sent to each, and to whom each core was last granted
   pub sent : AreSent present.sent.items (actions_in events)
   pub granted : AreGranted present.granted (actions_in events)
+  -- the looks since the last Decide
   pub looks : present.looks.items ≡ looks_since events
+  -- the passes
   pub history : present.history.items ≡ history_in events
+  -- each list has a place for each thread of the table
   pub all_standings : length present.standings.items ≡ threads_of_table table
   pub all_pages : length present.pages.items ≡ threads_of_table table
   pub all_sent : length present.sent.items ≡ threads_of_table table

@@ -9,7 +9,7 @@ ghost use Rattle.cal_machine.specs.Reading.{table_in};
 ghost use Rattle.cal_policy.specs.Verdict.{IsVerdict};
 ghost use Rattle.cal_policy.specs.declared.history.entry.PassEntry.{PassEntry};
 ghost use Rattle.cal_policy.specs.declared.verdict.Verdict.TheVariants.{Legal, Illegal};
-ghost use Rattle.caladan_c.specs.Audited.{Audits, SaysAudit, TookRecorded};
+ghost use Rattle.caladan_c.specs.Audited.{HasAudited, SaysAudit, TookRecorded};
 ghost use Rattle.caladan_c.specs.Recorded.{AreNoJudgements, AreNoActions};
 ghost use Rattle.caladan_c.specs.declared.answer.Refusal.TheVariants.{Memory, NoAction};
 ghost use Rattle.caladan_c.specs.declared.answer.Refusal.TheVariants.{NoJudgement, WrongCount};
@@ -17,7 +17,7 @@ ghost use Rattle.caladan_c.specs.declared.answer.Refusal.TheVariants.{NoJudgemen
 use crate::answer::{Finding, Refusal};
 use crate::audit::Audit;
 use crate::found::Found;
-use crate::given::Given;
+use crate::handed_in::HandedIn;
 use crate::handle::audit::AuditHandle;
 use crate::recorded::entry_of;
 use crate::told::Told;
@@ -28,7 +28,7 @@ use std::alloc::Global;
 /// A new audit on the heap.
 fn open(alloc: Global, table: &[u8]) -> Result<Box<Audit>, ConfigFault>
     ensures table { Gives (λ opened. opened.value.table) result (table_in table.now) }
-    ensures new { IfOk result (λ opened. Audits opened.value []) }
+    ensures new { IfOk result (λ opened. HasAudited opened.value []) }
 {
     let audit = Audit::open(alloc, table)?;
     Ok(Box::new(alloc, audit)?)
@@ -60,7 +60,7 @@ impl Audit {
     fn next_recorded(
         &mut self,
         alloc: Global,
-        given: Given<'_>,
+        given: HandedIn<'_>,
         judged: &[u8],
         actions: &[Told],
     ) -> Result<(), Refusal>
@@ -111,22 +111,12 @@ pub extern "C" fn caladan_audit_pass(
         (result ≡ 19) }
     ensures refused { result ≢ 0 → handle.new.pointer.kept ≡ handle.old.pointer.kept }
 {
-    match handle.take(alloc) {
-        None => Refusal::Closed as u8,
-        Some(mut kept) => {
-            let given = Given {
-                now,
-                bandwidth,
-                looks,
-            };
-            let answer = kept.next_recorded(alloc, given, judged, actions);
-            *handle = AuditHandle::of(kept);
-            match answer {
-                Ok(()) => 0,
-                Err(refusal) => refusal.number(),
-            }
-        }
-    }
+    asked!(AuditHandle: handle, alloc; Refusal::Closed as u8;
+        mut kept => kept.next_recorded(alloc, HandedIn { now, bandwidth, looks }, judged, actions);
+        answer => match answer {
+            Ok(()) => 0,
+            Err(refusal) => refusal.number(),
+        })
 }
 
 /// What the audit says of the passes so far: 0 each is legal; 20 one is not, and `pass` is the
@@ -139,27 +129,21 @@ pub extern "C" fn caladan_audit_verdict(
 ) -> u8
     ensures closed { is_some handle.old.pointer.kept ≡ false → result ≡ 10 }
     ensures legal { result ≡ 0 → ForSome handle.old.pointer.kept (λ a. (h : List PassEntry) →
-        Audits a h → IsVerdict a.table h Legal) }
+        HasAudited a h → IsVerdict a.table h Legal) }
     ensures illegal { result ≡ 20 → ForSome handle.old.pointer.kept (λ a. (h : List PassEntry) →
-        Audits a h → IsVerdict a.table h (Illegal pass.new)) }
+        HasAudited a h → IsVerdict a.table h (Illegal pass.new)) }
     ensures answers { ForSome handle.old.pointer.kept (λ _. (result ≡ 0) ⊎ (result ≡ 20)) }
     ensures other { result ≢ 20 → pass.new ≡ pass.old }
     ensures same { handle.new.pointer.kept ≡ handle.old.pointer.kept }
 {
-    match handle.take(alloc) {
-        None => Refusal::Closed as u8,
-        Some(kept) => {
-            let verdict = kept.verdict();
-            *handle = AuditHandle::of(kept);
-            match verdict {
-                Verdict::Legal => 0,
-                Verdict::Illegal { pass: first } => {
-                    *pass = first;
-                    Finding::Illegal as u8
-                }
+    asked!(AuditHandle: handle, alloc; Refusal::Closed as u8; kept => kept.verdict();
+        verdict => match verdict {
+            Verdict::Legal => 0,
+            Verdict::Illegal { pass: first } => {
+                *pass = first;
+                Finding::Illegal as u8
             }
-        }
-    }
+        })
 }
 
 /// Lets go of what the handle keeps: 0; 10 it is closed already.
@@ -169,11 +153,5 @@ pub extern "C" fn caladan_audit_close(alloc: Global, handle: &mut AuditHandle) -
     ensures closed { is_some handle.old.pointer.kept ≡ true → result ≡ 0 }
     ensures after { handle.new.pointer.kept ≡ None }
 {
-    match handle.take(alloc) {
-        None => Refusal::Closed as u8,
-        Some(kept) => {
-            drop(kept);
-            0
-        }
-    }
+    let_go!(handle, alloc)
 }

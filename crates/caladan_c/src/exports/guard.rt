@@ -5,7 +5,7 @@ mod each;
 mod facts;
 
 ghost use Rattle.std.specs.Prelude.{◌≡◌, ◌≢◌, ◌⊎◌, ◌<◌, ◌≤◌, IfOk, IfErr, IfNone, OnErr, Err, None};
-ghost use Rattle.std.specs.Prelude.{List, [], length, true, false};
+ghost use Rattle.std.specs.Prelude.{[], length, true, false};
 ghost use Rattle.std.specs.Option.{is_some, ForSome, IfSome, IsSomeAnd};
 ghost use Rattle.cal_machine.specs.Outcome.{Gives};
 ghost use Rattle.cal_machine.specs.Reading.{table_in};
@@ -13,13 +13,12 @@ ghost use Rattle.cal_policy.specs.Board.{kept_holder};
 ghost use Rattle.cal_policy.specs.History.{actions_of, holder_of};
 ghost use Rattle.cal_policy.specs.Judgement.Judging.{IsInput};
 ghost use Rattle.cal_machine.specs.TableTasks.{threads_of_table};
-ghost use Rattle.cal_policy.specs.declared.history.entry.PassEntry.{PassEntry};
 ghost use Rattle.caladan_c.specs.Found.{input_of, input_given};
 ghost use Rattle.cal_policy.specs.State.{IsStateAfter};
-ghost use Rattle.cal_guard.specs.Guarded.{board_in};
+ghost use Rattle.cal_guard.specs.Guarded.{board_in, AfterPermitted};
 ghost use Rattle.cal_guard.specs.Permitted.{IsPermittedHistory};
-ghost use Rattle.caladan_c.specs.Gated.{SaysGate, WentThrough, WasStopped};
-ghost use Rattle.caladan_c.specs.Gated.{WasStoppedAt};
+ghost use Rattle.caladan_c.specs.GuardView.{SaysGuard, WentThrough, WasStopped};
+ghost use Rattle.caladan_c.specs.GuardView.{WasStoppedAt};
 ghost use Rattle.caladan_c.specs.Told.{AreJudgements, counts_of, told_holder_of};
 ghost use Rattle.caladan_c.specs.Recorded.{AreNoActions};
 ghost use Rattle.caladan_c.specs.declared.answer.Refusal.TheVariants.{Memory, NoAction, NoRoom};
@@ -27,9 +26,9 @@ ghost use Rattle.caladan_c.specs.declared.answer.Refusal.TheVariants.{Unfit, Wro
 
 use crate::answer::{Finding, Refusal};
 use crate::found::Found;
-use crate::gate::Gate;
-use crate::given::Given;
-use crate::handle::gate::GateHandle;
+use crate::handed_in::HandedIn;
+use crate::handle::guard::GuardHandle;
+use crate::table_guard::TableGuard;
 use crate::told::Told;
 use crate::told::counts::Counts;
 use crate::told::holder::{ToldHolder, tell_holder};
@@ -38,23 +37,23 @@ use cal_guard::Refused;
 use cal_machine::ConfigFault;
 use std::alloc::Global;
 
-/// A new gate on the heap.
-fn open(alloc: Global, table: &[u8]) -> Result<Box<Gate>, ConfigFault>
+/// A new guard on the heap.
+fn open(alloc: Global, table: &[u8]) -> Result<Box<TableGuard>, ConfigFault>
     ensures table { Gives (λ opened. opened.value.table) result (table_in table.now) }
     ensures new { IfOk result (λ opened. IsPermittedHistory opened.value.table []
         × IsStateAfter (board_in opened.value.guard) []) }
 {
-    let gate = Gate::open(alloc, table)?;
-    Ok(Box::new(alloc, gate)?)
+    let opened = TableGuard::open(alloc, table)?;
+    Ok(Box::new(alloc, opened)?)
 }
 
 /// Opens a guard of the table that a text spells, in a closed handle: 0, or the table's fault, 1 to
 /// 9.
 #[unsafe(no_mangle)]
-pub extern "C" fn caladan_guard_open(alloc: Global, table: &[u8], handle: &mut GateHandle) -> u8
+pub extern "C" fn caladan_guard_open(alloc: Global, table: &[u8], handle: &mut GuardHandle) -> u8
     ensures already { is_some handle.old.pointer.kept ≡ true → result ≡ 11 }
     ensures opened { is_some handle.old.pointer.kept ≡ false → result ≢ 9 →
-        SaysGate (table_in table.now) result handle.new.pointer.kept }
+        SaysGuard (table_in table.now) result handle.new.pointer.kept }
     ensures refused { result ≢ 0 → handle.new ≡ handle.old }
 {
     if handle.is_open() {
@@ -62,38 +61,34 @@ pub extern "C" fn caladan_guard_open(alloc: Global, table: &[u8], handle: &mut G
     }
     match open(alloc, table) {
         Ok(opened) => {
-            *handle = GateHandle::of(opened);
+            *handle = GuardHandle::of(opened);
             0
         }
         Err(first) => first as u8,
     }
 }
 
-impl Gate {
+impl TableGuard {
     /// Lets the next pass through, or names the first action that is not permitted; or says why it
     /// did nothing.
     fn pass_told(
         &mut self,
-        given: Given<'_>,
+        given: HandedIn<'_>,
         judged: &mut [u8],
         actions: &[Told],
     ) -> Result<Option<Refused>, Refusal>
         ensures through { IfOk result (λ said.
-            IfNone said ((h : List PassEntry) → IsPermittedHistory self.old.table h →
-            IsStateAfter (board_in self.old.guard) h →
+            IfNone said (AfterPermitted self.old.table self.old.guard (λ h.
             WentThrough self.old h (input_given self.old.table h given.entry) actions.now
-            self.new)) }
+            self.new))) }
         ensures judged { IfOk result (λ said.
-            IfNone said ((h : List PassEntry) → IsPermittedHistory self.old.table h →
-            IsStateAfter (board_in self.old.guard) h →
-            AreJudgements (input_given self.old.table h given.entry).seen judged.new)) }
-        ensures stopped { IfOk result (λ said. IfSome said (λ first. (h : List PassEntry) →
-            IsPermittedHistory self.old.table h → IsStateAfter (board_in self.old.guard) h →
-            WasStopped self.old h
-            (input_given self.old.table h given.entry) actions.now first)) }
-        ensures unfit { result ≡ Err Unfit → (h : List PassEntry) →
-            IsPermittedHistory self.old.table h → IsStateAfter (board_in self.old.guard) h →
-            IsInput self.old.table h (input_given self.old.table h given.entry) → ⊥ }
+            IfNone said (AfterPermitted self.old.table self.old.guard (λ h.
+            AreJudgements (input_given self.old.table h given.entry).seen judged.new))) }
+        ensures stopped { IfOk result (λ said. IfSome said (λ first.
+            AfterPermitted self.old.table self.old.guard (λ h.
+            WasStopped self.old h (input_given self.old.table h given.entry) actions.now first))) }
+        ensures unfit { result ≡ Err Unfit → AfterPermitted self.old.table self.old.guard (λ h.
+            IsInput self.old.table h (input_given self.old.table h given.entry) → ⊥) }
         ensures no_action { result ≡ Err NoAction → AreNoActions actions.now }
         ensures wrong_count { length given.entry.looks.now ≢ threads_of_table self.old.table →
             result ≡ Err WrongCount }
@@ -129,7 +124,7 @@ impl Gate {
 #[unsafe(no_mangle)]
 pub extern "C" fn caladan_guard_pass(
     alloc: Global,
-    handle: &mut GateHandle,
+    handle: &mut GuardHandle,
     now: u64,
     bandwidth: u64,
     looks: &[Found],
@@ -138,21 +133,19 @@ pub extern "C" fn caladan_guard_pass(
     refused: &mut ToldRefused,
 ) -> u8
     ensures closed { is_some handle.old.pointer.kept ≡ false → result ≡ 10 }
-    ensures through { result ≡ 0 → ForSome handle.old.pointer.kept (λ g. (h : List PassEntry) →
-        IsPermittedHistory g.table h → IsStateAfter (board_in g.guard) h →
-        IsSomeAnd handle.new.pointer.kept
-        (WentThrough g h (input_of g.table h now bandwidth looks.now) actions.now)) }
-    ensures judged { result ≡ 0 → ForSome handle.old.pointer.kept (λ g. (h : List PassEntry) →
-        IsPermittedHistory g.table h → IsStateAfter (board_in g.guard) h →
-        AreJudgements (input_of g.table h now bandwidth looks.now).seen
-        judged.new) }
-    ensures stopped { result ≡ 18 → ForSome handle.old.pointer.kept (λ g. (h : List PassEntry) →
-        IsPermittedHistory g.table h → IsStateAfter (board_in g.guard) h →
-        WasStoppedAt g h (input_of g.table h now bandwidth looks.now) actions.now
-        refused.new) }
-    ensures unfit { result ≡ 15 → ForSome handle.old.pointer.kept (λ g. (h : List PassEntry) →
-        IsPermittedHistory g.table h → IsStateAfter (board_in g.guard) h →
-        IsInput g.table h (input_of g.table h now bandwidth looks.now) → ⊥) }
+    ensures through { result ≡ 0 → ForSome handle.old.pointer.kept (λ g.
+        AfterPermitted g.table g.guard (λ h.
+        IsSomeAnd handle.new.pointer.kept (WentThrough g h (input_of g.table h now bandwidth
+        looks.now) actions.now))) }
+    ensures judged { result ≡ 0 → ForSome handle.old.pointer.kept (λ g.
+        AfterPermitted g.table g.guard (λ h.
+        AreJudgements (input_of g.table h now bandwidth looks.now).seen judged.new)) }
+    ensures stopped { result ≡ 18 → ForSome handle.old.pointer.kept (λ g.
+        AfterPermitted g.table g.guard (λ h.
+        WasStoppedAt g h (input_of g.table h now bandwidth looks.now) actions.now refused.new)) }
+    ensures unfit { result ≡ 15 → ForSome handle.old.pointer.kept (λ g.
+        AfterPermitted g.table g.guard (λ h.
+        IsInput g.table h (input_of g.table h now bandwidth looks.now) → ⊥)) }
     ensures no_action { result ≡ 17 → AreNoActions actions.now }
     ensures wrong_count { ForSome handle.old.pointer.kept (λ g.
         length looks.now ≢ threads_of_table g.table → result ≡ 13) }
@@ -168,26 +161,16 @@ pub extern "C" fn caladan_guard_pass(
         (judged.new ≡ judged.old) }
     ensures told { result ≢ 18 → refused.new ≡ refused.old }
 {
-    match handle.take(alloc) {
-        None => Refusal::Closed as u8,
-        Some(mut kept) => {
-            let given = Given {
-                now,
-                bandwidth,
-                looks,
-            };
-            let answer = kept.pass_told(given, judged, actions);
-            *handle = GateHandle::of(kept);
-            match answer {
-                Ok(None) => 0,
-                Ok(Some(first)) => {
-                    *refused = tell_refused(first);
-                    Finding::Stopped as u8
-                }
-                Err(refusal) => refusal.number(),
+    asked!(GuardHandle: handle, alloc; Refusal::Closed as u8;
+        mut kept => kept.pass_told(HandedIn { now, bandwidth, looks }, judged, actions);
+        answer => match answer {
+            Ok(None) => 0,
+            Ok(Some(first)) => {
+                *refused = tell_refused(first);
+                Finding::Stopped as u8
             }
-        }
-    }
+            Err(refusal) => refusal.number(),
+        })
 }
 
 /// Who has a core after the passes that went through: 0; 10 the handle is closed; 16 the table has
@@ -195,34 +178,22 @@ pub extern "C" fn caladan_guard_pass(
 #[unsafe(no_mangle)]
 pub extern "C" fn caladan_guard_holder(
     alloc: Global,
-    handle: &mut GateHandle,
+    handle: &mut GuardHandle,
     core: u8,
     holder: &mut ToldHolder,
 ) -> u8
     ensures closed { is_some handle.old.pointer.kept ≡ false → result ≡ 10 }
-    ensures told { result ≡ 0 → ForSome handle.old.pointer.kept (λ g. (h : List PassEntry) →
-        IsPermittedHistory g.table h → IsStateAfter (board_in g.guard) h →
-        holder.new ≡ told_holder_of
-        (kept_holder (holder_of (actions_of h) core))) }
+    ensures told { result ≡ 0 → ForSome handle.old.pointer.kept (λ g.
+        AfterPermitted g.table g.guard (λ h.
+        holder.new ≡ told_holder_of (kept_holder (holder_of (actions_of h) core)))) }
     ensures there { ForSome handle.old.pointer.kept (λ g. core < g.table.cores → result ≡ 0) }
     ensures no_core { ForSome handle.old.pointer.kept (λ g. g.table.cores ≤ core → result ≡ 16) }
     ensures refused { result ≢ 0 → holder.new ≡ holder.old }
     ensures same { handle.new.pointer.kept ≡ handle.old.pointer.kept }
 {
-    match handle.take(alloc) {
-        None => Refusal::Closed as u8,
-        Some(kept) => {
-            let found = kept.holder(core);
-            *handle = GateHandle::of(kept);
-            match found {
-                Some(found) => {
-                    *holder = tell_holder(found);
-                    0
-                }
-                None => Refusal::NoSuch as u8,
-            }
-        }
-    }
+    looked_up!(GuardHandle: handle, alloc; kept => kept.holder(core);
+        found => *holder = tell_holder(found)
+    )
 }
 
 /// What a task has after the passes that went through: 0; 10 the handle is closed; 16 the table has
@@ -230,14 +201,13 @@ pub extern "C" fn caladan_guard_holder(
 #[unsafe(no_mangle)]
 pub extern "C" fn caladan_guard_task(
     alloc: Global,
-    handle: &mut GateHandle,
+    handle: &mut GuardHandle,
     task: usize,
     counts: &mut Counts,
 ) -> u8
     ensures closed { is_some handle.old.pointer.kept ≡ false → result ≡ 10 }
-    ensures told { result ≡ 0 → ForSome handle.old.pointer.kept (λ g. (h : List PassEntry) →
-        IsPermittedHistory g.table h → IsStateAfter (board_in g.guard) h →
-        counts.new ≡ counts_of g.table (actions_of h) task) }
+    ensures told { result ≡ 0 → ForSome handle.old.pointer.kept (λ g.
+        AfterPermitted g.table g.guard (λ h. counts.new ≡ counts_of g.table (actions_of h) task)) }
     ensures there { ForSome handle.old.pointer.kept (λ g. task < length g.table.tasks →
         result ≡ 0) }
     ensures no_task { ForSome handle.old.pointer.kept (λ g. length g.table.tasks ≤ task →
@@ -245,34 +215,15 @@ pub extern "C" fn caladan_guard_task(
     ensures refused { result ≢ 0 → counts.new ≡ counts.old }
     ensures same { handle.new.pointer.kept ≡ handle.old.pointer.kept }
 {
-    match handle.take(alloc) {
-        None => Refusal::Closed as u8,
-        Some(kept) => {
-            let found = kept.counts(task);
-            *handle = GateHandle::of(kept);
-            match found {
-                Some(found) => {
-                    *counts = found;
-                    0
-                }
-                None => Refusal::NoSuch as u8,
-            }
-        }
-    }
+    looked_up!(GuardHandle: handle, alloc; kept => kept.counts(task); found => *counts = found)
 }
 
 /// Lets go of what the handle keeps: 0; 10 it is closed already.
 #[unsafe(no_mangle)]
-pub extern "C" fn caladan_guard_close(alloc: Global, handle: &mut GateHandle) -> u8
+pub extern "C" fn caladan_guard_close(alloc: Global, handle: &mut GuardHandle) -> u8
     ensures already { is_some handle.old.pointer.kept ≡ false → result ≡ 10 }
     ensures closed { is_some handle.old.pointer.kept ≡ true → result ≡ 0 }
     ensures after { handle.new.pointer.kept ≡ None }
 {
-    match handle.take(alloc) {
-        None => Refusal::Closed as u8,
-        Some(kept) => {
-            drop(kept);
-            0
-        }
-    }
+    let_go!(handle, alloc)
 }

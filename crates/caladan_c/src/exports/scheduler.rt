@@ -3,7 +3,7 @@
 mod each;
 mod facts;
 
-ghost use Rattle.std.specs.Prelude.{◌≡◌, ◌≢◌, ◌⊎◌, ◌<◌, ◌≤◌, IfOk, IfErr, OnErr, Err, None, List};
+ghost use Rattle.std.specs.Prelude.{◌≡◌, ◌≢◌, ◌⊎◌, ◌<◌, ◌≤◌, IfOk, IfErr, OnErr, Err, None};
 ghost use Rattle.std.specs.Prelude.{[], length, true, false};
 ghost use Rattle.std.specs.Option.{is_some, ForSome, IsSomeAnd};
 ghost use Rattle.cal_machine.specs.Outcome.{Gives};
@@ -12,20 +12,19 @@ ghost use Rattle.cal_policy.specs.Board.{kept_holder};
 ghost use Rattle.cal_policy.specs.History.{actions_of, holder_of};
 ghost use Rattle.cal_policy.specs.Judgement.Judging.{IsInput};
 ghost use Rattle.cal_machine.specs.TableTasks.{threads_of_table};
-ghost use Rattle.cal_policy.specs.declared.history.entry.PassEntry.{PassEntry};
 ghost use Rattle.caladan_c.specs.Found.{input_of, input_given};
 ghost use Rattle.caladan_c.specs.Opening.{SaysScheduler};
-ghost use Rattle.cal_policy.specs.Book.{board_in};
+ghost use Rattle.cal_policy.specs.Book.{board_in, AfterLegal};
 ghost use Rattle.cal_policy.specs.Pass.{IsLegal};
 ghost use Rattle.cal_policy.specs.State.{IsStateAfter};
-ghost use Rattle.caladan_c.specs.Passing.{IsPassed, HasRoom, IsShort};
+ghost use Rattle.caladan_c.specs.Passing.{MadePass, HasRoom, IsShort};
 ghost use Rattle.caladan_c.specs.Told.{AreTold, AreJudgements, counts_of, told_holder_of};
 ghost use Rattle.caladan_c.specs.declared.answer.Refusal.TheVariants.{NoRoom, Unfit};
 ghost use Rattle.caladan_c.specs.declared.answer.Refusal.TheVariants.{WrongCount};
 
 use crate::answer::Refusal;
 use crate::found::Found;
-use crate::given::Given;
+use crate::handed_in::HandedIn;
 use crate::handle::scheduler::SchedulerHandle;
 use crate::scheduler::Scheduler;
 use crate::told::counts::Counts;
@@ -73,14 +72,7 @@ pub extern "C" fn caladan_threads(alloc: Global, handle: &mut SchedulerHandle) -
     ensures count { ForSome handle.old.pointer.kept (λ s. result ≡ threads_of_table s.table) }
     ensures same { handle.new.pointer.kept ≡ handle.old.pointer.kept }
 {
-    match handle.take(alloc) {
-        None => 0,
-        Some(kept) => {
-            let threads = kept.threads();
-            *handle = SchedulerHandle::of(kept);
-            threads
-        }
-    }
+    asked!(SchedulerHandle: handle, alloc; 0; kept => kept.threads(); threads => threads)
 }
 
 /// The bandwidth figure above which a best-effort task loses a core. 0 of a closed handle.
@@ -90,34 +82,24 @@ pub extern "C" fn caladan_bandwidth_limit(alloc: Global, handle: &mut SchedulerH
     ensures limit { ForSome handle.old.pointer.kept (λ s. result ≡ s.table.bandwidth_limit) }
     ensures same { handle.new.pointer.kept ≡ handle.old.pointer.kept }
 {
-    match handle.take(alloc) {
-        None => 0,
-        Some(kept) => {
-            let limit = kept.bandwidth_limit();
-            *handle = SchedulerHandle::of(kept);
-            limit
-        }
-    }
+    asked!(SchedulerHandle: handle, alloc; 0; kept => kept.bandwidth_limit(); limit => limit)
 }
 
 impl Scheduler {
     /// Makes the next pass and writes its actions: how many they are, or why it did nothing.
     fn pass_told(
         &mut self,
-        given: Given<'_>,
+        given: HandedIn<'_>,
         judged: &mut [u8],
         actions: &mut [Told],
     ) -> Result<usize, Refusal>
-        ensures passed { IfOk result (λ made. (h : List PassEntry) → IsLegal self.old.table h →
-            IsStateAfter (board_in self.old.book) h →
-            IsPassed self.old h (input_given self.old.table h given.entry) self.new
-            × AreTold self.new.made made actions.new) }
-        ensures judged { IfOk result (λ _. (h : List PassEntry) → IsLegal self.old.table h →
-            IsStateAfter (board_in self.old.book) h →
-            AreJudgements (input_given self.old.table h given.entry).seen judged.new) }
-        ensures unfit { result ≡ Err Unfit → (h : List PassEntry) → IsLegal self.old.table h →
-            IsStateAfter (board_in self.old.book) h →
-            IsInput self.old.table h (input_given self.old.table h given.entry) → ⊥ }
+        ensures passed { IfOk result (λ made. AfterLegal self.old.table self.old.book (λ h.
+            MadePass self.old h (input_given self.old.table h given.entry) self.new × AreTold
+            self.new.made made actions.new)) }
+        ensures judged { IfOk result (λ _. AfterLegal self.old.table self.old.book (λ h.
+            AreJudgements (input_given self.old.table h given.entry).seen judged.new)) }
+        ensures unfit { result ≡ Err Unfit → AfterLegal self.old.table self.old.book (λ h.
+            IsInput self.old.table h (input_given self.old.table h given.entry) → ⊥) }
         ensures wrong_count { length given.entry.looks.now ≢ threads_of_table self.old.table →
             result ≡ Err WrongCount }
         ensures no_room { length given.entry.looks.now ≡ threads_of_table self.old.table →
@@ -159,18 +141,16 @@ pub extern "C" fn caladan_pass(
     made: &mut usize,
 ) -> u8
     ensures closed { is_some handle.old.pointer.kept ≡ false → result ≡ 10 }
-    ensures passed { result ≡ 0 → ForSome handle.old.pointer.kept (λ s. (h : List PassEntry) →
-        IsLegal s.table h → IsStateAfter (board_in s.book) h →
-        IsSomeAnd handle.new.pointer.kept (λ after.
-        IsPassed s h (input_of s.table h now bandwidth looks.now) after ×
-        AreTold after.made made.new actions.new)) }
-    ensures judged { result ≡ 0 → ForSome handle.old.pointer.kept (λ s. (h : List PassEntry) →
-        IsLegal s.table h → IsStateAfter (board_in s.book) h →
-        AreJudgements (input_of s.table h now bandwidth looks.now).seen
-        judged.new) }
-    ensures unfit { result ≡ 15 → ForSome handle.old.pointer.kept (λ s. (h : List PassEntry) →
-        IsLegal s.table h → IsStateAfter (board_in s.book) h →
-        IsInput s.table h (input_of s.table h now bandwidth looks.now) → ⊥) }
+    ensures passed { result ≡ 0 → ForSome handle.old.pointer.kept (λ s.
+        AfterLegal s.table s.book (λ h. IsSomeAnd handle.new.pointer.kept (λ after.
+        MadePass s h (input_of s.table h now bandwidth looks.now) after × AreTold after.made
+        made.new actions.new))) }
+    ensures judged { result ≡ 0 → ForSome handle.old.pointer.kept (λ s.
+        AfterLegal s.table s.book (λ h.
+        AreJudgements (input_of s.table h now bandwidth looks.now).seen judged.new)) }
+    ensures unfit { result ≡ 15 → ForSome handle.old.pointer.kept (λ s.
+        AfterLegal s.table s.book (λ h.
+        IsInput s.table h (input_of s.table h now bandwidth looks.now) → ⊥)) }
     ensures wrong_count { ForSome handle.old.pointer.kept (λ s.
         length looks.now ≢ threads_of_table s.table → result ≡ 13) }
     ensures no_room { ForSome handle.old.pointer.kept (λ s.
@@ -185,25 +165,15 @@ pub extern "C" fn caladan_pass(
         × (actions.new ≡ actions.old) × (judged.new ≡ judged.old) × (made.new ≡ 0) }
 {
     *made = 0;
-    match handle.take(alloc) {
-        None => Refusal::Closed as u8,
-        Some(mut kept) => {
-            let given = Given {
-                now,
-                bandwidth,
-                looks,
-            };
-            let answer = kept.pass_told(given, judged, actions);
-            *handle = SchedulerHandle::of(kept);
-            match answer {
-                Ok(count) => {
-                    *made = count;
-                    0
-                }
-                Err(refusal) => refusal.number(),
+    asked!(SchedulerHandle: handle, alloc; Refusal::Closed as u8;
+        mut kept => kept.pass_told(HandedIn { now, bandwidth, looks }, judged, actions);
+        answer => match answer {
+            Ok(count) => {
+                *made = count;
+                0
             }
-        }
-    }
+            Err(refusal) => refusal.number(),
+        })
 }
 
 /// Who has a core after the passes so far: 0; 10 the handle is closed; 16 the table has no such
@@ -216,28 +186,17 @@ pub extern "C" fn caladan_holder(
     holder: &mut ToldHolder,
 ) -> u8
     ensures closed { is_some handle.old.pointer.kept ≡ false → result ≡ 10 }
-    ensures told { result ≡ 0 → ForSome handle.old.pointer.kept (λ s. (h : List PassEntry) →
-        IsLegal s.table h → IsStateAfter (board_in s.book) h → holder.new ≡ told_holder_of
-        (kept_holder (holder_of (actions_of h) core))) }
+    ensures told { result ≡ 0 → ForSome handle.old.pointer.kept (λ s.
+        AfterLegal s.table s.book (λ h.
+        holder.new ≡ told_holder_of (kept_holder (holder_of (actions_of h) core)))) }
     ensures there { ForSome handle.old.pointer.kept (λ s. core < s.table.cores → result ≡ 0) }
     ensures no_core { ForSome handle.old.pointer.kept (λ s. s.table.cores ≤ core → result ≡ 16) }
     ensures refused { result ≢ 0 → holder.new ≡ holder.old }
     ensures same { handle.new.pointer.kept ≡ handle.old.pointer.kept }
 {
-    match handle.take(alloc) {
-        None => Refusal::Closed as u8,
-        Some(kept) => {
-            let found = kept.holder(core);
-            *handle = SchedulerHandle::of(kept);
-            match found {
-                Some(found) => {
-                    *holder = tell_holder(found);
-                    0
-                }
-                None => Refusal::NoSuch as u8,
-            }
-        }
-    }
+    looked_up!(SchedulerHandle: handle, alloc; kept => kept.holder(core);
+        found => *holder = tell_holder(found)
+    )
 }
 
 /// What a task has after the passes so far: 0; 10 the handle is closed; 16 the table has no such
@@ -250,9 +209,8 @@ pub extern "C" fn caladan_task(
     counts: &mut Counts,
 ) -> u8
     ensures closed { is_some handle.old.pointer.kept ≡ false → result ≡ 10 }
-    ensures told { result ≡ 0 → ForSome handle.old.pointer.kept (λ s. (h : List PassEntry) →
-        IsLegal s.table h → IsStateAfter (board_in s.book) h →
-        counts.new ≡ counts_of s.table (actions_of h) task) }
+    ensures told { result ≡ 0 → ForSome handle.old.pointer.kept (λ s.
+        AfterLegal s.table s.book (λ h. counts.new ≡ counts_of s.table (actions_of h) task)) }
     ensures there { ForSome handle.old.pointer.kept (λ s. task < length s.table.tasks →
         result ≡ 0) }
     ensures no_task { ForSome handle.old.pointer.kept (λ s. length s.table.tasks ≤ task →
@@ -260,20 +218,7 @@ pub extern "C" fn caladan_task(
     ensures refused { result ≢ 0 → counts.new ≡ counts.old }
     ensures same { handle.new.pointer.kept ≡ handle.old.pointer.kept }
 {
-    match handle.take(alloc) {
-        None => Refusal::Closed as u8,
-        Some(kept) => {
-            let found = kept.counts(task);
-            *handle = SchedulerHandle::of(kept);
-            match found {
-                Some(found) => {
-                    *counts = found;
-                    0
-                }
-                None => Refusal::NoSuch as u8,
-            }
-        }
-    }
+    looked_up!(SchedulerHandle: handle, alloc; kept => kept.counts(task); found => *counts = found)
 }
 
 /// Lets go of what the handle keeps: 0; 10 it is closed already.
@@ -283,11 +228,5 @@ pub extern "C" fn caladan_close(alloc: Global, handle: &mut SchedulerHandle) -> 
     ensures closed { is_some handle.old.pointer.kept ≡ true → result ≡ 0 }
     ensures after { handle.new.pointer.kept ≡ None }
 {
-    match handle.take(alloc) {
-        None => Refusal::Closed as u8,
-        Some(kept) => {
-            drop(kept);
-            0
-        }
-    }
+    let_go!(handle, alloc)
 }

@@ -1,19 +1,16 @@
 //! Passes that take looks one by one, and the first look that does not fit.
 
 ghost use Rattle.std.specs.Prelude.{◌≡◌, ◌<◌, ◌≤◌};
-ghost use Rattle.std.specs.Prelude.{IfOk, IfErr, OnErr, List, length, IfNone};
+ghost use Rattle.std.specs.Prelude.{length, IfNone};
 ghost use Rattle.std.specs.Option.{IfSome};
-ghost use Rattle.cal_policy.specs.declared.history.entry.PassEntry.{PassEntry};
 ghost use Rattle.cal_machine.specs.TableTasks.{threads_of_table};
 ghost use Rattle.caladan_c.specs.OneByOne.{input_given_each, AreSaid, IsFirstUnfit, AllFit};
-ghost use Rattle.cal_policy.specs.Book.{board_in};
-ghost use Rattle.cal_policy.specs.Pass.{IsLegal};
-ghost use Rattle.cal_policy.specs.State.{IsStateAfter};
-ghost use Rattle.caladan_c.specs.Passing.{IsPassed};
+ghost use Rattle.caladan_c.specs.Passing.{MadePass};
+ghost use Rattle.cal_policy.specs.Book.{AfterLegal};
 
 use super::Scheduler;
 use crate::found::Found;
-use crate::given::Given;
+use crate::handed_in::HandedIn;
 use crate::input::first_unfit;
 use crate::walk::take_each;
 use cal_policy::{legal_is_short, one_pass_more_is_legal, open_pass_fits, settled_is_no_news};
@@ -22,15 +19,13 @@ impl Scheduler {
     /// Makes the next pass, each look by itself: a look that is unfit, ahead or foreign is taken as
     /// a busy one, and what is told of it says why. Its actions are then in `made`. It takes no
     /// memory.
-    pub fn pass_each(&mut self, given: Given<'_>, judged: &mut [u8])
+    pub fn pass_each(&mut self, given: HandedIn<'_>, judged: &mut [u8])
         requires count { length given.looks.now ≡ threads_of_table self.old.table }
         requires room { threads_of_table self.old.table ≤ length judged.old }
-        ensures passed { (h : List PassEntry) → IsLegal self.old.table h →
-            IsStateAfter (board_in self.old.book) h →
-            IsPassed self.old h (input_given_each self.old.table h given.entry) self.new }
-        ensures said { (h : List PassEntry) → IsLegal self.old.table h →
-            IsStateAfter (board_in self.old.book) h →
-            AreSaid self.old.table.cores h given.entry.looks.now judged.new }
+        ensures passed { AfterLegal self.old.table self.old.book (λ h.
+            MadePass self.old h (input_given_each self.old.table h given.entry) self.new) }
+        ensures said { AfterLegal self.old.table self.old.book (λ h.
+            AreSaid self.old.table.cores h given.entry.looks.now judged.new) }
     {
         self.config.limits();
         settled_is_no_news();
@@ -57,12 +52,10 @@ impl Scheduler {
     /// The first thread whose look does not fit what it showed before, or has not the right shape.
     pub fn first_unfit(&self, looks: &[Found]) -> Option<usize>
         requires { length looks.now ≡ threads_of_table self.now.table }
-        ensures first { IfSome result (λ k. (h : List PassEntry) → IsLegal self.now.table h →
-            IsStateAfter (board_in self.now.book) h →
-            IsFirstUnfit h looks.now k) }
-        ensures none { IfNone result ((h : List PassEntry) → IsLegal self.now.table h →
-            IsStateAfter (board_in self.now.book) h →
-            AllFit h looks.now) }
+        ensures first { IfSome result (λ k. AfterLegal self.now.table self.now.book (λ h.
+            IsFirstUnfit h looks.now k)) }
+        ensures none { IfNone result (AfterLegal self.now.table self.now.book (λ h.
+            AllFit h looks.now)) }
     {
         first_unfit(&self.config, self.book.board(), looks)
     }

@@ -1,14 +1,11 @@
 //! What a scheduler says of its table, its threads and the commands of its last pass.
 
-ghost use Rattle.std.specs.Prelude.{◌≡◌, ◌<◌, List, length, nat_lt};
+ghost use Rattle.std.specs.Prelude.{◌≡◌, ◌<◌, length, nat_lt};
 ghost use Rattle.std.specs.Option.{is_some, IfSome};
-ghost use Rattle.cal_policy.specs.declared.history.entry.PassEntry.{PassEntry};
 ghost use Rattle.cal_machine.specs.TableTasks.{threads_of_table};
 ghost use Rattle.cal_policy.specs.Judgement.Gone.{can_be_gone};
 ghost use Rattle.caladan_c.specs.Facts.{machine_of, row_of, state_of, IsLookOfGone};
-ghost use Rattle.cal_policy.specs.Book.{board_in};
-ghost use Rattle.cal_policy.specs.Pass.{IsLegal};
-ghost use Rattle.cal_policy.specs.State.{IsStateAfter};
+ghost use Rattle.cal_policy.specs.Book.{AfterLegal};
 
 use super::Scheduler;
 use crate::found::Found;
@@ -37,9 +34,8 @@ impl Scheduler {
     /// acknowledges, where the table has the thread.
     pub fn thread(&self, thread: usize) -> Option<ThreadState>
         ensures there { is_some result ≡ nat_lt thread (threads_of_table self.now.table) }
-        ensures state { IfSome result (λ state. (h : List PassEntry) → IsLegal self.now.table h →
-            IsStateAfter (board_in self.now.book) h →
-            state ≡ state_of self.now.table h thread) }
+        ensures state { IfSome result (λ state. AfterLegal self.now.table self.now.book (λ h.
+            state ≡ state_of self.now.table h thread)) }
     {
         state_of_thread(&self.config, self.book.board(), thread)
     }
@@ -47,12 +43,10 @@ impl Scheduler {
     /// The look at the page of a thread that is gone; None where no page can show it.
     pub fn gone_look(&self, thread: usize) -> Option<Found>
         requires { thread < threads_of_table self.now.table }
-        ensures some { IfSome result (λ look. (h : List PassEntry) → IsLegal self.now.table h →
-            IsStateAfter (board_in self.now.book) h →
-            IsLookOfGone self.now.table h thread look) }
-        ensures none { (h : List PassEntry) → IsLegal self.now.table h →
-            IsStateAfter (board_in self.now.book) h →
-            is_some result ≡ can_be_gone h thread }
+        ensures some { IfSome result (λ look. AfterLegal self.now.table self.now.book (λ h.
+            IsLookOfGone self.now.table h thread look)) }
+        ensures none { AfterLegal self.now.table self.now.book (λ h.
+            is_some result ≡ can_be_gone h thread) }
     {
         self.config.limits();
         gone_is_kept();

@@ -1,7 +1,7 @@
 //! Where a guard stopped a pass, and why, as C is told.
 
 ghost use Rattle.std.specs.Prelude.{◌≡◌};
-ghost use Rattle.caladan_c.specs.Gated.{why_number, why_names, told_refused_of};
+ghost use Rattle.caladan_c.specs.GuardView.{why_number, why_names, told_refused_of};
 
 use cal_guard::{Refused, Why};
 

@@ -25,6 +25,8 @@ use std::test::Fail;
 #[derive(Drop)]
 struct Draw {
     seed: u64,
+    /// The clock of the pass that they are drawn for.
+    clock: u64,
 }
 
 impl Draw {
@@ -53,9 +55,10 @@ fn shown_core(config: &Config, board: &Board, k: usize) -> u64
 }
 
 /// The next record of thread `k`: mostly one that takes all commands and shows its core.
-fn next_record(draw: &mut Draw, config: &Config, board: &Board, k: usize, clock: u64) -> Record
+fn next_record(draw: &mut Draw, config: &Config, board: &Board, k: usize) -> Record
     requires { k < MOST_THREADS }
 {
+    let clock = draw.clock;
     let last = board.keeping.shown[k].rec;
     let sent = u64::try_from(board.holding.sent[k]).unwrap_or(0);
     let taken = match draw.below(32) {
@@ -82,14 +85,14 @@ fn next_record(draw: &mut Draw, config: &Config, board: &Board, k: usize, clock:
 }
 
 /// What is found of thread `k`: in half of all cases what was found before.
-fn found(draw: &mut Draw, config: &Config, board: &Board, k: usize, clock: u64) -> Look
+fn found(draw: &mut Draw, config: &Config, board: &Board, k: usize) -> Look
     requires { k < MOST_THREADS }
 {
     let last = board.keeping.shown[k];
     match draw.below(1024) {
         0 => Look::Whole {
             number: last.number,
-            rec: next_record(draw, config, board, k, clock),
+            rec: next_record(draw, config, board, k),
         },
         1..64 => Look::Busy {
             first: 1,
@@ -97,7 +100,7 @@ fn found(draw: &mut Draw, config: &Config, board: &Board, k: usize, clock: u64) 
         },
         64..512 => Look::Whole {
             number: last.number.saturating_add(1),
-            rec: next_record(draw, config, board, k, clock),
+            rec: next_record(draw, config, board, k),
         },
         _ => Look::Whole {
             number: last.number,
@@ -106,22 +109,29 @@ fn found(draw: &mut Draw, config: &Config, board: &Board, k: usize, clock: u64) 
     }
 }
 
-/// What is found of each thread, and whether its ring has room.
-fn drawn_looks(
-    alloc: Global,
-    config: &Config,
-    book: &Book,
-    draw: &mut Draw,
+/// What a pass is drawn.
+#[derive(Drop)]
+struct Drawn {
     clock: u64,
-) -> Result<Vec<FoundLook>, Fail> {
+    bandwidth: u64,
+    /// What is found of each thread, and whether its ring has room.
+    looks: Vec<FoundLook>,
+}
+
+/// What the pass at this clock is drawn.
+fn drawn(alloc: Global, config: &Config, book: &Book, draw: &mut Draw) -> Result<Drawn, Fail> {
     config.limits();
     let mut looks = Vec::with_capacity(alloc, config.threads())?;
     for k in 0..config.threads() {
-        let look = found(draw, config, book.board(), k, clock);
+        let look = found(draw, config, book.board(), k);
         let room = draw.below(8) > 0;
         looks.push(FoundLook { look, room })?;
     }
-    Ok(looks)
+    Ok(Drawn {
+        clock: draw.clock,
+        bandwidth: draw.below(2000),
+        looks,
+    })
 }
 
 /// Takes in one look, and says whether it fits.
@@ -147,31 +157,53 @@ fn take_in_all(came: &mut OpenPass, config: &Config, board: &Board, looks: &[Fou
     true
 }
 
-/// Whether the book makes these actions of these looks, where they come in one by one.
-fn walks(
-    alloc: Global,
-    config: &Config,
-    book: &mut Book,
-    came: &mut OpenPass,
-    looks: &[FoundLook],
-    entry: &PassEntry,
-) -> Result<bool, Fail>
-    requires { IsReady config.now (board_in book.old) }
-    ensures { IsReady config.now (board_in book.new) }
-{
-    let fit = take_in_all(came, config, book.board(), looks);
-    if !fit || came.count != config.threads() {
-        return Ok(false);
+/// A book whose looks come in one by one.
+#[derive(Drop)]
+struct Walked {
+    book: Book,
+    came: Box<OpenPass>,
+}
+
+impl Walked {
+    /// After no pass.
+    fn open(alloc: Global, config: &Config) -> Result<Walked, Fail>
+        ensures { IfOk result (λ walked. IsReady config.now (board_in walked.book)) }
+    {
+        Ok(Walked {
+            book: Book::open(alloc, config)?,
+            came: Box::new(alloc, OpenPass::new())?,
+        })
     }
-    let mut made = Actions::reserved(alloc)?;
-    book.pass(
-        config,
-        entry.input.now,
-        entry.input.bandwidth,
-        came,
-        &mut made,
-    );
-    Ok(made.as_slice() == entry.actions.as_slice())
+
+    /// Takes in the looks, and says whether each of them fits.
+    fn takes_in(&mut self, config: &Config, looks: &[FoundLook]) -> bool
+        requires { IsReady config.now (board_in self.old.book) }
+        ensures { IsReady config.now (board_in self.new.book) }
+    {
+        take_in_all(&mut self.came, config, self.book.board(), looks)
+    }
+
+    /// Whether the book makes these actions of these looks.
+    fn makes(
+        &mut self,
+        alloc: Global,
+        config: &Config,
+        looks: &[FoundLook],
+        entry: &PassEntry,
+    ) -> Result<bool, Fail>
+        requires { IsReady config.now (board_in self.old.book) }
+        ensures { IsReady config.now (board_in self.new.book) }
+    {
+        let fit = self.takes_in(config, looks);
+        if !fit || self.came.count != config.threads() {
+            return Ok(false);
+        }
+        let mut made = Actions::reserved(alloc)?;
+        let (now, bandwidth) = (entry.input.now, entry.input.bandwidth);
+        self.book
+            .pass(config, now, bandwidth, &self.came, &mut made);
+        Ok(made.as_slice() == entry.actions.as_slice())
+    }
 }
 
 /// The pass that the book makes on this input.
@@ -222,8 +254,7 @@ fn is_refused(config: &Config, before: &[PassEntry], input: &Input) -> bool {
 #[derive(Drop)]
 struct Together {
     stepped: Book,
-    walked: Book,
-    came: Box<OpenPass>,
+    walked: Walked,
     guard: Guard,
     history: Vec<PassEntry>,
 }
@@ -232,48 +263,41 @@ impl Together {
     /// After no pass.
     fn open(alloc: Global, config: &Config) -> Result<Together, Fail>
         ensures stepped { IfOk result (λ all. IsReady config.now (board_in all.stepped)) }
-        ensures walked { IfOk result (λ all. IsReady config.now (board_in all.walked)) }
+        ensures walked { IfOk result (λ all. IsReady config.now (board_in all.walked.book)) }
         ensures guard { IfOk result (λ all. IsReady config.now (guards.board_in all.guard)) }
     {
         Ok(Together {
             stepped: Book::open(alloc, config)?,
-            walked: Book::open(alloc, config)?,
-            came: Box::new(alloc, OpenPass::new())?,
+            walked: Walked::open(alloc, config)?,
             guard: Guard::open(alloc, config)?,
             history: Vec::new(alloc),
         })
     }
 
-    /// Whether all do the same with these looks: the pass that the plain pass makes, or none.
-    fn agree(
-        &mut self,
-        alloc: Global,
-        config: &Config,
-        looks: &[FoundLook],
-        clock: u64,
-        bandwidth: u64,
-    ) -> Result<bool, Fail>
+    /// Whether all do the same with what was drawn: the pass that the plain pass makes, or none.
+    fn agree(&mut self, alloc: Global, config: &Config, drawn: &Drawn) -> Result<bool, Fail>
         requires stepped { IsReady config.now (board_in self.old.stepped) }
-        requires walked { IsReady config.now (board_in self.old.walked) }
+        requires walked { IsReady config.now (board_in self.old.walked.book) }
         requires guard { IsReady config.now (guards.board_in self.old.guard) }
         ensures stepped { IfOk result (λ _. IsReady config.now (board_in self.new.stepped)) }
-        ensures walked { IfOk result (λ _. IsReady config.now (board_in self.new.walked)) }
+        ensures walked { IfOk result (λ _. IsReady config.now (board_in self.new.walked.book)) }
         ensures guard { IfOk result (λ _. IsReady config.now (guards.board_in self.new.guard)) }
     {
+        let looks = drawn.looks.as_slice();
         if looks.len() != config.threads() {
             return Ok(false);
         }
+        let (clock, bandwidth) = (drawn.clock, drawn.bandwidth);
         let input = self.stepped.input(alloc, config, clock, bandwidth, looks)?;
         if !self.stepped.fits(config, &input) {
-            let fit = take_in_all(&mut self.came, config, self.walked.board(), looks);
+            let fit = self.walked.takes_in(config, looks);
             return Ok(!fit && is_refused(config, self.history.as_slice(), &input));
         }
         let entry = stepped(alloc, config, &mut self.stepped, input)?;
         if !is_made(alloc, config, self.history.as_slice(), &entry)? {
             return Ok(false);
         }
-        let (walked, came) = (&mut self.walked, &mut self.came);
-        if !walks(alloc, config, walked, came, looks, &entry)? {
+        if !self.walked.makes(alloc, config, looks, &entry)? {
             return Ok(false);
         }
         let through = is_let_through(config, &mut self.guard, &entry);
@@ -284,14 +308,13 @@ impl Together {
 
 /// Whether all do the same in each pass of a drawn history.
 fn are_alike(alloc: Global, config: &Config, seed: u64) -> Result<bool, Fail> {
-    let mut draw = Draw { seed };
+    let mut draw = Draw { seed, clock: 0 };
     let mut all = Together::open(alloc, config)?;
     for pass in 0..30u64 {
         let back = if draw.below(16) == 0 { 100 } else { 0 };
-        let clock = (1000 + 20 * pass).saturating_sub(back);
-        let looks = drawn_looks(alloc, config, &all.stepped, &mut draw, clock)?;
-        let bandwidth = draw.below(2000);
-        if !all.agree(alloc, config, looks.as_slice(), clock, bandwidth)? {
+        draw.clock = (1000 + 20 * pass).saturating_sub(back);
+        let drawn = drawn(alloc, config, &all.stepped, &mut draw)?;
+        if !all.agree(alloc, config, &drawn)? {
             return Ok(false);
         }
     }

@@ -4,8 +4,61 @@
 use cal_machine::Config;
 use cal_policy::{Actions, PassEntry, is_input, orderly, plain_pass};
 use cal_trace::read_history;
+use std::alloc::{AllocError, Global};
 use std::process::Abort;
 use std::test::Fail;
+
+/// A table; which core each thread has that has one; and what comes after the looks of the second
+/// pass.
+type State = (&'static str, &'static [(u8, u8)], &'static str);
+
+/// The row of a thread that shows the core which it has.
+fn push_shown(text: &mut String, thread: usize, core: Option<u8>) -> Result<(), AllocError> {
+    match core {
+        Some(core) => {
+            let running = core as u64 + 1;
+            writeln!(text, "whole,{thread},1,1,1,{running},0,0,0,0,100,0,0")?;
+        }
+        None => writeln!(text, "whole,{thread},1,1,0,0,0,0,0,0,0,0,0")?,
+    }
+    Ok(())
+}
+
+/// The core that a thread has.
+fn core_of(held: &[(u8, u8)], thread: usize) -> Option<u8> {
+    for (core, holder) in held {
+        if *holder as usize == thread {
+            return Some(*core);
+        }
+    }
+    None
+}
+
+/// The rows of the first pass, in which no thread was ever at work, and which grants the cores.
+fn push_first(text: &mut String, threads: usize, held: &[(u8, u8)]) -> Result<(), AllocError> {
+    writeln!(text, "caladan-history,2\npass,50,0")?;
+    for thread in 0..threads {
+        writeln!(text, "whole,{thread},1,0,0,0,0,0,0,0,0,0,0")?;
+    }
+    push_grants(text, held)
+}
+
+/// The grants of these cores.
+fn push_grants(text: &mut String, held: &[(u8, u8)]) -> Result<(), AllocError> {
+    for (core, thread) in held {
+        writeln!(text, "grant,{core},{thread},3")?;
+    }
+    Ok(())
+}
+
+/// The looks of the second pass, which shows the threads on the cores.
+fn push_second(text: &mut String, threads: usize, held: &[(u8, u8)]) -> Result<(), AllocError> {
+    writeln!(text, "pass,100,0")?;
+    for thread in 0..threads {
+        push_shown(text, thread, core_of(held, thread))?;
+    }
+    Ok(())
+}
 
 /// The plain pass on the input of this entry, after these, makes its actions.
 fn assert_made<R: Abort + AllocGlobal>(
@@ -28,18 +81,19 @@ fn assert_made<R: Abort + AllocGlobal>(
 
 /// Each pass of the history from the third on is made after those before it.
 fn assert_all_made<R: Abort + AllocGlobal>(rt: &R, state: State) -> Result<(), Fail> {
-    let (table, history) = state;
+    let (table, held, rest) = state;
     let config = Config::read(rt.alloc(), table.as_bytes())?;
-    let history = read_history(rt.alloc(), &config, history.as_bytes())?;
+    let mut text = String::new(rt.alloc());
+    push_first(&mut text, config.threads(), held)?;
+    push_second(&mut text, config.threads(), held)?;
+    text.push_str(rest)?;
+    let history = read_history(rt.alloc(), &config, text.as_bytes())?;
     assert!(rt; history.len() > 2);
     for p in 2..history.len() {
         assert_made(rt, &config, &history[..p], &history[p])?;
     }
     Ok(())
 }
-
-/// A table, and a history for it.
-type State = (&'static str, &'static str);
 
 /// Two threads left their cores, and one has work again: of the free cores the one beside its
 /// task's own is granted (class 1).
@@ -56,19 +110,8 @@ task = [
 { kind = \"lc\", guaranteed = 1, limit = 3, delay = 10, request = 50 },
 ]
 ",
+    &[(0, 0), (1, 1), (2, 2)],
     "\
-caladan-history,2
-pass,50,0
-whole,0,1,0,0,0,0,0,0,0,0,0,0
-whole,1,1,0,0,0,0,0,0,0,0,0,0
-whole,2,1,0,0,0,0,0,0,0,0,0,0
-grant,0,0,3
-grant,1,1,3
-grant,2,2,3
-pass,100,0
-whole,0,1,1,1,1,0,0,0,0,100,0,0
-whole,1,1,1,1,2,0,0,0,0,100,0,0
-whole,2,1,1,1,3,0,0,0,0,100,0,0
 pass,200,0
 whole,0,1,2,1,0,1,100,0,0,190,0,0
 whole,1,1,2,1,0,0,0,0,0,190,0,0
@@ -80,6 +123,16 @@ end,3
 ",
 );
 
+/// Two cores, and a task of each kind with two threads.
+const TWO_CORES: &str = "\
+cores = 2
+bandwidth_limit = 1000
+task = [
+{ kind = \"lc\", guaranteed = 1, limit = 2, delay = 10, request = 50 },
+{ kind = \"be\", guaranteed = 0, limit = 2, delay = 0, request = 0 },
+]
+";
+
 /// A core of a best-effort task is revoked for a latency-critical one (class 4), and no other while
 /// it is being left.
 #[test]
@@ -88,28 +141,9 @@ fn preempt_best_effort(rt: HostRuntime) -> Result<(), Fail> {
 }
 
 const PREEMPT_BEST_EFFORT: State = (
+    TWO_CORES,
+    &[(0, 2), (1, 3)],
     "\
-cores = 2
-bandwidth_limit = 1000
-task = [
-{ kind = \"lc\", guaranteed = 1, limit = 2, delay = 10, request = 50 },
-{ kind = \"be\", guaranteed = 0, limit = 2, delay = 0, request = 0 },
-]
-",
-    "\
-caladan-history,2
-pass,50,0
-whole,0,1,0,0,0,0,0,0,0,0,0,0
-whole,1,1,0,0,0,0,0,0,0,0,0,0
-whole,2,1,0,0,0,0,0,0,0,0,0,0
-whole,3,1,0,0,0,0,0,0,0,0,0,0
-grant,0,2,3
-grant,1,3,3
-pass,100,0
-whole,0,1,1,0,0,0,0,0,0,0,0,0
-whole,1,1,1,0,0,0,0,0,0,0,0,0
-whole,2,1,1,1,1,0,0,0,0,100,0,0
-whole,3,1,1,1,2,0,0,0,0,100,0,0
 pass,200,0
 whole,0,1,2,0,0,1,100,0,0,190,0,0
 whole,1,1,2,0,0,0,0,0,0,0,0,0
@@ -132,28 +166,9 @@ fn yield_before_park(rt: HostRuntime) -> Result<(), Fail> {
 }
 
 const YIELD_BEFORE_PARK: State = (
+    TWO_CORES,
+    &[(0, 2), (1, 3)],
     "\
-cores = 2
-bandwidth_limit = 1000
-task = [
-{ kind = \"lc\", guaranteed = 1, limit = 2, delay = 10, request = 50 },
-{ kind = \"be\", guaranteed = 0, limit = 2, delay = 0, request = 0 },
-]
-",
-    "\
-caladan-history,2
-pass,50,0
-whole,0,1,0,0,0,0,0,0,0,0,0,0
-whole,1,1,0,0,0,0,0,0,0,0,0,0
-whole,2,1,0,0,0,0,0,0,0,0,0,0
-whole,3,1,0,0,0,0,0,0,0,0,0,0
-grant,0,2,3
-grant,1,3,3
-pass,100,0
-whole,0,1,1,0,0,0,0,0,0,0,0,0
-whole,1,1,1,0,0,0,0,0,0,0,0,0
-whole,2,1,1,1,1,0,0,0,0,100,0,0
-whole,3,1,1,1,2,0,0,0,0,100,0,0
 pass,200,0
 whole,0,1,2,0,0,1,100,0,0,190,0,0
 whole,1,1,2,0,0,0,0,0,0,0,0,0
@@ -187,22 +202,8 @@ task = [
 { kind = \"be\", guaranteed = 0, limit = 3, delay = 0, request = 0 },
 ]
 ",
+    &[(0, 2), (1, 3)],
     "\
-caladan-history,2
-pass,50,0
-whole,0,1,0,0,0,0,0,0,0,0,0,0
-whole,1,1,0,0,0,0,0,0,0,0,0,0
-whole,2,1,0,0,0,0,0,0,0,0,0,0
-whole,3,1,0,0,0,0,0,0,0,0,0,0
-whole,4,1,0,0,0,0,0,0,0,0,0,0
-grant,0,2,3
-grant,1,3,3
-pass,100,0
-whole,0,1,1,0,0,0,0,0,0,0,0,0
-whole,1,1,1,0,0,0,0,0,0,0,0,0
-whole,2,1,1,1,1,0,0,0,0,100,0,0
-whole,3,1,1,1,2,0,0,0,0,100,0,0
-whole,4,1,1,0,0,0,0,0,0,0,0,0
 cap,1,1
 revoke,1,bandwidth
 pass,200,0
@@ -232,22 +233,8 @@ task = [
 { kind = \"be\", guaranteed = 0, limit = 2, delay = 0, request = 0 },
 ]
 ",
+    &[(0, 0), (1, 1), (2, 2), (3, 3)],
     "\
-caladan-history,2
-pass,50,0
-whole,0,1,0,0,0,0,0,0,0,0,0,0
-whole,1,1,0,0,0,0,0,0,0,0,0,0
-whole,2,1,0,0,0,0,0,0,0,0,0,0
-whole,3,1,0,0,0,0,0,0,0,0,0,0
-grant,0,0,3
-grant,1,1,3
-grant,2,2,3
-grant,3,3,3
-pass,100,0
-whole,0,1,1,1,1,0,0,0,0,100,0,0
-whole,1,1,1,1,2,0,0,0,0,100,0,0
-whole,2,1,1,1,3,0,0,0,0,100,0,0
-whole,3,1,1,1,4,0,0,0,0,100,0,0
 pass,200,1001
 whole,0,1,2,1,1,0,0,0,300,150,0,0
 whole,1,1,2,1,2,0,0,0,200,150,0,0
@@ -282,16 +269,8 @@ task = [
 { kind = \"lc\", guaranteed = 1, limit = 1, delay = 10, request = 50 },
 ]
 ",
+    &[(0, 0), (1, 1)],
     "\
-caladan-history,2
-pass,50,0
-whole,0,1,0,0,0,0,0,0,0,0,0,0
-whole,1,1,0,0,0,0,0,0,0,0,0,0
-grant,0,0,3
-grant,1,1,3
-pass,100,0
-whole,0,1,1,1,1,0,0,0,0,100,0,0
-whole,1,1,1,1,2,0,0,0,0,100,0,0
 pass,151,0
 whole,0,1,2,1,1,0,0,100,0,100,0,0
 whole,1,1,2,1,2,0,0,0,0,100,0,0
@@ -315,16 +294,8 @@ task = [
 { kind = \"be\", guaranteed = 0, limit = 1, delay = 0, request = 0 },
 ]
 ",
+    &[(0, 0), (1, 1)],
     "\
-caladan-history,2
-pass,50,0
-whole,0,1,0,0,0,0,0,0,0,0,0,0
-whole,1,1,0,0,0,0,0,0,0,0,0,0
-grant,0,0,3
-grant,1,1,3
-pass,100,0
-whole,0,1,1,1,1,0,0,0,0,100,0,0
-whole,1,1,1,1,2,0,0,0,0,100,0,0
 pass,150,0
 whole,0,1,2,1,1,0,0,100,0,100,0,0
 whole,1,1,2,1,2,0,0,0,0,100,0,0
@@ -361,18 +332,8 @@ task = [
 { kind = \"lc\", guaranteed = 1, limit = 1, delay = 10, request = 50 },
 ]
 ",
+    &[(0, 0), (1, 1)],
     "\
-caladan-history,2
-pass,50,0
-whole,0,1,0,0,0,0,0,0,0,0,0,0
-whole,1,1,0,0,0,0,0,0,0,0,0,0
-whole,2,1,0,0,0,0,0,0,0,0,0,0
-grant,0,0,3
-grant,1,1,3
-pass,100,0
-whole,0,1,1,1,1,0,0,0,0,100,0,0
-whole,1,1,1,1,2,0,0,0,0,100,0,0
-whole,2,1,1,0,0,0,0,0,0,0,0,0
 pass,200,0
 whole,0,1,2,1,1,0,0,0,0,100,0,0
 whole,1,1,2,1,2,0,0,0,0,100,0,0
@@ -397,18 +358,8 @@ task = [
 { kind = \"lc\", guaranteed = 0, limit = 1, delay = 10, request = 50 },
 ]
 ",
+    &[(0, 0), (1, 1)],
     "\
-caladan-history,2
-pass,50,0
-whole,0,1,0,0,0,0,0,0,0,0,0,0
-whole,1,1,0,0,0,0,0,0,0,0,0,0
-whole,2,1,0,0,0,0,0,0,0,0,0,0
-grant,0,0,3
-grant,1,1,3
-pass,100,0
-whole,0,1,1,1,1,0,0,0,0,100,0,0
-whole,1,1,1,1,2,0,0,0,0,100,0,0
-whole,2,1,1,0,0,0,0,0,0,0,0,0
 pass,200,0
 whole,0,1,2,1,1,0,0,0,0,100,0,0
 whole,1,1,2,1,2,0,0,0,0,100,0,0

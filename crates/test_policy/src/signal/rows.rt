@@ -4,7 +4,7 @@
 ghost use Rattle.std.specs.Prelude.{◌≡◌};
 
 use super::{busy, load, record, whole};
-use crate::given::assert_same;
+use crate::same::assert_same;
 use cal_signal::{
     Look, Observer, OpenPage, PublishFault, Publisher, Record, close_page, open_page, read_back,
 };

@@ -1,6 +1,6 @@
 //! Readers that never end or fail, and a writer that fails.
 
-use crate::engine::given::{INPUT, REPORT};
+use crate::engine::one_pass::{INPUT, REPORT};
 use cal_engine::{RunFault, decide, fault_line, read_input, status};
 use std::alloc::Global;
 use std::io;

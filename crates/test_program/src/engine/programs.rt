@@ -1,6 +1,6 @@
 //! Whole runs of the program: what it writes on its two outputs, and its exit status.
 
-use crate::engine::given::INPUT;
+use crate::engine::one_pass::INPUT;
 use cal_engine::run_program;
 use std::alloc::{AllocError, Global};
 use std::io;

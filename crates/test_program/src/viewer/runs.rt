@@ -1,6 +1,6 @@
 //! Whole runs of the program: what it writes on its two outputs, and its exit status.
 
-use crate::viewer::given::{DISORDERLY, HISTORY, TABLE};
+use crate::viewer::worked_histories::{DISORDERLY, HISTORY, TABLE};
 use cal_view::run_program;
 use serde_json::Value;
 use std::process::Abort;

@@ -1,6 +1,6 @@
 //! The spans of a history that was worked by hand.
 
-use crate::viewer::given::{DISORDERLY, HISTORY, TABLE};
+use crate::viewer::worked_histories::{DISORDERLY, HISTORY, TABLE};
 use cal_machine::Config;
 use cal_measure::{Left, Span, spans_of};
 use cal_policy::Cause;

@@ -1,7 +1,8 @@
 //! Gates at which workers wait for one another, and two that refuse.
 
 use super::{PREEMPTION, PREEMPTION_TABLE, run};
-use crate::given::{Did, ONE_THREAD, assert_same, does, first_passes, grant};
+use crate::one_thread::{Did, ONE_THREAD, does, first_passes, grant};
+use crate::same::assert_same;
 use cal_command::Command;
 use cal_kthread::Entry;
 use cal_policy::{Action, Cause, Seen};

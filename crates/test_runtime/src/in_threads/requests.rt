@@ -1,7 +1,7 @@
 //! Where the requests of a run in threads stand at its end.
 
 use super::{PREEMPTION, PREEMPTION_TABLE, run};
-use crate::given::assert_same;
+use crate::same::assert_same;
 use cal_kthread::Entry;
 use cal_machine::Config;
 use cal_policy::{PassEntry, Verdict, audit};

@@ -4,7 +4,7 @@ ghost use Rattle.std.specs.Prelude.{map};
 ghost use Rattle.cal_kthread.specs.Team.{IsTeam, place_of};
 
 use super::{Step, THREE_THREADS, all_steps, request};
-use crate::given::record;
+use crate::one_thread::record;
 use cal_command::{Command, Sender};
 use cal_kthread::{Entry, KernelThread, open_threads};
 use cal_machine::Config;

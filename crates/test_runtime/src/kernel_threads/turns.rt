@@ -4,7 +4,8 @@ ghost use Rattle.cal_kthread.specs.Team.{IsTeam, place_of};
 ghost use Rattle.cal_machine.specs.Tasks.{threads_in};
 
 use super::{Step, all_steps, ends_of, request};
-use crate::given::{ONE_THREAD, assert_same, record};
+use crate::one_thread::{ONE_THREAD, record};
+use crate::same::assert_same;
 use cal_command::Command;
 use cal_kthread::{Entry, KernelThread, Request, Team, open_threads, settle};
 use cal_machine::Config;

@@ -6,7 +6,8 @@ ghost use Rattle.test_runtime.specs.WorkedRow.{passes as worked_passes};
 ghost use Rattle.test_runtime.specs.WorkedRow.{journal as worked_journal};
 
 use super::worked_run::{at_work, journal, passes, served, waiting};
-use crate::given::{ONE_THREAD, assert_same, grant};
+use crate::one_thread::{ONE_THREAD, grant};
+use crate::same::assert_same;
 use cal_linear::linearise;
 use cal_machine::Config;
 use cal_policy::{Action, PassEntry, Verdict, audit, same_actions};

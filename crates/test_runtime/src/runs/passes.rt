@@ -2,8 +2,9 @@
 
 ghost use Rattle.std.specs.Prelude.{◌≡◌, ◌<◌, length, IfOk};
 
-use crate::given::{ONE_THREAD, assert_same, does, first_passes, grant, seen};
 use crate::kernel_threads::turn;
+use crate::one_thread::{ONE_THREAD, does, first_passes, grant, seen};
+use crate::same::assert_same;
 use cal_kthread::{KernelThread, Request, Team, open_threads};
 use cal_machine::Config;
 use cal_policy::{Action, Holder, PassEntry, Placement, Seen, Verdict, audit};

@@ -1,6 +1,7 @@
 //! Whole runs on one thread: the rounds of the watch, and a theft.
 
-use crate::given::{ONE_THREAD, assert_same, does, first_passes, grant, record};
+use crate::one_thread::{ONE_THREAD, does, first_passes, grant, record};
+use crate::same::assert_same;
 use cal_command::Command;
 use cal_kthread::Entry;
 use cal_machine::Config;

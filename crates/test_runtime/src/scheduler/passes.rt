@@ -1,7 +1,8 @@
 //! Passes over one bare page and ring.
 
 use super::bare;
-use crate::given::{Did, ONE_THREAD, assert_same, does, first_passes, grant, record, seen};
+use crate::one_thread::{Did, ONE_THREAD, does, first_passes, grant, record, seen};
+use crate::same::assert_same;
 use cal_command::Command;
 use cal_machine::Config;
 use cal_policy::{Action, PassEntry, Record, Seen, orderly};

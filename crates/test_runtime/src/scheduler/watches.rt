@@ -1,5 +1,5 @@
 //! A watch that is refused.
-use crate::given::record;
+use crate::one_thread::record;
 use cal_sched::Watch;
 use cal_signal::{Look, Record, open_page};
 use std::test::Fail;

@@ -2,7 +2,7 @@
 //! where no clause tells it from one for which memory was refused.
 
 use super::*;
-use crate::given::ONE_THREAD;
+use crate::one_thread::ONE_THREAD;
 use cal_machine::Config;
 use cal_world::{Stopped, run_events};
 use std::test::Fail;

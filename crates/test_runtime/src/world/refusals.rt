@@ -1,7 +1,8 @@
 //! Which event a world refuses, and why.
 
 use super::*;
-use crate::given::{ONE_THREAD, assert_same};
+use crate::one_thread::ONE_THREAD;
+use crate::same::assert_same;
 use cal_machine::Config;
 use std::process::Abort;
 use std::test::Fail;

@@ -5,7 +5,7 @@ use Rattle.cal_kthread.specs.Turn.Entries.{entries_of}
 use Rattle.cal_kthread.specs.declared.journal.entry.Entry.{Entry}
 use Rattle.cal_kthread.specs.declared.kernel_thread.TheConstants.{MOST_ENTRIES}
 use Rattle.cal_trace.specs.declared.arrivals.reading.TheConstants.{MOST_TURNS}
-use Rattle.cal_run.specs.Workers.Given.{turns_given}
+use Rattle.cal_run.specs.Workers.GivenTurns.{turns_given}
 use Rattle.cal_run.proofs.CollectorLemmas.Few.{few_entries}
 use Rattle.cal_run.proofs.CollectorLemmas.Journals.{journal_at_place, journals_after}
 use Rattle.cal_run.proofs.WorkersLemmas.Turns.{all_turned, may_turn, none_turned, one_turned}

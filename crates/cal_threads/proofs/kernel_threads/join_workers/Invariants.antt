@@ -2,7 +2,7 @@ use Rattle.std.specs.Prelude.{◌≡◌, ◌+◌, ◌≤◌, None, Ok, Some, map
 use Rattle.std.specs.List.{AllZip, Contains}
 use Rattle.std.specs.Vec.Iter.{into_iter_len}
 use Rattle.cal_run.specs.declared.fault.SimFault.TheVariants.{Gate}
-use Rattle.cal_threads.specs.Promises.{IsKept, MayEnd, MayGive}
+use Rattle.cal_threads.specs.Promises.{IsPromiseKept, MayEnd, MayGive}
 use Rattle.cal_threads.proofs.Ends.{IsLeastSoFar}
 use Rattle.cal_threads.proofs.kernel_threads.join_workers.Given as goal
 
@@ -11,7 +11,7 @@ use Rattle.cal_threads.proofs.kernel_threads.join_workers.Given as goal
 -- fault is the least of them, and where there is none they are the kernel threads.
 abbrev pub invariant-loop-thread : goal.invariant-loop-thread
 invariant-loop-thread g l =
-    (l.fault ≡ None → AllZip (λ t w. IsKept g.G.Gate.answers_turn t.promise w) l.yielded l.workers.items)
+    (l.fault ≡ None → AllZip (λ t w. IsPromiseKept g.G.Gate.answers_turn t.promise w) l.yielded l.workers.items)
     × (l.fault ≡ Some Gate → (t : _) × Contains l.yielded t × MayEnd g.G.Gate.answers_turn t.promise)
     × (vec_len l.workers + into_iter_len l.thread-iterator ≤ vec_capacity l.workers)
     × AllZip (λ t r. MayGive g.G.Gate.answers_turn t.promise r) l.yielded l.answers.noted

@@ -1,51 +1,46 @@
 //! Passes of a guard that take looks one by one, and which look does not fit.
 
-ghost use Rattle.std.specs.Prelude.{◌≡◌, ◌≢◌, ◌⊎◌, ◌<◌, ◌≤◌, IfOk, IfErr, IfNone, OnErr, Err, List};
+ghost use Rattle.std.specs.Prelude.{◌≡◌, ◌≢◌, ◌⊎◌, ◌<◌, ◌≤◌, IfOk, IfErr, IfNone, OnErr, Err};
 ghost use Rattle.std.specs.Prelude.{length, false};
 ghost use Rattle.std.specs.Option.{is_some, ForSome, IfSome, IsSomeAnd};
-ghost use Rattle.cal_policy.specs.declared.history.entry.PassEntry.{PassEntry};
 ghost use Rattle.cal_machine.specs.TableTasks.{threads_of_table};
-ghost use Rattle.cal_policy.specs.State.{IsStateAfter};
-ghost use Rattle.cal_guard.specs.Guarded.{board_in};
-ghost use Rattle.cal_guard.specs.Permitted.{IsPermittedHistory};
-ghost use Rattle.caladan_c.specs.Gated.{WentThrough, WasStopped, WasStoppedAt};
+ghost use Rattle.caladan_c.specs.GuardView.{WentThrough, WasStopped, WasStoppedAt};
 ghost use Rattle.caladan_c.specs.OneByOne.{input_of_each, input_given_each, AreSaid};
 ghost use Rattle.caladan_c.specs.OneByOne.{IsFirstUnfit, AllFit};
 ghost use Rattle.caladan_c.specs.Recorded.{AreNoActions};
 ghost use Rattle.caladan_c.specs.declared.answer.Refusal.TheVariants.{Memory, NoAction, NoRoom};
 ghost use Rattle.caladan_c.specs.declared.answer.Refusal.TheVariants.{WrongCount};
+ghost use Rattle.cal_guard.specs.Guarded.{AfterPermitted};
 
 use crate::answer::{Finding, Refusal};
 use crate::found::Found;
-use crate::gate::Gate;
-use crate::given::Given;
-use crate::handle::gate::GateHandle;
+use crate::handed_in::HandedIn;
+use crate::handle::guard::GuardHandle;
+use crate::table_guard::TableGuard;
 use crate::told::Told;
 use crate::told::refused::{ToldRefused, tell_refused};
 use cal_guard::Refused;
 use std::alloc::Global;
 
-impl Gate {
+impl TableGuard {
     /// Lets the next pass through, each look by itself, or names the first action that is not
     /// permitted; or says why it did nothing.
     fn pass_each_told(
         &mut self,
-        given: Given<'_>,
+        given: HandedIn<'_>,
         judged: &mut [u8],
         actions: &[Told],
     ) -> Result<Option<Refused>, Refusal>
         ensures through { IfOk result (λ said.
-            IfNone said ((h : List PassEntry) → IsPermittedHistory self.old.table h →
-            IsStateAfter (board_in self.old.guard) h →
+            IfNone said (AfterPermitted self.old.table self.old.guard (λ h.
             WentThrough self.old h (input_given_each self.old.table h given.entry) actions.now
-            self.new)) }
-        ensures judged { IfOk result (λ _. (h : List PassEntry) →
-            IsPermittedHistory self.old.table h → IsStateAfter (board_in self.old.guard) h →
-            AreSaid self.old.table.cores h given.entry.looks.now judged.new) }
-        ensures stopped { IfOk result (λ said. IfSome said (λ first. (h : List PassEntry) →
-            IsPermittedHistory self.old.table h → IsStateAfter (board_in self.old.guard) h →
-            WasStopped self.old h
-            (input_given_each self.old.table h given.entry) actions.now first)) }
+            self.new))) }
+        ensures judged { IfOk result (λ _. AfterPermitted self.old.table self.old.guard (λ h.
+            AreSaid self.old.table.cores h given.entry.looks.now judged.new)) }
+        ensures stopped { IfOk result (λ said. IfSome said (λ first.
+            AfterPermitted self.old.table self.old.guard (λ h.
+            WasStopped self.old h (input_given_each self.old.table h given.entry) actions.now
+            first))) }
         ensures no_action { result ≡ Err NoAction → AreNoActions actions.now }
         ensures wrong_count { length given.entry.looks.now ≢ threads_of_table self.old.table →
             result ≡ Err WrongCount }
@@ -80,7 +75,7 @@ impl Gate {
 #[unsafe(no_mangle)]
 pub extern "C" fn caladan_guard_pass_each(
     alloc: Global,
-    handle: &mut GateHandle,
+    handle: &mut GuardHandle,
     now: u64,
     bandwidth: u64,
     looks: &[Found],
@@ -89,17 +84,16 @@ pub extern "C" fn caladan_guard_pass_each(
     refused: &mut ToldRefused,
 ) -> u8
     ensures closed { is_some handle.old.pointer.kept ≡ false → result ≡ 10 }
-    ensures through { result ≡ 0 → ForSome handle.old.pointer.kept (λ g. (h : List PassEntry) →
-        IsPermittedHistory g.table h → IsStateAfter (board_in g.guard) h →
-        IsSomeAnd handle.new.pointer.kept
-        (WentThrough g h (input_of_each g.table h now bandwidth looks.now) actions.now)) }
+    ensures through { result ≡ 0 → ForSome handle.old.pointer.kept (λ g.
+        AfterPermitted g.table g.guard (λ h.
+        IsSomeAnd handle.new.pointer.kept (WentThrough g h (input_of_each g.table h now bandwidth
+        looks.now) actions.now))) }
     ensures judged { (result ≡ 0) ⊎ (result ≡ 18) → ForSome handle.old.pointer.kept (λ g.
-        (h : List PassEntry) → IsPermittedHistory g.table h → IsStateAfter (board_in g.guard) h →
-        AreSaid g.table.cores h looks.now judged.new) }
-    ensures stopped { result ≡ 18 → ForSome handle.old.pointer.kept (λ g. (h : List PassEntry) →
-        IsPermittedHistory g.table h → IsStateAfter (board_in g.guard) h →
-        WasStoppedAt g h (input_of_each g.table h now bandwidth looks.now)
-        actions.now refused.new) }
+        AfterPermitted g.table g.guard (λ h. AreSaid g.table.cores h looks.now judged.new)) }
+    ensures stopped { result ≡ 18 → ForSome handle.old.pointer.kept (λ g.
+        AfterPermitted g.table g.guard (λ h.
+        WasStoppedAt g h (input_of_each g.table h now bandwidth looks.now) actions.now
+        refused.new)) }
     ensures no_action { result ≡ 17 → AreNoActions actions.now }
     ensures wrong_count { ForSome handle.old.pointer.kept (λ g.
         length looks.now ≢ threads_of_table g.table → result ≡ 13) }
@@ -115,26 +109,16 @@ pub extern "C" fn caladan_guard_pass_each(
     ensures unjudged { result ≢ 0 → result ≢ 18 → judged.new ≡ judged.old }
     ensures told { result ≢ 18 → refused.new ≡ refused.old }
 {
-    match handle.take(alloc) {
-        None => Refusal::Closed as u8,
-        Some(mut kept) => {
-            let given = Given {
-                now,
-                bandwidth,
-                looks,
-            };
-            let answer = kept.pass_each_told(given, judged, actions);
-            *handle = GateHandle::of(kept);
-            match answer {
-                Ok(None) => 0,
-                Ok(Some(first)) => {
-                    *refused = tell_refused(first);
-                    Finding::Stopped as u8
-                }
-                Err(refusal) => refusal.number(),
+    asked!(GuardHandle: handle, alloc; Refusal::Closed as u8;
+        mut kept => kept.pass_each_told(HandedIn { now, bandwidth, looks }, judged, actions);
+        answer => match answer {
+            Ok(None) => 0,
+            Ok(Some(first)) => {
+                *refused = tell_refused(first);
+                Finding::Stopped as u8
             }
-        }
-    }
+            Err(refusal) => refusal.number(),
+        })
 }
 
 /// Which look a plain pass of the guard may not be given: 0 each fits; 15 one does not fit what its
@@ -144,16 +128,15 @@ pub extern "C" fn caladan_guard_pass_each(
 #[unsafe(no_mangle)]
 pub extern "C" fn caladan_guard_first_unfit(
     alloc: Global,
-    handle: &mut GateHandle,
+    handle: &mut GuardHandle,
     looks: &[Found],
     thread: &mut usize,
 ) -> u8
     ensures closed { is_some handle.old.pointer.kept ≡ false → result ≡ 10 }
-    ensures first { result ≡ 15 → ForSome handle.old.pointer.kept (λ g. (h : List PassEntry) →
-        IsPermittedHistory g.table h → IsStateAfter (board_in g.guard) h →
-        IsFirstUnfit h looks.now thread.new) }
-    ensures none { result ≡ 0 → ForSome handle.old.pointer.kept (λ g. (h : List PassEntry) →
-        IsPermittedHistory g.table h → IsStateAfter (board_in g.guard) h → AllFit h looks.now) }
+    ensures first { result ≡ 15 → ForSome handle.old.pointer.kept (λ g.
+        AfterPermitted g.table g.guard (λ h. IsFirstUnfit h looks.now thread.new)) }
+    ensures none { result ≡ 0 → ForSome handle.old.pointer.kept (λ g.
+        AfterPermitted g.table g.guard (λ h. AllFit h looks.now)) }
     ensures wrong_count { ForSome handle.old.pointer.kept (λ g.
         length looks.now ≢ threads_of_table g.table → result ≡ 13) }
     ensures answers { ForSome handle.old.pointer.kept (λ g.
@@ -165,11 +148,11 @@ pub extern "C" fn caladan_guard_first_unfit(
         None => Refusal::Closed as u8,
         Some(kept) => {
             if looks.len() != kept.threads() {
-                *handle = GateHandle::of(kept);
+                *handle = GuardHandle::of(kept);
                 return Refusal::WrongCount as u8;
             }
             let first = kept.first_unfit(looks);
-            *handle = GateHandle::of(kept);
+            *handle = GuardHandle::of(kept);
             match first {
                 Some(first) => {
                     *thread = first;

@@ -1,18 +1,15 @@
 //! What a guard says of its table, what was sent to a thread, and what one that is gone must show.
 
-ghost use Rattle.std.specs.Prelude.{◌≡◌, ◌≢◌, ◌⊎◌, ◌<◌, ◌≤◌, List, length, true, false};
+ghost use Rattle.std.specs.Prelude.{◌≡◌, ◌≢◌, ◌⊎◌, ◌<◌, ◌≤◌, length, false};
 ghost use Rattle.std.specs.Option.{is_some, ForSome};
-ghost use Rattle.cal_policy.specs.declared.history.entry.PassEntry.{PassEntry};
 ghost use Rattle.cal_policy.specs.Judgement.Gone.{can_be_gone};
 ghost use Rattle.cal_machine.specs.TableTasks.{threads_of_table};
 ghost use Rattle.caladan_c.specs.Facts.{machine_of, row_of, state_of, IsGuardedLookOfGone};
-ghost use Rattle.cal_policy.specs.State.{IsStateAfter};
-ghost use Rattle.cal_guard.specs.Guarded.{board_in};
-ghost use Rattle.cal_guard.specs.Permitted.{IsPermittedHistory};
+ghost use Rattle.cal_guard.specs.Guarded.{AfterPermitted};
 
 use crate::answer::Refusal;
 use crate::found::Found;
-use crate::handle::gate::GateHandle;
+use crate::handle::guard::GuardHandle;
 use crate::told::facts::{MachineFacts, TaskRow, ThreadState, tell_shown};
 use std::alloc::Global;
 
@@ -20,7 +17,7 @@ use std::alloc::Global;
 #[unsafe(no_mangle)]
 pub extern "C" fn caladan_guard_table(
     alloc: Global,
-    handle: &mut GateHandle,
+    handle: &mut GuardHandle,
     machine: &mut MachineFacts,
 ) -> u8
     ensures closed { is_some handle.old.pointer.kept ≡ false → result ≡ 10 }
@@ -29,21 +26,17 @@ pub extern "C" fn caladan_guard_table(
     ensures refused { result ≢ 0 → machine.new ≡ machine.old }
     ensures same { handle.new.pointer.kept ≡ handle.old.pointer.kept }
 {
-    match handle.take(alloc) {
-        None => Refusal::Closed as u8,
-        Some(kept) => {
-            *machine = kept.machine();
-            *handle = GateHandle::of(kept);
-            0
-        }
-    }
+    asked!(GuardHandle: handle, alloc; Refusal::Closed as u8; kept => kept.machine(); told => {
+        *machine = told;
+        0
+    })
 }
 
 /// What the table says of a task: 0; 10 the handle is closed; 16 the table has no such task.
 #[unsafe(no_mangle)]
 pub extern "C" fn caladan_guard_table_task(
     alloc: Global,
-    handle: &mut GateHandle,
+    handle: &mut GuardHandle,
     task: usize,
     row: &mut TaskRow,
 ) -> u8
@@ -57,20 +50,7 @@ pub extern "C" fn caladan_guard_table_task(
     ensures refused { result ≢ 0 → row.new ≡ row.old }
     ensures same { handle.new.pointer.kept ≡ handle.old.pointer.kept }
 {
-    match handle.take(alloc) {
-        None => Refusal::Closed as u8,
-        Some(kept) => {
-            let found = kept.task(task);
-            *handle = GateHandle::of(kept);
-            match found {
-                Some(found) => {
-                    *row = found;
-                    0
-                }
-                None => Refusal::NoSuch as u8,
-            }
-        }
-    }
+    looked_up!(GuardHandle: handle, alloc; kept => kept.task(task); found => *row = found)
 }
 
 /// A thread's task, how many commands were sent to it in the passes so far, and how many of them
@@ -78,14 +58,13 @@ pub extern "C" fn caladan_guard_table_task(
 #[unsafe(no_mangle)]
 pub extern "C" fn caladan_guard_thread(
     alloc: Global,
-    handle: &mut GateHandle,
+    handle: &mut GuardHandle,
     thread: usize,
     state: &mut ThreadState,
 ) -> u8
     ensures closed { is_some handle.old.pointer.kept ≡ false → result ≡ 10 }
-    ensures told { result ≡ 0 → ForSome handle.old.pointer.kept (λ g. (h : List PassEntry) →
-        IsPermittedHistory g.table h → IsStateAfter (board_in g.guard) h →
-        state.new ≡ state_of g.table h thread) }
+    ensures told { result ≡ 0 → ForSome handle.old.pointer.kept (λ g.
+        AfterPermitted g.table g.guard (λ h. state.new ≡ state_of g.table h thread)) }
     ensures there { ForSome handle.old.pointer.kept (λ g. thread < threads_of_table g.table →
         result ≡ 0) }
     ensures no_thread { ForSome handle.old.pointer.kept (λ g. threads_of_table g.table ≤ thread →
@@ -93,20 +72,7 @@ pub extern "C" fn caladan_guard_thread(
     ensures refused { result ≢ 0 → state.new ≡ state.old }
     ensures same { handle.new.pointer.kept ≡ handle.old.pointer.kept }
 {
-    match handle.take(alloc) {
-        None => Refusal::Closed as u8,
-        Some(kept) => {
-            let found = kept.thread(thread);
-            *handle = GateHandle::of(kept);
-            match found {
-                Some(found) => {
-                    *state = found;
-                    0
-                }
-                None => Refusal::NoSuch as u8,
-            }
-        }
-    }
+    looked_up!(GuardHandle: handle, alloc; kept => kept.thread(thread); found => *state = found)
 }
 
 /// What the page of a thread must show once the thread is gone, as a look: 0; 10 the handle is
@@ -115,17 +81,15 @@ pub extern "C" fn caladan_guard_thread(
 #[unsafe(no_mangle)]
 pub extern "C" fn caladan_guard_gone(
     alloc: Global,
-    handle: &mut GateHandle,
+    handle: &mut GuardHandle,
     thread: usize,
     look: &mut Found,
 ) -> u8
     ensures closed { is_some handle.old.pointer.kept ≡ false → result ≡ 10 }
-    ensures told { result ≡ 0 → ForSome handle.old.pointer.kept (λ g. (h : List PassEntry) →
-        IsPermittedHistory g.table h → IsStateAfter (board_in g.guard) h →
-        IsGuardedLookOfGone g.table h thread look.new) }
-    ensures lost { result ≡ 21 → ForSome handle.old.pointer.kept (λ g. (h : List PassEntry) →
-        IsPermittedHistory g.table h → IsStateAfter (board_in g.guard) h →
-        can_be_gone h thread ≡ false) }
+    ensures told { result ≡ 0 → ForSome handle.old.pointer.kept (λ g.
+        AfterPermitted g.table g.guard (λ h. IsGuardedLookOfGone g.table h thread look.new)) }
+    ensures lost { result ≡ 21 → ForSome handle.old.pointer.kept (λ g.
+        AfterPermitted g.table g.guard (λ h. can_be_gone h thread ≡ false)) }
     ensures there { ForSome handle.old.pointer.kept (λ g. thread < threads_of_table g.table →
         (result ≡ 0) ⊎ (result ≡ 21)) }
     ensures no_thread { ForSome handle.old.pointer.kept (λ g. threads_of_table g.table ≤ thread →
@@ -137,11 +101,11 @@ pub extern "C" fn caladan_guard_gone(
         None => Refusal::Closed as u8,
         Some(kept) => {
             if thread >= kept.threads() {
-                *handle = GateHandle::of(kept);
+                *handle = GuardHandle::of(kept);
                 return Refusal::NoSuch as u8;
             }
             let found = kept.gone_look(thread);
-            *handle = GateHandle::of(kept);
+            *handle = GuardHandle::of(kept);
             match found {
                 Some(found) => {
                     *look = found;

@@ -1,22 +1,19 @@
 //! Passes that take looks one by one, and which look does not fit.
 
-ghost use Rattle.std.specs.Prelude.{◌≡◌, ◌≢◌, ◌⊎◌, IsOk, IfOk, IfErr, OnErr, Err, List, length, false};
+ghost use Rattle.std.specs.Prelude.{◌≡◌, ◌≢◌, ◌⊎◌, IsOk, IfOk, IfErr, OnErr, Err, length, false};
 ghost use Rattle.std.specs.Option.{is_some, ForSome, IsSomeAnd};
-ghost use Rattle.cal_policy.specs.declared.history.entry.PassEntry.{PassEntry};
 ghost use Rattle.cal_machine.specs.TableTasks.{threads_of_table};
 ghost use Rattle.caladan_c.specs.OneByOne.{input_of_each, input_given_each, AreSaid};
 ghost use Rattle.caladan_c.specs.OneByOne.{IsFirstUnfit, AllFit};
-ghost use Rattle.cal_policy.specs.Book.{board_in};
-ghost use Rattle.cal_policy.specs.Pass.{IsLegal};
-ghost use Rattle.cal_policy.specs.State.{IsStateAfter};
-ghost use Rattle.caladan_c.specs.Passing.{IsPassed, HasRoom, IsShort};
+ghost use Rattle.caladan_c.specs.Passing.{MadePass, HasRoom, IsShort};
 ghost use Rattle.caladan_c.specs.Told.{AreTold};
 ghost use Rattle.caladan_c.specs.declared.answer.Refusal.TheVariants.{NoRoom};
 ghost use Rattle.caladan_c.specs.declared.answer.Refusal.TheVariants.{WrongCount};
+ghost use Rattle.cal_policy.specs.Book.{AfterLegal};
 
 use crate::answer::Refusal;
 use crate::found::Found;
-use crate::given::Given;
+use crate::handed_in::HandedIn;
 use crate::handle::scheduler::SchedulerHandle;
 use crate::scheduler::Scheduler;
 use crate::told::{Told, tell_all};
@@ -28,17 +25,15 @@ impl Scheduler {
     /// it did nothing.
     fn pass_each_told(
         &mut self,
-        given: Given<'_>,
+        given: HandedIn<'_>,
         judged: &mut [u8],
         actions: &mut [Told],
     ) -> Result<usize, Refusal>
-        ensures passed { IfOk result (λ made. (h : List PassEntry) → IsLegal self.old.table h →
-            IsStateAfter (board_in self.old.book) h →
-            IsPassed self.old h (input_given_each self.old.table h given.entry) self.new
-            × AreTold self.new.made made actions.new) }
-        ensures judged { IfOk result (λ _. (h : List PassEntry) → IsLegal self.old.table h →
-            IsStateAfter (board_in self.old.book) h →
-            AreSaid self.old.table.cores h given.entry.looks.now judged.new) }
+        ensures passed { IfOk result (λ made. AfterLegal self.old.table self.old.book (λ h.
+            MadePass self.old h (input_given_each self.old.table h given.entry) self.new × AreTold
+            self.new.made made actions.new)) }
+        ensures judged { IfOk result (λ _. AfterLegal self.old.table self.old.book (λ h.
+            AreSaid self.old.table.cores h given.entry.looks.now judged.new)) }
         ensures wrong_count { length given.entry.looks.now ≢ threads_of_table self.old.table →
             result ≡ Err WrongCount }
         ensures no_room { length given.entry.looks.now ≡ threads_of_table self.old.table →
@@ -79,14 +74,12 @@ pub extern "C" fn caladan_pass_each(
     made: &mut usize,
 ) -> u8
     ensures closed { is_some handle.old.pointer.kept ≡ false → result ≡ 10 }
-    ensures passed { result ≡ 0 → ForSome handle.old.pointer.kept (λ s. (h : List PassEntry) →
-        IsLegal s.table h → IsStateAfter (board_in s.book) h →
-        IsSomeAnd handle.new.pointer.kept (λ after.
-        IsPassed s h (input_of_each s.table h now bandwidth looks.now) after ×
-        AreTold after.made made.new actions.new)) }
-    ensures judged { result ≡ 0 → ForSome handle.old.pointer.kept (λ s. (h : List PassEntry) →
-        IsLegal s.table h → IsStateAfter (board_in s.book) h →
-        AreSaid s.table.cores h looks.now judged.new) }
+    ensures passed { result ≡ 0 → ForSome handle.old.pointer.kept (λ s.
+        AfterLegal s.table s.book (λ h. IsSomeAnd handle.new.pointer.kept (λ after.
+        MadePass s h (input_of_each s.table h now bandwidth looks.now) after × AreTold after.made
+        made.new actions.new))) }
+    ensures judged { result ≡ 0 → ForSome handle.old.pointer.kept (λ s.
+        AfterLegal s.table s.book (λ h. AreSaid s.table.cores h looks.now judged.new)) }
     ensures wrong_count { ForSome handle.old.pointer.kept (λ s.
         length looks.now ≢ threads_of_table s.table → result ≡ 13) }
     ensures no_room { ForSome handle.old.pointer.kept (λ s.
@@ -100,25 +93,15 @@ pub extern "C" fn caladan_pass_each(
         × (actions.new ≡ actions.old) × (judged.new ≡ judged.old) × (made.new ≡ 0) }
 {
     *made = 0;
-    match handle.take(alloc) {
-        None => Refusal::Closed as u8,
-        Some(mut kept) => {
-            let given = Given {
-                now,
-                bandwidth,
-                looks,
-            };
-            let answer = kept.pass_each_told(given, judged, actions);
-            *handle = SchedulerHandle::of(kept);
-            match answer {
-                Ok(count) => {
-                    *made = count;
-                    0
-                }
-                Err(refusal) => refusal.number(),
+    asked!(SchedulerHandle: handle, alloc; Refusal::Closed as u8;
+        mut kept => kept.pass_each_told(HandedIn { now, bandwidth, looks }, judged, actions);
+        answer => match answer {
+            Ok(count) => {
+                *made = count;
+                0
             }
-        }
-    }
+            Err(refusal) => refusal.number(),
+        })
 }
 
 /// Which look a plain pass may not be given: 0 each fits; 15 one does not fit what its thread
@@ -133,11 +116,10 @@ pub extern "C" fn caladan_first_unfit(
     thread: &mut usize,
 ) -> u8
     ensures closed { is_some handle.old.pointer.kept ≡ false → result ≡ 10 }
-    ensures first { result ≡ 15 → ForSome handle.old.pointer.kept (λ s. (h : List PassEntry) →
-        IsLegal s.table h → IsStateAfter (board_in s.book) h →
-        IsFirstUnfit h looks.now thread.new) }
-    ensures none { result ≡ 0 → ForSome handle.old.pointer.kept (λ s. (h : List PassEntry) →
-        IsLegal s.table h → IsStateAfter (board_in s.book) h → AllFit h looks.now) }
+    ensures first { result ≡ 15 → ForSome handle.old.pointer.kept (λ s.
+        AfterLegal s.table s.book (λ h. IsFirstUnfit h looks.now thread.new)) }
+    ensures none { result ≡ 0 → ForSome handle.old.pointer.kept (λ s.
+        AfterLegal s.table s.book (λ h. AllFit h looks.now)) }
     ensures wrong_count { ForSome handle.old.pointer.kept (λ s.
         length looks.now ≢ threads_of_table s.table → result ≡ 13) }
     ensures answers { ForSome handle.old.pointer.kept (λ s.

@@ -1,14 +1,11 @@
 //! What the table says, what was sent to a thread, and what one that is gone must show.
 
-ghost use Rattle.std.specs.Prelude.{◌≡◌, ◌≢◌, ◌⊎◌, ◌<◌, ◌≤◌, List, length, true, false};
+ghost use Rattle.std.specs.Prelude.{◌≡◌, ◌≢◌, ◌⊎◌, ◌<◌, ◌≤◌, length, false};
 ghost use Rattle.std.specs.Option.{is_some, ForSome};
-ghost use Rattle.cal_policy.specs.declared.history.entry.PassEntry.{PassEntry};
 ghost use Rattle.cal_policy.specs.Judgement.Gone.{can_be_gone};
 ghost use Rattle.cal_machine.specs.TableTasks.{threads_of_table};
 ghost use Rattle.caladan_c.specs.Facts.{machine_of, row_of, state_of, IsLookOfGone};
-ghost use Rattle.cal_policy.specs.Book.{board_in};
-ghost use Rattle.cal_policy.specs.Pass.{IsLegal};
-ghost use Rattle.cal_policy.specs.State.{IsStateAfter};
+ghost use Rattle.cal_policy.specs.Book.{AfterLegal};
 
 use crate::answer::Refusal;
 use crate::found::Found;
@@ -29,14 +26,10 @@ pub extern "C" fn caladan_table(
     ensures refused { result ≢ 0 → machine.new ≡ machine.old }
     ensures same { handle.new.pointer.kept ≡ handle.old.pointer.kept }
 {
-    match handle.take(alloc) {
-        None => Refusal::Closed as u8,
-        Some(kept) => {
-            *machine = kept.machine();
-            *handle = SchedulerHandle::of(kept);
-            0
-        }
-    }
+    asked!(SchedulerHandle: handle, alloc; Refusal::Closed as u8; kept => kept.machine(); told => {
+        *machine = told;
+        0
+    })
 }
 
 /// What the table says of a task: 0; 10 the handle is closed; 16 the table has no such task.
@@ -57,20 +50,7 @@ pub extern "C" fn caladan_table_task(
     ensures refused { result ≢ 0 → row.new ≡ row.old }
     ensures same { handle.new.pointer.kept ≡ handle.old.pointer.kept }
 {
-    match handle.take(alloc) {
-        None => Refusal::Closed as u8,
-        Some(kept) => {
-            let found = kept.task(task);
-            *handle = SchedulerHandle::of(kept);
-            match found {
-                Some(found) => {
-                    *row = found;
-                    0
-                }
-                None => Refusal::NoSuch as u8,
-            }
-        }
-    }
+    looked_up!(SchedulerHandle: handle, alloc; kept => kept.task(task); found => *row = found)
 }
 
 /// A thread's task, how many commands were sent to it in the passes so far, and how many of them
@@ -83,9 +63,8 @@ pub extern "C" fn caladan_thread(
     state: &mut ThreadState,
 ) -> u8
     ensures closed { is_some handle.old.pointer.kept ≡ false → result ≡ 10 }
-    ensures told { result ≡ 0 → ForSome handle.old.pointer.kept (λ s. (h : List PassEntry) →
-        IsLegal s.table h → IsStateAfter (board_in s.book) h →
-        state.new ≡ state_of s.table h thread) }
+    ensures told { result ≡ 0 → ForSome handle.old.pointer.kept (λ s.
+        AfterLegal s.table s.book (λ h. state.new ≡ state_of s.table h thread)) }
     ensures there { ForSome handle.old.pointer.kept (λ s. thread < threads_of_table s.table →
         result ≡ 0) }
     ensures no_thread { ForSome handle.old.pointer.kept (λ s. threads_of_table s.table ≤ thread →
@@ -93,20 +72,7 @@ pub extern "C" fn caladan_thread(
     ensures refused { result ≢ 0 → state.new ≡ state.old }
     ensures same { handle.new.pointer.kept ≡ handle.old.pointer.kept }
 {
-    match handle.take(alloc) {
-        None => Refusal::Closed as u8,
-        Some(kept) => {
-            let found = kept.thread(thread);
-            *handle = SchedulerHandle::of(kept);
-            match found {
-                Some(found) => {
-                    *state = found;
-                    0
-                }
-                None => Refusal::NoSuch as u8,
-            }
-        }
-    }
+    looked_up!(SchedulerHandle: handle, alloc; kept => kept.thread(thread); found => *state = found)
 }
 
 /// What the page of a thread must show once the thread is gone, as a look: 0; 10 the handle is
@@ -120,11 +86,10 @@ pub extern "C" fn caladan_gone(
     look: &mut Found,
 ) -> u8
     ensures closed { is_some handle.old.pointer.kept ≡ false → result ≡ 10 }
-    ensures told { result ≡ 0 → ForSome handle.old.pointer.kept (λ s. (h : List PassEntry) →
-        IsLegal s.table h → IsStateAfter (board_in s.book) h →
-        IsLookOfGone s.table h thread look.new) }
-    ensures lost { result ≡ 21 → ForSome handle.old.pointer.kept (λ s. (h : List PassEntry) →
-        IsLegal s.table h → IsStateAfter (board_in s.book) h → can_be_gone h thread ≡ false) }
+    ensures told { result ≡ 0 → ForSome handle.old.pointer.kept (λ s.
+        AfterLegal s.table s.book (λ h. IsLookOfGone s.table h thread look.new)) }
+    ensures lost { result ≡ 21 → ForSome handle.old.pointer.kept (λ s.
+        AfterLegal s.table s.book (λ h. can_be_gone h thread ≡ false)) }
     ensures there { ForSome handle.old.pointer.kept (λ s. thread < threads_of_table s.table →
         (result ≡ 0) ⊎ (result ≡ 21)) }
     ensures no_thread { ForSome handle.old.pointer.kept (λ s. threads_of_table s.table ≤ thread →

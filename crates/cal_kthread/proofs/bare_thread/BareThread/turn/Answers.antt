@@ -64,8 +64,8 @@ invariant_of-self-2 = agreeing
 
 pub returns-clause-turned : goal.returns-clause-turned
 returns-clause-turned c =
-    let others : c.arrive.new.self.victims ≡ c.self.inside.thread.victims = c.in_ok-arrived.ensures.apart.1 in
-    let same : c.take-took.new.self.victims ≡ c.self.inside.thread.victims = c.take-took.ensures.apart.1 ∙ others in
+    let others : c.arrive.new.self.sources ≡ c.self.inside.thread.sources = c.in_ok-arrived.ensures.apart.1 in
+    let same : c.take-took.new.self.sources ≡ c.self.inside.thread.sources = c.take-took.ensures.apart.1 ∙ others in
     let are : AreAnswers (answers_of c) (the_view c.self.inside) = subst (λ vs. IfSome (answers_of c).theft (λ theft. theft.0 < length vs)) same c.provide-stole.ensures.provided.2 in (
       answers_of c,
       subst (AreAnswers (answers_of c)) c.self.view_is are,

@@ -1,9 +1,9 @@
 use Rattle.std.proofs.Common.{◌≡◌, ◌≢◌, ℕ, length}
-use Rattle.cal_kthread.specs.End.Account.{Gathers, victims_at}
+use Rattle.cal_kthread.specs.End.Account.{Gathers, sources_at}
 use Rattle.cal_kthread.proofs.end.settling.give_all.Given as goal
 
 abbrev pub invariant-loop : goal.invariant-loop
-invariant-loop g l = Gathers l.initial.ends l.ends × (length l.ends ≡ length l.initial.ends) × ((j : ℕ) → j ≢ l.k → victims_at j l.ends ≡ victims_at j l.initial.ends)
+invariant-loop g l = Gathers l.initial.ends l.ends × (length l.ends ≡ length l.initial.ends) × ((j : ℕ) → j ≢ l.k → sources_at j l.ends ≡ sources_at j l.initial.ends)
 
 abbrev pub decreases-loop : goal.decreases-loop
-decreases-loop g l = length (victims_at l.k l.ends)
+decreases-loop g l = length (sources_at l.k l.ends)

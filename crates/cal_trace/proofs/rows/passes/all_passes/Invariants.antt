@@ -8,7 +8,7 @@ abbrev pub invariant-loop-passes : goal.invariant-loop-passes
 invariant-loop-passes g l = record {
   rows : IsReading l.rows;
   ready : g.R.PassReading.IsReady l.reading;
-  kept : g.R.PassReading.IsKept l.passes.items l.reading;
+  kept : g.R.PassReading.KeepsPasses l.passes.items l.reading;
   same : read_on (g.R.PassReading.take (g.R.PassReading.file l.reading)) g.R.PassReading.whole (g.R.PassReading.so_far l.passes.items l.reading) l.rows
       ≡ read_on (g.R.PassReading.take (g.R.PassReading.file l.initial.reading)) g.R.PassReading.whole (g.R.PassReading.so_far [] l.initial.reading) l.initial.rows;
 }

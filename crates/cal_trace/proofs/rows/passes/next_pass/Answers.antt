@@ -24,7 +24,7 @@ loop-reading-preserved g c =
           let takes = subst
           (λ all. g.R.PassReading.take (g.R.PassReading.file c.loop-reading.reading) (g.R.PassReading.so_far given c.loop-reading.reading) (row_at c.step.new.self) ≡ Ok (g.R.PassReading.so_far all c.take_row.new.self))
           (append-nil given) (rw (c.row.ensures, c.in-Ok-None.field-0-is) at (c.in-Ok-None.ensures.takes given now.0)) in
-          let keeps = subst (λ all. g.R.PassReading.IsKept all c.take_row.new.self) (append-nil given) (rw c.in-Ok-None.field-0-is at (c.in-Ok-None.ensures.kept given now.0)) in
+          let keeps = subst (λ all. g.R.PassReading.KeepsPasses all c.take_row.new.self) (append-nil given) (rw c.in-Ok-None.field-0-is at (c.in-Ok-None.ensures.kept given now.0)) in
           (keeps, rw (c.in-Ok-None.ensures.file, steps.1) (more_rows _ _ _ c.loop-reading.rows.number _ (row_at c.step.new.self) _ _ _ now.1 steps.0 takes));
       fewer = omega (arith, ap length steps.0, c.loop-reading.invariant.fewer);
     }

@@ -9,7 +9,7 @@ invariant-loop-reading g l = record {
   rows : IsReading l.rows;
   ready : g.R.PassReading.IsReady l.reading;
   file : g.R.PassReading.file l.reading ≡ g.R.PassReading.file l.initial.reading;
-  given : (given : List _) → g.R.PassReading.IsKept given l.initial.reading → g.R.PassReading.IsKept given l.reading
+  given : (given : List _) → g.R.PassReading.KeepsPasses given l.initial.reading → g.R.PassReading.KeepsPasses given l.reading
       × (read_on (g.R.PassReading.take (g.R.PassReading.file l.reading)) g.R.PassReading.whole (g.R.PassReading.so_far given l.reading) l.rows
       ≡ read_on (g.R.PassReading.take (g.R.PassReading.file l.initial.reading)) g.R.PassReading.whole (g.R.PassReading.so_far given l.initial.reading) l.initial.rows);
   fewer : length (rest_of l.rows) ≤ length (rest_of l.initial.rows);

@@ -7,7 +7,7 @@ use Rattle.caladan_c.specs.Found.{found_of, input_of}
 use Rattle.cal_policy.specs.Book.{board_in}
 use Rattle.cal_policy.specs.Pass.{IsLegal}
 use Rattle.cal_policy.specs.State.{IsStateAfter}
-use Rattle.caladan_c.specs.Passing.{IsPassed}
+use Rattle.caladan_c.specs.Passing.{MadePass}
 use Rattle.caladan_c.specs.Told.{AreJudgements}
 use Rattle.caladan_c.specs.Standing.{Standing}
 use Rattle.std.proofs.lemmas.List.{length-map}
@@ -23,7 +23,7 @@ returns-clause-passed c =
     let looks = c.args.given.looks.now in
     let now = c.args.given.now in
     let bandwidth = c.args.given.bandwidth in
-    let whole : (h : List PassEntry) → IsLegal s.table h → IsStateAfter (board_in s.book) h → IsPassed s h (input_of s.table h now bandwidth looks) new = λ h legal state.
+    let whole : (h : List PassEntry) → IsLegal s.table h → IsStateAfter (board_in s.book) h → MadePass s h (input_of s.table h now bandwidth looks) new = λ h legal state.
     let quiet = c.settled_is_no_news.ensures s.table h c.limits.ensures legal in
     let came : IsOpenAt s.table h (map found_of looks) c.take_looks.new.came = c.in_ok-take_looks.ensures.taken h quiet (c.board.ensures.agrees h state) in
     let all = length-map looks found_of ∙ c.requires.count ∙ sym (ap (λ (o : Standing). threads_of_table o.table) view) in
@@ -32,7 +32,7 @@ returns-clause-passed c =
     passed_after s h (input_of s.table h now bandwidth looks) (input_of s.table h now bandwidth looks) c.pass.new.out c.pass.new.self
     c.one_pass_more_is_legal.ensures c.legal_is_short.ensures c.limits.ensures legal refl is
     (c.pass.ensures.acts h (map found_of looks) legal state used) (c.pass.ensures.agrees h (map found_of looks) legal state used) in
-    subst (λ (old : Standing). (h : List PassEntry) → IsLegal old.table h → IsStateAfter (board_in old.book) h → IsPassed old h (input_of old.table h now bandwidth looks) new) view whole
+    subst (λ (old : Standing). (h : List PassEntry) → IsLegal old.table h → IsStateAfter (board_in old.book) h → MadePass old h (input_of old.table h now bandwidth looks) new) view whole
 
 pub returns-in_err-take_looks-clause-unfit : goal.returns-in_err-take_looks-clause-unfit
 returns-in_err-take_looks-clause-unfit c = λ _.

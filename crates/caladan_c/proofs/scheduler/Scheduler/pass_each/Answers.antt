@@ -8,7 +8,7 @@ use Rattle.caladan_c.specs.OneByOne.{input_of_each, AreSaid, IsTakenAt}
 use Rattle.cal_policy.specs.Book.{board_in}
 use Rattle.cal_policy.specs.Pass.{IsLegal}
 use Rattle.cal_policy.specs.State.{IsStateAfter}
-use Rattle.caladan_c.specs.Passing.{IsPassed}
+use Rattle.caladan_c.specs.Passing.{MadePass}
 use Rattle.caladan_c.specs.Standing.{Standing}
 use Rattle.caladan_c.proofs.Passed.{passed_after}
 use Rattle.caladan_c.proofs.scheduler.Scheduler.pass_each.Goals as goal
@@ -21,7 +21,7 @@ returns-clause-passed c =
     let looks = c.args.given.looks.now in
     let now = c.args.given.now in
     let bandwidth = c.args.given.bandwidth in
-    let whole : (h : List PassEntry) → IsLegal s.table h → IsStateAfter (board_in s.book) h → IsPassed s h (input_of_each s.table h now bandwidth looks) new = λ h legal state.
+    let whole : (h : List PassEntry) → IsLegal s.table h → IsStateAfter (board_in s.book) h → MadePass s h (input_of_each s.table h now bandwidth looks) new = λ h legal state.
     let taken = taken_looks s.table.cores h (map found_of looks) in
     let quiet = c.settled_is_no_news.ensures s.table h c.limits.ensures legal in
     let came : IsTakenAt s.table h looks c.take_each.new.came = c.take_each.ensures.taken h quiet (c.board.ensures.agrees h state) in
@@ -31,7 +31,7 @@ returns-clause-passed c =
     passed_after s h (input_of_each s.table h now bandwidth looks) (input_of_each s.table h now bandwidth looks) c.pass.new.out c.pass.new.self
     c.one_pass_more_is_legal.ensures c.legal_is_short.ensures c.limits.ensures legal refl is
     (c.pass.ensures.acts h taken legal state used) (c.pass.ensures.agrees h taken legal state used) in
-    subst (λ (old : Standing). (h : List PassEntry) → IsLegal old.table h → IsStateAfter (board_in old.book) h → IsPassed old h (input_of_each old.table h now bandwidth looks) new) view whole
+    subst (λ (old : Standing). (h : List PassEntry) → IsLegal old.table h → IsStateAfter (board_in old.book) h → MadePass old h (input_of_each old.table h now bandwidth looks) new) view whole
 
 pub returns-clause-said : goal.returns-clause-said
 returns-clause-said c =

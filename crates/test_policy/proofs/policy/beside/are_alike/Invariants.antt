@@ -6,6 +6,6 @@ use Rattle.test_policy.proofs.policy.beside.are_alike.Given as goal
 abbrev pub invariant-loop-pass : goal.invariant-loop-pass
 invariant-loop-pass l = record {
   stepped : IsReady l.config (board_in l.all.stepped);
-  walked : IsReady l.config (board_in l.all.walked);
+  walked : IsReady l.config (board_in l.all.walked.book);
   guard : IsReady l.config (guards.board_in l.all.guard);
 }

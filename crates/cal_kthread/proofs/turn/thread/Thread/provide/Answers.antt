@@ -9,8 +9,8 @@ use Rattle.cal_kthread.proofs.turn.thread.Thread.provide.Goals as goal
 pub index-requires : goal.index-requires
 index-requires c =
     let within = c.in_ok-place.ensures.0 in
-    let same : length c.steal_first.new.victims.items ≡ length c.self.inside.victims.items = ap length c.in_ok-place.ensures.1 ∙ length-robbed c.self.inside.victims.items c.in_ok-place.place c.in_ok-place.waiting in
-    let counted = c.steal_first.new.victims.ok.0 in omega arith
+    let same : length c.steal_first.new.sources.items ≡ length c.self.inside.sources.items = ap length c.in_ok-place.ensures.1 ∙ length-robbed c.self.inside.sources.items c.in_ok-place.place c.in_ok-place.waiting in
+    let counted = c.steal_first.new.sources.ok.0 in omega arith
 
 pub returns-clause-provided : goal.returns-clause-provided
 returns-clause-provided c =
@@ -19,10 +19,10 @@ returns-clause-provided c =
     let next = c.in_default.ensures in (
       next.0,
       Some (c.in_ok-place.place, c.in_ok-place.waiting),
-      subst (λ (t : ThreadView). c.in_ok-place.place < length t.victims) c.self.view_is within,
+      subst (λ (t : ThreadView). c.in_ok-place.place < length t.sources) c.self.view_is within,
       providing-stolen c.args.now (the_view c.self.inside) next.0 (c.is_none.ensures ∙ ap not c.if-is_none.false) (sym c.is_some.ensures ∙ c.if-is_some.false) c.next.new.front c.next.new.queue next.1 next.2
-          c.begin-2.result c.in_ok-place.place c.in_ok-place.waiting c.steal_first.new.victims.items c.index.result.now.number next.3 robbery c.begin-2.ensures
-          (number-robbed c.self.inside.victims.items c.in_ok-place.place c.index.result.now c.in_ok-place.waiting within
+          c.begin-2.result c.in_ok-place.place c.in_ok-place.waiting c.steal_first.new.sources.items c.index.result.now.number next.3 robbery c.begin-2.ensures
+          (number-robbed c.self.inside.sources.items c.in_ok-place.place c.index.result.now c.in_ok-place.waiting within
           (c.index.ensures ∙ ap (λ vs. get_or vs c.in_ok-place.place c.index.result.now) robbery))
           ∙ ap (provided c.args.now next.0 (Some (c.in_ok-place.place, c.in_ok-place.waiting))) c.self.view_is,
     )

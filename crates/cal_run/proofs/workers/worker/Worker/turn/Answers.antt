@@ -5,10 +5,10 @@ use Rattle.cal_kthread.specs.Journal.{record_in, records_of}
 use Rattle.cal_kthread.specs.Turn.Turns.{AreTurns, Given}
 use Rattle.cal_kthread.proofs.JournalLemmas.OneEntryMore.{length-filter_map}
 use Rattle.cal_trace.specs.declared.arrivals.reading.TheConstants.{MOST_TURNS}
-use Rattle.cal_run.specs.Workers.Given.{request_at, turns_given}
+use Rattle.cal_run.specs.Workers.GivenTurns.{request_at, turns_given}
 use Rattle.cal_run.specs.Workers.{IsNext}
 use Rattle.cal_run.proofs.CollectorLemmas.Few.{few_entries}
-use Rattle.cal_run.proofs.WorkersLemmas.Given.{given_at}
+use Rattle.cal_run.proofs.WorkersLemmas.GivenTurns.{given_at}
 use Rattle.cal_run.proofs.workers.worker.Worker.turn.Goals as goal
 use Rattle.cal_machine.proofs.Last.{take_next}
 

@@ -5,7 +5,7 @@ use Rattle.cal_trace.specs.Rows.Header.{header_of}
 use Rattle.cal_trace.specs.Rows.{rest_of, rows_of}
 use Rattle.cal_trace.specs.Rows.SoFar.{at_start, whole}
 use Rattle.cal_trace.specs.Signals.{take_row}
-use Rattle.cal_trace.proofs.Given.{HasGiven-none}
+use Rattle.cal_trace.proofs.GivenSignals.{HasGiven-none}
 use Rattle.cal_trace.proofs.RowLemmas.Readings.{no_header}
 use Rattle.cal_trace.proofs.signals.file.SignalRows.open.Goals as goal
 

@@ -1,5 +1,5 @@
 use Rattle.csv.specs.Records.{fields_of}
-use Rattle.cal_trace.proofs.Given.{kept_fitting}
+use Rattle.cal_trace.proofs.GivenSignals.{kept_fitting}
 use Rattle.cal_trace.proofs.signals.reading.SignalReadingPassReading.take_row.Goals as goal
 
 pub returns-in-Some-clause-kept : goal.returns-in-Some-clause-kept

@@ -1,0 +1,48 @@
+-- `to_nothing` makes a null pointer, which owns nothing.
+use Rattle.caladan_c.proofs.HandleLemmas.Walking.{refl, sym, subst, None, List, [], ◌∷◌, ◌++◌, T, lit<, Ty, ty_ptr, ty_struct, tcons, tnil, Ura, Val, vnull, vstruct, vcons, vnil, has_ty, WT, SProp, ent, emp, id⊢, ftrue, fsep, Memory, Routine, WpFn, Tables, Logic, Fun, tables, tables_of, WpFn-mono, Item, ‵, raw, ◌⊛◌, ◌$◌, ◌∵◌, !, qed, by, move, drop, use1, join, split, fsplit, fjoin, fpack, feq_i, suffices, done, agg, no_more, and_then, lit, returns, enter, alloc_all, pass_all, free_all, look_at, get, sets, yes, Valss, RawPtr, null_ptr, type_at, nothing, within, shape, to, triple_of, entered, says, Stays, stay_dropped, walk_of, ends_at, Goes-dropped, walk_Meets, α, handle_tells, and_tt}
+use Rattle.std.specs.contracts.alloc.Global as Heap
+use Rattle.caladan_c.specs.contracts.handle.guard_pointer.GuardPointer as Pointer
+use Rattle.caladan_c.proofs.HandleLemmas.AsGuardBox.{E, FromAlloc as From}
+use Rattle.caladan_c.specs.contracts.handle.guard_pointer.GuardPointer.to_nothing as F
+use Rattle.caladan_c.specs.contracts.handle.guard_pointer.GuardPointer.to_nothing.Key.{name as #self}
+use Rattle.caladan_c.proofs.handle.guard_pointer.GuardPointer.to_nothing.Statement as stated
+use Rattle.caladan_c.proofs.handle.guard_pointer.GuardPointer.to_nothing.Code as code
+
+abbrev stayed : Stays (F.ended).signature.params (F.ended).kept
+stayed = (stay_dropped From yes, tt)
+
+abbrev pointer_ty : Ty
+pointer_ty = ty_struct Pointer.the_type.name (tcons ty_ptr (tcons (α E.al) tnil))
+
+module _ {M : Type 1} {𝓤 : Ura M} (𝓛 : Logic 𝓤) (at_mem : Memory → SProp 𝓤) (run : Routine → Fun 𝓤) (𝓣 : Tables 𝓤 𝓛.H) where
+  open 𝓛 use {H}
+
+  walk : (z : (walk_of 𝓛 F.ended stayed (F.clauses 𝓛 at_mem run)).Ghost)
+      → ent 𝓤 ((walk_of 𝓛 F.ended stayed (F.clauses 𝓛 at_mem run)).pre z) (WpFn 𝓤 H 𝓣.C 𝓣.Λ code.function (z.0.4.0 ++ []) ((walk_of 𝓛 F.ended stayed (F.clauses 𝓛 at_mem run)).post z))
+  walk z =
+      let Post = (walk_of 𝓛 F.ended stayed (F.clauses 𝓛 at_mem run)).post z in
+      let a = z.0.3.0 in
+      let To = type_at (F.signature).result tt in
+      let made : To.Denot = record { at = null_ptr; alloc = a; kept = None } in
+      qed 𝓛 ((‵ ftrue ⊛ ‵ (fsep (Heap.the_row.own_val a z.0.4.0) ftrue)) ∷ raw (emp 𝓤) ∷ []) ∵ split ! $ drop ! $ fsplit ! $
+      handle_tells E.al ! a z.0.4.0 (λ hv eh fa.
+      let w : Val = vstruct (vcons vnull (vcons hv vnil)) in
+      let typed : T (has_ty pointer_ty w) × WT w = (and_tt (has_ty (α E.al) hv) fa.0, (record { fits = lit< tt }, (fa.1, tt))) in
+      nothing ! $ move ! (1 ∷ 0 ∷ []) $ fjoin ! $ feq_i ! (List Val) (vnull ∷ []) (vnull ∷ []) refl $ fjoin ! $
+      feq_i ! (List Val) (w ∷ []) (w ∷ []) refl $ fjoin ! $
+      fpack ! (Valss (RawPtr ∷ Heap.the_row ∷ [])) (within (shape Pointer.the_type) (to Pointer.the_type made) (w ∷ [])) (vnull ∷ [], (hv ∷ [], tt)) $
+      fjoin ! $ use1 𝓛 (‵ (To.own_val made (w ∷ []))) (id⊢ 𝓤 _) $ move ! (1 ∷ []) $ drop ! $
+      let Γ : List (Item 𝓤) = ‵ (To.own_val made (w ∷ [])) ∷ [] in
+      by ! (subst (λ (us : List Val). ent 𝓤 (types.Kit.⋆ 𝓛 Γ) (WpFn 𝓤 H 𝓣.C 𝓣.Λ code.function (us ++ []) Post)) (sym eh)
+      (qed 𝓛 Γ ∵ enter ! 𝓣.C 𝓣.Λ code.function (hv ∷ []) _ $ alloc_all ! (λ ls. pass_all ! refl (fa, tt) $
+      sets ! (agg ! (and_then ! (lit ! tt) (and_then ! (get ! refl) (no_more !)))) refl typed $ returns ! (look_at ! 0 refl) $ free_all ! refl $
+      suffices ! _ (ends_at 𝓛 F.ended stayed (F.clauses 𝓛 at_mem run) z w made (tt, tt) (tt, tt)) $ says ! refl $
+      nothing ! $ nothing ! $ fjoin ! $ join ! $ nothing ! $ join ! $ done !))))
+
+pub to_nothing_spec : {M : Type 1} → stated.statement M
+unfolding tables_of
+to_nothing_spec 𝓤 𝓛 𝓜 𝓡 wired =
+    let 𝓣 : Tables 𝓤 𝓛.H = tables_of 𝓤 𝓛.H 𝓜 (tables 𝓤 𝓛.H 𝓜 𝓡 𝓡.env) in
+    entered 𝓤 𝓛.H (triple_of 𝓛 F.signature (F.spec 𝓛 𝓜.mem 𝓡.returns)) 𝓣.C 𝓣.Λ #self code.function (code.unfolded 𝓤 𝓛.H 𝓜 𝓡 wired)
+    (walk_Meets 𝓛 F.ended stayed (Goes-dropped 𝓛 0 From yes (λ κs x f. refl), tt) (F.clauses 𝓛 𝓜.mem 𝓡.returns) (WpFn 𝓤 𝓛.H 𝓣.C 𝓣.Λ code.function) (WpFn-mono 𝓤 𝓛.H 𝓛.laws 𝓣 code.function)
+    (walk 𝓛 𝓜.mem 𝓡.returns 𝓣))

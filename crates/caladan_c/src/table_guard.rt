@@ -1,0 +1,155 @@
+//! A guard with its table. It lets a pass through whose actions somebody else chose, or says which
+//! of them is not permitted.
+
+mod each;
+mod facts;
+
+ghost use Rattle.std.specs.Prelude.{◌≡◌, ◌⊎◌, ◌≤◌, Err, IfOk, IfErr, IfNone, OnErr, []};
+ghost use Rattle.std.specs.Prelude.{length, nat_lt};
+ghost use Rattle.cal_machine.specs.Outcome.{Gives};
+ghost use Rattle.cal_machine.specs.Reading.{table_in};
+ghost use Rattle.cal_policy.specs.Board.{kept_holder};
+ghost use Rattle.cal_policy.specs.History.{actions_of, holder_of};
+ghost use Rattle.cal_policy.specs.Judgement.Judging.{IsInput};
+ghost use Rattle.cal_machine.specs.TableTasks.{threads_of_table};
+ghost use Rattle.caladan_c.specs.Found.{input_given};
+ghost use Rattle.caladan_c.specs.Told.{AreJudgements, counts_of};
+ghost use Rattle.std.specs.Option.{is_some, IfSome};
+
+use crate::answer::Refusal;
+use crate::handed_in::HandedIn;
+use crate::recorded::read_actions;
+use crate::told::Told;
+use crate::told::counts::{Counts, counts_of_task};
+use crate::told::holder::holder_on;
+use crate::told::judgement::tell_looks;
+use crate::walk::take_looks;
+use cal_guard::{Guard, Refused, permitted_settled_is_no_news};
+use cal_machine::{Config, ConfigFault};
+use cal_policy::{Action, Holder, MOST_ACTIONS, OpenPass, open_pass_fits};
+use std::alloc::Global;
+use std::marker::Model;
+
+/// A table, the guard of the passes so far, and memory that each pass uses again.
+#[derive(Drop)]
+pub struct TableGuard {
+    config: Config,
+    guard: Guard,
+    /// The actions of the last pass that was given.
+    chosen: Vec<Action>,
+    /// Its looks, in whose place those of the next one come.
+    looks: Box<OpenPass>,
+}
+
+impl Model for TableGuard {
+    ghost use Rattle.cal_guard.specs.Guarded.{board_in};
+    ghost use Rattle.cal_policy.specs.State.{IsReady};
+    ghost use Rattle.caladan_c.specs.GuardView.{GuardView};
+
+    ghost Value = { GuardView };
+
+    ghost view = { λ g. record { table = g.config; guard = g.guard } };
+
+    ghost invariant = { λ g. IsReady g.config (board_in g.guard) };
+}
+
+ghost use Rattle.cal_policy.specs.State.{IsStateAfter};
+ghost use Rattle.cal_guard.specs.Guarded.{board_in, AfterPermitted};
+ghost use Rattle.cal_guard.specs.Permitted.{IsPermittedHistory};
+ghost use Rattle.caladan_c.specs.GuardView.{WentThrough, WasStopped};
+ghost use Rattle.caladan_c.specs.Recorded.{AreNoActions};
+ghost use Rattle.caladan_c.specs.declared.answer.Refusal.TheVariants.{Memory, Unfit, NoAction};
+
+impl TableGuard {
+    /// A guard of this table that was handed no pass, or the table's fault. It takes all the memory
+    /// that passes of at most `MOST_ACTIONS` actions need.
+    pub fn open(alloc: Global, table: &[u8]) -> Result<TableGuard, ConfigFault>
+        ensures table { Gives (λ opened. opened.table) result (table_in table.now) }
+        ensures new { IfOk result (λ opened. IsPermittedHistory opened.table []
+            × IsStateAfter (board_in opened.guard) []) }
+    {
+        let config = Config::read(alloc, table)?;
+        let guard = Guard::open(alloc, &config)?;
+        let chosen = Vec::with_capacity(alloc, MOST_ACTIONS)?;
+        let looks = Box::new(alloc, OpenPass::new())?;
+        Ok(TableGuard {
+            config,
+            guard,
+            chosen,
+            looks,
+        })
+    }
+
+    /// How many kernel threads there are.
+    pub fn threads(&self) -> usize
+        ensures { result ≡ threads_of_table self.now.table }
+    {
+        self.config.threads()
+    }
+
+    /// Who has a core, where the table has it.
+    pub fn holder(&self, core: u8) -> Option<Holder>
+        ensures there { is_some result ≡ nat_lt core self.now.table.cores }
+        ensures holder { IfSome result (λ holder. AfterPermitted self.now.table self.now.guard (λ h.
+            holder ≡ kept_holder (holder_of (actions_of h) core))) }
+    {
+        holder_on(&self.config, self.guard.board(), core)
+    }
+
+    /// How many cores a task holds, how many it books, and its cap, where the table has it.
+    pub fn counts(&self, task: usize) -> Option<Counts>
+        ensures there { is_some result ≡ nat_lt task (length self.now.table.tasks) }
+        ensures counts { IfSome result (λ counted.
+            AfterPermitted self.now.table self.now.guard (λ h.
+            counted ≡ counts_of self.now.table (actions_of h) task)) }
+    {
+        counts_of_task(&self.config, self.guard.board(), task)
+    }
+
+    /// Lets the next pass through with the actions that C chose, where each is permitted at its
+    /// place, and tells what was judged of each look: None; or names the first that is not. It
+    /// takes memory only for more than `MOST_ACTIONS` actions.
+    pub fn pass(
+        &mut self,
+        given: HandedIn<'_>,
+        judged: &mut [u8],
+        told: &[Told],
+    ) -> Result<Option<Refused>, Refusal>
+        requires count { length given.looks.now ≡ threads_of_table self.old.table }
+        requires room { threads_of_table self.old.table ≤ length judged.old }
+        ensures through { IfOk result (λ said.
+            IfNone said (AfterPermitted self.old.table self.old.guard (λ h.
+            WentThrough self.old h (input_given self.old.table h given.entry) told.now self.new))) }
+        ensures judged { IfOk result (λ said.
+            IfNone said (AfterPermitted self.old.table self.old.guard (λ h.
+            AreJudgements (input_given self.old.table h given.entry).seen judged.new))) }
+        ensures stopped { IfOk result (λ said. IfSome said (λ refused.
+            AfterPermitted self.old.table self.old.guard (λ h.
+            WasStopped self.old h (input_given self.old.table h given.entry) told.now refused))) }
+        ensures unfit { result ≡ Err Unfit → AfterPermitted self.old.table self.old.guard (λ h.
+            IsInput self.old.table h (input_given self.old.table h given.entry) → ⊥) }
+        ensures no_action { result ≡ Err NoAction → AreNoActions told.now }
+        ensures why { IfErr result (λ why. (why ≡ Unfit) ⊎ (why ≡ NoAction) ⊎ (why ≡ Memory)) }
+        ensures stands { IfOk result (λ said. IfSome said (λ _. (self.new ≡ self.old) ×
+            (judged.new ≡ judged.old))) }
+        ensures refused { OnErr result ((self.new ≡ self.old) × (judged.new ≡ judged.old)) }
+    {
+        read_actions(&mut self.chosen, told)?;
+        take_looks(
+            &mut self.looks,
+            &self.config,
+            self.guard.board(),
+            given.looks,
+        )?;
+        self.config.limits();
+        permitted_settled_is_no_news();
+        open_pass_fits();
+        let chosen = self.chosen.as_slice();
+        let (config, now, bandwidth) = (&self.config, given.now, given.bandwidth);
+        if let Err(refused) = self.guard.pass(config, now, bandwidth, &self.looks, chosen) {
+            return Ok(Some(refused));
+        }
+        tell_looks(&self.looks, judged);
+        Ok(None)
+    }
+}

@@ -1,0 +1,81 @@
+//! Passes of a guard that take looks one by one, and the first look that does not fit.
+
+ghost use Rattle.std.specs.Prelude.{◌≡◌, ◌⊎◌, ◌<◌, ◌≤◌, IfOk, IfErr, IfNone, OnErr, Err};
+ghost use Rattle.std.specs.Prelude.{length};
+ghost use Rattle.std.specs.Option.{IfSome};
+ghost use Rattle.cal_machine.specs.TableTasks.{threads_of_table};
+ghost use Rattle.caladan_c.specs.GuardView.{WentThrough, WasStopped};
+ghost use Rattle.caladan_c.specs.OneByOne.{input_given_each, AreSaid, IsFirstUnfit, AllFit};
+ghost use Rattle.caladan_c.specs.Recorded.{AreNoActions};
+ghost use Rattle.caladan_c.specs.declared.answer.Refusal.TheVariants.{Memory, NoAction};
+ghost use Rattle.cal_guard.specs.Guarded.{AfterPermitted};
+
+use super::TableGuard;
+use crate::answer::Refusal;
+use crate::found::Found;
+use crate::handed_in::HandedIn;
+use crate::input::first_unfit;
+use crate::recorded::read_actions;
+use crate::told::Told;
+use crate::walk::take_each;
+use cal_guard::{Refused, permitted_settled_is_no_news};
+use cal_policy::open_pass_fits;
+
+impl TableGuard {
+    /// Lets the next pass through with the actions that C chose, each look by itself: a look that
+    /// is unfit, ahead or foreign is taken as a busy one. None, where each action is permitted at
+    /// its place; or the first that is not. Either way it tells what was judged of each look. It
+    /// takes memory only for more than `MOST_ACTIONS` actions.
+    pub fn pass_each(
+        &mut self,
+        given: HandedIn<'_>,
+        judged: &mut [u8],
+        told: &[Told],
+    ) -> Result<Option<Refused>, Refusal>
+        requires count { length given.looks.now ≡ threads_of_table self.old.table }
+        requires room { threads_of_table self.old.table ≤ length judged.old }
+        ensures through { IfOk result (λ said.
+            IfNone said (AfterPermitted self.old.table self.old.guard (λ h.
+            WentThrough self.old h (input_given_each self.old.table h given.entry) told.now
+            self.new))) }
+        ensures judged { IfOk result (λ _. AfterPermitted self.old.table self.old.guard (λ h.
+            AreSaid self.old.table.cores h given.entry.looks.now judged.new)) }
+        ensures stopped { IfOk result (λ said. IfSome said (λ refused.
+            AfterPermitted self.old.table self.old.guard (λ h.
+            WasStopped self.old h (input_given_each self.old.table h given.entry) told.now
+            refused))) }
+        ensures no_action { result ≡ Err NoAction → AreNoActions told.now }
+        ensures why { IfErr result (λ why. (why ≡ NoAction) ⊎ (why ≡ Memory)) }
+        ensures stands { IfOk result (λ said. IfSome said (λ _. self.new ≡ self.old)) }
+        ensures refused { OnErr result ((self.new ≡ self.old) × (judged.new ≡ judged.old)) }
+    {
+        read_actions(&mut self.chosen, told)?;
+        self.config.limits();
+        permitted_settled_is_no_news();
+        open_pass_fits();
+        take_each(
+            &mut self.looks,
+            &self.config,
+            self.guard.board(),
+            given.looks,
+            judged,
+        );
+        let chosen = self.chosen.as_slice();
+        let (config, now, bandwidth) = (&self.config, given.now, given.bandwidth);
+        if let Err(refused) = self.guard.pass(config, now, bandwidth, &self.looks, chosen) {
+            return Ok(Some(refused));
+        }
+        Ok(None)
+    }
+
+    /// The first thread whose look does not fit what it showed before, or has not the right shape.
+    pub fn first_unfit(&self, looks: &[Found]) -> Option<usize>
+        requires { length looks.now ≡ threads_of_table self.now.table }
+        ensures first { IfSome result (λ k. AfterPermitted self.now.table self.now.guard (λ h.
+            IsFirstUnfit h looks.now k)) }
+        ensures none { IfNone result (AfterPermitted self.now.table self.now.guard (λ h.
+            AllFit h looks.now)) }
+    {
+        first_unfit(&self.config, self.guard.board(), looks)
+    }
+}
