@@ -22,7 +22,9 @@ pub use arrivals::{Arrival, Arrivals, GivenPass};
 pub use cal_policy::MOST_PASSES;
 pub use fault::{FaultKind, TraceFault};
 pub use history::file::{HistoryRows, read_history};
-pub use history::text::write_history;
+pub use history::text::{
+    write_history, write_history_end, write_history_header, write_history_pass,
+};
 pub use laws::{legal_is_read_back, read_is_read_back, text_is_its_rows, text_is_read_back};
 pub use report::summary::{write_summary, write_tallied_summary};
 pub use report::tally::Tally;

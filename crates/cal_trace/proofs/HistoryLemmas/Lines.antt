@@ -1,11 +1,12 @@
 -- The lines of a history, as they are written one after another.
-use Rattle.std.proofs.Common.{◌≡◌, ◌<◌, ◌+◌, ◌∙◌, ℕ, List, ◌++◌, Option, Bool, false, length, take, get_or, codes, slice_index_or, sym, ap, subst, zero-add}
+use Rattle.std.proofs.Common.{◌≡◌, ◌<◌, ◌+◌, ◌∙◌, ℕ, List, [], ◌∷◌, ◌++◌, append_assoc, Option, Bool, false, length, take, get_or, codes, slice_index_or, sym, ap, subst, zero-add}
 use Rattle.std.specs.Io.KnownBytes.{Appends}
 use Rattle.std.specs.List.{flat_map}
 use Rattle.std.proofs.KnownBytes.{Appends-trans}
+use Rattle.std.proofs.lemmas.Grind.{flat_map-append}
 use Rattle.cal_policy.specs.declared.history.look.Seen.{Seen}
 use Rattle.cal_policy.specs.declared.history.entry.PassEntry.{PassEntry}
-use Rattle.cal_trace.specs.History.Text.{look_fields, look_rows, entry_rows, header_row, end_fields, lines_of, history_text}
+use Rattle.cal_trace.specs.History.Text.{look_fields, look_rows, entry_rows, header_row, end_fields, lines_of, begun_text, history_text}
 use Rattle.cal_trace.specs.Rows.Text.{line_of}
 use Rattle.cal_trace.specs.Rows.Version.{version_word}
 use Rattle.cal_trace.specs.declared.rows.version.TheConstants.Version.{WRITTEN}
@@ -23,11 +24,23 @@ one_look a b c rooms looks i d lt p q =
     let e = ap lines_of more ∙ flat_map-one line_of (look_rows rooms (take i looks)) (look_fields (0 + i) (slice_index_or rooms (0 + i) false) (get_or looks i d)) in
     along a c _ _ (sym e) (rw (zero-add i) (Appends-trans a b c _ _ p q))
 
+-- the header, as it is put together
+pub header_line : (a b : Option (List ℕ)) (word : List ℕ) → word ≡ version_word WRITTEN → Appends a b (codes "caladan-history," ++ (word ++ codes "\n")) → Appends a b (line_of header_row)
+header_line a b word is p = along a b _ _ (ap (λ w. codes "caladan-history," ++ (w ++ codes "\n")) is) p
+
 -- the header, the passes and the end row
-pub whole_history : (a b c d : Option (List ℕ)) (history : List PassEntry) (word : List ℕ) → word ≡ version_word WRITTEN → Appends a b (codes "caladan-history," ++ (word ++ codes "\n"))
-    → Appends b c (lines_of (flat_map entry_rows history))
+pub whole_history : (a b c d : Option (List ℕ)) (history : List PassEntry) → Appends a b (line_of header_row) → Appends b c (lines_of (flat_map entry_rows history))
     → Appends c d (line_of (end_fields (length history))) → Appends a d (history_text history)
-whole_history a b c d history word is p q r =
-    let header = along a b _ _ (ap (λ w. codes "caladan-history," ++ (w ++ codes "\n")) is) p in
+whole_history a b c d history p q r =
     let e = flat_map-one line_of (flat_map entry_rows history) (end_fields (length history)) in
-    along a d _ _ (ap (λ t. line_of header_row ++ t) (sym e)) (Appends-trans a b d _ _ header (Appends-trans b c d _ _ q r))
+    along a d _ _ (ap (λ t. line_of header_row ++ t) (sym e)) (Appends-trans a b d _ _ p (Appends-trans b c d _ _ q r))
+
+-- one pass more
+pub begun_more : (history : List PassEntry) (entry : PassEntry) → begun_text (history ++ entry ∷ []) ≡ begun_text history ++ lines_of (entry_rows entry)
+begun_more history entry =
+    ap (λ t. line_of header_row ++ t) (ap lines_of (flat_map-one entry_rows history entry) ∙ flat_map-append line_of (flat_map entry_rows history) (entry_rows entry))
+    ∙ sym (append_assoc (line_of header_row) (lines_of (flat_map entry_rows history)) (lines_of (entry_rows entry)))
+
+-- and the end
+pub begun_ends : (history : List PassEntry) → history_text history ≡ begun_text history ++ line_of (end_fields (length history))
+begun_ends history = flat_map-one line_of (header_row ∷ flat_map entry_rows history) (end_fields (length history))

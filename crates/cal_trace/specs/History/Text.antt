@@ -86,6 +86,10 @@ history_rows history = header_row ∷ flat_map entry_rows history ++ end_fields 
 abbrev pub lines_of : List Fields → List ℕ
 lines_of rows = flat_map line_of rows
 
+-- the text of a history but for its last row: what is written of one that goes on
+abbrev pub begun_text : List PassEntry → List ℕ
+begun_text history = lines_of (header_row ∷ flat_map entry_rows history)
+
 -- the text of a history
 abbrev pub history_text : List PassEntry → List ℕ
 history_text history = lines_of (history_rows history)

@@ -7,7 +7,7 @@ ghost use Rattle.std.specs.List.{flat_map};
 ghost use Rattle.std.specs.Io.KnownBytes.{Appends};
 ghost use Rattle.cal_trace.specs.History.Text.{record_fields, look_fields, revocation_fields};
 ghost use Rattle.cal_trace.specs.History.Text.{action_fields, look_rows, entry_rows, lines_of};
-ghost use Rattle.cal_trace.specs.History.Text.{history_text};
+ghost use Rattle.cal_trace.specs.History.Text.{end_fields, header_row, history_text};
 ghost use Rattle.cal_trace.specs.Rows.Text.{after_first, line_of};
 
 use crate::history::row_text::RowText;
@@ -29,14 +29,57 @@ pub fn write_history<W: Write>(history: &[PassEntry], writer: &mut W) -> Result<
     Ok(())
 }
 
+/// Writes the first row of a history, for who writes one pass by pass: then come the rows of each
+/// pass, and then the last row.
+///
+/// Of errors and of memory the same holds as for `write_history`, here and in the two calls below.
+pub fn write_history_header<W: Write>(writer: &mut W) -> Result<(), WriteFault>
+    ensures { OnOk result (Appends (W.contents writer.old) (W.contents writer.new)
+        (line_of header_row)) }
+{
+    write_header(writer)?;
+    Ok(())
+}
+
+/// Writes the rows of one pass of a history.
+pub fn write_history_pass<W: Write>(entry: &PassEntry, writer: &mut W) -> Result<(), WriteFault>
+    ensures { OnOk result (Appends (W.contents writer.old) (W.contents writer.new)
+        (lines_of (entry_rows entry.now))) }
+{
+    write_entry(entry, writer)?;
+    Ok(())
+}
+
+/// Writes the last row of a history of so many passes.
+pub fn write_history_end<W: Write>(passes: usize, writer: &mut W) -> Result<(), WriteFault>
+    ensures { OnOk result (Appends (W.contents writer.old) (W.contents writer.new)
+        (line_of (end_fields passes))) }
+{
+    write_end(passes, writer)?;
+    Ok(())
+}
+
 fn write_rows<W: Write>(history: &[PassEntry], writer: &mut W) -> io::Result<()>
     ensures { OnOk result (Appends (W.contents writer.old) (W.contents writer.new)
         (history_text history.now)) }
 {
-    let version = Version::WRITTEN.word();
-    writeln!(writer, "caladan-history,{version}")?;
+    write_header(writer)?;
     write_entries(history, writer)?;
-    let passes = history.len();
+    write_end(history.len(), writer)
+}
+
+fn write_header<W: Write>(writer: &mut W) -> io::Result<()>
+    ensures { OnOk result (Appends (W.contents writer.old) (W.contents writer.new)
+        (line_of header_row)) }
+{
+    let version = Version::WRITTEN.word();
+    writeln!(writer, "caladan-history,{version}")
+}
+
+fn write_end<W: Write>(passes: usize, writer: &mut W) -> io::Result<()>
+    ensures { OnOk result (Appends (W.contents writer.old) (W.contents writer.new)
+        (line_of (end_fields passes))) }
+{
     writeln!(writer, "end,{passes}")
 }
 
