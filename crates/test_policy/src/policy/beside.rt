@@ -119,7 +119,7 @@ struct Drawn {
 }
 
 /// What the pass at this clock is drawn.
-fn drawn(alloc: Global, config: &Config, book: &Book, draw: &mut Draw) -> Result<Drawn, Fail> {
+fn draw_pass(alloc: Global, config: &Config, book: &Book, draw: &mut Draw) -> Result<Drawn, Fail> {
     config.limits();
     let mut looks = Vec::with_capacity(alloc, config.threads())?;
     for k in 0..config.threads() {
@@ -313,7 +313,7 @@ fn are_alike(alloc: Global, config: &Config, seed: u64) -> Result<bool, Fail> {
     for pass in 0..30u64 {
         let back = if draw.below(16) == 0 { 100 } else { 0 };
         draw.clock = (1000 + 20 * pass).saturating_sub(back);
-        let drawn = drawn(alloc, config, &all.stepped, &mut draw)?;
+        let drawn = draw_pass(alloc, config, &all.stepped, &mut draw)?;
         if !all.agree(alloc, config, &drawn)? {
             return Ok(false);
         }
