@@ -142,8 +142,7 @@ pub fn end_told(
     ensures { IfOk result (λ _. (outcome : Outcome) × IsRun config.now arrivals.now outcome
         × (outcome.history ≡ parts.scheduler.history)) }
 {
-    let rest = end_run(alloc, config, arrivals, parts)?;
-    let _ = rest;
+    end_run(alloc, config, arrivals, parts)?;
     Ok(())
 }
 

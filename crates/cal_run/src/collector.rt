@@ -1,13 +1,14 @@
 //! Who collects what the passes and the turns of a run hand out.
 
 pub mod collected;
+pub mod nobody;
 pub mod open_journal;
 pub mod scheduler;
 pub mod tallies;
 pub mod worker;
 
 ghost use Rattle.std.specs.Prelude.{◌≡◌, ◌≤◌, ◌<◌, ◌+◌, ◌++◌, List, Some, length, slice_get};
-ghost use Rattle.std.specs.Prelude.{slice_set, IfOk, OnOk, ⊤};
+ghost use Rattle.std.specs.Prelude.{slice_set, IfOk, OnOk};
 ghost use Rattle.cal_kthread.specs.Turn.Entries.{entries_of};
 ghost use Rattle.cal_kthread.specs.declared.journal.entry.Entry.{Entry};
 ghost use Rattle.cal_kthread.specs.declared.kernel_thread.TheConstants.{MOST_ENTRIES};
@@ -15,7 +16,6 @@ ghost use Rattle.cal_policy.specs.declared.history.entry.PassEntry.{PassEntry as
 ghost use Rattle.cal_run.specs.Parts.{HasPassed, scheduler_seat_of};
 ghost use Rattle.cal_run.specs.Workers.{FitSomeTable};
 
-use crate::rounds::passes::pass_given;
 use cal_kthread::TurnEntries;
 use cal_sched::BareScheduler;
 use cal_trace::Arrivals;
@@ -56,28 +56,4 @@ pub trait Collector {
             length (journal ++ entries_of entries) ≤ MOST_ENTRIES →
             OnOk result (holds self.new history
             (slice_set journals k (journal ++ entries_of entries))) };
-}
-
-/// Collects nothing.
-#[derive(Drop)]
-pub(crate) struct Nobody;
-
-impl Collector for Nobody {
-    type Fault = AllocError;
-
-    ghost holds = { λ nobody history journals. ⊤ };
-
-    fn make_pass(
-        &mut self,
-        scheduler: &mut BareScheduler,
-        arrivals: &Arrivals,
-        p: usize,
-    ) -> Result<(), AllocError> {
-        pass_given(scheduler, arrivals, p)?;
-        Ok(())
-    }
-
-    fn add_turn(&mut self, _k: usize, _entries: TurnEntries) -> Result<(), AllocError> {
-        Ok(())
-    }
 }

@@ -12,7 +12,8 @@ ghost use Rattle.cal_run.specs.Parts.{AreParts, HasPassed, rounds_of, scheduler_
 ghost use Rattle.cal_run.specs.Rounds.{AreAfterRounds};
 ghost use Rattle.cal_run.specs.Workers.{FitSomeTable, HaveMade, journals_of, seats_of};
 
-use crate::collector::{Collector, Nobody};
+use crate::collector::Collector;
+use crate::collector::nobody::Nobody;
 use crate::parts::Parts;
 use crate::rounds::passes::pass_given;
 use crate::rounds::watch::watch_of_round;
