@@ -8,9 +8,9 @@ returns c = (
   outcome_of (record {
     history = c.args.parts.scheduler.history;
     journals = journals_of c.args.parts.workers.items;
-    left = c.in_ok-rest.rest.left;
-    watched = c.in_ok-rest.rest.watched;
+    left = c.in_ok-end_run.field-0.left;
+    watched = c.in_ok-end_run.field-0.watched;
   }),
-  c.in_ok-rest.ensures,
+  c.in_ok-end_run.ensures,
   refl,
 )
