@@ -3,6 +3,7 @@ pub mod FrontReadBack
 pub mod Decided
 pub mod Reading
 pub mod WrittenRuns
+pub mod Telling
 pub mod CommandWords
 pub mod Reporting
 pub mod Audited

@@ -1,12 +1,14 @@
 -- The text of a run that was written.
-use Rattle.std.proofs.Common.{ℕ, List, Option, Result, Ok, Err, IsOk, IfErr, OnOk, ◌≡◌, ◌++◌, refl, sym, subst}
+use Rattle.std.proofs.Common.{ℕ, List, Option, Result, Ok, Err, IsOk, IfErr, OnOk, ◌≡◌, ◌⊎◌, inl, inr, true, ◌++◌, refl, sym, subst}
+use Rattle.std.proofs.lemmas.Bool.{false≢true}
 use Rattle.std.specs.Io.KnownBytes.{Appends}
 use Rattle.cal_engine.specs.Front.{front_of}
 use Rattle.cal_engine.specs.Outcome.{Failed}
-use Rattle.cal_engine.specs.Running.{run_front, FailedInThreads, RunInput, Runs, RunsInThreads, TellsRun, WritesRun}
+use Rattle.cal_engine.specs.Running.{is_told, run_front, FailedInThreads, RunInput, Runs, RunsInThreads, Tells, TellsRun, WritesRun}
 use Rattle.cal_engine.specs.declared.fault.RunFault.{RunFault}
 use Rattle.cal_engine.specs.declared.fault.RunFault.TheVariants as fault
 use Rattle.cal_engine.specs.declared.jobs.running.RunAnswer.{RunAnswer}
+use Rattle.cal_engine.specs.declared.jobs.running.RunAnswer.TheVariants.{History, WithTable, Summary, Report}
 
 written_run : (answer : RunAnswer) (given : List ℕ) (input : Result RunInput RunFault) (old new : Option (List ℕ)) (text : List ℕ) → TellsRun answer input text
     → Appends old new (front_of (run_front answer) given ++ text) → WritesRun answer given input old new
@@ -31,3 +33,27 @@ pub runs_in_threads : {T : Type 0} (answer : RunAnswer) (result : Result T RunFa
     → RunsInThreads answer result given input old new
 runs_in_threads answer (Ok done) given input old new text tells written kind = written_run answer given input old new text tells written
 runs_in_threads answer (Err f) given input old new text tells written kind = subst (λ (g : RunFault). FailedInThreads g input) (sym kind) (has_input answer input text tells)
+
+told_run : (answer : RunAnswer) (given : List ℕ) (input : Result RunInput RunFault) (old new : Option (List ℕ)) → is_told answer ≡ true
+    → Tells (front_of (run_front answer) given) input old new → WritesRun answer given input old new
+told_run answer given (Err f) old new is tells = absurd tells
+told_run History given (Ok input) old new is tells = record { outcome = tells.outcome; run = tells.run; written = tells.written }
+told_run WithTable given (Ok input) old new is tells = record { outcome = tells.outcome; run = tells.run; written = tells.written }
+told_run Summary given (Ok input) old new is tells = absurd (false≢true is)
+told_run Report given (Ok input) old new is tells = absurd (false≢true is)
+
+-- a history was written pass by pass, or the fault is the input's
+pub told_runs : {T : Type 0} (answer : RunAnswer) (result : Result T RunFault) (given : List ℕ) (input : Result RunInput RunFault) (old new : Option (List ℕ)) → is_told answer ≡ true
+    → OnOk result (Tells (front_of (run_front answer) given) input old new) → IfErr result (λ f. Failed f input) → Runs answer result given input old new
+told_runs answer (Ok done) given input old new is tells failed = told_run answer given input old new is tells
+told_runs answer (Err f) given input old new is tells failed = failed
+
+-- the fault of a run that is told is the input's, once the input gives a run
+pub told_fault : (f : RunFault) (input : RunInput) → (f ≡ fault.Memory) ⊎ (f ≡ fault.Write) → Failed f (Ok input)
+told_fault f input (inl is) = subst (λ (g : RunFault). Failed g (Ok input)) (sym is) tt
+told_fault f input (inr is) = subst (λ (g : RunFault). Failed g (Ok input)) (sym is) refl
+
+-- the second of two, seen in another way
+pub second : {A B C : Type 0} → (B → C) → A ⊎ B → A ⊎ C
+second f (inl a) = inl a
+second f (inr b) = inr (f b)

@@ -1,11 +1,11 @@
 -- What a job of the program answers and writes, and with which status the program ends.
-use Rattle.std.specs.Prelude.{◌≡◌, ℕ, List, Option, Result, Ok, Err, IfOk}
+use Rattle.std.specs.Prelude.{◌≡◌, ℕ, List, Bool, false, Option, Result, Ok, Err, IfOk}
 use Rattle.cal_policy.specs.declared.verdict.Verdict.{Verdict}
 use Rattle.cal_policy.specs.declared.verdict.Verdict.TheVariants.{Legal, Illegal}
 use Rattle.cal_engine.specs.Faults.{status_of}
 use Rattle.cal_engine.specs.Outcome.{Failed, IsAudit, Reports}
 use Rattle.cal_engine.specs.Runs.{Run, decided_run_of, recorded_run_of, within_limit}
-use Rattle.cal_engine.specs.Running.{run_input_of, Runs, RunsInThreads}
+use Rattle.cal_engine.specs.Running.{is_told, run_input_of, Runs, RunsInThreads}
 use Rattle.cal_engine.specs.declared.command_words.command_line.Job.{Job}
 use Rattle.cal_engine.specs.declared.command_words.command_line.Job.TheVariants as job
 use Rattle.cal_engine.specs.declared.fault.RunFault.{RunFault}
@@ -40,6 +40,11 @@ DoesJob (job.Sim asked) answer input old new =
     IfOk answer (λ status. status ≡ 0)
 DoesJob job.Audit answer input old new =
     AuditsBy answer (within_limit input (recorded_run_of input)) old new
+
+-- what the job writes is written pass by pass
+abbrev pub is_told_job : Job → Bool
+is_told_job (job.Lockstep asked) = is_told asked
+is_told_job _ = false
 
 -- the status with which the program ends after an answer, or after a fault
 abbrev pub exit_status : Result ℕ RunFault → ℕ

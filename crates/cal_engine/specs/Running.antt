@@ -1,12 +1,15 @@
 -- Whole runs: what an input gives to one, and what is written of what it came to.
-use Rattle.std.specs.Prelude.{◌≡◌, ◌++◌, ℕ, List, length, Option, Result, Ok, Err, IsOk}
+use Rattle.std.specs.Prelude.{◌≡◌, ◌++◌, ℕ, List, length, map, take, Bool, true, false, Option}
+use Rattle.std.specs.Prelude.{Result, Ok, Err, IsOk}
 use Rattle.std.specs.Io.KnownBytes.{Appends}
 use Rattle.cal_machine.specs.Table.{Table}
 use Rattle.cal_machine.specs.Tasks.{threads_in}
-use Rattle.cal_run.specs.Outcome.{IsRun}
+use Rattle.cal_policy.specs.Pass.{IsLegal}
+use Rattle.cal_policy.specs.declared.history.entry.PassEntry.{PassEntry}
+use Rattle.cal_run.specs.Outcome.{IsRun, figures_of}
 use Rattle.cal_run.specs.declared.outcome.Outcome.{Outcome}
 use Rattle.cal_trace.specs.Arrivals.{arrivals_of}
-use Rattle.cal_trace.specs.History.Text.{history_text}
+use Rattle.cal_trace.specs.History.Text.{begun_text, history_text}
 use Rattle.cal_trace.specs.Rows.{rows_of}
 use Rattle.cal_trace.specs.Report.Summary.{summary_text}
 use Rattle.cal_trace.specs.declared.arrivals.Arrivals.{Arrivals}
@@ -94,6 +97,40 @@ abbrev pub Runs : {T : Type 0} → RunAnswer → Result T RunFault → List ℕ 
     → Option (List ℕ) → Option (List ℕ) → Type 0
 Runs answer (Ok _) given input old new = WritesRun answer given input old new
 Runs answer (Err f) given input old new = Failed f input
+
+-- what is written of a run pass by pass: its history
+abbrev pub is_told : RunAnswer → Bool
+is_told History = true
+is_told WithTable = true
+is_told _ = false
+
+-- these are the first passes of a run on this, as far as it was made: a legal history
+pub record AreFirstPasses (input : RunInput) (history : List PassEntry) : Type 0 where
+  pub legal : IsLegal input.table history
+  pub given : map figures_of history ≡ take (length history) input.arrivals.passes
+
+-- a run on this came to some outcome, and after this its history was written
+pub record IsTold (head : List ℕ) (input : RunInput) (old new : Option (List ℕ)) : Type 0 where
+  pub outcome : Outcome
+  pub run : IsRun input.table input.arrivals outcome
+  pub written : Appends old new (head ++ history_text outcome.history)
+
+-- memory was refused to a run on this while it was told: after this its history was written as far
+-- as it was made, all but the last row
+pub record IsBegunTold (head : List ℕ) (input : RunInput) (old new : Option (List ℕ)) : Type 0 where
+  pub history : List PassEntry
+  pub first : AreFirstPasses input history
+  pub written : Appends old new (head ++ begun_text history)
+
+-- the input gives a run, which was made and told
+abbrev pub Tells : List ℕ → Result RunInput RunFault → Option (List ℕ) → Option (List ℕ) → Type 0
+Tells head (Err f) old new = ⊥
+Tells head (Ok input) old new = IsTold head input old new
+
+-- the input gives a run, of which this much was written where memory was refused in its midst
+abbrev pub Begins : List ℕ → Result RunInput RunFault → Option (List ℕ) → Option (List ℕ) → Type 0
+Begins head (Err f) old new = ⊥
+Begins head (Ok input) old new = IsBegunTold head input old new
 
 -- What a fault of a run in threads says of the input: that there is one for a run where a thread
 -- could not be started, since threads start after reading; any other says what it must.

@@ -7,3 +7,4 @@ pub mod front;
 pub mod run_text;
 pub mod running;
 pub mod simulating;
+pub mod telling;

@@ -1,9 +1,9 @@
 //! A whole run of the program: words and an input in; an answer, an error line and an exit status
 //! out.
 
-ghost use Rattle.std.specs.Prelude.{◌≡◌, ◌≢◌, IfErr, IfOk, IfSome, drop, map, string_bytes};
+ghost use Rattle.std.specs.Prelude.{◌≡◌, ◌≢◌, IfErr, IfOk, IfSome, drop, false, map, string_bytes};
 ghost use Rattle.cal_engine.specs.CommandWords.{Asks};
-ghost use Rattle.cal_engine.specs.Program.{verdict_status, DoesJob, EndsJob};
+ghost use Rattle.cal_engine.specs.Program.{is_told_job, verdict_status, DoesJob, EndsJob};
 ghost use Rattle.cal_engine.specs.declared.command_words.command_line.Job.{Job as JobOf};
 
 use crate::command_words::command_line::{Job, words};
@@ -62,7 +62,8 @@ fn answer_words<H: Threads + Wait + Sync, R: Read + Drop, W: Write, E: Write>(
         Asks (map string_bytes (drop 1 named.now)) job →
         DoesJob job result input (W.contents output.old) (W.contents output.new)) }
     ensures refused { IfOk result (λ status. status ≡ 2 → output.new ≡ output.old) }
-    ensures untouched { IfErr result (λ fault. fault ≢ RunFault.Write → output.new ≡ output.old) }
+    ensures untouched { IfErr result (λ fault. fault ≢ RunFault.Write →
+        fault ≢ RunFault.Memory → output.new ≡ output.old) }
 {
     let given = words_after_first(alloc, named)?;
     match words(alloc, given.as_slice()) {
@@ -82,7 +83,8 @@ fn do_job<H: Threads + Wait + Sync, R: Read + Drop, W: Write>(
     ensures job { IfSome (R.remaining reader) (λ input.
         DoesJob job result input (W.contents output.old) (W.contents output.new)) }
     ensures status { IfOk result (λ status. status ≢ 2) }
-    ensures untouched { IfErr result (λ fault. fault ≢ RunFault.Write → output.new ≡ output.old) }
+    ensures untouched { IfErr result (λ fault. fault ≢ RunFault.Write →
+        (fault ≡ RunFault.Memory → is_told_job job ≡ false) → output.new ≡ output.old) }
 {
     match job {
         Job::Decide => {

@@ -1,7 +1,7 @@
 //! The words of caladan_sim with `--explain`.
 
-ghost use Rattle.std.specs.Prelude.{◌≡◌, ◌≢◌, IfErr, IfOk};
-ghost use Rattle.cal_engine.specs.Program.{DoesJob};
+ghost use Rattle.std.specs.Prelude.{◌≡◌, ◌≢◌, IfErr, IfOk, false};
+ghost use Rattle.cal_engine.specs.Program.{is_told_job, DoesJob};
 
 use crate::ending::{RefusedInput, end_explained};
 use cal_engine::{
@@ -70,7 +70,8 @@ fn answer_words<H: Threads + Wait + Sync, R: Read + Drop, W: Write, E: Write>(
     errors: &mut E,
 ) -> Result<u8, RunFault>
     ensures refused { IfOk result (λ status. status ≡ 2 → output.new ≡ output.old) }
-    ensures untouched { IfErr result (λ fault. fault ≢ RunFault.Write → output.new ≡ output.old) }
+    ensures untouched { IfErr result (λ fault. fault ≢ RunFault.Write →
+        fault ≢ RunFault.Memory → output.new ≡ output.old) }
 {
     let given = words_without(alloc, named)?;
     let job = match words(alloc, given.as_slice()) {
@@ -113,7 +114,8 @@ fn do_job<H: Threads + Wait + Sync, W: Write>(
     // The job was done on this input as run_program does it.
     ensures job { DoesJob job result input.now (W.contents output.old) (W.contents output.new) }
     ensures status { IfOk result (λ status. status ≢ 2) }
-    ensures untouched { IfErr result (λ fault. fault ≢ RunFault.Write → output.new ≡ output.old) }
+    ensures untouched { IfErr result (λ fault. fault ≢ RunFault.Write →
+        (fault ≡ RunFault.Memory → is_told_job job ≡ false) → output.new ≡ output.old) }
 {
     match job {
         Job::Decide => {

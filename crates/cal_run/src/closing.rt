@@ -10,6 +10,7 @@ ghost use Rattle.cal_run.specs.Outcome.{IsRun, IsRunEnd, outcome_of};
 ghost use Rattle.cal_run.specs.Parts.{AreParts, rounds_of};
 ghost use Rattle.cal_run.specs.Workers.{journals_of};
 ghost use Rattle.cal_run.specs.declared.fault.SimFault.TheVariants.{Memory};
+ghost use Rattle.cal_run.specs.declared.outcome.Outcome.{Outcome};
 ghost use Rattle.cal_trace.specs.Arrivals.FitsTable.{FitsTable};
 
 use crate::closing::pages_and_rings::close_threads;
@@ -125,6 +126,24 @@ pub(crate) fn end_run(
         left: Listed::new(left),
         watched: Listed::new(watched),
     })
+}
+
+/// Ends a run whose history was told pass by pass, and whose passes, turns and rounds were all made.
+/// Fails only when out of memory.
+pub fn end_told(
+    alloc: Global,
+    config: &Config,
+    arrivals: &Arrivals,
+    parts: Parts,
+) -> Result<(), AllocError>
+    requires fits { FitsTable config.now arrivals.now }
+    requires parts { AreParts config.now arrivals.now (length arrivals.now.passes)
+        (length arrivals.now.turns) (rounds_of arrivals.now) parts }
+    ensures { IfOk result (λ _. (outcome : Outcome) × IsRun config.now arrivals.now outcome
+        × (outcome.history ≡ parts.scheduler.history)) }
+{
+    end_run(alloc, config, arrivals, parts)?;
+    Ok(())
 }
 
 /// The outcome of a run that ended with these. Fails only when out of memory.

@@ -1,6 +1,7 @@
 //! Who collects what the passes and the turns of a run hand out.
 
 pub mod collected;
+pub mod nobody;
 pub mod open_journal;
 pub mod scheduler;
 pub mod tallies;

@@ -17,7 +17,7 @@ mod parts;
 mod rounds;
 mod workers;
 
-pub use closing::{close_parts, end_parts};
+pub use closing::{close_parts, end_parts, end_told};
 pub use collector::Collector;
 pub use collector::collected::Collected;
 pub use collector::scheduler::CollectingScheduler;
@@ -31,4 +31,5 @@ pub use parts::Parts;
 pub use parts::opening::{MOST_ROUNDS, open_parts};
 pub use rounds::passes::pass_given;
 pub use rounds::watch::watch_of_round;
+pub use rounds::{rounds_to_make, told_round};
 pub use workers::worker::Worker;

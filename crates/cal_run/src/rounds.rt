@@ -3,7 +3,9 @@
 pub mod passes;
 pub mod watch;
 
-ghost use Rattle.std.specs.Prelude.{◌≡◌, ◌+◌, List, length, min, IfOk, OnOk};
+ghost use Rattle.std.specs.Prelude.{◌≡◌, ◌+◌, ◌++◌, List, length, min, max, option_to_list};
+ghost use Rattle.std.specs.Prelude.{IfOk, OnOk};
+ghost use Rattle.cal_policy.specs.Pass.{IsLegal};
 ghost use Rattle.cal_kthread.specs.declared.journal.entry.Entry.{Entry};
 ghost use Rattle.cal_policy.specs.declared.history.entry.PassEntry.{PassEntry as EntryOfPass};
 ghost use Rattle.cal_run.specs.Parts.{AreParts, HasPassed, rounds_of, scheduler_seat_of};
@@ -11,12 +13,16 @@ ghost use Rattle.cal_run.specs.Rounds.{AreAfterRounds};
 ghost use Rattle.cal_run.specs.Workers.{FitSomeTable, HaveMade, journals_of, seats_of};
 
 use crate::collector::Collector;
+use crate::collector::nobody::Nobody;
 use crate::parts::Parts;
+use crate::rounds::passes::pass_given;
 use crate::rounds::watch::watch_of_round;
 use crate::workers::turn_each;
 use crate::workers::worker::Worker;
+use cal_policy::PassEntry;
 use cal_sched::BareScheduler;
 use cal_trace::Arrivals;
+use std::alloc::AllocError;
 
 /// All passes, turns and rounds of the watch, one round after the other. What each pass and each
 /// turn hands out goes to the collector. Fails only when out of memory, or where the collector does.
@@ -64,6 +70,62 @@ fn make_round<C: Collector>(
     turns_of_round(parts.workers.as_mut_slice(), arrivals, r, collector)?;
     watch_of_round(&mut parts.watch);
     Ok(())
+}
+
+/// Round `r`, for who makes rounds one by one: the same, and the entry of its pass, if it has one.
+/// What its turns hand out is let go of. Asks for a legal history, which it keeps so. Fails only when
+/// out of memory.
+pub fn told_round(
+    parts: &mut Parts,
+    arrivals: &Arrivals,
+    r: usize,
+) -> Result<Option<PassEntry>, AllocError>
+    requires fits { FitSomeTable arrivals.now }
+    requires before { AreAfterRounds parts.old.scheduler.table arrivals.now r parts.old }
+    requires legal { IsLegal parts.old.scheduler.table parts.old.scheduler.history }
+    ensures made { IfOk result (λ _.
+        AreAfterRounds parts.old.scheduler.table arrivals.now (r + 1) parts.new) }
+    ensures told { IfOk result (λ entry. parts.new.scheduler.history
+        ≡ parts.old.scheduler.history ++ option_to_list entry) }
+    ensures legal { IfOk result (λ _.
+        IsLegal parts.old.scheduler.table parts.new.scheduler.history) }
+{
+    let entry = told_pass(&mut parts.scheduler, arrivals, r)?;
+    turns_of_round(parts.workers.as_mut_slice(), arrivals, r, &mut Nobody)?;
+    watch_of_round(&mut parts.watch);
+    Ok(entry)
+}
+
+/// How many rounds a run on these arrivals has.
+pub fn rounds_to_make(arrivals: &Arrivals) -> usize
+    ensures { result ≡ max (length arrivals.now.passes) (length arrivals.now.turns) }
+{
+    let passes = arrivals.passes.as_slice().len();
+    let turns = arrivals.turns.as_slice().len();
+    passes.max(turns)
+}
+
+/// Pass `r`, if there is one, and its entry. Fails only when out of memory.
+fn told_pass(
+    scheduler: &mut BareScheduler,
+    arrivals: &Arrivals,
+    r: usize,
+) -> Result<Option<PassEntry>, AllocError>
+    requires fits { FitSomeTable arrivals.now }
+    requires passed { HasPassed arrivals.now (min r (length arrivals.now.passes)) scheduler.old }
+    ensures passed { IfOk result (λ _.
+        HasPassed arrivals.now (min (r + 1) (length arrivals.now.passes)) scheduler.new) }
+    ensures entered { IfOk result (λ entry.
+        scheduler.new.history ≡ scheduler.old.history ++ option_to_list entry) }
+    ensures seat { scheduler_seat_of scheduler.new ≡ scheduler_seat_of scheduler.old }
+    ensures legal { IfOk result (λ _. IsLegal scheduler.old.table scheduler.old.history →
+        IsLegal scheduler.old.table scheduler.new.history) }
+{
+    if r >= arrivals.passes.as_slice().len() {
+        return Ok(None);
+    }
+    let entry = pass_given(scheduler, arrivals, r)?;
+    Ok(Some(entry))
 }
 
 /// Pass `r`, if there is one.

@@ -1,10 +1,12 @@
 //! Whole runs on the arrivals of an input.
 
-ghost use Rattle.std.specs.Prelude.{◌≡◌, ◌≢◌, Err, IfOk, IfErr, IfSome};
+ghost use Rattle.std.specs.Prelude.{◌≡◌, ◌≢◌, ◌⊎◌, Err, IfOk, IfErr, IfSome, OnOk, false};
 ghost use Rattle.cal_trace.specs.Arrivals.FitsTable.{FitsTable};
-ghost use Rattle.cal_engine.specs.Outcome.{Decided};
+ghost use Rattle.cal_engine.specs.Front.{front_of};
+ghost use Rattle.cal_engine.specs.Outcome.{Decided, Failed};
 ghost use Rattle.cal_engine.specs.Runs.{within_limit};
-ghost use Rattle.cal_engine.specs.Running.{run_front, run_input_of, IsTextOfRun, Runs, TellsRun};
+ghost use Rattle.cal_engine.specs.Running.{is_told, run_front, run_input_of, Begins, IsTextOfRun};
+ghost use Rattle.cal_engine.specs.Running.{Runs, Tells, TellsRun};
 
 use crate::fault::RunFault;
 use crate::input::parts::run_input;
@@ -12,6 +14,7 @@ use crate::input::read_input;
 use crate::jobs::answer::write_after_front;
 use crate::jobs::front::Front;
 use crate::jobs::run_text::{run_text, tallied_summary};
+use crate::jobs::telling::tell_lockstep;
 use cal_machine::Config;
 use cal_run::{lockstep_end, lockstep_tallied};
 use cal_trace::Arrivals;
@@ -33,10 +36,12 @@ pub enum RunAnswer {
 
 /// Reads an input of a task table and arrivals to its end, makes a whole run of them on one thread,
 /// and writes what is asked for and nothing else: its history as a file, its summary or its report.
-/// Nothing is written before the run was made and its text is in memory.
+/// Nothing is written before the input was accepted. A history is written pass by pass, each as soon
+/// as its round was made, and no pass is kept; a summary or a report is in memory first.
 ///
 /// The faults come in this order: `Read` or `Length`, whichever comes first, `Separator`, `Config`,
-/// `Trace`, `Write`. `Memory` may come at any place, and only where memory was refused.
+/// `Trace`, `Write`. `Memory` may come at any place, and only where memory was refused: of a history
+/// nothing was written then, or what stands before it, its first row and whole passes.
 pub fn run_lockstep<R: Read + Drop, W: Write>(
     alloc: Global,
     mut reader: R,
@@ -48,14 +53,57 @@ pub fn run_lockstep<R: Read + Drop, W: Write>(
     ensures exact { IfSome (R.remaining reader) (λ input.
         Runs answer result input (within_limit input (run_input_of input))
         (W.contents writer.old) (W.contents writer.new)) }
-    // Nothing is written before the run was made.
-    ensures untouched { IfErr result (λ fault. fault ≢ RunFault.Write → writer.new ≡ writer.old) }
+    // Nothing is written before the input was accepted, and but for a history nothing before the
+    // run was made.
+    ensures untouched { IfErr result (λ fault. fault ≢ RunFault.Write →
+        (fault ≡ RunFault.Memory → is_told answer ≡ false) → writer.new ≡ writer.old) }
+    // Where memory was refused in the midst of the run, whole passes of its history were written.
+    ensures begun { IfErr result (λ fault. fault ≡ RunFault.Memory →
+        (writer.new ≡ writer.old) ⊎ IfSome (R.remaining reader) (λ input.
+        Begins (front_of (run_front answer) input) (within_limit input (run_input_of input))
+        (W.contents writer.old) (W.contents writer.new))) }
     // No thread is started, and no gate asked.
     ensures alone { IfErr result (λ fault. (fault ≢ RunFault.Spawn) × (fault ≢ RunFault.Gate)) }
 {
     let input = read_input(alloc, &mut reader)?;
-    let text = lockstep_text(alloc, answer, input.as_slice())?;
-    write_after_front(run_front(answer), input.as_slice(), text.as_slice(), writer)
+    let given = input.as_slice();
+    let front = run_front(answer);
+    if is_told(answer) {
+        return told_input(alloc, front, given, writer);
+    }
+    let text = lockstep_text(alloc, answer, given)?;
+    write_after_front(front, given, text.as_slice(), writer)
+}
+
+/// Whether a run is written pass by pass: where its history is asked for.
+fn is_told(answer: RunAnswer) -> bool
+    ensures { result ≡ is_told answer }
+{
+    match answer {
+        RunAnswer::History | RunAnswer::WithTable => true,
+        RunAnswer::Summary | RunAnswer::Report => false,
+    }
+}
+
+/// Makes a run on one thread on the arrivals of an input, and writes its history pass by pass, after
+/// what stands before it. The faults are those of `run_lockstep` for an input in memory.
+fn told_input<W: Write>(
+    alloc: Global,
+    front: Front,
+    input: &[u8],
+    writer: &mut W,
+) -> Result<(), RunFault>
+    ensures told { OnOk result (Tells (front_of front input.now) (run_input_of input.now)
+        (W.contents writer.old) (W.contents writer.new)) }
+    ensures begun { IfErr result (λ fault. fault ≡ RunFault.Memory →
+        (writer.new ≡ writer.old) ⊎ Begins (front_of front input.now) (run_input_of input.now)
+        (W.contents writer.old) (W.contents writer.new)) }
+    ensures fault { IfErr result (λ fault. Failed fault (run_input_of input.now)) }
+    ensures untouched { IfErr result (λ fault. fault ≢ RunFault.Write →
+        fault ≢ RunFault.Memory → writer.new ≡ writer.old) }
+{
+    let (config, arrivals) = run_input(alloc, input)?;
+    tell_lockstep(alloc, front, input, &config, &arrivals, writer)
 }
 
 /// What stands before the text of a run.

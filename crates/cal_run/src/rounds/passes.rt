@@ -3,6 +3,7 @@
 ghost use Rattle.std.specs.Prelude.{◌≡◌, ◌+◌, ◌<◌, ◌++◌, ◌∷◌, [], length, IfOk, IfErr};
 ghost use Rattle.cal_run.specs.Parts.{HasPassed, scheduler_seat_of};
 ghost use Rattle.cal_run.specs.Workers.{FitSomeTable};
+ghost use Rattle.cal_sched.specs.Scheduler.{IsKept};
 
 use cal_policy::{Actions, PassEntry};
 use cal_sched::{BareScheduler, PassFault};
@@ -25,6 +26,7 @@ pub fn pass_given(
         scheduler.new.history ≡ scheduler.old.history ++ entry ∷ []) }
     ensures seat { scheduler_seat_of scheduler.new ≡ scheduler_seat_of scheduler.old }
     ensures refused { IfErr result (λ _. scheduler.new ≡ scheduler.old) }
+    ensures kept { IsKept scheduler.new }
 {
     let given = arrivals.passes.as_slice()[p];
     match scheduler.pass(given.now, given.bandwidth) {

@@ -1,15 +1,35 @@
-use Rattle.std.proofs.Common.{◌≡◌, ℕ, List, Err, Result, rules}
-use Rattle.cal_engine.specs.Running.{run_input_of, RunInput, Runs}
+use Rattle.std.proofs.Common.{◌≡◌, ℕ, List, Err, Result, sym, ◌∙◌, rules}
+use Rattle.std.proofs.lemmas.Result.{IfErr-weaker}
+use Rattle.cal_engine.specs.Running.{run_front, run_input_of, Begins, RunInput, Runs}
+use Rattle.cal_engine.specs.Front.{front_of}
 use Rattle.cal_engine.specs.declared.fault.RunFault.{RunFault}
 use Rattle.cal_engine.proofs.Reading.{answered, refused}
-use Rattle.cal_engine.proofs.WrittenRuns.{runs}
+use Rattle.cal_engine.proofs.WrittenRuns.{runs, second, told_runs}
 use Rattle.cal_engine.proofs.jobs.running.run_lockstep.Goals as goal
+
+pub returns-then-is_told-clause-exact : goal.returns-then-is_told-clause-exact
+returns-then-is_told-clause-exact g c =
+    let input = c.in_ok-input.input.items in
+    answered (λ (given : List ℕ) (outcome : Result RunInput RunFault). Runs c.args.answer c.told_input.result given outcome (g.W.Write.contents c.args.writer.now) (g.W.Write.contents c.told_input.new.writer))
+    (g.R.Read.remaining c.args.reader) (g.R.Read.remaining c.read_input.new.reader) input run_input_of
+    c.in_ok-input.ensures.all c.in_ok-input.ensures.end c.in_ok-input.ensures.short
+    (told_runs c.args.answer c.told_input.result input (run_input_of input) _ _ (sym c.is_told.ensures ∙ c.if-is_told.true)
+    (rw (c.as_slice-given.ensures.value, c.run_front-front.ensures) at c.told_input.ensures.told) (rw c.as_slice-given.ensures.value at c.told_input.ensures.fault))
+
+pub returns-then-is_told-clause-begun : goal.returns-then-is_told-clause-begun
+returns-then-is_told-clause-begun g c =
+    let old = g.W.Write.contents c.args.writer.now in
+    let new = g.W.Write.contents c.told_input.new.writer in
+    IfErr-weaker c.told_input.result _ _ (λ f h is. second (λ told. answered (λ (given : List ℕ) (outcome : Result RunInput RunFault). Begins (front_of (run_front c.args.answer) given) outcome old new)
+    (g.R.Read.remaining c.args.reader) (g.R.Read.remaining c.read_input.new.reader) c.in_ok-input.input.items run_input_of
+    c.in_ok-input.ensures.all c.in_ok-input.ensures.end c.in_ok-input.ensures.short told) (h is))
+    (rw (c.as_slice-given.ensures.value, c.run_front-front.ensures) at c.told_input.ensures.begun)
 
 pub returns-in_err-text-clause-exact : goal.returns-in_err-text-clause-exact
 returns-in_err-text-clause-exact g c =
     let fault : c.from_residual-in_err-text.result ≡ Err c.in_err-text.field-0.0 = search rules in
     rw fault (refused (g.R.Read.remaining c.args.reader) (g.R.Read.remaining c.read_input.new.reader) c.in_ok-input.input.items run_input_of c.in_err-text.field-0.0
-    c.in_ok-input.ensures.all c.in_ok-input.ensures.end c.in_ok-input.ensures.short (rw c.as_slice.ensures.value at c.in_err-text.ensures.fault))
+    c.in_ok-input.ensures.all c.in_ok-input.ensures.end c.in_ok-input.ensures.short (rw c.as_slice-given.ensures.value at c.in_err-text.ensures.fault))
 
 pub returns-clause-exact : goal.returns-clause-exact
 returns-clause-exact g c =
@@ -17,5 +37,5 @@ returns-clause-exact g c =
     answered (λ (given : List ℕ) (outcome : Result RunInput RunFault). Runs c.args.answer c.write_after_front.result given outcome (g.W.Write.contents c.args.writer.now) (g.W.Write.contents c.write_after_front.new.writer))
     (g.R.Read.remaining c.args.reader) (g.R.Read.remaining c.read_input.new.reader) input run_input_of
     c.in_ok-input.ensures.all c.in_ok-input.ensures.end c.in_ok-input.ensures.short
-    (runs c.args.answer c.write_after_front.result input (run_input_of input) _ _ c.in_ok-text.text.items (rw c.as_slice.ensures.value at c.in_ok-text.ensures.text)
-    (rw (c.as_slice-2.ensures.value, c.as_slice-3.ensures.value, c.run_front.ensures) at c.write_after_front.ensures.bytes) c.write_after_front.ensures.kind)
+    (runs c.args.answer c.write_after_front.result input (run_input_of input) _ _ c.in_ok-text.text.items (rw c.as_slice-given.ensures.value at c.in_ok-text.ensures.text)
+    (rw (c.as_slice-given.ensures.value, c.as_slice.ensures.value, c.run_front-front.ensures) at c.write_after_front.ensures.bytes) c.write_after_front.ensures.kind)

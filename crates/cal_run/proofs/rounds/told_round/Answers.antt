@@ -1,0 +1,32 @@
+use Rattle.std.proofs.Common.{◌≡◌, ◌+◌, List, sym, ap, subst, ◌∙◌, length, min, arith}
+use Rattle.std.specs.Vec.{with_items}
+use Rattle.std.proofs.lemmas.List.{length-map, with_items_is}
+use Rattle.cal_policy.specs.declared.history.entry.PassEntry.{PassEntry}
+use Rattle.cal_run.specs.Workers.{HaveMade, Seat, journals_of, seat_of, seats_of}
+use Rattle.cal_run.specs.declared.parts.Parts.{Parts}
+use Rattle.cal_run.specs.declared.workers.worker.Worker.{Worker}
+use Rattle.cal_run.proofs.RoundsLemmas.Rounds.{round_more}
+use Rattle.cal_run.proofs.rounds.told_round.Goals as goal
+
+pub turns_of_round-requires-clause-made : goal.turns_of_round-requires-clause-made
+turns_of_round-requires-clause-made c =
+    let P : List Worker → Type 0 = λ l. HaveMade c.args.arrivals.now (min c.args.r (length c.args.arrivals.now.turns)) l in
+    subst P (sym c.as_mut_slice.ensures.value) c.requires.before.turns
+
+-- after the turns the threads are what was written back
+pub returns-clause-made : goal.returns-clause-made
+returns-clause-made c =
+    let before = c.args.parts.now in
+    let workers = c.turns_of_round.new.workers in
+    let same : seats_of workers ≡ seats_of before.workers.items = c.in_ok-turns_of_round.ensures.seats ∙ ap seats_of c.as_mut_slice.ensures.value in
+    let many : length workers ≡ length before.workers.items =
+    sym (length-map workers (λ (w : Worker). seat_of w.thread)) ∙ ap (λ (l : List Seat). length l) same ∙ length-map before.workers.items (λ (w : Worker). seat_of w.thread) in
+    let after : Parts = record { scheduler = c.told_pass.new.scheduler; workers = with_items before.workers workers; watch = c.watch_of_round.new.watch } in
+    let is : after.workers.items ≡ workers = with_items_is before.workers workers (omega (arith, many, before.workers.ok.0)) in
+    let P : List Worker → Type 0 = λ l. HaveMade c.args.arrivals.now (min (c.args.r + 1) (length c.args.arrivals.now.turns)) l in
+    round_more before.scheduler.table c.args.arrivals.now c.args.r before after c.requires.before
+    c.told_pass.ensures.seat (ap seats_of is ∙ same) c.watch_of_round.ensures.seat
+    c.in_ok-entry.ensures.passed (subst P (sym is) c.in_ok-turns_of_round.ensures.made) c.watch_of_round.ensures.rounds
+
+pub returns-clause-legal : goal.returns-clause-legal
+returns-clause-legal c = c.in_ok-entry.ensures.legal c.requires.legal
