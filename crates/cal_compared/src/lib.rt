@@ -8,7 +8,7 @@ ghost use Rattle.std.specs.Prelude.{◌≡◌, ◌≢◌, IfErr};
 
 use cal_engine::{RunFault, read_input};
 use cal_picture::comparison_page;
-use cal_tables::{ComparisonFault, Courses, Labels, Variation, courses_of, courses_of_values};
+use cal_tables::{Comparison, ComparisonFault, Labels, RunCourse, Variation, comparison_of};
 use std::alloc::Global;
 use std::io::{Read, Write};
 
@@ -30,23 +30,11 @@ pub fn draw_comparison<R: Read + Drop, W: Write>(
         fault ≢ ComparisonFault.Run RunFault.Write → writer.new ≡ writer.old) }
 {
     let input = read_input(alloc, &mut reader)?;
-    let courses = courses(alloc, input.as_slice(), variation)?;
-    let page = comparison_page(alloc, &courses, variation, labels);
+    let runs: Comparison<RunCourse> = comparison_of(alloc, input.as_slice(), variation)?;
+    let page = comparison_page(alloc, &runs, variation, labels);
     let text = page.whole()?;
     match writer.write_all(text.as_bytes()) {
         Ok(()) => Ok(()),
         Err(_) => Err(ComparisonFault::from(RunFault::Write)),
-    }
-}
-
-/// The runs of an input: of its tables, or of those that its table gives with some values.
-fn courses(
-    alloc: Global,
-    input: &[u8],
-    variation: Option<Variation<'_>>,
-) -> Result<Courses, ComparisonFault> {
-    match variation {
-        Some(variation) => courses_of_values(alloc, input, variation),
-        None => courses_of(alloc, input),
     }
 }

@@ -13,18 +13,18 @@ use crate::compared::strips::draw_strips;
 use crate::compared::style::{dash_of, draw_style};
 use crate::compared::words::{tell_runs, tell_tasks};
 use crate::page::Page;
-use cal_tables::{Courses, Labels, Variation};
+use cal_tables::{Comparison, Labels, RunCourse, Variation};
 use std::alloc::Global;
 
 /// The picture of what came of each task of an input, run with each of its tables or, with a
 /// variation, with each table that its values give: one SVG that stands alone, under these labels.
 pub fn comparison_page(
     alloc: Global,
-    courses: &Courses,
+    compared: &Comparison<RunCourse>,
     variation: Option<Variation<'_>>,
     labels: Labels<'_>,
 ) -> Page {
-    let graphs = Graphs::new(courses, variation, labels);
+    let graphs = Graphs::new(compared, variation, labels);
     let mut page = Page::new(alloc);
     draw_frame(&graphs, &mut page);
     draw_style(&graphs, &mut page);

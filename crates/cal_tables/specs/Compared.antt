@@ -7,9 +7,7 @@ use Rattle.cal_machine.specs.Tasks.{threads_in}
 use Rattle.cal_trace.specs.Arrivals.{arrivals_of}
 use Rattle.cal_trace.specs.Rows.{rows_of}
 use Rattle.cal_trace.specs.declared.arrivals.Arrivals.{Arrivals}
-use Rattle.cal_tables.specs.Measured.{IsMeasuredRun}
 use Rattle.cal_tables.specs.Moved.{AreMoved}
-use Rattle.cal_tables.specs.declared.measuring.RunNumbers.{RunNumbers}
 
 -- the tables of an input, each ended by a separator line, and what stands after the last of these
 -- lines
@@ -32,13 +30,6 @@ pub record AreTablesWith (input : List ℕ) (tables : List Table) (given : Table
   pub first : slice_get tables 0 ≡ Some given
   pub told : AreToldFor given trace arrivals
 
--- the numbers of a run of this table on arrivals that were given for another, as it gets them
-pub record IsColumn (given : Table) (arrivals : Arrivals) (table : Table)
-    (column : RunNumbers) : Type 0 where
-  pub moved : Arrivals
-  pub gets : AreMoved given table arrivals moved
-  pub measured : IsMeasuredRun table moved column
-
 -- as many of these as things, each of the thing at its place
 pub record AreEachOf {X C : Type 0} (Is : X → C → Type 0) (things : List X)
     (items : List C) : Type 0 where
@@ -46,15 +37,24 @@ pub record AreEachOf {X C : Type 0} (Is : X → C → Type 0) (things : List X)
   pub each : (i : ℕ) (thing : X) (item : C) →
       slice_get things i ≡ Some thing → slice_get items i ≡ Some item → Is thing item
 
--- as many columns as tables, each with the numbers of the table at its place
-abbrev pub AreColumns : Table → Arrivals → List Table → List RunNumbers → Type 0
-AreColumns given arrivals tables columns =
-    AreEachOf (λ table column. IsColumn given arrivals table column) tables columns
+-- it is so of a run of this table on arrivals that were given for another, as it gets them
+pub record IsOfMoved {R : Type 0} (Is : Table → Arrivals → R → Type 0) (given : Table)
+    (arrivals : Arrivals) (table : Table) (run : R) : Type 0 where
+  pub moved : Arrivals
+  pub gets : AreMoved given table arrivals moved
+  pub is : Is table moved run
 
--- the tables of an input, and the numbers of each one's run on its arrivals, as the table gets them
-pub record IsComparison (input : List ℕ) (tables : List Table)
-    (columns : List RunNumbers) : Type 0 where
+-- as many runs as tables, each of the table at its place
+abbrev pub AreOfTables : {R : Type 0} → (Table → Arrivals → R → Type 0) → Table → Arrivals →
+    List Table → List R → Type 0
+AreOfTables Is given arrivals tables runs =
+    AreEachOf (λ table run. IsOfMoved Is given arrivals table run) tables runs
+
+-- the tables of an input, and of each it is so of a run on the input's arrivals, as the table gets
+-- them
+pub record IsComparison {R : Type 0} (Is : Table → Arrivals → R → Type 0) (input : List ℕ)
+    (tables : List Table) (runs : List R) : Type 0 where
   pub given : Table
   pub arrivals : Arrivals
   pub with : AreTablesWith input tables given arrivals
-  pub are : AreColumns given arrivals tables columns
+  pub are : AreOfTables Is given arrivals tables runs

@@ -35,14 +35,19 @@ pub record AreHistoryNumbers (table : Table) (history : List PassEntry)
   pub machine : AreMachineCores table history numbers.machine
   pub whole : MakeTheWhole table numbers.machine
 
--- a run on these arrivals came to some outcome, and these are its numbers: of requests, of the
--- tasks' cores, of the machine's, whose parts make the whole, and how long its turns last
-pub record IsMeasuredRun (table : Table) (arrivals : Arrivals)
+-- the numbers of this run: of requests, of the tasks' cores, of the machine's, whose parts make the
+-- whole, and how long its turns last
+pub record AreRunNumbers (table : Table) (arrivals : Arrivals) (outcome : Outcome)
     (numbers : RunNumbers) : Type 0 where
-  pub outcome : Outcome
-  pub run : IsRun table arrivals outcome
   pub requests : AreNumbersOf table arrivals outcome numbers.requests.items
   pub cores : AreCoresOfTasks table outcome.history numbers.cores.items
   pub machine : AreMachineCores table outcome.history numbers.machine
   pub whole : MakeTheWhole table numbers.machine
   pub turns : numbers.turns ≡ turns_last arrivals
+
+-- a run on these arrivals came to some outcome, and these are its numbers
+pub record IsMeasuredRun (table : Table) (arrivals : Arrivals)
+    (numbers : RunNumbers) : Type 0 where
+  pub outcome : Outcome
+  pub run : IsRun table arrivals outcome
+  pub numbers : AreRunNumbers table arrivals outcome numbers

@@ -8,10 +8,7 @@ use Rattle.cal_machine.specs.Table.{Table}
 use Rattle.cal_machine.specs.declared.fault.ConfigFault.{ConfigFault}
 use Rattle.cal_machine.specs.declared.fault.ConfigFault.TheVariants.{UnknownKey}
 use Rattle.cal_tables.specs.TableText.{Line, lines_of, text_of_lines}
-use Rattle.cal_tables.specs.Compared.{AreColumns}
-use Rattle.cal_tables.specs.Courses.{AreCourses}
-use Rattle.cal_tables.specs.declared.courses.RunCourse.{RunCourse}
-use Rattle.cal_tables.specs.declared.measuring.RunNumbers.{RunNumbers}
+use Rattle.cal_tables.specs.Compared.{AreOfTables}
 use Rattle.cal_trace.specs.declared.arrivals.Arrivals.{Arrivals}
 
 -- the line; if its place is the key, with this value
@@ -44,20 +41,11 @@ pub record AreVariedWith (input key : List ℕ) (values : List (List ℕ)) (tabl
   pub has : run_input_of input ≡ Ok (record { table = given; arrivals = arrivals })
   pub varied : AreVaried given key values tables
 
--- the tables that the table of an input gives with each of these values at this key, and the
--- numbers of each one's run on the input's arrivals, as it gets them
-pub record IsVariation (input key : List ℕ) (values : List (List ℕ)) (tables : List Table)
-    (columns : List RunNumbers) : Type 0 where
+-- the tables that the table of an input gives with each of these values at this key, and of each it
+-- is so of a run on the input's arrivals, as it gets them
+pub record IsVariation {R : Type 0} (Is : Table → Arrivals → R → Type 0) (input key : List ℕ)
+    (values : List (List ℕ)) (tables : List Table) (runs : List R) : Type 0 where
   pub given : Table
   pub arrivals : Arrivals
   pub with : AreVariedWith input key values tables given arrivals
-  pub are : AreColumns given arrivals tables columns
-
--- the tables that the one of an input gives with these values at this key, and what each one's run
--- on the input's arrivals, as it gets them, went through
-pub record AreCoursesOfValues (input key : List ℕ) (values : List (List ℕ)) (tables : List Table)
-    (runs : List RunCourse) : Type 0 where
-  pub given : Table
-  pub arrivals : Arrivals
-  pub with : AreVariedWith input key values tables given arrivals
-  pub are : AreCourses given arrivals tables runs
+  pub are : AreOfTables Is given arrivals tables runs

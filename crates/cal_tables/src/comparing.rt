@@ -1,10 +1,10 @@
 //! Runs on one thread of several tables on the same arrivals, measured side by side.
 
 pub mod changes;
-pub mod columns;
 pub mod fault;
 pub mod input_text;
 pub mod moving;
+pub mod runs;
 pub mod sheet;
 pub mod tables;
 pub mod varying;
@@ -13,9 +13,9 @@ ghost use Rattle.std.specs.Prelude.{◌≡◌, ◌≢◌, IfErr, IfOk, map};
 ghost use Rattle.cal_tables.specs.Compared.{IsComparison};
 ghost use Rattle.cal_tables.specs.Varied.{IsVariation};
 
-use crate::comparing::columns::columns_of;
 use crate::comparing::fault::ComparisonFault;
 use crate::comparing::input_text::input_text;
+use crate::comparing::runs::{OfRun, runs_of};
 use crate::comparing::sheet::comparison_sheet;
 use crate::comparing::tables::{GivenTables, given_tables};
 use crate::comparing::varying::varied_given;
@@ -27,33 +27,33 @@ use cal_machine::Config;
 use std::alloc::Global;
 use std::io::{Read, Write};
 
-/// Some tables, and of each the numbers of its run.
+/// Some tables, and of each what is kept of its run.
 #[derive(Drop)]
-pub struct Comparison {
+pub struct Comparison<R> {
     /// The tables.
     pub tables: Vec<Config>,
-    /// A column for each table: the numbers of its run.
-    pub columns: Vec<RunNumbers>,
+    /// The run of each table, in the order of the tables.
+    pub runs: Vec<R>,
 }
 
-/// The tables of an input, each ended by a separator line, and the numbers of each one's run on the
+/// The tables of an input, each ended by a separator line, and what is kept of each one's run on the
 /// arrivals that stand after the last of these lines, in the order of the tables. The arrivals are
 /// given for the first table; each gets them as `moved_arrivals` says.
 ///
 /// The fault is the input's `Separator`, else the first table's that has one, else that of the
 /// arrivals, which is the first table's, else that of the first table which they do not fit.
 /// `Memory` may come at any place.
-pub fn compared(alloc: Global, input: &[u8]) -> Result<Comparison, ComparisonFault>
+pub fn compared<R: OfRun>(alloc: Global, input: &[u8]) -> Result<Comparison<R>, ComparisonFault>
     ensures { IfOk result (λ comparison.
-        IsComparison input.now comparison.tables.items comparison.columns.items) }
+        IsComparison R.tells input.now comparison.tables.items comparison.runs.items) }
 {
     let GivenTables {
         tables,
         given,
         arrivals,
     } = given_tables(alloc, input)?;
-    let columns = columns_of(alloc, &given, &arrivals, tables.as_slice())?;
-    Ok(Comparison { tables, columns })
+    let runs = runs_of(alloc, &given, &arrivals, tables.as_slice())?;
+    Ok(Comparison { tables, runs })
 }
 
 /// A key of a table, and values for it.
@@ -65,37 +65,38 @@ pub struct Variation<'a> {
     pub values: &'a [&'a str],
 }
 
-/// The tables that the one of an input gives with each of these values at this key, and the numbers
+/// The tables that the one of an input gives with each of these values at this key, and what is kept
 /// of each one's run on the input's arrivals, in the order of the values. The arrivals are given for
 /// the input's table; each gets them as `moved_arrivals` says.
 ///
 /// The faults are those of the word `lockstep`, in its order; then that of the first value that
 /// makes the table faulty (a key that it has not is unknown), then that of the first value which
 /// makes a table that the arrivals do not fit. `Memory` may come at any place.
-pub fn compared_values(
+pub fn compared_values<R: OfRun>(
     alloc: Global,
     input: &[u8],
     variation: Variation<'_>,
-) -> Result<Comparison, ComparisonFault>
-    ensures { IfOk result (λ comparison. IsVariation input.now variation.entry.key.now
+) -> Result<Comparison<R>, ComparisonFault>
+    ensures { IfOk result (λ comparison. IsVariation R.tells input.now variation.entry.key.now
         (map (λ value. value.now) variation.entry.values.now)
-        comparison.tables.items comparison.columns.items) }
+        comparison.tables.items comparison.runs.items) }
 {
     let GivenTables {
         tables,
         given,
         arrivals,
     } = varied_given(alloc, input, variation)?;
-    let columns = columns_of(alloc, &given, &arrivals, tables.as_slice())?;
-    Ok(Comparison { tables, columns })
+    let runs = runs_of(alloc, &given, &arrivals, tables.as_slice())?;
+    Ok(Comparison { tables, runs })
 }
 
-/// The runs of an input: of its tables, or of those that its table gives with some values.
-fn comparison_of(
+/// The runs of an input: of its tables, or of those that its table gives with some values. The
+/// faults are those of `compared`, or of `compared_values`.
+pub fn comparison_of<R: OfRun>(
     alloc: Global,
     input: &[u8],
     variation: Option<Variation<'_>>,
-) -> Result<Comparison, ComparisonFault> {
+) -> Result<Comparison<R>, ComparisonFault> {
     match variation {
         Some(variation) => compared_values(alloc, input, variation),
         None => compared(alloc, input),
@@ -110,7 +111,7 @@ fn compared_text(
     labels: Labels<'_>,
     form: NumberForm,
 ) -> Result<String, ComparisonFault> {
-    let comparison = comparison_of(alloc, input, variation)?;
+    let comparison: Comparison<RunNumbers> = comparison_of(alloc, input, variation)?;
     let sheet = comparison_sheet(alloc, variation, &comparison, labels, form)?;
     Ok(sheet.written(alloc, form)?)
 }

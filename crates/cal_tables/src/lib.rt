@@ -16,14 +16,16 @@ mod recorded;
 mod sheet;
 mod writing;
 
-pub use comparing::columns::table_at;
 pub use comparing::fault::{ComparisonFault, Misfit, Reason};
 pub use comparing::moving::moved_arrivals;
+pub use comparing::runs::{OfRun, table_at};
 pub use comparing::tables::read_tables;
 pub use comparing::varying::varied_tables;
-pub use comparing::{Comparison, Variation, compare, compared, compared_values, write_input};
+pub use comparing::{
+    Comparison, Variation, compare, compared, compared_values, comparison_of, write_input,
+};
 pub use core_rows::{CoreLine, core_figure};
-pub use courses::{Courses, RunCourse, TaskCourse, courses_of, courses_of_values, run_course};
+pub use courses::{RunCourse, TaskCourse, run_course};
 pub use figures::{Figure, Rank, Unit, count, number, put_figure, put_heading, share, time_in};
 pub use joining::{front_of_table, table_part};
 pub use labels::{Labels, letters};

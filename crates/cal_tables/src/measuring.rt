@@ -6,8 +6,9 @@ ghost use Rattle.cal_policy.specs.Pass.{IsLegal};
 ghost use Rattle.cal_policy.specs.declared.history.entry.TheConstants.{MOST_PASSES};
 ghost use Rattle.cal_run.specs.Outcome.{outcome_of};
 ghost use Rattle.cal_trace.specs.Arrivals.FitsTable.{FitsTable};
-ghost use Rattle.cal_tables.specs.Measured.{AreCoresOfTasks, AreNumbersOf, IsMeasuredRun};
+ghost use Rattle.cal_tables.specs.Measured.{AreCoresOfTasks, AreNumbersOf, AreRunNumbers, IsMeasuredRun};
 
+use crate::comparing::runs::OfRun;
 use crate::labels::Labels;
 use crate::recorded::{Recorded, measured_recording};
 use crate::sheet::NumberForm;
@@ -77,6 +78,32 @@ pub(crate) fn cores_of_tasks(
     Ok(numbers)
 }
 
+/// The numbers of a run. Fails only when out of memory.
+pub(crate) fn numbers_of_run(
+    alloc: Global,
+    config: &Config,
+    arrivals: &Arrivals,
+    clocks: &ArrivalClocks,
+    end: &RunEnd,
+) -> Result<RunNumbers, AllocError>
+    requires fits { FitsTable config.now arrivals.now }
+    requires clocks { AreClocksOf arrivals.now.turns arrivals.now.requests clocks.now }
+    requires legal { IsLegal config.now end.now.history }
+    requires few { length end.now.history ≤ MOST_PASSES }
+    ensures { IfOk result (AreRunNumbers config.now arrivals.now (outcome_of end.now)) }
+{
+    let history = end.history.as_slice();
+    let requests = numbers_of(alloc, config, arrivals, clocks, end)?;
+    let cores = cores_of_tasks(alloc, config, history)?;
+    let machine = machine_of(config, history);
+    Ok(RunNumbers {
+        requests,
+        cores,
+        machine,
+        turns: turns_last(arrivals),
+    })
+}
+
 /// Makes a whole run on one thread on these arrivals, and measures it. Its fault is `Memory`.
 pub fn measured_run(
     alloc: Global,
@@ -90,16 +117,15 @@ pub fn measured_run(
     let end = lockstep_end(alloc, config, arrivals)?;
     let turns = arrivals.turns.as_slice();
     let clocks = ArrivalClocks::of(alloc, turns, arrivals.requests.as_slice())?;
-    let requests = numbers_of(alloc, config, arrivals, &clocks, &end)?;
-    let history = end.history.as_slice();
-    let cores = cores_of_tasks(alloc, config, history)?;
-    let machine = machine_of(config, history);
-    Ok(RunNumbers {
-        requests,
-        cores,
-        machine,
-        turns: turns_last(arrivals),
-    })
+    Ok(numbers_of_run(alloc, config, arrivals, &clocks, &end)?)
+}
+
+impl OfRun for RunNumbers {
+    ghost tells = { IsMeasuredRun };
+
+    fn of_run(alloc: Global, config: &Config, arrivals: &Arrivals) -> Result<RunNumbers, RunFault> {
+        measured_run(alloc, config, arrivals)
+    }
 }
 
 /// What is written of a run on these arrivals, in memory.

@@ -3,7 +3,8 @@
 use crate::page::Page;
 use crate::scale::{ClockScale, ShareScale, TimeScale};
 use cal_machine::Kind;
-use cal_tables::{Courses, Labels, RunCourse, TaskCourse, Variation};
+use cal_measure::TaskRequests;
+use cal_tables::{Comparison, Labels, RunCourse, Variation};
 
 /// Where the plots begin; names stand at their left.
 pub const LEFT: u64 = 176;
@@ -34,10 +35,21 @@ const BETWEEN: u64 = 44;
 
 const LEGEND: u64 = 96;
 
+/// What came of a task in a run.
+#[derive(Clone, Copy)]
+pub struct DrawnTask<'a> {
+    /// The numbers of its requests.
+    pub requests: &'a TaskRequests,
+    /// How long each took that was served, in clock ticks, the shortest first.
+    pub responses: &'a [u64],
+    /// How many cores its threads held after each pass.
+    pub held: &'a [u8],
+}
+
 /// The runs of some tables, what made the tables, and the scales of all plots.
 #[derive(Clone, Copy)]
 pub struct Graphs<'a> {
-    pub courses: &'a Courses,
+    pub compared: &'a Comparison<RunCourse>,
     pub variation: Option<Variation<'a>>,
     pub labels: Labels<'a>,
     pub times: TimeScale,
@@ -94,8 +106,8 @@ fn times_of(runs: &[RunCourse]) -> TimeScale {
 /// The most requests that came to a task of a run.
 fn most_given(run: &RunCourse) -> u64 {
     let mut most = 0u64;
-    for task in run.tasks.as_slice() {
-        most = most.max(task.requests.given as u64);
+    for requests in run.numbers.requests.as_slice() {
+        most = most.max(requests.given as u64);
     }
     most
 }
@@ -134,13 +146,13 @@ fn most_tasks(runs: &[RunCourse]) -> usize {
 impl<'a> Graphs<'a> {
     /// All that is drawn of some runs.
     pub fn new(
-        courses: &'a Courses,
+        compared: &'a Comparison<RunCourse>,
         variation: Option<Variation<'a>>,
         labels: Labels<'a>,
     ) -> Graphs<'a> {
-        let runs = courses.runs.as_slice();
+        let runs = compared.runs.as_slice();
         Graphs {
-            courses,
+            compared,
             variation,
             labels,
             times: times_of(runs),
@@ -152,18 +164,23 @@ impl<'a> Graphs<'a> {
 
     /// How many runs there are.
     pub fn runs(&self) -> usize {
-        self.courses.runs.len()
+        self.compared.runs.len()
     }
 
     /// What came of a task in a run that may have no such task.
-    pub fn course(&self, run: usize, task: usize) -> Option<&'a TaskCourse> {
-        let run = self.courses.runs.as_slice().get(run)?;
-        run.tasks.as_slice().get(task)
+    pub fn course(&self, run: usize, task: usize) -> Option<DrawnTask<'a>> {
+        let run = self.compared.runs.as_slice().get(run)?;
+        let course = run.tasks.as_slice().get(task)?;
+        Some(DrawnTask {
+            requests: run.numbers.requests.as_slice().get(task)?,
+            responses: course.responses.as_slice(),
+            held: course.held.as_slice(),
+        })
     }
 
     /// The clocks of a run's passes.
     pub fn clocks_of(&self, run: usize) -> &'a [u64] {
-        match self.courses.runs.as_slice().get(run) {
+        match self.compared.runs.as_slice().get(run) {
             Some(run) => run.clocks.as_slice(),
             None => &[],
         }
@@ -171,7 +188,7 @@ impl<'a> Graphs<'a> {
 
     /// `lc` or `be`, by the first table that has the task.
     pub fn kind_word(&self, task: usize) -> &'static str {
-        for table in self.courses.tables.as_slice() {
+        for table in self.compared.tables.as_slice() {
             if task < table.tasks() {
                 return match table.task(task).kind {
                     Kind::LatencyCritical => "lc",

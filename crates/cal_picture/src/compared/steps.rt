@@ -1,10 +1,9 @@
 //! The plot of a task: which share of its requests was answered within how long, run by run.
 
-use crate::compared::sheet::{GRAPH, Graphs, LEFT, RIGHT};
+use crate::compared::sheet::{DrawnTask, GRAPH, Graphs, LEFT, RIGHT};
 use crate::compared::style::dash_of;
 use crate::compared::words::tell_task;
 use crate::page::Page;
-use cal_tables::TaskCourse;
 
 /// How many letters of a task's name there is room for.
 const NAME: usize = 13;
@@ -135,8 +134,8 @@ fn draw_steps(graphs: &Graphs<'_>, task: usize, run: usize, page: &mut Page) {
 
 /// A step for each place of the paper at which a request was answered: up to the share of all
 /// requests of the task that were answered until then.
-fn draw_stairs(graphs: &Graphs<'_>, course: &TaskCourse, base: u64, page: &mut Page) {
-    let times = course.responses.as_slice();
+fn draw_stairs(graphs: &Graphs<'_>, course: DrawnTask<'_>, base: u64, page: &mut Page) {
+    let times = course.responses;
     let given = course.requests.given as u64;
     for place in 0..times.len() {
         let x = graphs.times.at(times[place]);

@@ -1,10 +1,9 @@
 //! The strips of a task: how many cores it held over time, run by run.
 
-use crate::compared::sheet::{Graphs, LEFT, PLOT, RIGHT, STRIP};
+use crate::compared::sheet::{DrawnTask, Graphs, LEFT, PLOT, RIGHT, STRIP};
 use crate::compared::words::{most_held, tell_task};
 use crate::page::Page;
 use crate::scale::scaled;
-use cal_tables::TaskCourse;
 
 /// Writes the strips of a task.
 pub fn draw_strips(graphs: &Graphs<'_>, task: usize, page: &mut Page) {
@@ -82,7 +81,7 @@ fn rim_of(passes: usize) -> &'static str {
 /// What a task held in a run, as an area under steps. Its title is left open.
 fn draw_area(
     graphs: &Graphs<'_>,
-    course: &TaskCourse,
+    course: DrawnTask<'_>,
     run: usize,
     top: u64,
     most: u64,
@@ -93,7 +92,7 @@ fn draw_area(
     page.fill("<path class='a a{}", &[run as u64]);
     page.put(rim_of(clocks.len()));
     page.fill("' d='M{} {}", &[LEFT, base]);
-    let held = course.held.as_slice();
+    let held = course.held;
     let mut level = Level::new(base, most);
     for pass in 0..held.len().min(clocks.len()) {
         let x = graphs.clocks.at(clocks[pass]);

@@ -1,14 +1,13 @@
 //! What the picture of several runs says in words.
 
-use crate::compared::sheet::Graphs;
+use crate::compared::sheet::{DrawnTask, Graphs};
 use crate::page::Page;
 use cal_measure::{TaskRequests, Time};
-use cal_tables::TaskCourse;
 
 /// The most cores that a task held after a pass.
-pub fn most_held(course: &TaskCourse) -> u64 {
+pub fn most_held(course: DrawnTask<'_>) -> u64 {
     let mut most = 0u64;
-    for cores in course.held.as_slice() {
+    for cores in course.held {
         most = most.max(u64::from(*cores));
     }
     most
@@ -56,7 +55,7 @@ pub fn tell_task(graphs: &Graphs<'_>, task: usize, run: usize, page: &mut Page) 
     page.put(": ");
     match graphs.course(run, task) {
         Some(course) => {
-            tell_requests(graphs, &course.requests, page);
+            tell_requests(graphs, course.requests, page);
             let most = most_held(course);
             page.fill("; at most {} core", &[most]);
             page.put(if most == 1 { " held" } else { "s held" });

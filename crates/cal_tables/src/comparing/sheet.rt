@@ -9,6 +9,7 @@ use crate::core_rows::{
 };
 use crate::figures::{Figure, Unit, number, put_figure, put_heading};
 use crate::labels::Labels;
+use crate::measuring::RunNumbers;
 use crate::sheet::{NumberForm, Sheet};
 use crate::writing::{LINES, Line, label, request_figure, task_name, unit};
 use std::alloc::{AllocError, Global};
@@ -47,8 +48,8 @@ impl Row {
     }
 
     /// What it says of a run, which may have no such task.
-    fn figure_in(self, runs: &Comparison, column: usize) -> Option<Figure> {
-        let numbers = runs.columns.as_slice().get(column)?;
+    fn figure_in(self, runs: &Comparison<RunNumbers>, column: usize) -> Option<Figure> {
+        let numbers = runs.runs.as_slice().get(column)?;
         match self {
             Row::Requests(task, line) => request_figure(numbers, task, line),
             Row::Cores(task, line) => {
@@ -132,9 +133,13 @@ fn change_cell(alloc: Global, change: Change, unit: Unit) -> Result<String, Allo
 }
 
 /// The number that a row says of each run; where it says a bound, none.
-fn known_in(alloc: Global, runs: &Comparison, row: Row) -> Result<Vec<Option<u64>>, AllocError> {
+fn known_in(
+    alloc: Global,
+    runs: &Comparison<RunNumbers>,
+    row: Row,
+) -> Result<Vec<Option<u64>>, AllocError> {
     let mut known = Vec::new(alloc);
-    for column in 0..runs.columns.len() {
+    for column in 0..runs.runs.len() {
         let number = match row.figure_in(runs, column) {
             Some(figure) => figure.known(),
             None => None,
@@ -147,7 +152,7 @@ fn known_in(alloc: Global, runs: &Comparison, row: Row) -> Result<Vec<Option<u64
 /// The cells of a row: what it says of each run, and the change from the first.
 fn cells_of(
     alloc: Global,
-    runs: &Comparison,
+    runs: &Comparison<RunNumbers>,
     labels: Labels<'_>,
     row: Row,
     form: NumberForm,
@@ -167,9 +172,9 @@ fn cells_of(
 }
 
 /// The most tasks that one of the runs has.
-fn most_tasks(runs: &Comparison) -> usize {
+fn most_tasks(runs: &Comparison<RunNumbers>) -> usize {
     let mut most = 0usize;
-    for numbers in runs.columns.as_slice() {
+    for numbers in runs.runs.as_slice() {
         most = most.max(numbers.requests.len());
     }
     most
@@ -179,7 +184,7 @@ fn most_tasks(runs: &Comparison) -> usize {
 fn put_requests(
     alloc: Global,
     sheet: &mut Sheet,
-    runs: &Comparison,
+    runs: &Comparison<RunNumbers>,
     labels: Labels<'_>,
     task: usize,
     form: NumberForm,
@@ -194,7 +199,7 @@ fn put_requests(
 fn put_cores(
     alloc: Global,
     sheet: &mut Sheet,
-    runs: &Comparison,
+    runs: &Comparison<RunNumbers>,
     labels: Labels<'_>,
     task: usize,
     form: NumberForm,
@@ -209,7 +214,7 @@ fn put_cores(
 fn put_machine(
     alloc: Global,
     sheet: &mut Sheet,
-    runs: &Comparison,
+    runs: &Comparison<RunNumbers>,
     labels: Labels<'_>,
     form: NumberForm,
 ) -> Result<(), AllocError> {
@@ -224,12 +229,12 @@ fn put_machine(
 pub fn comparison_sheet(
     alloc: Global,
     variation: Option<Variation<'_>>,
-    runs: &Comparison,
+    runs: &Comparison<RunNumbers>,
     labels: Labels<'_>,
     form: NumberForm,
 ) -> Result<Sheet, AllocError> {
     let mut sheet = Sheet::new(alloc);
-    sheet.put(heading_row(alloc, variation, runs.columns.len(), form)?)?;
+    sheet.put(heading_row(alloc, variation, runs.runs.len(), form)?)?;
     for task in 0..most_tasks(runs) {
         put_requests(alloc, &mut sheet, runs, labels, task, form)?;
         put_cores(alloc, &mut sheet, runs, labels, task, form)?;

@@ -3,10 +3,9 @@ use Rattle.std.proofs.lemmas.List.Sorted.{IsNonDecreasingBy-from_sort}
 use Rattle.std.specs.List.Sorted.{IsPermutation}
 use Rattle.cal_measure.specs.Clocks.{run_end}
 use Rattle.cal_measure.specs.Cores.{IsHeldCourse}
-use Rattle.cal_measure.specs.Requests.{AreRequestsOf, response_of, services_of_task}
+use Rattle.cal_measure.specs.Requests.{response_of, services_of_task}
 use Rattle.cal_policy.specs.Pass.{IsLegal}
 use Rattle.cal_policy.specs.declared.history.entry.PassEntry.{PassEntry}
-use Rattle.cal_run.specs.Outcome.{outcome_of}
 use Rattle.cal_tables.proofs.courses.task_course.Goals as goal
 
 pub held_course-requires-clause-legal : goal.held_course-requires-clause-legal
@@ -18,12 +17,9 @@ returns c =
     let table = c.args.config.now in
     let turns = c.args.arrivals.now.turns in
     let requests = c.args.arrivals.now.requests in
-    let outcome = outcome_of c.args.end.now in
     let t = c.args.task in
     let rising : List ℕ = c.sort.new.self.items in
     record {
-      requests = subst (λ js. AreRequestsOf table c.args.arrivals.now js outcome.left t c.in_ok-requests.requests) c.as_slice-journals.ensures
-          (subst (λ ls. AreRequestsOf table c.args.arrivals.now c.as_slice-journals.result.now ls t c.in_ok-requests.requests) c.as_slice-left.ensures c.in_ok-requests.ensures);
       same = subst (λ (times : List ℕ). IsPermutation times rising)
           (c.in_ok-responses.ensures ∙ ap (λ js. map (response_of turns requests) (services_of_task table (run_end c.args.arrivals.now) js t)) c.as_slice-journals.ensures)
           c.sort.ensures.permutation;

@@ -1,0 +1,89 @@
+//! What is kept of a run, and the runs of several tables on the same arrivals, side by side.
+
+ghost use Rattle.std.specs.Prelude.{◌≡◌, ◌<◌, length, slice_get, IfErr, IfOk};
+ghost use Rattle.cal_machine.specs.Table.{Table};
+ghost use Rattle.cal_tables.specs.Compared.{AreOfTables, IsOfMoved};
+ghost use Rattle.cal_trace.specs.Arrivals.FitsTable.{FitsTable};
+ghost use Rattle.cal_trace.specs.declared.arrivals.Arrivals.{Arrivals as RunArrivals};
+
+use crate::comparing::fault::{ComparisonFault, Reason, fault_of};
+use crate::comparing::moving::moved_arrivals;
+use cal_engine::RunFault;
+use cal_machine::Config;
+use cal_trace::Arrivals;
+use std::alloc::Global;
+
+/// What is kept of a run on one thread: its numbers, to be written, or what it went through, to be
+/// drawn.
+pub trait OfRun: Drop {
+    /// It is so of a run of this table on these arrivals.
+    ghost tells: { Table → RunArrivals → Self → Type 0 };
+
+    /// Makes a whole run on one thread on these arrivals, and keeps this of it. Its fault is
+    /// `Memory`.
+    fn of_run(alloc: Global, config: &Config, arrivals: &Arrivals) -> Result<Self, RunFault>
+        requires fits { FitsTable config.now arrivals.now }
+        ensures tells { IfOk result (tells config.now arrivals.now) }
+        ensures kind { IfErr result (λ fault. fault ≡ RunFault.Memory) };
+}
+
+/// What is kept of a table's run on arrivals that were given for another, as the table gets them.
+fn of_moved<R: OfRun>(
+    alloc: Global,
+    given: &Config,
+    arrivals: &Arrivals,
+    table: &Config,
+) -> Result<R, Reason>
+    requires { FitsTable given.now arrivals.now }
+    ensures { IfOk result (IsOfMoved R.tells given.now arrivals.now table.now) }
+{
+    let moved = moved_arrivals(alloc, given, table, arrivals)?;
+    Ok(R::of_run(alloc, table, &moved)?)
+}
+
+/// The table at a place.
+pub fn table_at(tables: &[Config], place: usize) -> &Config
+    requires { place < length tables.now }
+    ensures { slice_get tables.now place ≡ Some result.now }
+{
+    &tables[place]
+}
+
+/// What is kept of a table's run on the arrivals that a text tells; a fault is that of the table at
+/// this place. `Memory` may come at any place.
+fn of_placed<R: OfRun>(
+    alloc: Global,
+    given: &Config,
+    arrivals: &Arrivals,
+    table: &Config,
+    place: usize,
+) -> Result<R, ComparisonFault>
+    requires { FitsTable given.now arrivals.now }
+    ensures { IfOk result (IsOfMoved R.tells given.now arrivals.now table.now) }
+{
+    match of_moved(alloc, given, arrivals, table) {
+        Ok(run) => Ok(run),
+        Err(reason) => Err(fault_of(place, reason)),
+    }
+}
+
+/// What is kept of each table's run on the arrivals, as the table gets them, in the order of the
+/// tables. The fault is that of the first table which they do not fit. `Memory` may come at any
+/// place.
+pub fn runs_of<R: OfRun>(
+    alloc: Global,
+    given: &Config,
+    arrivals: &Arrivals,
+    tables: &[Config],
+) -> Result<Vec<R>, ComparisonFault>
+    requires { FitsTable given.now arrivals.now }
+    ensures { IfOk result (λ runs.
+        AreOfTables R.tells given.now arrivals.now tables.now runs.items) }
+{
+    let mut runs = Vec::new(alloc);
+    for place in 0..tables.len() {
+        let run = of_placed(alloc, given, arrivals, table_at(tables, place), place)?;
+        runs.push(run)?;
+    }
+    Ok(runs)
+}
