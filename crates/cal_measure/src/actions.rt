@@ -209,7 +209,7 @@ fn plus(count: usize, more: bool) -> usize
 }
 
 /// The numbers of a task, with one action more.
-fn with_one(
+pub fn with_one(
     config: &Config,
     board: &Board,
     task: usize,

@@ -37,7 +37,7 @@ fn finds_congested(config: &Config, board: &mut Board, entry: &PassEntry, task: 
 }
 
 /// These ticks where something is so, otherwise none.
-fn ticks_if(is_so: bool, ticks: u64) -> u64
+pub fn ticks_if(is_so: bool, ticks: u64) -> u64
     ensures { result ≡ (if is_so then ticks else 0) }
 {
     if is_so { ticks } else { 0 }

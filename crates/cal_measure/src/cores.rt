@@ -78,7 +78,7 @@ pub struct MachineCores {
 
 impl TaskActions {
     /// Of nothing that was done.
-    fn none() -> TaskActions
+    pub fn none() -> TaskActions
         ensures { (table : Table) (t : ℕ) → AreActionsOf table t [] result }
     {
         TaskActions {
@@ -97,7 +97,7 @@ impl TaskActions {
 }
 
 /// The core time of so many cores over some ticks.
-fn core_time(cores: u8, ticks: u64) -> u128
+pub fn core_time(cores: u8, ticks: u64) -> u128
     ensures time { result ≡ cores * ticks }
     ensures few { result < 2 ^ 72 }
 {

@@ -20,6 +20,7 @@ mod spread;
 mod states;
 mod totals;
 mod turns;
+mod walk;
 mod work;
 
 pub use actions::LossKind;
