@@ -8,11 +8,10 @@ use Rattle.cal_policy.specs.State.{IsReady, IsStateAfter}
 use Rattle.cal_policy.specs.declared.history.action_list.TheConstants.{MOST_ACTIONS}
 use Rattle.cal_policy.specs.declared.history.entry.PassEntry.{PassEntry}
 use Rattle.cal_measure.specs.Actions.{AreActionsOf}
-use Rattle.cal_measure.specs.Cores.{AreCoresOf, AreMachineCores, congested_for, core_time}
+use Rattle.cal_measure.specs.Cores.{AreMachineCores, congested_for, core_time}
 use Rattle.cal_measure.specs.Cores.{held_after, in_state_after, is_over_limit, left_after}
 use Rattle.cal_measure.specs.States.{is_congested_at, lasts_at}
 use Rattle.cal_measure.specs.declared.cores.MachineCores.{MachineCores}
-use Rattle.cal_measure.specs.declared.cores.TaskCores.{TaskCores}
 use Rattle.cal_measure.specs.declared.states.CoreState.TheVariants as states
 use Rattle.cal_measure.specs.declared.walk.machine_time.MachineTime.{MachineTime}
 use Rattle.cal_measure.specs.declared.walk.Walk.{Walk}
@@ -98,9 +97,3 @@ pub record IsWalkOf (table : Table) (history : List PassEntry) (walk : Walk) : T
   pub times : EachTask (IsTimeOf table history) walk.times.items
   pub machine : IsMachineTimeOf table history walk.machine
   pub few_actions : length (actions_of history) ≤ length history * MOST_ACTIONS
-
--- for each task, in task order, the numbers of its cores in this history
-pub record AreCoresOfEach (table : Table) (history : List PassEntry)
-    (numbers : List TaskCores) : Type 0 where
-  pub many : length numbers ≡ length table.tasks
-  pub each : EachTask (AreCoresOf table history) numbers

@@ -9,8 +9,8 @@ ghost use Rattle.std.specs.List.{All};
 ghost use Rattle.cal_machine.specs.declared.numbering.TheConstants.{MOST_THREADS};
 ghost use Rattle.cal_measure.specs.Actions.{AreActionsOf};
 ghost use Rattle.cal_machine.specs.Table.{Table};
-ghost use Rattle.cal_measure.specs.Cores.{AreMachineCores};
-ghost use Rattle.cal_measure.specs.Walk.{AreCoresOfEach, EachTask, IsOpenFor, IsTimeOf, IsWalkOf};
+ghost use Rattle.cal_measure.specs.Cores.{AreCoresOfTasks, AreMachineCores, MakeTheWhole};
+ghost use Rattle.cal_measure.specs.Walk.{EachTask, IsOpenFor, IsTimeOf, IsWalkOf};
 ghost use Rattle.cal_measure.specs.Walk.{since};
 ghost use Rattle.cal_policy.specs.Board.{NamesTable};
 ghost use Rattle.cal_policy.specs.Judgement.Orderly.{IsOrderlyEntry};
@@ -30,21 +30,21 @@ use std::alloc::{AllocError, Global};
 
 /// The walk over the passes of a history, one after the other, whoever gives them. Its numbers are
 /// at any time those of the passes so far, and each pass costs the work of that pass alone: there is
-/// one board, and for each task a row of numbers. Only opening it takes memory.
+/// one board, and for each task a row of numbers. No pass takes memory.
 ///
 /// Every call is to be given the table that it was opened for.
 #[derive(Drop)]
 pub struct Walk {
     /// The state that the passes so far leave.
-    pub board: Board,
+    board: Board,
     /// The clock of the last pass.
-    pub clock: Option<u64>,
+    clock: Option<u64>,
     /// What the passes did to the cores of each task.
-    pub actions: Vec<TaskActions>,
+    actions: Vec<TaskActions>,
     /// The core time of each task.
-    pub times: Vec<TaskTime>,
+    times: Vec<TaskTime>,
     /// The core time of the machine.
-    pub machine: MachineTime,
+    machine: MachineTime,
 }
 
 /// How many ticks there are from a clock, where there is one, to a later one; otherwise none.
@@ -131,7 +131,7 @@ impl Walk {
         requires { length self.now.times.items ≡ length self.now.actions.items }
         ensures { IfOk result (λ cores. (table : Table) (h : List PassEntry) →
             IsOpenFor table self.now → IsWalkOf table h self.now →
-            AreCoresOfEach table h cores.items) }
+            AreCoresOfTasks table h cores.items) }
     {
         let mut cores = Vec::new(alloc);
         for task in 0..self.times.len() {
@@ -147,10 +147,12 @@ impl Walk {
         Ok(cores)
     }
 
-    /// The numbers of the machine's cores.
+    /// The numbers of the machine's cores, whose parts make the whole.
     pub fn machine(&self) -> MachineCores
-        ensures { (table : Table) (h : List PassEntry) → IsWalkOf table h self.now →
+        ensures numbers { (table : Table) (h : List PassEntry) → IsWalkOf table h self.now →
             AreMachineCores table h result }
+        ensures whole { (table : Table) (h : List PassEntry) → IsWalkOf table h self.now →
+            MakeTheWhole table result }
     {
         self.machine.numbers
     }

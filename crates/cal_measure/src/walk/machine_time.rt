@@ -7,8 +7,7 @@ ghost use Rattle.cal_policy.specs.State.{IsStateAfter};
 ghost use Rattle.cal_policy.specs.declared.history.entry.PassEntry.{PassEntry};
 ghost use Rattle.cal_policy.specs.declared.history.entry.TheConstants.{MOST_PASSES};
 
-use crate::congestion::ticks_if;
-use crate::cores::{MachineCores, core_time};
+use crate::cores::{MachineCores, core_time, ticks_if};
 use crate::states::{CoreState, count_in_state};
 use cal_machine::Config;
 use cal_policy::state::Board;

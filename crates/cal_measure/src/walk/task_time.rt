@@ -7,8 +7,7 @@ ghost use Rattle.cal_policy.specs.State.{IsReady, IsStateAfter};
 ghost use Rattle.cal_policy.specs.declared.history.entry.PassEntry.{PassEntry};
 ghost use Rattle.cal_policy.specs.declared.history.entry.TheConstants.{MOST_PASSES};
 
-use crate::congestion::ticks_if;
-use crate::cores::core_time;
+use crate::cores::{core_time, ticks_if};
 use crate::states::is_congested;
 use cal_machine::Config;
 use cal_policy::state::{Board, booked_by, held_by};
