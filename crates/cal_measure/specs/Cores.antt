@@ -74,6 +74,13 @@ pub record AreCoresOf (table : Table) (history : List PassEntry) (t : ℕ)
   pub leaving : numbers.leaving ≡ core_time history (left_after table history t)
   pub congested : numbers.congested ≡ congested_for table history t
 
+-- for each task, in task order, the numbers of its cores in this history
+pub record AreCoresOfTasks (table : Table) (history : List PassEntry)
+    (numbers : List TaskCores) : Type 0 where
+  pub many : length numbers ≡ length table.tasks
+  pub each : (t : ℕ) (of_task : TaskCores) → slice_get numbers t ≡ Some of_task →
+      AreCoresOf table history t of_task
+
 -- the numbers of the machine's cores in this history
 pub record AreMachineCores (table : Table) (history : List PassEntry)
     (numbers : MachineCores) : Type 0 where

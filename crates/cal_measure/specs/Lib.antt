@@ -10,4 +10,5 @@ pub mod Requests
 pub mod States
 pub mod Actions
 pub mod Cores
+pub mod Walk
 pub mod Spans

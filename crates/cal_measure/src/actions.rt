@@ -2,8 +2,6 @@
 
 ghost use Rattle.std.specs.Prelude.{◌≡◌, ◌<◌, ◌+◌, ◌^◌, ◌++◌, ◌∷◌, [], ℕ, List, length};
 ghost use Rattle.std.specs.Prelude.{if◌then◌else◌};
-ghost use Rattle.std.specs.List.{All};
-ghost use Rattle.cal_machine.specs.declared.machine.TheConstants.{MOST_CORES};
 ghost use Rattle.cal_policy.specs.Board.{NamesTable};
 ghost use Rattle.cal_policy.specs.State.{IsReady, Agrees};
 ghost use Rattle.cal_policy.specs.Board.Counts.{is_held_for};
@@ -209,7 +207,7 @@ fn plus(count: usize, more: bool) -> usize
 }
 
 /// The numbers of a task, with one action more.
-fn with_one(
+pub fn with_one(
     config: &Config,
     board: &Board,
     task: usize,
@@ -247,29 +245,5 @@ fn with_one(
         cuts: plus(numbers.cuts, is_cut(config, board, task, action)),
         raises: plus(numbers.raises, is_raise(config, board, task, action)),
         bans: plus(numbers.bans, is_ban(config, task, action)),
-    }
-}
-
-/// Brings a board and the numbers of a task up to the actions of one pass more.
-pub fn count_actions(
-    config: &Config,
-    task: usize,
-    actions: &[Action],
-    board: &mut Board,
-    numbers: &mut TaskActions,
-)
-    requires ready { IsReady config.now board.old }
-    requires names { All (NamesTable config.now) actions.now }
-    requires task { task < length config.now.tasks }
-    ensures agrees { (x : List Action) → Agrees board.old x → Agrees board.new (x ++ actions.now) }
-    ensures ready { IsReady config.now board.new }
-    ensures numbers { (x : List Action) → length (x ++ actions.now) < 2 ^ 64 →
-        Agrees board.old x → AreActionsOf config.now task x numbers.old →
-        AreActionsOf config.now task (x ++ actions.now) numbers.new }
-{
-    config.limits();
-    for action in actions {
-        *numbers = with_one(config, board, task, numbers, *action);
-        board.apply(config, *action);
     }
 }

@@ -1,18 +1,9 @@
 //! What came of the cores of a task, and of the machine's.
 
-ghost use Rattle.std.specs.Prelude.{◌≡◌, ◌<◌, ◌≤◌, ◌+◌, ◌*◌, ◌^◌, ℕ, [], length};
+ghost use Rattle.std.specs.Prelude.{◌≡◌, ◌<◌, ◌*◌, ◌^◌, ℕ, []};
+ghost use Rattle.std.specs.Prelude.{if◌then◌else◌};
 ghost use Rattle.cal_machine.specs.Table.{Table};
 ghost use Rattle.cal_measure.specs.Actions.{AreActionsOf};
-ghost use Rattle.cal_measure.specs.Cores.{AreCoresOf, AreMachineCores, MakeTheWhole};
-ghost use Rattle.cal_policy.specs.Pass.{IsLegal};
-ghost use Rattle.cal_policy.specs.declared.history.entry.TheConstants.{MOST_PASSES};
-
-use crate::actions::count_actions;
-use crate::congestion::{congested_for, over_limit_for};
-use crate::states::{CoreState, apply_each, count_in_state, lasts_at};
-use cal_machine::Config;
-use cal_policy::state::{Board, booked_by, held_by};
-use cal_policy::{PassEntry, legal_is_orderly, legal_is_short};
 
 /// What the passes of a history did to the cores of a task, counted.
 #[derive(Clone, Copy, Debug, PartialEq, Eq)]
@@ -78,7 +69,7 @@ pub struct MachineCores {
 
 impl TaskActions {
     /// Of nothing that was done.
-    fn none() -> TaskActions
+    pub fn none() -> TaskActions
         ensures { (table : Table) (t : ℕ) → AreActionsOf table t [] result }
     {
         TaskActions {
@@ -97,81 +88,16 @@ impl TaskActions {
 }
 
 /// The core time of so many cores over some ticks.
-fn core_time(cores: u8, ticks: u64) -> u128
+pub fn core_time(cores: u8, ticks: u64) -> u128
     ensures time { result ≡ cores * ticks }
     ensures few { result < 2 ^ 72 }
 {
     cores as u128 * ticks as u128
 }
 
-/// What came of the cores of a task in a legal history.
-pub fn cores_of(config: &Config, history: &[PassEntry], task: usize) -> TaskCores
-    requires legal { IsLegal config.now history.now }
-    requires few { length history.now ≤ MOST_PASSES }
-    requires task { task < length config.now.tasks }
-    ensures { AreCoresOf config.now history.now task result }
+/// These ticks where something is so, otherwise none.
+pub fn ticks_if(is_so: bool, ticks: u64) -> u64
+    ensures { result ≡ (if is_so then ticks else 0) }
 {
-    legal_is_orderly();
-    legal_is_short();
-    config.limits();
-    let mut board = Board::new();
-    let mut actions = TaskActions::none();
-    let mut most: u8 = 0;
-    let mut held: u128 = 0;
-    let mut leaving: u128 = 0;
-    for pass in 0..history.len() {
-        count_actions(
-            config,
-            task,
-            history[pass].actions.as_slice(),
-            &mut board,
-            &mut actions,
-        );
-        let holds = held_by(config, &board, task);
-        most = most.max(holds);
-        let leaves = booked_by(config, &board, task).saturating_sub(holds);
-        held += core_time(holds, lasts_at(history, pass));
-        leaving += core_time(leaves, lasts_at(history, pass));
-    }
-    TaskCores {
-        actions,
-        most,
-        held,
-        leaving,
-        congested: congested_for(config, history, task),
-    }
-}
-
-/// What came of the machine's cores in a legal history.
-pub fn machine_of(config: &Config, history: &[PassEntry]) -> MachineCores
-    requires legal { IsLegal config.now history.now }
-    requires few { length history.now ≤ MOST_PASSES }
-    ensures numbers { AreMachineCores config.now history.now result }
-    ensures whole { MakeTheWhole config.now result }
-{
-    legal_is_orderly();
-    config.limits();
-    let mut board = Board::new();
-    let mut lasted: u128 = 0;
-    let mut held: u128 = 0;
-    let mut leaving: u128 = 0;
-    let mut banned: u128 = 0;
-    let mut free: u128 = 0;
-    for pass in 0..history.len() {
-        apply_each(config, &mut board, history[pass].actions.as_slice());
-        let lasts = lasts_at(history, pass);
-        lasted += lasts as u128;
-        held += core_time(count_in_state(config, &board, CoreState::Held), lasts);
-        leaving += core_time(count_in_state(config, &board, CoreState::Leaving), lasts);
-        banned += core_time(count_in_state(config, &board, CoreState::Banned), lasts);
-        free += core_time(count_in_state(config, &board, CoreState::Free), lasts);
-    }
-    MachineCores {
-        lasted,
-        held,
-        leaving,
-        banned,
-        free,
-        over_limit: over_limit_for(config, history),
-    }
+    if is_so { ticks } else { 0 }
 }

@@ -8,7 +8,6 @@
 
 mod actions;
 mod clocks;
-mod congestion;
 mod cores;
 mod course;
 mod ends;
@@ -20,11 +19,12 @@ mod spread;
 mod states;
 mod totals;
 mod turns;
+mod walk;
 mod work;
 
 pub use actions::LossKind;
 pub use clocks::{ArrivalClocks, last_clock, run_end, turns_last};
-pub use cores::{MachineCores, TaskActions, TaskCores, cores_of, machine_of};
+pub use cores::{MachineCores, TaskActions, TaskCores};
 pub use course::held_course;
 pub use ends::{TimedTurn, timed_of};
 pub use requests::{TaskRequests, requests_of, responses_of};
@@ -40,4 +40,5 @@ pub use spans::tracking::{Tracker, spans_of};
 pub use spread::{Spread, Time, spread_of};
 pub use states::{CoreState, is_congested};
 pub use turns::{Turn, turns_of};
+pub use walk::{Walk, walked};
 pub use work::TaskWork;

@@ -1,4 +1,4 @@
-//! What is so after each pass of a history, until the next one.
+//! What is so after the passes so far: the states of the cores, and which tasks are congested.
 
 ghost use Rattle.std.specs.Prelude.{◌≡◌, ◌<◌, ◌≤◌, ◌++◌, ◌∷◌, [], ℕ, List, length, slice_index_or};
 ghost use Rattle.std.specs.Prelude.{nat_lt};
@@ -13,14 +13,12 @@ ghost use Rattle.cal_policy.specs.History.{holder_of, is_banned};
 ghost use Rattle.cal_machine.specs.TableTasks.{delay_of};
 ghost use Rattle.cal_policy.specs.Pass.Grants as grants;
 ghost use Rattle.cal_policy.specs.declared.history.action.Action.{Action};
-ghost use Rattle.cal_policy.specs.declared.history.entry.PassEntry.{PassEntry};
 ghost use Rattle.cal_policy.specs.declared.history.look.Seen.{Seen};
-ghost use Rattle.cal_measure.specs.States.{clock_at, count_in_state, delay_after, is_in_state};
-ghost use Rattle.cal_measure.specs.States.{lasts_at};
+ghost use Rattle.cal_measure.specs.States.{count_in_state, delay_after, is_in_state};
 
 use cal_machine::Config;
 use cal_policy::state::{Board, is_banned, record_delay};
-use cal_policy::{Action, Holder, PassEntry};
+use cal_policy::{Action, Holder};
 
 /// What a core can be in.
 #[derive(Clone, Copy, Debug, PartialEq, Eq)]
@@ -33,26 +31,6 @@ pub enum CoreState {
     Banned,
     /// Nobody has it, and it may be granted.
     Free,
-}
-
-/// The clock of a pass; 0 where there is no such pass.
-fn clock_at(history: &[PassEntry], pass: usize) -> u64
-    ensures { result ≡ clock_at history.now pass }
-{
-    match history.get(pass) {
-        Some(entry) => entry.input.now,
-        None => 0,
-    }
-}
-
-/// How long what is so after a pass lasts, in clock ticks: until the clock of the next pass; 0
-/// where that is not later, and after the last pass.
-pub fn lasts_at(history: &[PassEntry], pass: usize) -> u64
-    requires { pass < length history.now }
-    ensures { result ≡ lasts_at history.now pass }
-{
-    let clock = clock_at(history, pass);
-    clock_at(history, pass + 1).saturating_sub(clock)
 }
 
 /// Whether a core is in this state.

@@ -2,9 +2,8 @@
 use Rattle.std.specs.Prelude.{◌≡◌, ℕ, List, length, Some, slice_get}
 use Rattle.cal_machine.specs.Table.{Table}
 use Rattle.cal_measure.specs.Clocks.{turns_last}
-use Rattle.cal_measure.specs.Cores.{AreCoresOf, AreMachineCores, MakeTheWhole}
+use Rattle.cal_measure.specs.Cores.{AreCoresOfTasks, AreMachineCores, MakeTheWhole}
 use Rattle.cal_measure.specs.Requests.{AreRequestsOf}
-use Rattle.cal_measure.specs.declared.cores.TaskCores.{TaskCores}
 use Rattle.cal_measure.specs.declared.requests.TaskRequests.{TaskRequests}
 use Rattle.cal_policy.specs.declared.history.entry.PassEntry.{PassEntry}
 use Rattle.cal_run.specs.Outcome.{IsRun}
@@ -19,13 +18,6 @@ pub record AreNumbersOf (table : Table) (arrivals : Arrivals) (outcome : Outcome
   pub many : length numbers ≡ length table.tasks
   pub each : (t : ℕ) (of_task : TaskRequests) → slice_get numbers t ≡ Some of_task →
       AreRequestsOf table arrivals outcome.journals outcome.left t of_task
-
--- for each task, in task order, the numbers of its cores in this history
-pub record AreCoresOfTasks (table : Table) (history : List PassEntry)
-    (numbers : List TaskCores) : Type 0 where
-  pub many : length numbers ≡ length table.tasks
-  pub each : (t : ℕ) (of_task : TaskCores) → slice_get numbers t ≡ Some of_task →
-      AreCoresOf table history t of_task
 
 -- the numbers of the cores in this history: of the tasks', and of the machine's, whose parts make
 -- the whole

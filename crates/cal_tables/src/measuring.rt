@@ -2,24 +2,21 @@
 
 ghost use Rattle.std.specs.Prelude.{◌≡◌, ◌≢◌, ◌≤◌, IfErr, IfOk, length};
 ghost use Rattle.cal_measure.specs.Clocks.{AreClocksOf};
-ghost use Rattle.cal_policy.specs.Pass.{IsLegal};
-ghost use Rattle.cal_policy.specs.declared.history.entry.TheConstants.{MOST_PASSES};
 ghost use Rattle.cal_run.specs.Outcome.{outcome_of};
 ghost use Rattle.cal_trace.specs.Arrivals.FitsTable.{FitsTable};
-ghost use Rattle.cal_tables.specs.Measured.{AreCoresOfTasks, AreNumbersOf, AreRunNumbers, IsMeasuredRun};
+ghost use Rattle.cal_policy.specs.Pass.{IsLegal};
+ghost use Rattle.cal_policy.specs.declared.history.entry.TheConstants.{MOST_PASSES};
+ghost use Rattle.cal_tables.specs.Measured.{AreNumbersOf, AreRunNumbers, IsMeasuredRun};
 
 use crate::comparing::runs::OfRun;
 use crate::labels::Labels;
-use crate::recorded::{Recorded, measured_recording};
+use crate::recorded::{HistoryNumbers, Recorded, history_numbers, measured_recording};
 use crate::sheet::NumberForm;
 use crate::writing::{history_sheet, sheet_of};
 use cal_engine::{RunFault, read_input, read_parts};
 use cal_machine::Config;
-use cal_measure::{
-    ArrivalClocks, MachineCores, TaskCores, TaskRequests, cores_of, machine_of, requests_of,
-    turns_last,
-};
-use cal_policy::{PassEntry, Verdict};
+use cal_measure::{ArrivalClocks, MachineCores, TaskCores, TaskRequests, requests_of, turns_last};
+use cal_policy::Verdict;
 use cal_run::{RunEnd, lockstep_end};
 use cal_trace::{Arrivals, FaultKind, read_arrivals};
 use std::alloc::{AllocError, Global};
@@ -61,23 +58,6 @@ fn numbers_of(
     Ok(numbers)
 }
 
-/// The numbers of each task's cores, in task order. Fails only when out of memory.
-pub(crate) fn cores_of_tasks(
-    alloc: Global,
-    config: &Config,
-    history: &[PassEntry],
-) -> Result<Vec<TaskCores>, AllocError>
-    requires legal { IsLegal config.now history.now }
-    requires few { length history.now ≤ MOST_PASSES }
-    ensures { IfOk result (λ numbers. AreCoresOfTasks config.now history.now numbers.items) }
-{
-    let mut numbers = Vec::new(alloc);
-    for task in 0..config.tasks() {
-        numbers.push(cores_of(config, history, task))?;
-    }
-    Ok(numbers)
-}
-
 /// The numbers of a run. Fails only when out of memory.
 pub(crate) fn numbers_of_run(
     alloc: Global,
@@ -94,8 +74,7 @@ pub(crate) fn numbers_of_run(
 {
     let history = end.history.as_slice();
     let requests = numbers_of(alloc, config, arrivals, clocks, end)?;
-    let cores = cores_of_tasks(alloc, config, history)?;
-    let machine = machine_of(config, history);
+    let HistoryNumbers { cores, machine } = history_numbers(alloc, config, history)?;
     Ok(RunNumbers {
         requests,
         cores,

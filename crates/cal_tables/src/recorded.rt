@@ -7,10 +7,9 @@ ghost use Rattle.cal_policy.specs.declared.history.entry.TheConstants.{MOST_PASS
 ghost use Rattle.cal_tables.specs.Measured.{AreHistoryNumbers};
 ghost use Rattle.cal_tables.specs.Recording.{IsMeasured, IsRecorded};
 
-use crate::measuring::cores_of_tasks;
 use cal_engine::RunFault;
 use cal_machine::Config;
-use cal_measure::{MachineCores, TaskCores, machine_of};
+use cal_measure::{MachineCores, TaskCores, walked};
 use cal_policy::{Auditor, MOST_PASSES, PassEntry, Verdict};
 use cal_trace::read_history;
 use std::alloc::{AllocError, Global};
@@ -39,7 +38,7 @@ pub enum Recorded {
     },
 }
 
-/// The numbers of the cores in a legal history. Fails only when out of memory.
+/// The numbers of the cores in a legal history, by one walk over it. Fails only when out of memory.
 pub fn history_numbers(
     alloc: Global,
     config: &Config,
@@ -49,9 +48,12 @@ pub fn history_numbers(
     requires few { length history.now ≤ MOST_PASSES }
     ensures { IfOk result (AreHistoryNumbers config.now history.now) }
 {
-    let cores = cores_of_tasks(alloc, config, history)?;
-    let machine = machine_of(config, history);
-    Ok(HistoryNumbers { cores, machine })
+    let walk = walked(alloc, config, history)?;
+    let cores = walk.cores(alloc)?;
+    Ok(HistoryNumbers {
+        cores,
+        machine: walk.machine(),
+    })
 }
 
 /// What an audit says of a history. Fails only when out of memory.

@@ -1,0 +1,10 @@
+use Rattle.std.proofs.Common.{◌≡◌, [], length}
+use Rattle.cal_measure.specs.Actions.{AreActionsOf}
+use Rattle.cal_measure.specs.Walk.{EachTask}
+use Rattle.cal_measure.proofs.walk.no_actions.Given as goal
+
+abbrev pub invariant-loop-task : goal.invariant-loop-task
+invariant-loop-task l = record {
+  many : length l.rows.items ≡ l.task;
+  each : EachTask (λ t of_task. AreActionsOf l.config t [] of_task) l.rows.items;
+}

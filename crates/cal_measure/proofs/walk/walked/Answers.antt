@@ -1,0 +1,62 @@
+use Rattle.std.proofs.Common.{◌≡◌, ◌+◌, ◌<◌, ◌≤◌, ◌++◌, ◌∷◌, [], ℕ, List, Some, slice_get, length, length-take-le, take, take_all, refl, subst, arith}
+use Rattle.std.proofs.lemmas.Option.{slice_get_read}
+use Rattle.cal_policy.specs.History.{actions_of}
+use Rattle.cal_policy.specs.declared.history.entry.PassEntry.{PassEntry}
+use Rattle.cal_policy.proofs.BoardLemmas.StateKept.{names_of_fitting}
+use Rattle.cal_policy.proofs.ListLemmas.Each.{take_item}
+use Rattle.cal_measure.specs.Walk.{IsWalkOf}
+use Rattle.cal_measure.proofs.walk.walked.Goals as goal
+
+pub pass-requires-clause-looks : goal.pass-requires-clause-looks
+pass-requires-clause-looks c =
+    let h = c.args.history.now in
+    let p = c.loop-pass.pass in
+    let entry = c.index-history-pass.result in
+    let orderly = c.legal_is_orderly.ensures c.args.config.now h c.limits.ensures c.requires.legal in
+    let fits = orderly.entries p entry (slice_get_read h (length h) p entry refl c.loop-pass-test.true c.index-history-pass.is) in
+    omega (arith, fits.looks.looks, c.limits.ensures.threads)
+
+pub pass-requires-clause-names : goal.pass-requires-clause-names
+pass-requires-clause-names c =
+    let table = c.args.config.now in
+    let h = c.args.history.now in
+    let p = c.loop-pass.pass in
+    let entry = c.index-history-pass.result in
+    let orderly = c.legal_is_orderly.ensures table h c.limits.ensures c.requires.legal in
+    let fits = orderly.entries p entry (slice_get_read h (length h) p entry refl c.loop-pass-test.true c.index-history-pass.is) in
+    names_of_fitting table (actions_of (take p h)) entry.actions c.limits.ensures fits.actions
+
+pub pass-requires-clause-few : goal.pass-requires-clause-few
+pass-requires-clause-few c =
+    let h = c.args.history.now in
+    let p = c.loop-pass.pass in
+    let entry = c.index-history-pass.result in
+    c.legal_is_short.ensures c.args.config.now h c.limits.ensures c.requires.legal p entry
+    (slice_get_read h (length h) p entry refl c.loop-pass-test.true c.index-history-pass.is)
+
+pub loop-pass-preserved : goal.loop-pass-preserved
+loop-pass-preserved c =
+    let table = c.args.config.now in
+    let h = c.args.history.now in
+    let p = c.loop-pass.pass in
+    let entry = c.index-history-pass.result in
+    let lt = c.loop-pass-test.true in
+    let orderly = c.legal_is_orderly.ensures table h c.limits.ensures c.requires.legal in
+    let here = orderly.entries p entry (slice_get_read h (length h) p entry refl lt c.index-history-pass.is) in
+    let few : length h ≤ 1048576 = c.requires.few in
+    let low : length (take p h) < 1048576 = omega (arith, few, lt, length-take-le p h (omega (arith, lt))) in
+    record {
+      is_open = c.pass.ensures.open;
+      walk = subst (λ (l : List PassEntry). IsWalkOf table l c.pass.new.self) (take_item h p entry lt c.index-history-pass.is)
+          (c.pass.ensures.walk (take p h) low here c.loop-pass.invariant.walk);
+    }
+
+pub returns-clause-open : goal.returns-clause-open
+returns-clause-open c = c.loop-pass.invariant.is_open
+
+pub returns-clause-walk : goal.returns-clause-walk
+returns-clause-walk c =
+    let h = c.args.history.now in
+    let end = c.loop-pass-test.false in
+    let all : length h ≤ c.loop-pass.pass = omega (arith, end) in
+    subst (λ (l : List PassEntry). IsWalkOf c.args.config.now l c.loop-pass.walk) (take_all c.loop-pass.pass h all) c.loop-pass.invariant.walk

@@ -1,0 +1,9 @@
+use Rattle.std.proofs.Common.{take}
+use Rattle.cal_measure.specs.Walk.{IsOpenFor, IsWalkOf}
+use Rattle.cal_measure.proofs.walk.walked.Given as goal
+
+abbrev pub invariant-loop-pass : goal.invariant-loop-pass
+invariant-loop-pass l = record {
+  is_open : IsOpenFor l.config l.walk;
+  walk : IsWalkOf l.config (take l.pass l.history) l.walk;
+}

@@ -1,0 +1,176 @@
+//! One walk over the passes of a history, for the numbers of all its cores.
+
+pub mod each_task;
+pub mod machine_time;
+pub mod task_time;
+
+ghost use Rattle.std.specs.Prelude.{◌≡◌, ◌<◌, ◌≤◌, ◌++◌, ◌∷◌, [], ℕ, List, IfOk, length};
+ghost use Rattle.std.specs.List.{All};
+ghost use Rattle.cal_machine.specs.declared.numbering.TheConstants.{MOST_THREADS};
+ghost use Rattle.cal_measure.specs.Actions.{AreActionsOf};
+ghost use Rattle.cal_machine.specs.Table.{Table};
+ghost use Rattle.cal_measure.specs.Cores.{AreCoresOfTasks, AreMachineCores, MakeTheWhole};
+ghost use Rattle.cal_measure.specs.Walk.{EachTask, IsOpenFor, IsTimeOf, IsWalkOf};
+ghost use Rattle.cal_measure.specs.Walk.{since};
+ghost use Rattle.cal_policy.specs.Board.{NamesTable};
+ghost use Rattle.cal_policy.specs.Judgement.Orderly.{IsOrderlyEntry};
+ghost use Rattle.cal_policy.specs.Pass.{IsLegal};
+ghost use Rattle.cal_policy.specs.declared.history.action_list.TheConstants.{MOST_ACTIONS};
+ghost use Rattle.cal_policy.specs.declared.history.entry.PassEntry.{PassEntry};
+ghost use Rattle.cal_policy.specs.declared.history.entry.TheConstants.{MOST_PASSES};
+
+use crate::cores::{MachineCores, TaskActions, TaskCores};
+use crate::walk::each_task::{count_actions_of_each, time_each};
+use crate::walk::machine_time::MachineTime;
+use crate::walk::task_time::TaskTime;
+use cal_machine::Config;
+use cal_policy::state::Board;
+use cal_policy::{PassEntry, legal_is_orderly, legal_is_short};
+use std::alloc::{AllocError, Global};
+
+/// The walk over the passes of a history, one after the other, whoever gives them. Its numbers are
+/// at any time those of the passes so far, and each pass costs the work of that pass alone: there is
+/// one board, and for each task a row of numbers. No pass takes memory.
+///
+/// Every call is to be given the table that it was opened for.
+#[derive(Drop)]
+pub struct Walk {
+    /// The state that the passes so far leave.
+    board: Board,
+    /// The clock of the last pass.
+    clock: Option<u64>,
+    /// What the passes did to the cores of each task.
+    actions: Vec<TaskActions>,
+    /// The core time of each task.
+    times: Vec<TaskTime>,
+    /// The core time of the machine.
+    machine: MachineTime,
+}
+
+/// How many ticks there are from a clock, where there is one, to a later one; otherwise none.
+fn ticks_since(clock: Option<u64>, now: u64) -> u64
+    ensures { result ≡ since clock now }
+{
+    match clock {
+        Some(clock) => now.saturating_sub(clock),
+        None => 0,
+    }
+}
+
+/// For so many tasks, what was done to their cores before any pass. Fails only when out of memory.
+fn no_actions(alloc: Global, config: &Config) -> Result<Vec<TaskActions>, AllocError>
+    ensures many { IfOk result (λ rows. length rows.items ≡ length config.now.tasks) }
+    ensures each { IfOk result (λ rows.
+        EachTask (λ t of_task. AreActionsOf config.now t [] of_task) rows.items) }
+{
+    let mut rows = Vec::new(alloc);
+    for task in 0..config.tasks() {
+        rows.push(TaskActions::none())?;
+    }
+    Ok(rows)
+}
+
+/// For so many tasks, their core time before any pass. Fails only when out of memory.
+fn no_times(alloc: Global, config: &Config) -> Result<Vec<TaskTime>, AllocError>
+    ensures many { IfOk result (λ rows. length rows.items ≡ length config.now.tasks) }
+    ensures each { IfOk result (λ rows. EachTask (IsTimeOf config.now []) rows.items) }
+{
+    let mut rows = Vec::new(alloc);
+    for task in 0..config.tasks() {
+        rows.push(TaskTime::none())?;
+    }
+    Ok(rows)
+}
+
+impl Walk {
+    /// The walk over no pass. Fails only when out of memory.
+    pub fn open(alloc: Global, config: &Config) -> Result<Walk, AllocError>
+        ensures open { IfOk result (IsOpenFor config.now) }
+        ensures walk { IfOk result (IsWalkOf config.now []) }
+    {
+        let actions = no_actions(alloc, config)?;
+        let times = no_times(alloc, config)?;
+        Ok(Walk {
+            board: Board::new(),
+            clock: None,
+            actions,
+            times,
+            machine: MachineTime::none(),
+        })
+    }
+
+    /// Takes the next pass of the history.
+    pub fn pass(&mut self, config: &Config, entry: &PassEntry)
+        requires open { IsOpenFor config.now self.old }
+        requires looks { length entry.now.input.seen ≤ MOST_THREADS }
+        requires names { All (NamesTable config.now) entry.now.actions }
+        requires few { length entry.now.actions ≤ MOST_ACTIONS }
+        ensures open { IsOpenFor config.now self.new }
+        ensures walk { (h : List PassEntry) → length h < MOST_PASSES →
+            IsOrderlyEntry config.now h entry.now → IsWalkOf config.now h self.old →
+            IsWalkOf config.now (h ++ entry.now ∷ []) self.new }
+    {
+        let now = entry.input.now;
+        let lasts = ticks_since(self.clock, now);
+        self.board.begin_fit(entry.input.seen.as_slice());
+        count_actions_of_each(
+            config,
+            &mut self.board,
+            self.actions.as_mut_slice(),
+            entry.actions.as_slice(),
+        );
+        let times = self.times.as_mut_slice();
+        time_each(config, &self.board, times, now, lasts);
+        let figure = entry.input.bandwidth;
+        self.machine = self.machine.with_pass(config, &self.board, figure, lasts);
+        self.clock = Some(now);
+    }
+
+    /// The numbers of each task's cores, in task order. Fails only when out of memory.
+    pub fn cores(&self, alloc: Global) -> Result<Vec<TaskCores>, AllocError>
+        requires { length self.now.times.items ≡ length self.now.actions.items }
+        ensures { IfOk result (λ cores. (table : Table) (h : List PassEntry) →
+            IsOpenFor table self.now → IsWalkOf table h self.now →
+            AreCoresOfTasks table h cores.items) }
+    {
+        let mut cores = Vec::new(alloc);
+        for task in 0..self.times.len() {
+            let time = self.times[task];
+            cores.push(TaskCores {
+                actions: self.actions[task],
+                most: time.most,
+                held: time.held,
+                leaving: time.leaving,
+                congested: time.congested,
+            })?;
+        }
+        Ok(cores)
+    }
+
+    /// The numbers of the machine's cores, whose parts make the whole.
+    pub fn machine(&self) -> MachineCores
+        ensures numbers { (table : Table) (h : List PassEntry) → IsWalkOf table h self.now →
+            AreMachineCores table h result }
+        ensures whole { (table : Table) (h : List PassEntry) → IsWalkOf table h self.now →
+            MakeTheWhole table result }
+    {
+        self.machine.numbers
+    }
+}
+
+/// The walk over all passes of a legal history. Fails only when out of memory.
+pub fn walked(alloc: Global, config: &Config, history: &[PassEntry]) -> Result<Walk, AllocError>
+    requires legal { IsLegal config.now history.now }
+    requires few { length history.now ≤ MOST_PASSES }
+    ensures open { IfOk result (IsOpenFor config.now) }
+    ensures walk { IfOk result (IsWalkOf config.now history.now) }
+{
+    legal_is_orderly();
+    legal_is_short();
+    config.limits();
+    let mut walk = Walk::open(alloc, config)?;
+    for pass in 0..history.len() {
+        walk.pass(config, &history[pass]);
+    }
+    Ok(walk)
+}
