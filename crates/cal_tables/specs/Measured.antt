@@ -42,4 +42,4 @@ pub record IsMeasuredRun (table : Table) (arrivals : Arrivals)
     (numbers : RunNumbers) : Type 0 where
   pub outcome : Outcome
   pub run : IsRun table arrivals outcome
-  pub numbers : AreRunNumbers table arrivals outcome numbers
+  pub are : AreRunNumbers table arrivals outcome numbers
