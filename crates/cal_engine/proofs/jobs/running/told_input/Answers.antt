@@ -7,7 +7,7 @@ use Rattle.cal_engine.proofs.jobs.running.told_input.Goals as goal
 
 pub returns-in_err-config-clause-fault : goal.returns-in_err-config-clause-fault
 returns-in_err-config-clause-fault g c =
-    let same : c.from_residual-in_err-config.result ≡ Err c.in_err-config.field-0.0 = search rules in
+    let same : c.from_residual.result ≡ Err c.in_err-config.field-0.0 = search rules in
     rw same (failed c.in_err-config.field-0.0 (run_input_of c.args.input.now) c.in_err-config.ensures.exact)
 
 pub returns-clause-told : goal.returns-clause-told

@@ -51,7 +51,7 @@ pub returns-in_err-entry-clause-stopped : goal.returns-in_err-entry-clause-stopp
 returns-in_err-entry-clause-stopped g c =
     let table = c.args.parts.now.scheduler.table in
     let before = c.loop-r.invariant in
-    let same : c.from_residual-in_err-entry.result ≡ Err fault.Memory = search rules in
+    let same : c.from_residual.result ≡ Err fault.Memory = search rules in
     rw same (λ is. (c.loop-r.parts.scheduler.history, first_passes table c.args.arrivals.now _ _ before.legal before.made.passes, before.told))
 
 pub returns-in_err-tell_entry-clause-stopped : goal.returns-in_err-tell_entry-clause-stopped
