@@ -1,4 +1,4 @@
-//! Who collects what the passes and the turns of a run hand out.
+//! Collectors of what the passes and the turns of a run hand out.
 
 pub mod collected;
 pub mod open_journal;
@@ -20,10 +20,10 @@ use cal_sched::BareScheduler;
 use cal_trace::Arrivals;
 use std::alloc::AllocError;
 
-/// Who collects what the passes of a run do and what each turn adds to its thread's journal, when it
-/// is made. What nobody collects is kept by nobody: neither the scheduler of a run nor its threads
-/// keep any of it. Who has a use for the entry of a pass makes the pass with its entry; who has none
-/// makes it without.
+/// Collects what the passes of a run do and what each turn adds to its thread's journal, as it is
+/// made. What nobody collects is not kept: neither the scheduler nor its threads keep any of it. A
+/// collector that needs the entry of a pass makes the pass with its entry; any other makes it
+/// without.
 pub trait Collector {
     /// Why it takes no more.
     type Fault: From<AllocError> + Drop;

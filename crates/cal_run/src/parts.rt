@@ -5,8 +5,8 @@ pub mod opening;
 use crate::workers::worker::Worker;
 use cal_sched::{BareScheduler, Watch};
 
-/// The parts of a run, which belong together (`AreParts`). None of them keeps what it did: who makes
-/// their passes and turns collects that. Each may be moved to a thread of its own.
+/// The parts of a run, which belong together (`AreParts`). None of them keeps what it did: whoever
+/// makes their passes and turns collects that. Each may be moved to a thread of its own.
 #[derive(Drop)]
 pub struct Parts {
     /// The scheduler.
