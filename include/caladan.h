@@ -252,8 +252,10 @@ uint64_t caladan_bandwidth_limit(caladan *handle);
  * before, and that history is legal [passed]; of each look it says what was judged [judged]. UNFIT: a look
  * does not fit [unfit]. WRONG_COUNT exactly where there is not one look for each thread [wrong_count], else
  * NO_ROOM exactly where one of the rooms is too little [no_room], else DONE or UNFIT [answers]; of a closed
- * handle IS_CLOSED [closed]; no other number, so no pass is refused for want of memory [own]. Unless DONE
- * nothing has changed, but that *made is 0 [refused]. */
+ * handle IS_CLOSED [closed]; no other number, so no pass is ever out of memory [own]. now and bandwidth may be
+ * any numbers [answers], now also one below that of the pass before: what came later than now has waited for
+ * no time, and a request that began later runs for none [passed]. Unless DONE nothing has changed, but that
+ * *made is 0 [refused]. */
 uint8_t caladan_pass(caladan *handle, uint64_t now, uint64_t bandwidth, const caladan_look *looks, size_t count,
                      uint8_t *judged, size_t judged_room, caladan_action *actions, size_t room, size_t *made);
 

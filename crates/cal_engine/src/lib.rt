@@ -28,5 +28,5 @@ pub use jobs::front::{Front, write_front};
 pub use jobs::running::{RunAnswer, run_lockstep};
 pub use jobs::simulating::run_sim;
 pub use laws::with_table_is_read_back;
-pub use program::run_program;
+pub use program::{do_job, run_program};
 pub use shell::{end_with, refuse_words, words_after_first};

@@ -72,17 +72,25 @@ fn answer_words<H: Threads + Wait + Sync, R: Read + Drop, W: Write, E: Write>(
     }
 }
 
-/// Does a job on an input, and answers the exit status where there is no fault.
-fn do_job<H: Threads + Wait + Sync, R: Read + Drop, W: Write>(
+/// Reads an input to its end, does a job on it, and answers the exit status where there is no fault:
+/// 1 after the audit of an illegal history, and else 0. The answer goes to `output`, and the faults
+/// are those of the job: of `decide`, `run_lockstep`, `run_sim` or `run_audit`.
+/// Only a run in threads uses `rt`, and waits, at its joins.
+pub fn do_job<H: Threads + Wait + Sync, R: Read + Drop, W: Write>(
     rt: &H,
     alloc: Global,
     job: Job,
     reader: R,
     output: &mut W,
 ) -> Result<u8, RunFault>
+    // The job was done on this input, and the status is that of its answer; or the fault says what it
+    // must of the input.
     ensures job { IfSome (R.remaining reader) (λ input.
         DoesJob job result input (W.contents output.old) (W.contents output.new)) }
+    // 2 is the status of refused words and inputs alone.
     ensures status { IfOk result (λ status. status ≢ 2) }
+    // After any fault but Write nothing is written on the output, but of a run that is told where
+    // memory was refused in its midst.
     ensures untouched { IfErr result (λ fault. fault ≢ RunFault.Write →
         (fault ≡ RunFault.Memory → is_told_job job ≡ false) → output.new ≡ output.old) }
 {

@@ -6,7 +6,7 @@ ghost use Rattle.cal_policy.specs.Explain.Walks.{IsWalk};
 ghost use Rattle.cal_policy.specs.Judgement.Judging.{IsInput};
 ghost use Rattle.cal_policy.specs.Judgement.Orderly.{IsOrderly};
 
-use crate::explaining::{MOST_TURNS, name_of, tell_turn};
+use crate::explaining::{TURN_BOUND, name_of, tell_turn};
 use crate::fault::ExplainFault;
 use crate::scope::Scope;
 use crate::telling::{tell_made, write_action};
@@ -76,7 +76,7 @@ fn walk_to(walk: &mut PassWalk<'_>, turn: Turn) -> Result<(), ExplainFault>
     requires { IsWalk walk.old }
     ensures { IsWalk walk.new }
 {
-    for n in 0..MOST_TURNS {
+    for n in 0..TURN_BOUND {
         let _ = n;
         if walk.turn() == turn || walk.turn() == Turn::End {
             break;

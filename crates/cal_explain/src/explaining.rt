@@ -20,7 +20,7 @@ use std::io::Write;
 
 /// More turns than a pass has: three of each core, one for the bandwidth, two of each task, and the
 /// end.
-pub const MOST_TURNS: usize = 512;
+pub const TURN_BOUND: usize = 512;
 
 /// Writes the explanation of the pass on this input after these passes.
 pub fn tell_pass<W: Write>(
@@ -36,7 +36,7 @@ pub fn tell_pass<W: Write>(
 {
     let mut walk = PassWalk::begin(alloc, config, before, input)?;
     let mut part = None;
-    for n in 0..MOST_TURNS {
+    for n in 0..TURN_BOUND {
         let _ = n;
         if walk.turn() == Turn::End {
             break;

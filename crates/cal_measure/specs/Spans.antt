@@ -14,6 +14,7 @@ use Rattle.cal_policy.specs.declared.history.action.Action.{Action}
 use Rattle.cal_policy.specs.declared.history.action.Action.TheVariants.{Free, Unban, Ban, Revoke}
 use Rattle.cal_policy.specs.declared.history.action.Action.TheVariants.{Cap, Grant}
 use Rattle.cal_policy.specs.declared.history.entry.PassEntry.{PassEntry}
+use Rattle.cal_measure.specs.Turns.{one_of}
 use Rattle.cal_measure.specs.declared.spans.span.Left.{Left}
 use Rattle.cal_measure.specs.declared.spans.span.Span.{Span}
 
@@ -96,11 +97,6 @@ span_by (holders.Leaving placement cause) told begun = option_map (left_as told)
 -- the span that core c is in after these actions, if any
 abbrev pub span_at : List Move → ℕ → Option Span
 span_at moves c = span_by (holder_of (actions_in moves) c) (told_of moves c) (begun_of moves c)
-
--- one thing, if there is one
-abbrev pub one_of : {X : Type 0} → Option X → List X
-one_of None = []
-one_of (Some x) = x ∷ []
 
 -- the span that ends in pass p, if any
 abbrev pub ending : ℕ → Option Span → List Span

@@ -48,8 +48,8 @@ pub struct TaskCores {
     pub congested: u128,
 }
 
-/// What came of the machine's cores: core time, in clock ticks, in each state. Together they are
-/// the run's clock times the cores.
+/// What came of the machine's cores: core time, in clock ticks, in each state. Held, leaving,
+/// banned and free together are how long the run lasted times the cores.
 #[derive(Clone, Copy, Debug, PartialEq, Eq)]
 pub struct MachineCores {
     /// How long the run lasted, in clock ticks.

@@ -10,7 +10,7 @@ pub mod words;
 use crate::compared::sheet::{CANVAS, Graphs};
 use crate::compared::steps::draw_plot;
 use crate::compared::strips::draw_strips;
-use crate::compared::style::{dash_of, draw_style};
+use crate::compared::style::{dash_of_run, draw_style};
 use crate::compared::words::{tell_runs, tell_tasks};
 use crate::page::Page;
 use cal_tables::{Comparison, Labels, RunCourse, Variation};
@@ -72,7 +72,7 @@ answered within so many ",
 fn draw_entry(graphs: &Graphs<'_>, run: usize, page: &mut Page) {
     let (x, y) = graphs.entry_at(run);
     page.fill("<path class='r r{}", &[run as u64]);
-    page.put(dash_of(run));
+    page.put(dash_of_run(run));
     let line = y.saturating_sub(4);
     page.fill("' d='M{} {}h30'/>", &[x, line]);
     page.fill("<text x='{}' y='{}'>", &[x.saturating_add(38), y]);

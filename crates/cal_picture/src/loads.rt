@@ -8,7 +8,7 @@ mod style;
 use crate::loads::axes::{draw_loads, draw_objective, draw_times};
 use crate::loads::chart::{CANVAS, Chart, HIGH, LEFT};
 use crate::loads::curves::draw_curves;
-use crate::loads::style::{dash_of, draw_style};
+use crate::loads::style::{dash_of_rank, draw_style};
 use crate::page::Page;
 use cal_measure::Time;
 use cal_tables::{Labels, Variation};
@@ -138,7 +138,7 @@ answered.</text>\n",
 fn draw_rank(chart: &Chart<'_>, rank: usize, page: &mut Page) {
     let x = (rank as u64).saturating_mul(96).saturating_add(LEFT);
     page.put("<path class='r k");
-    page.put(dash_of(rank));
+    page.put(dash_of_rank(rank));
     page.fill("' d='M{} {}h30'/>", &[x, HIGH]);
     let (words, foot) = (x.saturating_add(38), HIGH.saturating_add(4));
     page.fill("<text x='{}' y='{}'>", &[words, foot]);

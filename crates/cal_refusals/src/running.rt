@@ -1,13 +1,9 @@
 //! The words of caladan_sim with `--explain`.
 
-ghost use Rattle.std.specs.Prelude.{◌≡◌, ◌≢◌, IfErr, IfOk, false};
-ghost use Rattle.cal_engine.specs.Program.{is_told_job, DoesJob};
+ghost use Rattle.std.specs.Prelude.{◌≡◌, ◌≢◌, IfErr, IfOk};
 
 use crate::ending::{RefusedInput, end_explained};
-use cal_engine::{
-    Job, RunFault, Verdict, decide, end_with, read_input, refuse_words, run_audit, run_lockstep,
-    run_sim, words,
-};
+use cal_engine::{Job, RunFault, do_job, end_with, read_input, refuse_words, words};
 use cal_faults::TraceKind;
 use std::alloc::{AllocError, Global};
 use std::io::{Read, Write};
@@ -100,39 +96,5 @@ fn trace_of(job: Job) -> TraceKind {
         Job::Decide => TraceKind::Signals,
         Job::Lockstep(_) | Job::Sim(_) => TraceKind::Arrivals,
         Job::Audit => TraceKind::History,
-    }
-}
-
-/// Does a job on an input by its engine, and answers the exit status where there is no fault.
-fn do_job<H: Threads + Wait + Sync, W: Write>(
-    rt: &H,
-    alloc: Global,
-    job: Job,
-    input: &[u8],
-    output: &mut W,
-) -> Result<u8, RunFault>
-    // The job was done on this input as run_program does it.
-    ensures job { DoesJob job result input.now (W.contents output.old) (W.contents output.new) }
-    ensures status { IfOk result (λ status. status ≢ 2) }
-    ensures untouched { IfErr result (λ fault. fault ≢ RunFault.Write →
-        (fault ≡ RunFault.Memory → is_told_job job ≡ false) → output.new ≡ output.old) }
-{
-    match job {
-        Job::Decide => {
-            decide(alloc, input, output)?;
-            Ok(0)
-        }
-        Job::Lockstep(answer) => {
-            run_lockstep(alloc, input, answer, output)?;
-            Ok(0)
-        }
-        Job::Sim(answer) => {
-            run_sim(rt, alloc, input, answer, output)?;
-            Ok(0)
-        }
-        Job::Audit => match run_audit(alloc, input, output)? {
-            Verdict::Legal => Ok(0),
-            Verdict::Illegal { .. } => Ok(1),
-        },
     }
 }

@@ -50,8 +50,8 @@ is_missed (Some objective) loads =
     is_missed_at objective (slice_get loads (length loads - 1))
 
 -- the exit status: 1 where an objective is missed at the last load, and 0 else
-abbrev pub status_of : Option Objective → List SweptLoad → ℕ
-status_of objective loads = if is_missed objective loads then 1 else 0
+abbrev pub status_of_sweep : Option Objective → List SweptLoad → ℕ
+status_of_sweep objective loads = if is_missed objective loads then 1 else 0
 
 -- a sweep of the table of an input, or of those that it gives, was made over these loads, and the
 -- status is that of its runs
@@ -60,4 +60,4 @@ pub record EndsSweep (input : List ℕ) (varying : Option Varying) (loads : List
   pub tables : List Table
   pub swept : List SweptLoad
   pub made : IsSweep input varying loads tables swept
-  pub ends : status ≡ status_of objective swept
+  pub ends : status ≡ status_of_sweep objective swept

@@ -14,9 +14,9 @@ held_as BestEffort None = 0
 held_as BestEffort (Some cores) = cores.held
 
 -- the same of task t, of the tasks' numbers of cores
-abbrev pub held_by : List TaskCores → ℕ → Task → ℕ
-held_by cores t task = held_as task.kind (slice_get cores t)
+abbrev pub best_effort_time_of : List TaskCores → ℕ → Task → ℕ
+best_effort_time_of cores t task = held_as task.kind (slice_get cores t)
 
 -- for how long the best-effort tasks of a table held cores, all of them together
 abbrev pub best_effort_held : Table → List TaskCores → ℕ
-best_effort_held table cores = sum (numbered (held_by cores) 0 table.tasks)
+best_effort_held table cores = sum (numbered (best_effort_time_of cores) 0 table.tasks)

@@ -1,7 +1,7 @@
 //! A sweep from its words to what is written of it.
 
 ghost use Rattle.std.specs.Prelude.{◌≡◌, ◌≢◌, IfErr, IfOk};
-ghost use Rattle.cal_sweep.specs.Objectives.{EndsSweep, status_of};
+ghost use Rattle.cal_sweep.specs.Objectives.{EndsSweep, status_of_sweep};
 ghost use Rattle.cal_sweep.specs.Sweeps.{of_writer, varying_of};
 
 use crate::fault::SweepFault;
@@ -9,7 +9,7 @@ use crate::naming::SweepNames;
 use crate::picture::picture_of;
 use crate::runs::{Sweep, swept};
 use crate::table::sheet_of;
-use crate::verdict::{say_misses, status_of};
+use crate::verdict::{say_misses, status_of_sweep};
 use crate::words::{Asked, SweepForm};
 use cal_engine::RunFault;
 use cal_tables::ComparisonFault;
@@ -48,7 +48,7 @@ pub fn end_sweep<'a, W: Write, E: Write>(
     errors: &mut E,
 ) -> Result<u8, SweepFault<'a>>
     ensures status { IfOk result (λ status.
-        status ≡ status_of asked.now.objective sweep.now.loads.items) }
+        status ≡ status_of_sweep asked.now.objective sweep.now.loads.items) }
     ensures untouched { IfErr result (λ fault.
         fault ≢ SweepFault.Run of_writer → output.new ≡ output.old) }
 {
@@ -56,7 +56,7 @@ pub fn end_sweep<'a, W: Write, E: Write>(
     if output.write_all(text.as_bytes()).is_err() {
         return Err(SweepFault::Run(ComparisonFault::from(RunFault::Write)));
     }
-    let status = status_of(asked.objective, sweep.loads.as_slice());
+    let status = status_of_sweep(asked.objective, sweep.loads.as_slice());
     if let Some(objective) = asked.objective {
         say_misses(sweep, &objective, names, errors);
     }

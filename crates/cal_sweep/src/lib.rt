@@ -23,5 +23,5 @@ pub use fault::SweepFault;
 pub use naming::SweepNames;
 pub use objective::{Objective, objective_of};
 pub use runs::{Sweep, SweptLoad, SweptRun, swept};
-pub use verdict::{is_missed, status_of};
+pub use verdict::{is_missed, status_of_sweep};
 pub use words::{Asked, SweepForm, SweepWords, asked_of};

@@ -2,7 +2,7 @@
 
 ghost use Rattle.std.specs.Prelude.{◌≡◌, ◌<◌, ◌≤◌, ◌*◌, ◌^◌, length, option_map};
 ghost use Rattle.cal_machine.specs.Tasks.{task_at};
-ghost use Rattle.cal_sweep.specs.Shares.{best_effort_held, held_as, held_by};
+ghost use Rattle.cal_sweep.specs.Shares.{best_effort_held, best_effort_time_of, held_as};
 ghost use Rattle.cal_tables.specs.Rows.{share_of};
 
 use cal_machine::{Config, Kind};
@@ -23,9 +23,9 @@ fn held_as(kind: Kind, cores: Option<&TaskCores>) -> u128
 }
 
 /// The same of a task of a table.
-fn held_by(table: &Config, cores: &[TaskCores], task: usize) -> u128
+fn best_effort_time_of(table: &Config, cores: &[TaskCores], task: usize) -> u128
     requires { task < length table.now.tasks }
-    ensures { result ≡ held_by cores.now task (task_at table.now.tasks task) }
+    ensures { result ≡ best_effort_time_of cores.now task (task_at table.now.tasks task) }
 {
     held_as(table.task(task).kind, cores.get(task))
 }
@@ -37,7 +37,7 @@ fn best_effort_held(table: &Config, cores: &[TaskCores]) -> u128
 {
     let mut held = 0u128;
     for task in 0..table.tasks() {
-        held = held.saturating_add(held_by(table, cores, task));
+        held = held.saturating_add(best_effort_time_of(table, cores, task));
     }
     held
 }

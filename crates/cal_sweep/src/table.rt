@@ -110,14 +110,14 @@ fn figure_of(table: &Config, run: &SweptRun, task: usize, column: Column) -> Opt
 
 /// Which sweep is shown, of which task, under which names, and in which form.
 #[derive(Clone, Copy)]
-struct Shown<'a> {
+struct ShownSweep<'a> {
     sweep: &'a Sweep,
     task: usize,
     names: SweepNames<'a>,
     form: NumberForm,
 }
 
-impl<'a> Shown<'a> {
+impl<'a> ShownSweep<'a> {
     /// In which form the figures of a column are put: in a CSV file what may be a bound has three
     /// cells, and all else one.
     fn form_of(self, column: Column) -> NumberForm {
@@ -213,7 +213,7 @@ pub fn sheet_of(
     names: SweepNames<'_>,
     form: NumberForm,
 ) -> Result<Sheet, AllocError> {
-    let shown = Shown {
+    let shown = ShownSweep {
         sweep,
         task,
         names,

@@ -2,7 +2,7 @@
 
 ghost use Rattle.std.specs.Prelude.{◌≡◌};
 ghost use Rattle.std.specs.List.{list_any};
-ghost use Rattle.cal_sweep.specs.Objectives.{is_missed, is_missed_by, status_of};
+ghost use Rattle.cal_sweep.specs.Objectives.{is_missed, is_missed_by, status_of_sweep};
 
 use crate::naming::SweepNames;
 use crate::objective::{Objective, is_kept, rank_word, response_at};
@@ -45,8 +45,8 @@ pub fn is_missed(objective: Option<Objective>, loads: &[SweptLoad]) -> bool
 
 /// The exit status after a sweep: 1 where one of the runs of its last load misses the objective,
 /// and 0 else.
-pub fn status_of(objective: Option<Objective>, loads: &[SweptLoad]) -> u8
-    ensures { result ≡ status_of objective loads.now }
+pub fn status_of_sweep(objective: Option<Objective>, loads: &[SweptLoad]) -> u8
+    ensures { result ≡ status_of_sweep objective loads.now }
 {
     if is_missed(objective, loads) { 1 } else { 0 }
 }

@@ -11,8 +11,8 @@ use Rattle.cal_trace.specs.Arrivals.FitsTable.{FitsTable}
 use Rattle.cal_trace.specs.declared.arrivals.Arrivals.{Arrivals}
 
 -- a table's text is read as that table
-abbrev pub TextIsReadBack : Type 0
-TextIsReadBack = (table : Table) → IsTable table →
+abbrev pub TableTextIsReadBack : Type 0
+TableTextIsReadBack = (table : Table) → IsTable table →
     table_in (text_of_lines (lines_of table)) ≡ Ok table
 
 -- the table has the key, and this value there

@@ -60,8 +60,8 @@ figure_in few (Some (Known ticks)) = Some (record { number = ticks; is_bound = f
 figure_in few (Some (More ticks)) = Some (record { number = ticks; is_bound = true; few = few })
 
 -- the time at a rank, as a figure
-abbrev pub ranked : Spread → Rank → Option Figure
-ranked times rank = figure_in (few_for rank times.count) (time_in times rank)
+abbrev pub ranked_figure : Spread → Rank → Option Figure
+ranked_figure times rank = figure_in (few_for rank times.count) (time_in times rank)
 
 -- a mean, which is a bound where some are pending
 abbrev pub bound_if : Bool → Option Figure → Option Figure
@@ -82,12 +82,12 @@ figure_of requests had turns lines.Given = Some (exact requests.given)
 figure_of requests had turns lines.Served = Some (exact requests.served)
 figure_of requests had turns lines.Left = Some (exact requests.left)
 figure_of requests had turns lines.ServedInATick = share_of requests.served turns
-figure_of requests had turns (lines.Response rank) = ranked requests.response rank
+figure_of requests had turns (lines.Response rank) = ranked_figure requests.response rank
 figure_of requests had turns lines.MeanResponse =
     bound_if (nat_lt 0 requests.left) (share_of requests.together requests.response.count)
-figure_of requests had turns (lines.Wait rank) = ranked requests.wait rank
-figure_of requests had turns (lines.Service rank) = ranked requests.service rank
-figure_of requests had turns (lines.Slowdown rank) = ranked requests.slowdown rank
+figure_of requests had turns (lines.Wait rank) = ranked_figure requests.wait rank
+figure_of requests had turns (lines.Service rank) = ranked_figure requests.service rank
+figure_of requests had turns (lines.Slowdown rank) = ranked_figure requests.slowdown rank
 figure_of requests had turns lines.OldestPending = oldest_in requests.so_far.greatest
 figure_of requests had turns lines.Thefts = Some (exact requests.work.thefts)
 figure_of requests had turns lines.Suspensions = Some (exact requests.work.suspensions)

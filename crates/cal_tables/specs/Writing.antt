@@ -11,17 +11,18 @@ use Rattle.cal_tables.specs.Varied.{with_value}
 abbrev pub key_line : List ℕ → List ℕ → List ℕ → List ℕ → List ℕ → List ℕ
 key_line key value place name own = line_text (with_value key value (line_of place [] name own))
 
-abbrev pub field_line : List ℕ → List ℕ → ℕ → List ℕ → List ℕ → List ℕ
-field_line key value t name own = key_line key value (field_key t name) name own
+-- the line of a field of task t, with the value where its place is the key, else with its own
+abbrev pub varied_line : List ℕ → List ℕ → ℕ → List ℕ → List ℕ → List ℕ
+varied_line key value t name own = key_line key value (field_key t name) name own
 
 -- task t of a table
 abbrev pub task_text : List ℕ → List ℕ → ℕ → Task → List ℕ
 task_text key value t task = concat (codes "\n[[task]]\n"
-    ∷ field_line key value t (codes "delay") (decimal task.delay)
-    ∷ field_line key value t (codes "guaranteed") (decimal task.guaranteed)
-    ∷ field_line key value t (codes "kind") (kind_text task.kind)
-    ∷ field_line key value t (codes "limit") (decimal task.limit)
-    ∷ field_line key value t (codes "request") (decimal task.request) ∷ [])
+    ∷ varied_line key value t (codes "delay") (decimal task.delay)
+    ∷ varied_line key value t (codes "guaranteed") (decimal task.guaranteed)
+    ∷ varied_line key value t (codes "kind") (kind_text task.kind)
+    ∷ varied_line key value t (codes "limit") (decimal task.limit)
+    ∷ varied_line key value t (codes "request") (decimal task.request) ∷ [])
 
 -- the key is one of task t
 abbrev pub is_field : List ℕ → ℕ → Bool

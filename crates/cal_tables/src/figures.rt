@@ -1,7 +1,7 @@
 //! The figures of rows, and how they are written.
 
 ghost use Rattle.std.specs.Prelude.{◌≡◌, ◌≤◌, ◌^◌, Some};
-ghost use Rattle.cal_tables.specs.Rows.{exact, few_for, if_below, ranked, share_of, time_in};
+ghost use Rattle.cal_tables.specs.Rows.{exact, few_for, if_below, ranked_figure, share_of, time_in};
 
 use crate::sheet::NumberForm;
 use cal_measure::{Spread, Time, thousandths};
@@ -131,8 +131,8 @@ fn few_for(rank: Rank, count: usize) -> Option<usize>
 }
 
 /// The time at a rank, as a figure: of a pending request it is a bound.
-pub fn ranked(times: &Spread, rank: Rank) -> Option<Figure>
-    ensures { result ≡ ranked times.now rank }
+pub fn ranked_figure(times: &Spread, rank: Rank) -> Option<Figure>
+    ensures { result ≡ ranked_figure times.now rank }
 {
     let few = few_for(rank, times.count);
     match time_in(times, rank) {

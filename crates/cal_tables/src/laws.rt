@@ -2,11 +2,11 @@
 //! does nothing.
 
 ghost use Rattle.cal_tables.specs.Laws.{OwnValueGivesTheTable, SameLimitsMoveNothing};
-ghost use Rattle.cal_tables.specs.Laws.{TextIsReadBack, VariedDiffersAtItsKey};
+ghost use Rattle.cal_tables.specs.Laws.{TableTextIsReadBack, VariedDiffersAtItsKey};
 
 /// The text of a table, line by line as it is varied, is read as that table.
-pub fn text_is_read_back()
-    ensures { TextIsReadBack }
+pub fn table_text_is_read_back()
+    ensures { TableTextIsReadBack }
 {}
 
 /// A key of a table varied to the value that it has there gives the table.

@@ -30,7 +30,7 @@ pub use figures::{Figure, Rank, Unit, count, number, put_figure, put_heading, sh
 pub use joining::{front_of_table, table_part};
 pub use labels::{Labels, letters};
 pub use laws::{
-    own_value_gives_the_table, same_limits_move_nothing, text_is_read_back,
+    own_value_gives_the_table, same_limits_move_nothing, table_text_is_read_back,
     varied_differs_at_its_key,
 };
 pub use measuring::{RunNumbers, measure, measured_run};

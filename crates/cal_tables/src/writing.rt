@@ -8,7 +8,7 @@ use crate::core_rows::{
     is_of_passes, machine_figure, machine_label, machine_unit,
 };
 use crate::figures::{
-    Figure, Rank, Unit, count, put_figure, put_heading, rank_name, ranked, share,
+    Figure, Rank, Unit, count, put_figure, put_heading, rank_name, ranked_figure, share,
 };
 use crate::labels::Labels;
 use crate::measuring::RunNumbers;
@@ -139,14 +139,14 @@ fn figure_of(requests: &TaskRequests, had: u128, turns: u64, line: Line) -> Opti
         Line::Served => count(requests.served),
         Line::Left => count(requests.left),
         Line::ServedInATick => share(requests.served as u128, turns as u128),
-        Line::Response(rank) => ranked(&requests.response, rank),
+        Line::Response(rank) => ranked_figure(&requests.response, rank),
         Line::MeanResponse => {
             let mean = share(requests.together, requests.response.count as u128);
             bound_if(requests.left > 0, mean)
         }
-        Line::Wait(rank) => ranked(&requests.wait, rank),
-        Line::Service(rank) => ranked(&requests.service, rank),
-        Line::Slowdown(rank) => ranked(&requests.slowdown, rank),
+        Line::Wait(rank) => ranked_figure(&requests.wait, rank),
+        Line::Service(rank) => ranked_figure(&requests.service, rank),
+        Line::Slowdown(rank) => ranked_figure(&requests.slowdown, rank),
         Line::OldestPending => oldest_in(requests.so_far.greatest),
         Line::Thefts => count(requests.work.thefts),
         Line::Suspensions => count(requests.work.suspensions),

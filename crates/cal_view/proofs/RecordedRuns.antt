@@ -6,9 +6,9 @@ use Rattle.cal_engine.specs.Outcome.{Failed}
 use Rattle.cal_engine.specs.Runs.{Run, decided_run_of, within_limit}
 use Rattle.cal_engine.specs.declared.fault.RunFault.{RunFault}
 use Rattle.cal_engine.specs.declared.fault.RunFault.TheVariants as fault
+use Rattle.cal_engine.specs.declared.jobs.front.Front.{Front}
 use Rattle.cal_engine.specs.declared.input.TheConstants.{INPUT_LIMIT}
 use Rattle.cal_view.specs.Recording.{recorded_text, Records}
-use Rattle.cal_view.specs.declared.jobs.recording.Front.{Front}
 
 within : (text : List ℕ) (outcome : Result Run RunFault) → length text ≤ INPUT_LIMIT → within_limit text outcome ≡ outcome
 within text outcome le = let no : nat_lt INPUT_LIMIT (length text) ≡ false = grind arith in rw no refl

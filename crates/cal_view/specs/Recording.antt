@@ -1,25 +1,13 @@
 -- What is written of a run that was decided.
-use Rattle.std.specs.Prelude.{◌++◌, ℕ, List, [], codes}
-use Rattle.std.specs.Prelude.{Option, Some, None, Result, Ok, Err}
+use Rattle.std.specs.Prelude.{◌++◌, ℕ, List, Option, Result, Ok, Err}
 use Rattle.std.specs.Io.KnownBytes.{Appends}
-use Rattle.cal_engine.specs.Input.{input_parts}
+use Rattle.cal_engine.specs.Front.{front_of}
 use Rattle.cal_engine.specs.Outcome.{Failed}
 use Rattle.cal_engine.specs.Runs.{Run}
 use Rattle.cal_engine.specs.declared.fault.RunFault.{RunFault}
+use Rattle.cal_engine.specs.declared.jobs.front.Front.{Front}
 use Rattle.cal_policy.specs.declared.history.entry.PassEntry.{PassEntry}
 use Rattle.cal_trace.specs.History.Text.{history_text}
-use Rattle.cal_view.specs.declared.jobs.recording.Front.{Front}
-use Rattle.cal_view.specs.declared.jobs.recording.Front.TheVariants as fronts
-
--- the task table of an input, and the line after it
-abbrev pub table_text : Option (List ℕ × List ℕ) → List ℕ
-table_text None = []
-table_text (Some parts) = parts.0 ++ codes "---\n"
-
--- what stands before a history
-abbrev pub front_of : Front → List ℕ → List ℕ
-front_of fronts.Nothing input = []
-front_of fronts.Table input = table_text (input_parts input)
 
 -- what is written of a history
 abbrev pub recorded_text : Front → List ℕ → List PassEntry → List ℕ

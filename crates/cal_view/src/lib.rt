@@ -14,5 +14,5 @@ mod program;
 mod refusing;
 
 pub use command_words::command_line::{Form, Job, Request, words};
-pub use jobs::recording::{Front, record};
+pub use jobs::recording::record;
 pub use program::run_program;

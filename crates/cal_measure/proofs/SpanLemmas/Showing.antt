@@ -11,8 +11,9 @@ use Rattle.cal_policy.specs.declared.history.action.Action.{Action}
 use Rattle.cal_policy.specs.declared.history.action.Action.TheVariants.{Free, Unban, Ban, Revoke, Cap, Grant}
 use Rattle.cal_policy.specs.declared.history.action.Cause.{Cause}
 use Rattle.cal_policy.specs.declared.history.entry.PassEntry.{PassEntry}
-use Rattle.cal_measure.specs.Spans.{Move, made_in, moves_from, moves_of, granted, ended, span_at, ending, ended_by, ended_of, one_of, open_of, spans_of}
+use Rattle.cal_measure.specs.Spans.{Move, made_in, moves_from, moves_of, granted, ended, span_at, ending, ended_by, ended_of, open_of, spans_of}
 use Rattle.cal_measure.specs.Spans.Laws.{GoesOn, Shows, IsOf}
+use Rattle.cal_measure.specs.Turns.{one_of}
 use Rattle.cal_measure.specs.declared.spans.span.Span.{Span}
 use Rattle.cal_measure.proofs.SpanLemmas.StaysKept.{revoked, stay_made, stay_after, stay_push, stay_more}
 

@@ -3,8 +3,9 @@
 ghost use Rattle.std.specs.Prelude.{◌≡◌, ◌++◌, ◌∷◌, [], List, None, Some};
 ghost use Rattle.std.specs.Prelude.{IfOk, OnOk, map, option_map, replicate};
 ghost use Rattle.cal_measure.specs.Spans.{Move, ended, ended_by, ended_of, granted, left_as};
-ghost use Rattle.cal_measure.specs.Spans.{made_in, one_of, open_of, span_at, spans_of};
+ghost use Rattle.cal_measure.specs.Spans.{made_in, open_of, span_at, spans_of};
 ghost use Rattle.cal_measure.specs.Spans.Tracking.{AreStays, Gathers, Tracks};
+ghost use Rattle.cal_measure.specs.Turns.{one_of};
 
 use crate::spans::span::{Left, Span};
 use cal_policy::{Action, Cause, PassEntry};

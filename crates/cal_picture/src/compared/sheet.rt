@@ -1,8 +1,8 @@
 //! What the picture of several runs is drawn from, and where its parts stand, in whole pixels.
 
+use crate::history::telling::kind_word;
 use crate::page::Page;
 use crate::scale::{ClockScale, ShareScale, TimeScale};
-use cal_machine::Kind;
 use cal_measure::TaskRequests;
 use cal_tables::{Comparison, Labels, RunCourse, Variation};
 
@@ -190,10 +190,7 @@ impl<'a> Graphs<'a> {
     pub fn kind_word(&self, task: usize) -> &'static str {
         for table in self.compared.tables.as_slice() {
             if task < table.tasks() {
-                return match table.task(task).kind {
-                    Kind::LatencyCritical => "lc",
-                    Kind::BestEffort => "be",
-                };
+                return kind_word(table, task);
             }
         }
         ""

@@ -1,7 +1,7 @@
 //! The plot of a task: which share of its requests was answered within how long, run by run.
 
 use crate::compared::sheet::{DrawnTask, GRAPH, Graphs, LEFT, RIGHT};
-use crate::compared::style::dash_of;
+use crate::compared::style::dash_of_run;
 use crate::compared::words::tell_task;
 use crate::page::Page;
 
@@ -124,7 +124,7 @@ fn draw_steps(graphs: &Graphs<'_>, task: usize, run: usize, page: &mut Page) {
     };
     let base = graphs.base(task);
     page.fill("<path class='r r{}", &[run as u64]);
-    page.put(dash_of(run));
+    page.put(dash_of_run(run));
     page.fill("' d='M{} {}", &[LEFT, base]);
     draw_stairs(graphs, course, base, page);
     page.fill("H{}'><title>", &[RIGHT]);

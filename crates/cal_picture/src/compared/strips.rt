@@ -59,6 +59,7 @@ fn draw_strip(graphs: &Graphs<'_>, task: usize, run: usize, most: u64, page: &mu
     );
     if let Some(course) = graphs.course(run, task) {
         draw_area(graphs, course, run, top, most, page);
+        page.put("<title>");
         tell_task(graphs, task, run, page);
         page.fill(
             "</title></path><text class='q' x='{}' y='{}'>{} of {}</text>",
@@ -78,7 +79,7 @@ fn rim_of(passes: usize) -> &'static str {
     if passes as u64 > PLOT / 2 { " nr" } else { "" }
 }
 
-/// What a task held in a run, as an area under steps. Its title is left open.
+/// What a task held in a run, as an area under steps.
 fn draw_area(
     graphs: &Graphs<'_>,
     course: DrawnTask<'_>,
@@ -99,7 +100,7 @@ fn draw_area(
         level.take(x, u64::from(held[pass]), page);
     }
     level.put(page);
-    page.fill("H{}V{}z'><title>", &[RIGHT, base]);
+    page.fill("H{}V{}z'>", &[RIGHT, base]);
 }
 
 /// What was held at one place of the paper, over which many passes may stand.

@@ -76,6 +76,6 @@ fn draw_widths(graphs: &Graphs<'_>, page: &mut Page) {
 
 /// What the classes of a run's steps end with: from the ninth run on the colours begin again, and
 /// every second eight are dashed.
-pub fn dash_of(run: usize) -> &'static str {
+pub fn dash_of_run(run: usize) -> &'static str {
     if run / 8 % 2 == 1 { " da" } else { "" }
 }

@@ -147,7 +147,7 @@ fn draw_breaks(sheet: &Sheet<'_>, top: u64, page: &mut Page) {
 /// The edges where the run goes on, and for how many passes.
 fn draw_cut_edges(sheet: &Sheet<'_>, top: u64, bottom: u64, page: &mut Page) {
     let before = sheet.window.first;
-    let after = sheet.window.after();
+    let after = sheet.window.hidden_after();
     let right = sheet.columns.right;
     let y = top.saturating_add(16);
     if before > 0 {

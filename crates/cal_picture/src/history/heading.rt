@@ -94,7 +94,7 @@ pub fn tell_window(sheet: &Sheet<'_>, page: &mut Page) {
         page.put(" alone.");
     }
     if window.count < window.all {
-        tell_cut(first as u64, window.after() as u64, page);
+        tell_cut(first as u64, window.hidden_after() as u64, page);
     }
     if let Some(pass) = sheet.story.disorderly_from {
         page.fill(

@@ -175,7 +175,8 @@ fn next_used(used: &[bool; MOST_CORES], from: u8, cores: u8) -> u8 {
     core.min(cores)
 }
 
-/// The lanes of the cores, from this height down. Three idle pairs in a row or more are one line.
+/// What stands on the paper for the cores, from this height down, and the height below it. Three
+/// idle pairs in a row or more are one line.
 fn grounds_of(
     alloc: Global,
     used: &[bool; MOST_CORES],

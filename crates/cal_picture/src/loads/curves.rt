@@ -2,7 +2,7 @@
 
 use crate::loads::RANKS;
 use crate::loads::chart::{Chart, tell_load};
-use crate::loads::style::dash_of;
+use crate::loads::style::dash_of_rank;
 use crate::page::Page;
 use cal_measure::Time;
 
@@ -17,7 +17,7 @@ pub fn draw_curves(chart: &Chart<'_>, table: usize, page: &mut Page) {
 /// Draws the line of a rank. It is broken where no requests came, or that at the rank is pending.
 fn draw_curve(chart: &Chart<'_>, table: usize, rank: usize, page: &mut Page) {
     page.fill("<path class='r r{}", &[table as u64]);
-    page.put(dash_of(rank));
+    page.put(dash_of_rank(rank));
     page.put("' d='");
     let mut joins = false;
     for place in 0..chart.curves.loads.len() {

@@ -56,7 +56,7 @@ fn draw_tone(scheme: Scheme, table: usize, page: &mut Page) {
 }
 
 /// What the classes of the line of a rank end with, by its place.
-pub fn dash_of(place: usize) -> &'static str {
+pub fn dash_of_rank(place: usize) -> &'static str {
     match place {
         0 => " d0",
         1 => "",

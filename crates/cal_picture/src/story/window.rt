@@ -59,7 +59,7 @@ impl Window {
     }
 
     /// How many passes after it are not shown.
-    pub fn after(&self) -> usize {
+    pub fn hidden_after(&self) -> usize {
         self.all.saturating_sub(self.end())
     }
 }

@@ -8,8 +8,8 @@ ghost use Rattle.cal_trace.specs.Rows.Text.{numbered};
 ghost use Rattle.cal_tables.specs.TableText.{field_key, kind_text, text_of_lines};
 ghost use Rattle.cal_tables.specs.Varied.{AreVaried, AreVariedWith, has_key, varied};
 ghost use Rattle.cal_tables.specs.Varied.{varied_lines};
-ghost use Rattle.cal_tables.specs.Writing.{any_below, field_line, is_field, is_place, key_line};
-ghost use Rattle.cal_tables.specs.Writing.{task_text};
+ghost use Rattle.cal_tables.specs.Writing.{any_below, is_field, is_place, key_line};
+ghost use Rattle.cal_tables.specs.Writing.{task_text, varied_line};
 ghost use Rattle.cal_trace.specs.Arrivals.FitsTable.{FitsTable};
 
 use crate::comparing::Variation;
@@ -22,7 +22,7 @@ use std::fmt::Write;
 
 /// A key of a table, and the value that stands there.
 #[derive(Clone, Copy)]
-struct Setting<'a> {
+struct KeyValue<'a> {
     key: &'a str,
     value: &'a str,
 }
@@ -37,7 +37,7 @@ fn field_key(alloc: Global, task: usize, name: &str) -> Result<String, AllocErro
 /// Puts the line of a table at a place: the value, where the place is the key.
 fn put_line(
     text: &mut String,
-    setting: Setting<'_>,
+    setting: KeyValue<'_>,
     place: &str,
     name: &str,
     own: &str,
@@ -57,13 +57,13 @@ fn put_line(
 fn put_number(
     alloc: Global,
     text: &mut String,
-    setting: Setting<'_>,
+    setting: KeyValue<'_>,
     task: usize,
     name: &str,
     own: u64,
 ) -> Result<(), AllocError>
     ensures { OnOk result (string_bytes text.new ≡ string_bytes text.old
-        ++ field_line setting.entry.key.now setting.entry.value.now task name.now (decimal own)) }
+        ++ varied_line setting.entry.key.now setting.entry.value.now task name.now (decimal own)) }
 {
     let place = field_key(alloc, task, name)?;
     let own = format!(in alloc; "{own}")?;
@@ -84,12 +84,12 @@ fn kind_text(kind: Kind) -> &'static str
 fn put_kind(
     alloc: Global,
     text: &mut String,
-    setting: Setting<'_>,
+    setting: KeyValue<'_>,
     task: usize,
     kind: Kind,
 ) -> Result<(), AllocError>
     ensures { OnOk result (string_bytes text.new ≡ string_bytes text.old
-        ++ field_line setting.entry.key.now setting.entry.value.now task (codes "kind")
+        ++ varied_line setting.entry.key.now setting.entry.value.now task (codes "kind")
         (kind_text kind)) }
 {
     let place = field_key(alloc, task, "kind")?;
@@ -100,7 +100,7 @@ fn put_kind(
 fn put_top(
     alloc: Global,
     text: &mut String,
-    setting: Setting<'_>,
+    setting: KeyValue<'_>,
     name: &str,
     own: u64,
 ) -> Result<(), AllocError>
@@ -116,7 +116,7 @@ fn put_top(
 fn put_task(
     alloc: Global,
     text: &mut String,
-    setting: Setting<'_>,
+    setting: KeyValue<'_>,
     number: usize,
     task: Task,
 ) -> Result<(), AllocError>
@@ -143,7 +143,7 @@ fn put_task(
 fn put_tasks(
     alloc: Global,
     text: &mut String,
-    setting: Setting<'_>,
+    setting: KeyValue<'_>,
     table: &Config,
 ) -> Result<(), AllocError>
     ensures { OnOk result (string_bytes text.new ≡ string_bytes text.old
@@ -157,7 +157,7 @@ fn put_tasks(
 }
 
 /// The table as a text, in which the value stands at the key.
-fn varied_text(alloc: Global, table: &Config, setting: Setting<'_>) -> Result<String, AllocError>
+fn varied_text(alloc: Global, table: &Config, setting: KeyValue<'_>) -> Result<String, AllocError>
     ensures { IfOk result (λ text. string_bytes text
         ≡ text_of_lines
         (varied_lines setting.entry.key.now setting.entry.value.now table.now)) }
@@ -174,7 +174,7 @@ fn varied_text(alloc: Global, table: &Config, setting: Setting<'_>) -> Result<St
 /// The table as a text. Fails only when out of memory.
 pub fn table_text(alloc: Global, table: &Config) -> Result<String, AllocError> {
     // No place is empty, so each has its own value.
-    varied_text(alloc, table, Setting { key: "", value: "" })
+    varied_text(alloc, table, KeyValue { key: "", value: "" })
 }
 
 /// Whether a key is that of a field of this name of a task.
@@ -227,7 +227,7 @@ fn has_key(alloc: Global, key: &str, table: &Config) -> Result<bool, AllocError>
 
 /// The table with this value at this key. The fault is that of the table; a key that it has not is
 /// unknown.
-fn varied(alloc: Global, table: &Config, setting: Setting<'_>) -> Result<Config, ConfigFault>
+fn varied(alloc: Global, table: &Config, setting: KeyValue<'_>) -> Result<Config, ConfigFault>
     ensures made { IfOk result (λ made.
         varied table.now setting.entry.key.now setting.entry.value.now ≡ Ok made) }
     ensures fault { IfErr result (λ fault. ConfigDecided fault
@@ -252,7 +252,7 @@ fn value_at<'a>(values: &[&'a str], place: usize) -> &'a str
 fn placed_table(
     alloc: Global,
     table: &Config,
-    setting: Setting<'_>,
+    setting: KeyValue<'_>,
     place: usize,
 ) -> Result<Config, ComparisonFault>
     ensures { IfOk result (λ made.
@@ -278,7 +278,7 @@ pub fn varied_tables(
     let mut tables = Vec::new(alloc);
     for place in 0..values.len() {
         let value = value_at(values, place);
-        let made = placed_table(alloc, table, Setting { key, value }, place)?;
+        let made = placed_table(alloc, table, KeyValue { key, value }, place)?;
         tables.push(made)?;
     }
     Ok(tables)

@@ -2,25 +2,14 @@
 
 ghost use Rattle.std.specs.Prelude.{◌≡◌, ◌≢◌, IfErr, IfSome, OnOk};
 ghost use Rattle.std.specs.Io.KnownBytes.{Appends};
-ghost use Rattle.cal_engine.specs.Input.{input_parts};
 ghost use Rattle.cal_engine.specs.Runs.{decided_run_of, within_limit};
-ghost use Rattle.cal_view.specs.Recording.{Records, front_of, recorded_text, table_text};
+ghost use Rattle.cal_view.specs.Recording.{Records, recorded_text};
 
-use cal_engine::{RunFault, decided_run, read_input, split_input};
+use cal_engine::{Front, RunFault, decided_run, read_input, write_front};
 use cal_policy::PassEntry;
 use cal_trace::write_history;
 use std::alloc::Global;
-use std::io;
 use std::io::{Read, Write};
-
-/// What is written before a history.
-#[derive(Clone, Copy, Debug, PartialEq, Eq)]
-pub enum Front {
-    /// Nothing.
-    Nothing,
-    /// The task table and the line `---`, so that it is an input.
-    Table,
-}
 
 /// Reads an input of a task table and a signal trace to its end, decides each of its passes, and
 /// writes them as a history, with this in front of it. Nothing is written before the whole input
@@ -64,30 +53,5 @@ fn write_recorded<W: Write>(
     match write_history(history, writer) {
         Ok(()) => Ok(()),
         Err(_) => Err(RunFault::Write),
-    }
-}
-
-/// Writes what stands before the history of an input.
-fn write_front<W: Write>(front: Front, input: &[u8], writer: &mut W) -> io::Result<()>
-    ensures { OnOk result (Appends (W.contents writer.old) (W.contents writer.new)
-        (front_of front input.now)) }
-{
-    match front {
-        Front::Nothing => Ok(()),
-        Front::Table => write_table(input, writer),
-    }
-}
-
-/// Writes the task table of an input as it is there and the line after it.
-fn write_table<W: Write>(input: &[u8], writer: &mut W) -> io::Result<()>
-    ensures { OnOk result (Appends (W.contents writer.old) (W.contents writer.new)
-        (table_text (input_parts input.now))) }
-{
-    match split_input(input) {
-        None => Ok(()),
-        Some((table, _)) => {
-            writer.write_all(table)?;
-            writer.write_all(b"---\n")
-        }
     }
 }

@@ -1,5 +1,6 @@
 use Rattle.std.proofs.Common.{◌∙◌, ◌++◌, ap, sym}
-use Rattle.cal_measure.specs.Spans.{ended_of, one_of}
+use Rattle.cal_measure.specs.Spans.{ended_of}
+use Rattle.cal_measure.specs.Turns.{one_of}
 use Rattle.cal_measure.proofs.SpanLemmas.StaysKept.{ended_push}
 use Rattle.cal_measure.proofs.spans.tracking.Gathering.note.Goals as goal
 
