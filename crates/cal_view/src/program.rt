@@ -103,6 +103,7 @@ pub fn say_help<E: Write>(alloc: Global, errors: &mut E) -> Result<u8, RunFault>
 }
 
 /// A run of the program that words ask for.
+#[derive(Drop)]
 struct ProgramRun<'a, H> {
     /// What opens files and starts threads.
     rt: &'a H,
