@@ -72,7 +72,7 @@ struct Share {
     decades: u64,
 }
 
-fn share(name: &'static str, pending: u64, decades: u64) -> Share {
+fn share_at(name: &'static str, pending: u64, decades: u64) -> Share {
     Share {
         name,
         pending,
@@ -83,12 +83,12 @@ fn share(name: &'static str, pending: u64, decades: u64) -> Share {
 /// The shares that have a line.
 fn shares() -> [Share; 6] {
     [
-        share("0%", 1000, 1),
-        share("50%", 500, 1),
-        share("90%", 100, 1),
-        share("99%", 10, 2),
-        share("99.9%", 1, 3),
-        share("100%", 0, 1),
+        share_at("0%", 1000, 1),
+        share_at("50%", 500, 1),
+        share_at("90%", 100, 1),
+        share_at("99%", 10, 2),
+        share_at("99.9%", 1, 3),
+        share_at("100%", 0, 1),
     ]
 }
 
