@@ -49,7 +49,7 @@ pub fn draw_tasks(sheet: &Sheet<'_>, page: &mut Page) {
 
 fn draw_names(sheet: &Sheet<'_>, page: &mut Page) {
     for task in 0..sheet.layout.tasks.len() {
-        if let Some(drawn) = DrawnTask::of(sheet, task) {
+        if let Some(drawn) = DrawnTask::of(&*sheet, task) {
             drawn.draw_name(page);
         }
     }
@@ -57,7 +57,7 @@ fn draw_names(sheet: &Sheet<'_>, page: &mut Page) {
 
 fn draw_all_steps(sheet: &Sheet<'_>, page: &mut Page) {
     for task in 0..sheet.layout.tasks.len() {
-        if let Some(drawn) = DrawnTask::of(sheet, task) {
+        if let Some(drawn) = DrawnTask::of(&*sheet, task) {
             drawn.draw_steps(page);
         }
     }
@@ -65,7 +65,7 @@ fn draw_all_steps(sheet: &Sheet<'_>, page: &mut Page) {
 
 fn draw_all_lines(sheet: &Sheet<'_>, page: &mut Page) {
     for task in 0..sheet.layout.tasks.len() {
-        if let Some(drawn) = DrawnTask::of(sheet, task) {
+        if let Some(drawn) = DrawnTask::of(&*sheet, task) {
             drawn.draw_lines(page);
         }
     }

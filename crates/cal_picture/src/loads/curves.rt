@@ -9,6 +9,7 @@ use cal_measure::Time;
 /// Draws the curves of a table.
 pub fn draw_curves(chart: &Chart<'_>, table: usize, page: &mut Page) {
     for rank in 0..RANKS {
+        let chart = &*chart;
         let curve = Curve { chart, table, rank };
         curve.draw_line(page);
         curve.draw_points(page);
