@@ -83,7 +83,7 @@ fn traces_of(job: &Job<'_>) -> &'static [TraceKind] {
 /// separator.
 fn tables_of(job: &Job<'_>) -> usize {
     match job {
-        Job::Compare { vary: None, .. } => usize::MAX,
+        Job::Compare { asked } if asked.vary.is_none() => usize::MAX,
         _ => 1,
     }
 }
