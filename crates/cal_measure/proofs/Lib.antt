@@ -4,3 +4,8 @@ pub mod Counting
 pub mod Passes
 pub mod Whole
 pub mod SpanLemmas
+pub mod AllOfOk
+pub mod Paired
+pub mod AtMostOne
+pub mod ThreadTurns
+pub mod TotalsOfEach
