@@ -5,6 +5,7 @@ pub mod Passes
 pub mod Whole
 pub mod SpanLemmas
 pub mod AllOfOk
+pub mod GivenFit
 pub mod Paired
 pub mod AtMostOne
 pub mod ThreadTurns

@@ -12,10 +12,9 @@ use Rattle.cal_measure.specs.Joined.{joined_below}
 use Rattle.cal_measure.specs.ThreadWork.{ended_of, latest_of}
 use Rattle.cal_measure.specs.Turns.{turn_by, turns_of}
 use Rattle.cal_measure.specs.Work.{stolen_by, suspension_at, suspension_by, suspensions_in}
-use Rattle.cal_measure.specs.declared.ends.TimedTurn.{TimedTurn}
 use Rattle.cal_measure.specs.declared.turns.Turn.{Turn}
 use Rattle.cal_measure.proofs.AtMostOne.{each_few, joined_few}
-use Rattle.cal_measure.proofs.Paired.{joined_same, before_last, last_member, paired, paired_push, paired_whole}
+use Rattle.cal_measure.proofs.Paired.{joined_same, before_last, paired_push, paired_whole}
 
 less_one : (turns : List Turn) (turn : Turn) → length (turns ++ turn ∷ []) - 1 ≡ length turns
 less_one turns turn = omega (arith, length-append turns (turn ∷ []))

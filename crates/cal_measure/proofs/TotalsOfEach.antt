@@ -1,9 +1,8 @@
 -- What the turns of each thread came to, thread by thread.
-use Rattle.std.proofs.Common.{◌≡◌, ◌<◌, ◌≤◌, ◌+◌, ◌*◌, ◌^◌, ◌∙◌, ℕ, zero, suc, List, [], ◌∷◌, ◌++◌, Some, None, length, slice_get, get_or, subst, refl, sym, arith, length-append}
+use Rattle.std.proofs.Common.{◌≡◌, ◌<◌, ◌≤◌, ◌+◌, ◌^◌, ◌∙◌, ℕ, zero, suc, List, [], ◌∷◌, ◌++◌, length, get_or, subst, refl, sym, ap, arith, length-append}
 use Rattle.std.specs.Prelude.{sum}
 use Rattle.std.proofs.lemmas.List.{append-nil}
 use Rattle.std.proofs.lemmas.List.Sums.{sum_by-append}
-use Rattle.cal_machine.proofs.Last.{some_same}
 use Rattle.cal_kthread.specs.declared.journal.entry.Entry.{Entry}
 use Rattle.cal_policy.specs.History.Lists.{each_of}
 use Rattle.cal_measure.specs.Ends.{timed_of}
@@ -14,22 +13,22 @@ use Rattle.cal_measure.specs.declared.thread_work.totals.ThreadTotals.{ThreadTot
 use Rattle.cal_measure.specs.declared.work.TaskWork.{TaskWork}
 
 -- what stands at a place is of the journal there
-pub totals_at : (last : ℕ) (journals : List (List Entry)) (threads : List ThreadTotals) (k : ℕ) (totals : ThreadTotals) →
-    AreTotalsOfEach last journals threads → slice_get threads k ≡ Some totals → AreTotalsOf last (get_or journals k []) totals
-totals_at last [] [] k totals each e = absurd (cc e)
-totals_at last [] (t ∷ ts) k totals each e = absurd each
-totals_at last (j ∷ js) [] k totals each e = absurd each
-totals_at last (j ∷ js) (t ∷ ts) zero totals each e = subst (λ (one : ThreadTotals). AreTotalsOf last j one) (some_same t totals e) each.0
-totals_at last (j ∷ js) (t ∷ ts) (suc k) totals each e = totals_at last js ts k totals each.1 e
+pub totals_at : (last : ℕ) (journals : List (List Entry)) (threads : List ThreadTotals) (k : ℕ) (d : ThreadTotals) →
+    AreTotalsOfEach last journals threads → k < length threads → AreTotalsOf last (get_or journals k []) (get_or threads k d)
+totals_at last [] [] k d each low = absurd (omega (arith, low))
+totals_at last [] (t ∷ ts) k d each low = absurd each
+totals_at last (j ∷ js) [] k d each low = absurd each
+totals_at last (j ∷ js) (t ∷ ts) zero d each low = each.0
+totals_at last (j ∷ js) (t ∷ ts) (suc k) d each low = totals_at last js ts k d each.1 (omega (arith, low))
 
 -- and past the last one there is no journal
 pub no_totals : (last : ℕ) (journals : List (List Entry)) (threads : List ThreadTotals) (k : ℕ) →
-    AreTotalsOfEach last journals threads → slice_get threads k ≡ None → get_or journals k [] ≡ []
-no_totals last [] [] k each e = refl
-no_totals last [] (t ∷ ts) k each e = absurd each
-no_totals last (j ∷ js) [] k each e = absurd each
-no_totals last (j ∷ js) (t ∷ ts) zero each e = absurd (cc e)
-no_totals last (j ∷ js) (t ∷ ts) (suc k) each e = no_totals last js ts k each.1 e
+    AreTotalsOfEach last journals threads → length threads ≤ k → get_or journals k [] ≡ []
+no_totals last [] [] k each past = refl
+no_totals last [] (t ∷ ts) k each past = absurd each
+no_totals last (j ∷ js) [] k each past = absurd each
+no_totals last (j ∷ js) (t ∷ ts) zero each past = absurd (omega (arith, past))
+no_totals last (j ∷ js) (t ∷ ts) (suc k) each past = no_totals last js ts k each.1 (omega (arith, past))
 
 pub sum_append : (xs ys : List ℕ) → sum (xs ++ ys) ≡ sum xs + sum ys
 sum_append xs ys = sum_by-append (λ x. x) xs ys
@@ -71,4 +70,13 @@ none_within n work fits =
       worked = let a = fits.worked in omega (arith, a);
       thefts = let a = fits.thefts in omega (arith, a);
       suspensions = let a = fits.suspensions in omega (arith, a);
+    }
+
+pub same_work : (times stolen stamps times' stolen' stamps' : List ℕ) (work : TaskWork) → times ≡ times' → stolen ≡ stolen' → stamps ≡ stamps' →
+    IsWorkOf times stolen stamps work → IsWorkOf times' stolen' stamps' work
+same_work times stolen stamps times' stolen' stamps' work t s u are =
+    record {
+      worked = are.worked ∙ ap (λ (l : List ℕ). sum l) t;
+      thefts = are.thefts ∙ ap (λ (l : List ℕ). length l) s;
+      suspensions = are.suspensions ∙ ap (λ (l : List ℕ). length l) u;
     }

@@ -280,14 +280,14 @@ fn spread_of_known(alloc: Global, times: Vec<u64>) -> Result<Spread, AllocError>
 }
 
 /// What is told of the requests of a task.
-#[derive(Clone, Copy)]
-pub(crate) struct TaskShare<'a> {
+#[derive(Drop)]
+pub(crate) struct TaskShare {
     /// How many came to its threads.
     pub(crate) given: usize,
     /// Those that were served, thread by thread.
-    pub(crate) served: &'a [Service],
+    pub(crate) served: Vec<Service>,
     /// Those that were left, thread by thread.
-    pub(crate) left: &'a [Request],
+    pub(crate) left: Vec<Request>,
     /// What its threads did in their turns.
     pub(crate) work: TaskWork,
 }
@@ -298,27 +298,30 @@ pub(crate) fn requests_of_share(
     alloc: Global,
     arrivals: &Arrivals,
     clocks: &ArrivalClocks,
-    share: TaskShare<'_>,
+    share: &TaskShare,
 ) -> Result<TaskRequests, AllocError>
     requires { AreClocksOf arrivals.now.turns arrivals.now.requests clocks.now }
-    ensures given { IfOk result (λ numbers. numbers.given ≡ share.given) }
-    ensures are { IfOk result (AreOfServices arrivals.now share.served.now share.left.now) }
-    ensures work { IfOk result (λ numbers. numbers.work ≡ share.work) }
+    ensures given { IfOk result (λ numbers. numbers.given ≡ share.now.given) }
+    ensures are { IfOk result
+        (AreOfServices arrivals.now share.now.served.items share.now.left.items) }
+    ensures work { IfOk result (λ numbers. numbers.work ≡ share.now.work) }
 {
     let end = run_end(arrivals);
-    let answered = responses(alloc, clocks, share.served)?;
-    let pending = so_far(alloc, clocks, end, share.left)?;
+    let served = share.served.as_slice();
+    let left = share.left.as_slice();
+    let answered = responses(alloc, clocks, served)?;
+    let pending = so_far(alloc, clocks, end, left)?;
     let together = total_of(answered.as_slice()) + total_of(pending.as_slice());
     let response = spread_of(answered, pending)?;
-    let wait = spread_of_known(alloc, waits(alloc, clocks, share.served)?)?;
-    let service = spread_of_known(alloc, works(alloc, share.served)?)?;
-    let slowdown = spread_of_known(alloc, slowdowns(alloc, clocks, share.served)?)?;
-    let oldest = so_far(alloc, clocks, end, share.left)?;
+    let wait = spread_of_known(alloc, waits(alloc, clocks, served)?)?;
+    let service = spread_of_known(alloc, works(alloc, served)?)?;
+    let slowdown = spread_of_known(alloc, slowdowns(alloc, clocks, served)?)?;
+    let oldest = so_far(alloc, clocks, end, left)?;
     let so_far = spread_of_known(alloc, oldest)?;
     Ok(TaskRequests {
         given: share.given,
-        served: share.served.len(),
-        left: share.left.len(),
+        served: served.len(),
+        left: left.len(),
         response,
         together,
         wait,
@@ -345,13 +348,11 @@ pub fn requests_of(
     ensures { IfOk result (AreRequestsOf config.now arrivals.now journals.now left.now task) }
 {
     let end = run_end(arrivals);
-    let served = task_services(alloc, config, end, journals, task)?;
-    let remaining = task_left(alloc, config, left, task)?;
     let share = TaskShare {
         given: given_to(config, arrivals.requests.as_slice(), task),
-        served: served.as_slice(),
-        left: remaining.as_slice(),
+        served: task_services(alloc, config, end, journals, task)?,
+        left: task_left(alloc, config, left, task)?,
         work: work_of(alloc, config, end, journals, task)?,
     };
-    requests_of_share(alloc, arrivals, clocks, share)
+    requests_of_share(alloc, arrivals, clocks, &share)
 }

@@ -76,7 +76,10 @@ pub(crate) fn service_by(begun: Option<u64>, worked: u64, turn: TimedTurn) -> Op
 }
 
 /// Puts a service, if there is one, at the end of a list. Fails only when out of memory.
-pub(crate) fn put_one(services: &mut Vec<Service>, service: Option<Service>) -> Result<(), AllocError>
+pub(crate) fn put_one(
+    services: &mut Vec<Service>,
+    service: Option<Service>,
+) -> Result<(), AllocError>
     ensures { OnOk result (services.new.items ≡ services.old.items ++ one_of service) }
 {
     match service {

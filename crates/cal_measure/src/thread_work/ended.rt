@@ -7,8 +7,8 @@ ghost use Rattle.cal_measure.specs.declared.ends.TimedTurn.{TimedTurn as TimedOf
 
 use crate::ends::{TimedTurn, with_end};
 use crate::services::{Service, begun_after, put_one, service_by, worked_after};
-use crate::turns::Turn;
 use crate::thread_work::totals::{ThreadTotals, added};
+use crate::turns::Turn;
 use crate::work::{TaskWork, time_worked};
 use std::alloc::{AllocError, Global};
 
@@ -64,7 +64,9 @@ impl EndedTurns {
         ensures suspensions { result.work.suspensions ≡ suspensions }
     {
         let EndedTurns {
-            services, worked, ..
+            services,
+            worked,
+            ..
         } = self;
         ThreadTotals {
             services,

@@ -111,13 +111,11 @@ pub fn requests_of_threads(
         AreTotalsOfEach (run_end arrivals.now) journals threads.now →
         AreRequestsOf config.now arrivals.now journals left.now task numbers) }
 {
-    let served = services_of_threads(alloc, config, threads, task)?;
-    let remaining = task_left(alloc, config, left, task)?;
     let share = TaskShare {
         given: given_to(config, arrivals.requests.as_slice(), task),
-        served: served.as_slice(),
-        left: remaining.as_slice(),
+        served: services_of_threads(alloc, config, threads, task)?,
+        left: task_left(alloc, config, left, task)?,
         work: work_of_threads(config, threads, task),
     };
-    requests_of_share(alloc, arrivals, clocks, share)
+    requests_of_share(alloc, arrivals, clocks, &share)
 }

@@ -10,5 +10,5 @@ abbrev pub invariant-loop-j : goal.invariant-loop-j
 invariant-loop-j l = (last : ℕ) (journals : List (List Entry)) → AreTotalsOfEach last journals l.threads →
     IsWithin l.j l.work
     × IsWorkOf (joined_below (λ j. worked_at last journals (thread_of l.config l.task j)) l.j)
-      (joined_below (λ j. stolen_at journals (thread_of l.config l.task j)) l.j)
-      (joined_below (λ j. suspensions_at journals (thread_of l.config l.task j)) l.j) l.work
+    (joined_below (λ j. stolen_at journals (thread_of l.config l.task j)) l.j)
+    (joined_below (λ j. suspensions_at journals (thread_of l.config l.task j)) l.j) l.work
