@@ -11,7 +11,7 @@ use crate::runs::{Sweep, swept};
 use crate::table::ShownSweep;
 use crate::verdict::{say_misses, status_of_sweep};
 use crate::words::SweepForm;
-use cal_engine::RunFault;
+use cal_input::RunFault;
 use cal_tables::ComparisonFault;
 use std::alloc::AllocError;
 use std::io::Write;

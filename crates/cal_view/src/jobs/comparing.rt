@@ -5,7 +5,7 @@ use crate::command_words::variation::{values_of, variation_of};
 use crate::fault::RefusedRuns;
 use crate::jobs::input::JobInput;
 use cal_compared::draw_comparison;
-use cal_engine::RunFault;
+use cal_input::RunFault;
 use cal_tables::{ComparisonFault, Variation, compare, write_input};
 use std::io::{BufWriter, Write};
 

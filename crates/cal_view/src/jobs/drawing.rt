@@ -2,7 +2,7 @@
 
 use crate::fault::{end_without_pass, end_without_task};
 use crate::jobs::input::JobInput;
-use cal_engine::RunFault;
+use cal_input::RunFault;
 use cal_picture::{Drawn, Shown, draw_picture};
 use std::io::{BufWriter, Write};
 

@@ -2,8 +2,9 @@
 
 use crate::fault::{end_without_pass, end_without_task};
 use crate::jobs::input::JobInput;
-use cal_engine::{RunFault, decided_run, read_parts};
+use cal_engine::decided_run;
 use cal_explain::{ExplainFault, Explained, Explainer, Scope};
+use cal_input::{RunFault, read_parts};
 use cal_machine::Config;
 use cal_policy::{PassEntry, Verdict};
 use cal_trace::read_history;

@@ -1,7 +1,7 @@
 //! The numbers of a run, or of a recorded history.
 
 use crate::jobs::input::JobInput;
-use cal_engine::RunFault;
+use cal_input::RunFault;
 use cal_policy::Verdict;
 use cal_tables::{NumberForm, measure};
 use std::io::Write;

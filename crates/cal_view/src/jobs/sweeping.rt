@@ -4,7 +4,7 @@ use crate::command_words::variation::{values_of, variation_of};
 use crate::fault::RefusedRuns;
 use crate::jobs::naming::refuse_other_count;
 use crate::refusing::{end_refusal, refuse_word, table_alone};
-use cal_engine::{RunFault, read_input};
+use cal_input::{RunFault, read_input};
 use cal_sweep::{SweepFault, SweepJob, SweepNames, SweepWords, answer_sweep, asked_of};
 use cal_tables::{ComparisonFault, Labels};
 use std::alloc::Global;
