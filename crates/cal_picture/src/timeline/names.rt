@@ -8,38 +8,38 @@ use cal_machine::Config;
 
 /// What has a name.
 #[derive(Clone, Copy)]
-enum Place {
+enum NamedPlace {
     /// The group of this number.
     Group(u64),
     /// In the group of the first number the track of the second.
     Track(u64, u64),
 }
 
-impl Place {
+impl NamedPlace {
     /// The number of the group.
-    fn group(self) -> u64 {
+    fn group_number(self) -> u64 {
         match self {
-            Place::Group(group) | Place::Track(group, _) => group,
+            NamedPlace::Group(group) | NamedPlace::Track(group, _) => group,
         }
     }
 
     /// The number of the track, which of a group is 0.
-    fn track(self) -> u64 {
+    fn track_number(self) -> u64 {
         match self {
-            Place::Group(_) => 0,
-            Place::Track(_, track) => track,
+            NamedPlace::Group(_) => 0,
+            NamedPlace::Track(_, track) => track,
         }
     }
 }
 
 /// The names of the groups that a history has, and of the tracks of cores.
 pub fn put_names(config: &Config, events: &mut Events<'_>) {
-    put_name(Place::Group(CORES), "cores", events);
-    put_name(Place::Group(BANS), "banned cores", events);
-    put_name(Place::Group(COUNTERS), "tasks and bandwidth", events);
-    put_sort_index(Place::Group(CORES), events);
-    put_sort_index(Place::Group(BANS), events);
-    put_sort_index(Place::Group(COUNTERS), events);
+    put_name(NamedPlace::Group(CORES), "cores", events);
+    put_name(NamedPlace::Group(BANS), "banned cores", events);
+    put_name(NamedPlace::Group(COUNTERS), "tasks and bandwidth", events);
+    put_sort_index(NamedPlace::Group(CORES), events);
+    put_sort_index(NamedPlace::Group(BANS), events);
+    put_sort_index(NamedPlace::Group(COUNTERS), events);
     for core in 0..config.machine().cores() {
         put_core_name(u64::from(core), events);
     }
@@ -63,8 +63,8 @@ pub fn put_request_names(config: &Config, events: &mut Events<'_>) {
 
 /// The name of a group, and where it stands.
 fn put_group(group: u64, name: &str, events: &mut Events<'_>) {
-    put_name(Place::Group(group), name, events);
-    put_sort_index(Place::Group(group), events);
+    put_name(NamedPlace::Group(group), name, events);
+    put_sort_index(NamedPlace::Group(group), events);
 }
 
 /// The name of a kernel thread's two tracks.
@@ -80,8 +80,8 @@ fn put_thread_name(config: &Config, thread: usize, events: &mut Events<'_>) {
 
 /// The name of a track in two groups, and where it stands there.
 fn put_tracks(groups: [u64; 2], track: u64, name: &Page, events: &mut Events<'_>) {
-    let first = Place::Track(groups[0], track);
-    let second = Place::Track(groups[1], track);
+    let first = NamedPlace::Track(groups[0], track);
+    let second = NamedPlace::Track(groups[1], track);
     match name.whole() {
         Ok(name) => {
             put_name(first, name, events);
@@ -93,30 +93,30 @@ fn put_tracks(groups: [u64; 2], track: u64, name: &Page, events: &mut Events<'_>
     }
 }
 
-fn put_name(place: Place, name: &str, events: &mut Events<'_>) {
+fn put_name(place: NamedPlace, name: &str, events: &mut Events<'_>) {
     events.put(&Named {
         name: match place {
-            Place::Group(_) => "process_name",
-            Place::Track(..) => "thread_name",
+            NamedPlace::Group(_) => "process_name",
+            NamedPlace::Track(..) => "thread_name",
         },
         ph: "M",
-        pid: place.group(),
-        tid: place.track(),
+        pid: place.group_number(),
+        tid: place.track_number(),
         args: Name { name },
     });
 }
 
 /// Where a group or a track stands among its like: groups and tracks go by their numbers.
-fn put_sort_index(place: Place, events: &mut Events<'_>) {
+fn put_sort_index(place: NamedPlace, events: &mut Events<'_>) {
     let (name, sort_index) = match place {
-        Place::Group(group) => ("process_sort_index", group),
-        Place::Track(_, track) => ("thread_sort_index", track),
+        NamedPlace::Group(group) => ("process_sort_index", group),
+        NamedPlace::Track(_, track) => ("thread_sort_index", track),
     };
     events.put(&Sorted {
         name,
         ph: "M",
-        pid: place.group(),
-        tid: place.track(),
+        pid: place.group_number(),
+        tid: place.track_number(),
         args: SortIndex { sort_index },
     });
 }
