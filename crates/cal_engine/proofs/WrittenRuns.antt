@@ -53,10 +53,6 @@ pub told_fault : (f : RunFault) (input : RunInput) → (f ≡ fault.Memory) ⊎ 
 told_fault f input (inl is) = subst (λ (g : RunFault). Failed g (Ok input)) (sym is) tt
 told_fault f input (inr is) = subst (λ (g : RunFault). Failed g (Ok input)) (sym is) refl
 
--- no thread was started for it, and no gate asked
-pub told_alone : {X : Type 0} (f : RunFault) (input : Result X RunFault) → Failed f input → ((f ≡ fault.Spawn) → ⊥) × ((f ≡ fault.Gate) → ⊥)
-told_alone {X} f input failed = (λ is. subst (λ (g : RunFault). Failed g input) is failed, λ is. subst (λ (g : RunFault). Failed g input) is failed)
-
 -- the second of two, seen in another way
 pub second : {A B C : Type 0} → (B → C) → A ⊎ B → A ⊎ C
 second f (inl a) = inl a

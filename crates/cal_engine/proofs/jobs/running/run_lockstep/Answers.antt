@@ -1,11 +1,10 @@
-use Rattle.std.proofs.Common.{◌≡◌, ℕ, List, true, Err, Result, sym, ◌∙◌, rules}
-use Rattle.std.proofs.lemmas.Bool.{false≢true}
+use Rattle.std.proofs.Common.{◌≡◌, ℕ, List, Err, Result, sym, ◌∙◌, rules}
 use Rattle.std.proofs.lemmas.Result.{IfErr-weaker}
-use Rattle.cal_engine.specs.Running.{is_told, run_front, run_input_of, Begins, RunInput, Runs}
+use Rattle.cal_engine.specs.Running.{run_front, run_input_of, Begins, RunInput, Runs}
 use Rattle.cal_engine.specs.Front.{front_of}
 use Rattle.cal_engine.specs.declared.fault.RunFault.{RunFault}
 use Rattle.cal_engine.proofs.Reading.{answered, refused}
-use Rattle.cal_engine.proofs.WrittenRuns.{runs, second, told_alone, told_runs}
+use Rattle.cal_engine.proofs.WrittenRuns.{runs, second, told_runs}
 use Rattle.cal_engine.proofs.jobs.running.run_lockstep.Goals as goal
 
 pub returns-then-is_told-clause-exact : goal.returns-then-is_told-clause-exact
@@ -16,15 +15,6 @@ returns-then-is_told-clause-exact g c =
     c.in_ok-input.ensures.all c.in_ok-input.ensures.end c.in_ok-input.ensures.short
     (told_runs c.args.answer c.told_input.result input (run_input_of input) _ _ (sym c.is_told.ensures ∙ c.if-is_told.true)
     (rw (c.as_slice-given.ensures.value, c.run_front-front.ensures) at c.told_input.ensures.told) (rw c.as_slice-given.ensures.value at c.told_input.ensures.fault))
-
--- the answer is told, so memory was not refused
-pub returns-then-is_told-clause-untouched : goal.returns-then-is_told-clause-untouched
-returns-then-is_told-clause-untouched g c =
-    let told : is_told c.args.answer ≡ true = sym c.is_told.ensures ∙ c.if-is_told.true in
-    IfErr-weaker c.told_input.result _ _ (λ f untouched unwritten only. untouched unwritten (λ is. false≢true (sym (only is) ∙ told))) c.told_input.ensures.untouched
-
-pub returns-then-is_told-clause-alone : goal.returns-then-is_told-clause-alone
-returns-then-is_told-clause-alone g c = IfErr-weaker c.told_input.result _ _ (λ f failed. told_alone f _ failed) c.told_input.ensures.fault
 
 pub returns-then-is_told-clause-begun : goal.returns-then-is_told-clause-begun
 returns-then-is_told-clause-begun g c =
