@@ -1,11 +1,12 @@
 -- The text of a run that was written.
 use Rattle.std.proofs.Common.{ℕ, List, Option, Result, Ok, Err, IsOk, IfErr, OnOk, ◌≡◌, ◌++◌, refl, sym, subst}
 use Rattle.std.specs.Io.KnownBytes.{Appends}
+use Rattle.cal_input.specs.Answers.{Failed}
+use Rattle.cal_input.specs.Parts.{RunInput}
+use Rattle.cal_input.specs.declared.fault.RunFault.{RunFault}
+use Rattle.cal_input.specs.declared.fault.RunFault.TheVariants as fault
 use Rattle.cal_engine.specs.Front.{front_of}
-use Rattle.cal_engine.specs.Outcome.{Failed}
-use Rattle.cal_engine.specs.Running.{run_front, FailedInThreads, RunInput, Runs, RunsInThreads, TellsRun, WritesRun}
-use Rattle.cal_engine.specs.declared.fault.RunFault.{RunFault}
-use Rattle.cal_engine.specs.declared.fault.RunFault.TheVariants as fault
+use Rattle.cal_engine.specs.Running.{run_front, FailedInThreads, Runs, RunsInThreads, TellsRun, WritesRun}
 use Rattle.cal_engine.specs.declared.jobs.running.RunAnswer.{RunAnswer}
 
 written_run : (answer : RunAnswer) (given : List ℕ) (input : Result RunInput RunFault) (old new : Option (List ℕ)) (text : List ℕ) → TellsRun answer input text

@@ -29,7 +29,7 @@ use crate::history::tasks::draw_tasks;
 use crate::page::Page;
 use crate::story::Story;
 use crate::story::window::{Columns, Window};
-use cal_engine::{RunFault, recorded_passes};
+use cal_input::{RunFault, recorded_passes};
 use cal_machine::Config;
 use cal_tables::Labels;
 use std::alloc::Global;

@@ -18,7 +18,7 @@ use crate::story::slots::Slot;
 use crate::story::standing::Row;
 use crate::story::sums::Sums;
 use crate::story::window::Window;
-use cal_engine::RunFault;
+use cal_input::RunFault;
 use cal_machine::Config;
 use cal_policy::PassEntry;
 use cal_trace::HistoryRows;

@@ -25,7 +25,7 @@ use crate::timeline::figures::{put_figure, put_row};
 use crate::timeline::names::{put_names, put_request_names};
 use crate::timeline::requests::put_requests;
 use crate::timeline::slices::put_ended;
-use cal_engine::{RunFault, read_parts, recorded_passes};
+use cal_input::{RunFault, read_parts, recorded_passes};
 use cal_machine::Config;
 use cal_policy::{Action, PassEntry};
 use cal_run::lockstep_end;

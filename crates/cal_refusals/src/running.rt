@@ -5,10 +5,10 @@ ghost use Rattle.cal_engine.specs.Program.{DoesJob};
 
 use crate::ending::{RefusedInput, end_explained};
 use cal_engine::{
-    Job, RunFault, Verdict, decide, end_with, read_input, refuse_words, run_audit, run_lockstep,
-    run_sim, words,
+    Job, Verdict, decide, end_with, refuse_words, run_audit, run_lockstep, run_sim, words,
 };
 use cal_faults::TraceKind;
+use cal_input::{RunFault, read_input};
 use std::alloc::{AllocError, Global};
 use std::io::{Read, Write};
 use std::sync::Wait;

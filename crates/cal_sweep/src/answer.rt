@@ -11,7 +11,7 @@ use crate::runs::{Sweep, swept};
 use crate::table::sheet_of;
 use crate::verdict::{say_misses, status_of};
 use crate::words::{Asked, SweepForm};
-use cal_engine::RunFault;
+use cal_input::RunFault;
 use cal_tables::ComparisonFault;
 use std::alloc::{AllocError, Global};
 use std::io::Write;

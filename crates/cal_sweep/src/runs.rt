@@ -7,7 +7,7 @@ ghost use Rattle.cal_sweep.specs.Sweeps.{IsRunOn, IsSweptLoad, IsSweptRun, varyi
 use crate::fault::SweepFault;
 use crate::naming::{SweepNames, are_counted};
 use crate::words::Asked;
-use cal_engine::RunFault;
+use cal_input::RunFault;
 use cal_load::{Count, Made, are_known, made_arrivals};
 use cal_machine::Config;
 use cal_tables::{

@@ -16,7 +16,7 @@ use crate::comparing::fault::{ComparisonFault, Reason, fault_of};
 use crate::comparing::moving::moved_arrivals;
 use crate::comparing::tables::{GivenTables, given_tables};
 use crate::comparing::varying::varied_given;
-use cal_engine::RunFault;
+use cal_input::RunFault;
 use cal_machine::Config;
 use cal_measure::{ArrivalClocks, TaskRequests, held_course, requests_of, responses_of};
 use cal_policy::PassEntry;

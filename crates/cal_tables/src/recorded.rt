@@ -8,7 +8,7 @@ ghost use Rattle.cal_tables.specs.Measured.{AreHistoryNumbers};
 ghost use Rattle.cal_tables.specs.Recording.{IsMeasured, IsRecorded};
 
 use crate::measuring::cores_of_tasks;
-use cal_engine::RunFault;
+use cal_input::RunFault;
 use cal_machine::Config;
 use cal_measure::{MachineCores, TaskCores, machine_of};
 use cal_policy::{Auditor, MOST_PASSES, PassEntry, Verdict};

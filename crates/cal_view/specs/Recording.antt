@@ -2,10 +2,10 @@
 use Rattle.std.specs.Prelude.{◌++◌, ℕ, List, [], codes}
 use Rattle.std.specs.Prelude.{Option, Some, None, Result, Ok, Err}
 use Rattle.std.specs.Io.KnownBytes.{Appends}
-use Rattle.cal_engine.specs.Input.{input_parts}
-use Rattle.cal_engine.specs.Outcome.{Failed}
-use Rattle.cal_engine.specs.Runs.{Run}
-use Rattle.cal_engine.specs.declared.fault.RunFault.{RunFault}
+use Rattle.cal_input.specs.Answers.{Failed}
+use Rattle.cal_input.specs.Input.{input_parts}
+use Rattle.cal_input.specs.Recorded.{Run}
+use Rattle.cal_input.specs.declared.fault.RunFault.{RunFault}
 use Rattle.cal_policy.specs.declared.history.entry.PassEntry.{PassEntry}
 use Rattle.cal_trace.specs.History.Text.{history_text}
 use Rattle.cal_view.specs.declared.jobs.recording.Front.{Front}

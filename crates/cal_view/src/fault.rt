@@ -1,7 +1,7 @@
 //! What the program says of the fault of several tables, and of a pass or a task that is not there.
 
-use cal_engine::{RunFault, status};
 use cal_faults::{keys_wanted, value_wanted};
+use cal_input::{RunFault, status};
 use cal_machine::ConfigFault;
 use cal_refusals::{RefusedInput, explain_fault};
 use cal_tables::{ComparisonFault, Reason, Variation};

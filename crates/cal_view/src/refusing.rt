@@ -3,8 +3,8 @@
 ghost use Rattle.std.specs.Prelude.{◌≡◌, IfErr, IfOk};
 
 use crate::command_words::command_line::{Job, Request};
-use cal_engine::RunFault;
 use cal_faults::TraceKind;
+use cal_input::RunFault;
 use cal_load::WordFault;
 use cal_refusals::{PartFiles, RefusedInput, end_explained};
 use std::alloc::Global;

@@ -2,16 +2,14 @@
 
 ghost use Rattle.std.specs.Prelude.{◌≡◌, ◌≢◌, Err, IfOk, IfErr, IfSome};
 ghost use Rattle.cal_trace.specs.Arrivals.FitsTable.{FitsTable};
-ghost use Rattle.cal_engine.specs.Outcome.{Decided};
-ghost use Rattle.cal_engine.specs.Runs.{within_limit};
-ghost use Rattle.cal_engine.specs.Running.{run_front, run_input_of, IsTextOfRun, Runs, TellsRun};
+ghost use Rattle.cal_input.specs.Answers.{Decided};
+ghost use Rattle.cal_input.specs.Parts.{run_input_of, within_limit};
+ghost use Rattle.cal_engine.specs.Running.{run_front, IsTextOfRun, Runs, TellsRun};
 
-use crate::fault::RunFault;
-use crate::input::parts::run_input;
-use crate::input::read_input;
 use crate::jobs::answer::write_after_front;
 use crate::jobs::front::Front;
 use crate::jobs::run_text::{run_text, tallied_summary};
+use cal_input::{RunFault, read_input, run_input};
 use cal_machine::Config;
 use cal_run::{lockstep_end, lockstep_tallied};
 use cal_trace::Arrivals;

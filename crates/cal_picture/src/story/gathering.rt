@@ -11,7 +11,7 @@ use crate::story::standing::Row;
 use crate::story::sums::Sums;
 use crate::story::walk::{SpanAndBan, Walk};
 use crate::story::window::Window;
-use cal_engine::RunFault;
+use cal_input::RunFault;
 use cal_machine::Config;
 use cal_policy::{Action, PassEntry};
 use cal_trace::HistoryRows;

@@ -8,7 +8,7 @@ use crate::timeline::events::{
 };
 use crate::timeline::slices::colour_of;
 use crate::timeline::work::{WorkTurn, begun_of, work_turns};
-use cal_engine::RunFault;
+use cal_input::RunFault;
 use cal_machine::Config;
 use cal_measure::run_end;
 use cal_run::RunEnd;

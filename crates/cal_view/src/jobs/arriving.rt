@@ -7,7 +7,7 @@ ghost use Rattle.std.specs.Prelude.{◌≡◌, ◌≢◌, IfErr, IfOk};
 use crate::command_words::arrival_words::{ArrivalForm, ArrivalWords};
 use crate::jobs::arriving::summary::summary_of;
 use crate::refusing::{end_refusal, refuse_word, table_alone};
-use cal_engine::{INPUT_LIMIT, RunFault, read_input};
+use cal_input::{INPUT_LIMIT, RunFault, read_input};
 use cal_load::{
     LoadFault, Made, TaskLoad, WordFault, are_known, asked_loads, made_arrivals, word_at,
 };

@@ -4,7 +4,7 @@ use crate::command_words::command_line::Form;
 use crate::command_words::variation::{key_of, values_of};
 use crate::fault::{end_comparison, explain_comparison};
 use cal_compared::draw_comparison;
-use cal_engine::RunFault;
+use cal_input::RunFault;
 use cal_refusals::RefusedInput;
 use cal_tables::{ComparisonFault, Labels, Variation, compare, write_input};
 use std::alloc::Global;

@@ -1,7 +1,7 @@
 //! The history of an input drawn.
 
 use crate::fault::{end_without_pass, end_without_task};
-use cal_engine::RunFault;
+use cal_input::RunFault;
 use cal_picture::{Drawn, Shown, draw_picture};
 use cal_tables::Labels;
 use std::alloc::Global;

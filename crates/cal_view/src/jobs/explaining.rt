@@ -1,8 +1,9 @@
 //! A pass of an input explained.
 
 use crate::fault::{end_without_pass, end_without_task};
-use cal_engine::{RunFault, decided_run, read_parts};
+use cal_engine::decided_run;
 use cal_explain::{ExplainFault, Explained, Scope, explain_pass, explain_verdict};
+use cal_input::{RunFault, read_parts};
 use cal_machine::Config;
 use cal_policy::{PassEntry, Verdict};
 use cal_trace::read_history;

@@ -1,6 +1,6 @@
 //! The numbers of a run, or of a recorded history.
 
-use cal_engine::RunFault;
+use cal_input::RunFault;
 use cal_policy::Verdict;
 use cal_tables::{Labels, NumberForm, measure};
 use std::alloc::Global;

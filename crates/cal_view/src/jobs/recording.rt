@@ -2,11 +2,13 @@
 
 ghost use Rattle.std.specs.Prelude.{◌≡◌, ◌≢◌, IfErr, IfSome, OnOk};
 ghost use Rattle.std.specs.Io.KnownBytes.{Appends};
-ghost use Rattle.cal_engine.specs.Input.{input_parts};
-ghost use Rattle.cal_engine.specs.Runs.{decided_run_of, within_limit};
+ghost use Rattle.cal_input.specs.Input.{input_parts};
+ghost use Rattle.cal_input.specs.Parts.{within_limit};
+ghost use Rattle.cal_engine.specs.Deciding.{decided_run_of};
 ghost use Rattle.cal_view.specs.Recording.{Records, front_of, recorded_text, table_text};
 
-use cal_engine::{RunFault, decided_run, read_input, split_input};
+use cal_engine::decided_run;
+use cal_input::{RunFault, read_input, split_input};
 use cal_policy::PassEntry;
 use cal_trace::write_history;
 use std::alloc::Global;

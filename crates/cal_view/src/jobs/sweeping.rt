@@ -4,7 +4,7 @@ use crate::command_words::variation::{key_of, values_of};
 use crate::fault::{end_comparison, explain_comparison};
 use crate::jobs::naming::refuse_other_count;
 use crate::refusing::{end_refusal, refuse_word, table_alone};
-use cal_engine::{RunFault, read_input};
+use cal_input::{RunFault, read_input};
 use cal_sweep::{Asked, SweepFault, SweepForm, SweepNames, SweepWords, answer_sweep, asked_of};
 use cal_tables::{ComparisonFault, Labels, Variation};
 use std::alloc::Global;

@@ -1,7 +1,8 @@
 use Rattle.std.proofs.Common.{◌≡◌, ℕ, List, Err, Result, rules}
-use Rattle.cal_engine.specs.Running.{run_input_of, RunInput, Runs}
-use Rattle.cal_engine.specs.declared.fault.RunFault.{RunFault}
-use Rattle.cal_engine.proofs.Reading.{answered, refused}
+use Rattle.cal_input.specs.Parts.{run_input_of, RunInput}
+use Rattle.cal_input.specs.declared.fault.RunFault.{RunFault}
+use Rattle.cal_input.proofs.WholeInput.{answered, refused}
+use Rattle.cal_engine.specs.Running.{Runs}
 use Rattle.cal_engine.proofs.WrittenRuns.{runs}
 use Rattle.cal_engine.proofs.jobs.running.run_lockstep.Goals as goal
 

@@ -1,6 +1,6 @@
 use Rattle.std.proofs.Common.{◌≤◌, length, ◌-◌}
 use Rattle.std.specs.Io.KnownBytes.{Consumes}
-use Rattle.cal_engine.proofs.input.read_input.Given as goal
+use Rattle.cal_input.proofs.reading.read_input.Given as goal
 
 abbrev pub invariant-loop-chunk : goal.invariant-loop-chunk
 invariant-loop-chunk g l = record {

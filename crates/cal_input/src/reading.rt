@@ -1,11 +1,8 @@
 //! Reading an input of limited length.
 
-pub mod parts;
-pub mod separator;
-
 ghost use Rattle.std.specs.Prelude.{◌≤◌, ◌<◌, ℕ, List, length, IfOk, IfErr, IfSome, IsErrOf};
 ghost use Rattle.std.specs.Io.KnownBytes.{Consumes, IsAtEnd};
-ghost use Rattle.cal_engine.specs.Input.{IsOfReading};
+ghost use Rattle.cal_input.specs.Input.{IsOfReading};
 
 use crate::fault::RunFault;
 use std::alloc::Global;

@@ -1,7 +1,7 @@
 use Rattle.std.proofs.Common.{sym, ◌∙◌}
-use Rattle.cal_engine.proofs.LinesOf.{goes_on, next_line, is_here, is_nowhere}
-use Rattle.cal_engine.proofs.input.separator.split_input.Goals.{then-text-at-eq10+else-is_separator, else-text-at-eq10}
-use Rattle.cal_engine.proofs.input.separator.split_input.Goals as goal
+use Rattle.cal_input.proofs.LinesOf.{goes_on, next_line, is_here, is_nowhere}
+use Rattle.cal_input.proofs.separator.split_input.Goals.{then-text-at-eq10+else-is_separator, else-text-at-eq10}
+use Rattle.cal_input.proofs.separator.split_input.Goals as goal
 
 pub returns-then-is_separator : goal.returns-then-is_separator
 returns-then-is_separator c =

@@ -4,7 +4,7 @@ use Rattle.std.specs.List.{concat}
 use Rattle.std.proofs.Math.Seq.{take-add}
 use Rattle.std.proofs.lemmas.List.{take_more, take_all, drop_more, drop_all, append-nil}
 use Rattle.std.proofs.lemmas.List.Folds.{drop_split}
-use Rattle.cal_engine.specs.Input.{before_line, lines_of, is_separator, parts_at, input_parts}
+use Rattle.cal_input.specs.Input.{before_line, lines_of, is_separator, parts_at, input_parts}
 
 -- no line ends in here
 abbrev pub IsPlain : List ℕ → Type 0

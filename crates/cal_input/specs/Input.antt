@@ -2,8 +2,8 @@
 use Rattle.std.specs.Prelude.{◌==◌, ◌||◌, bytes_eq, ℕ, List, [], ◌∷◌, ◌++◌, Bool, codes, Option}
 use Rattle.std.specs.Prelude.{Some, None, option_map, if◌then◌else◌, ⊤}
 use Rattle.std.specs.List.{concat}
-use Rattle.cal_engine.specs.declared.fault.RunFault.{RunFault}
-use Rattle.cal_engine.specs.declared.fault.RunFault.TheVariants as fault
+use Rattle.cal_input.specs.declared.fault.RunFault.{RunFault}
+use Rattle.cal_input.specs.declared.fault.RunFault.TheVariants as fault
 
 -- a fault of the reading alone
 abbrev pub IsOfReading : RunFault → Type 0

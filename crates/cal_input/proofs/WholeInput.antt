@@ -2,11 +2,11 @@
 use Rattle.std.proofs.Common.{◌≡◌, ◌≤◌, ◌++◌, nat_lt, ℕ, false, List, length, Option, Some, None, IfSome, Result, Err, refl, sym, ap, subst, ◌∙◌, arith}
 use Rattle.std.proofs.lemmas.List.{append-nil}
 use Rattle.std.specs.Io.KnownBytes.{Consumes, IsAtEnd}
-use Rattle.cal_engine.specs.Outcome.{Decided, Failed}
-use Rattle.cal_engine.specs.Runs.{within_limit}
-use Rattle.cal_engine.specs.declared.fault.RunFault.{RunFault}
-use Rattle.cal_engine.specs.declared.fault.RunFault.TheVariants as fault
-use Rattle.cal_engine.specs.declared.input.TheConstants.{INPUT_LIMIT}
+use Rattle.cal_input.specs.Answers.{Decided, Failed}
+use Rattle.cal_input.specs.Parts.{within_limit}
+use Rattle.cal_input.specs.declared.fault.RunFault.{RunFault}
+use Rattle.cal_input.specs.declared.fault.RunFault.TheVariants as fault
+use Rattle.cal_input.specs.declared.reading.TheConstants.{INPUT_LIMIT}
 
 pub within : {X : Type 0} (text : List ℕ) (outcome : Result X RunFault) → length text ≤ INPUT_LIMIT → within_limit text outcome ≡ outcome
 within text outcome le = let no : nat_lt INPUT_LIMIT (length text) ≡ false = grind arith in rw no refl

@@ -2,7 +2,7 @@
 
 ghost use Rattle.std.specs.Prelude.{◌≡◌, Some, OnOk};
 ghost use Rattle.std.specs.Io.KnownBytes.{Appends};
-ghost use Rattle.cal_engine.specs.Faults.{fault_line_as, fault_line_of, status_of};
+ghost use Rattle.cal_input.specs.Faults.{fault_line_as, fault_line_of, status_of};
 
 use cal_machine::ConfigFault;
 use cal_run::SimFault;
@@ -35,7 +35,7 @@ pub enum RunFault {
     Gate,
 }
 
-ghost use Rattle.cal_engine.specs.Faults.{config_number_of, folded_of, trace_number_of};
+ghost use Rattle.cal_input.specs.Faults.{config_number_of, folded_of, trace_number_of};
 
 /// The same fault; of a part that memory was refused to, `Memory`.
 fn folded(fault: &RunFault) -> RunFault
@@ -55,7 +55,7 @@ fn folded(fault: &RunFault) -> RunFault
 
 /// The reason as the program names it, without the program's name.
 impl fmt::Display for RunFault {
-    ghost use Rattle.cal_engine.specs.Faults.{reason_of};
+    ghost use Rattle.cal_input.specs.Faults.{reason_of};
 
     ghost output = { λ fault. Some (reason_of fault) };
 
@@ -96,7 +96,7 @@ fn trace_number(kind: FaultKind) -> u8
 }
 
 impl From<AllocError> for RunFault {
-    ghost use Rattle.cal_engine.specs.declared.fault.RunFault.TheVariants.{Memory};
+    ghost use Rattle.cal_input.specs.declared.fault.RunFault.TheVariants.{Memory};
 
     ghost from_gives = { λ _ e. e ≡ Memory };
 
@@ -106,7 +106,7 @@ impl From<AllocError> for RunFault {
 }
 
 impl<T: Drop> From<AllocFailed<T>> for RunFault {
-    ghost use Rattle.cal_engine.specs.declared.fault.RunFault.TheVariants.{Memory};
+    ghost use Rattle.cal_input.specs.declared.fault.RunFault.TheVariants.{Memory};
 
     ghost from_gives = { λ _ e. e ≡ Memory };
 
@@ -116,7 +116,7 @@ impl<T: Drop> From<AllocFailed<T>> for RunFault {
 }
 
 impl From<ConfigFault> for RunFault {
-    ghost use Rattle.cal_engine.specs.declared.fault.RunFault.TheVariants.{Config};
+    ghost use Rattle.cal_input.specs.declared.fault.RunFault.TheVariants.{Config};
 
     ghost from_gives = { λ fault e. e ≡ Config fault };
 
@@ -126,7 +126,7 @@ impl From<ConfigFault> for RunFault {
 }
 
 impl From<TraceFault> for RunFault {
-    ghost use Rattle.cal_engine.specs.declared.fault.RunFault.TheVariants.{Trace};
+    ghost use Rattle.cal_input.specs.declared.fault.RunFault.TheVariants.{Trace};
 
     ghost from_gives = { λ fault e. e ≡ Trace fault };
 
@@ -136,7 +136,7 @@ impl From<TraceFault> for RunFault {
 }
 
 impl From<SimFault> for RunFault {
-    ghost use Rattle.cal_engine.specs.Faults.{fault_of_run};
+    ghost use Rattle.cal_input.specs.Faults.{fault_of_run};
 
     ghost from_gives = { λ fault e. e ≡ fault_of_run fault };
 

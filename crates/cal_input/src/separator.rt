@@ -1,7 +1,7 @@
 //! The line between the two parts of an input.
 
 ghost use Rattle.std.specs.Prelude.{◌≡◌, option_map};
-ghost use Rattle.cal_engine.specs.Input.{input_parts, is_separator};
+ghost use Rattle.cal_input.specs.Input.{input_parts, is_separator};
 
 /// The task table and the trace of an input: the parts before and after its first separator line.
 /// None where there is no such line.

@@ -1,31 +1,16 @@
--- An input of a table and a history, whose passes are given one by one.
+-- The audit of an input's history, whose passes are given one by one.
 use Rattle.std.specs.Prelude.{◌≡◌, ℕ, List, Result, Ok, Err}
 use Rattle.cal_machine.specs.Table.{Table}
 use Rattle.cal_policy.specs.Auditor.{IsAuditOf}
 use Rattle.cal_policy.specs.Verdict.{IsVerdict}
 use Rattle.cal_policy.specs.declared.history.entry.PassEntry.{PassEntry}
 use Rattle.cal_policy.specs.declared.verdict.Verdict.{Verdict}
-use Rattle.cal_trace.specs.History.{history_of}
-use Rattle.cal_trace.specs.History.Reading.{extent_of, HasGiven}
 use Rattle.cal_trace.specs.Report.{passes_text, IsReportOf}
-use Rattle.cal_trace.specs.Rows.{rows_of}
-use Rattle.cal_trace.specs.declared.history.file.HistoryRows.{HistoryRows}
-use Rattle.cal_engine.specs.Outcome.{audit_text, Decided}
-use Rattle.cal_engine.specs.Runs.{Run, parts_of, recorded_on}
-use Rattle.cal_engine.specs.declared.fault.RunFault.{RunFault}
+use Rattle.cal_input.specs.Answers.{Decided}
+use Rattle.cal_input.specs.Recorded.{Run}
+use Rattle.cal_input.specs.declared.fault.RunFault.{RunFault}
+use Rattle.cal_engine.specs.Outcome.{audit_text}
 use Rattle.cal_engine.specs.declared.jobs.auditing.OpenAudit.{OpenAudit}
-
--- These passes of an input's history were given, by its table: its trace is a text of which they
--- were.
-pub record HasGivenOf (input : List ℕ) (table : Table) (given : List PassEntry)
-    (history : HistoryRows) : Type 0 where
-  pub trace : List ℕ
-  pub parts : parts_of input ≡ Ok (record { table = table; trace = trace })
-  pub has : HasGiven (extent_of table) trace given history
-
--- the run that a table and the text of a history tell of, or the text's first fault
-abbrev pub recorded_in : Table → List ℕ → Result Run RunFault
-recorded_in table trace = recorded_on table (history_of (extent_of table) (rows_of trace))
 
 -- the audit has come to the end of this history: its auditor was handed it, and it has its lines
 pub record HasTaken (table : Table) (history : List PassEntry) (audit : OpenAudit) : Type 0 where
