@@ -1,7 +1,6 @@
 //! The tables of an input that stand one after the other, and the arrivals after them.
 
 ghost use Rattle.std.specs.Prelude.{◌≡◌, Ok, IfOk, slice_get};
-ghost use Rattle.cal_input.specs.Answers.{IsWhatInputSays};
 ghost use Rattle.cal_machine.specs.Reading.{table_in};
 ghost use Rattle.cal_tables.specs.Compared.{AreTables, AreTablesWith, AreToldFor};
 ghost use Rattle.cal_trace.specs.Arrivals.FitsTable.{FitsTable};
