@@ -6,7 +6,7 @@
 
 ghost use Rattle.std.specs.Prelude.{◌≡◌, ◌≢◌, IfErr};
 
-use cal_engine::{RunFault, read_input};
+use cal_input::{RunFault, read_input};
 use cal_picture::comparison_page;
 use cal_tables::{Comparison, ComparisonFault, Labels, RunCourse, Variation, comparison_of};
 use std::alloc::Global;

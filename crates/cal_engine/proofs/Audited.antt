@@ -1,19 +1,16 @@
 -- The audit of a history whose passes are given one by one.
-use Rattle.std.proofs.Common.{◌≡◌, ℕ, List, Result, Ok, Err, sym, ap, subst}
+use Rattle.std.proofs.Common.{◌≡◌, ℕ, List, Result, Ok, Err, sym, subst}
 use Rattle.cal_machine.specs.Table.{Table}
 use Rattle.cal_policy.specs.Auditor.{IsAuditOf}
 use Rattle.cal_policy.specs.Verdict.{IsVerdict}
 use Rattle.cal_policy.specs.declared.history.entry.PassEntry.{PassEntry}
 use Rattle.cal_policy.specs.declared.verdict.Verdict.{Verdict}
 use Rattle.cal_trace.specs.History.Reading.{extent_of, HasGiven}
-use Rattle.cal_trace.specs.Rows.Answers as files
 use Rattle.cal_trace.specs.declared.fault.TraceFault.{TraceFault}
 use Rattle.cal_trace.specs.declared.history.file.HistoryRows.{HistoryRows}
-use Rattle.cal_trace.proofs.RowLemmas.Refusals.{decided}
+use Rattle.cal_input.specs.Recorded.{recorded_on}
 use Rattle.cal_engine.specs.Outcome.{audit_text}
-use Rattle.cal_engine.specs.Recorded.{HasTaken, HasTakenRun, IsAnswerTo}
-use Rattle.cal_engine.specs.Runs.{recorded_on}
-use Rattle.cal_engine.specs.declared.fault.RunFault.TheVariants as fault
+use Rattle.cal_engine.specs.Auditing.{HasTaken, HasTakenRun, IsAnswerTo}
 use Rattle.cal_engine.specs.declared.jobs.auditing.OpenAudit.{OpenAudit}
 
 -- the first passes of a text were given, and the audit has come to their end
@@ -21,11 +18,6 @@ pub record IsAuditing (table : Table) (trace : List ℕ) (rows : HistoryRows) (a
   pub given : List PassEntry
   pub has : HasGiven (extent_of table) trace given rows
   pub takes : HasTaken table given audit
-
--- a history that is refused
-pub refused_history : (table : Table) (history : Result (List PassEntry) TraceFault) (f : TraceFault) → files.Decided f.kind (history ≡ Err f)
-    → files.Decided f.kind (recorded_on table history ≡ Err (fault.Trace f))
-refused_history table history f h = decided f.kind (history ≡ Err f) (recorded_on table history ≡ Err (fault.Trace f)) (λ e. ap (recorded_on table) e) h
 
 -- a history that was all given
 pub audited : (table : Table) (history : Result (List PassEntry) TraceFault) (given : List PassEntry) (audit : OpenAudit) → history ≡ Ok given → HasTaken table given audit

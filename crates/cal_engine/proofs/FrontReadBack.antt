@@ -5,11 +5,11 @@ use Rattle.std.specs.List.{concat}
 use Rattle.cal_machine.specs.Table.{Table}
 use Rattle.cal_machine.specs.Reading.{table_in}
 use Rattle.cal_machine.specs.declared.fault.ConfigFault.{ConfigFault}
+use Rattle.cal_input.specs.Input.{before_line, lines_of, is_separator, parts_at, input_parts}
+use Rattle.cal_input.specs.Parts.{Parts, parts_of, with_table}
+use Rattle.cal_input.specs.declared.fault.RunFault.{RunFault}
+use Rattle.cal_input.proofs.LinesOf.{IsPlain, concat-lines_of, lines_of-first}
 use Rattle.cal_engine.specs.Front.{table_text}
-use Rattle.cal_engine.specs.Input.{before_line, lines_of, is_separator, parts_at, input_parts}
-use Rattle.cal_engine.specs.Runs.{Parts, parts_of, with_table}
-use Rattle.cal_engine.specs.declared.fault.RunFault.{RunFault}
-use Rattle.cal_engine.proofs.LinesOf.{IsPlain, concat-lines_of, lines_of-first}
 
 -- bytes without a line feed, and one that ends them
 abbrev IsEnded : List ℕ → Type 0

@@ -1,7 +1,5 @@
-pub mod LinesOf
 pub mod FrontReadBack
 pub mod Decided
-pub mod Reading
 pub mod WrittenRuns
 pub mod Telling
 pub mod CommandWords

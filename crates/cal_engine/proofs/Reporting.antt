@@ -1,10 +1,8 @@
 -- The report of signals that are decided as they are read.
-use Rattle.std.proofs.Common.{◌≡◌, ℕ, List, length, Option, Result, Ok, Err, IsOk, IfOk, IfErr, OnOk, refl, sym, ap, subst, ◌∙◌}
 use Rattle.std.specs.Io.KnownBytes.{Appends}
+use Rattle.std.proofs.Common.{◌≡◌, ℕ, List, length, Option, Result, Ok, Err, IsOk, IfOk, IfErr, OnOk, refl, sym, ap, subst, ◌∙◌}
 use Rattle.cal_machine.specs.Table.{Table}
 use Rattle.cal_machine.specs.Tasks.{threads_in}
-use Rattle.cal_machine.specs.declared.fault.ConfigFault.{ConfigFault}
-use Rattle.cal_machine.specs.declared.fault.ConfigFault.TheVariants as config
 use Rattle.cal_policy.specs.declared.history.entry.PassEntry.{PassEntry}
 use Rattle.cal_trace.specs.Rows.Answers as files
 use Rattle.cal_trace.specs.Report.{report_text}
@@ -13,11 +11,13 @@ use Rattle.cal_trace.specs.declared.fault.TraceFault.{TraceFault}
 use Rattle.cal_trace.specs.declared.signals.file.SignalRows.{SignalRows}
 use Rattle.cal_trace.specs.declared.signals.SignalPass.{SignalPass}
 use Rattle.cal_trace.proofs.RowLemmas.Refusals.{decided}
-use Rattle.cal_engine.specs.Deciding.{Tells}
-use Rattle.cal_engine.specs.Outcome.{run_report, report_of, ConfigDecided, Decided, Failed, IsWhatInputSays, Reported, Reports}
-use Rattle.cal_engine.specs.Runs.{Run, decided_on}
-use Rattle.cal_engine.specs.declared.fault.RunFault.{RunFault}
-use Rattle.cal_engine.specs.declared.fault.RunFault.TheVariants as fault
+use Rattle.cal_input.specs.Answers.{Decided, Failed, IsWhatInputSays}
+use Rattle.cal_input.specs.Recorded.{Run}
+use Rattle.cal_input.specs.declared.fault.RunFault.{RunFault}
+use Rattle.cal_input.specs.declared.fault.RunFault.TheVariants as fault
+use Rattle.cal_input.proofs.Refusals.{run_decided}
+use Rattle.cal_engine.specs.Deciding.{decided_on, Tells}
+use Rattle.cal_engine.specs.Outcome.{run_report, report_of, Reported, Reports}
 use Rattle.cal_engine.specs.declared.jobs.deciding.OpenReport.{OpenReport}
 use Rattle.cal_engine.proofs.Decided.{IsDecided}
 
@@ -29,29 +29,6 @@ pub record IsReporting (table : Table) (trace : List ℕ) (signals : SignalRows)
   pub so_far : IsDecided table given history
   pub tells : Tells history report
   pub count : length history ≡ length given
-
--- a fault says of an outcome what it says of its report
-config_decided : (f : ConfigFault) (P Q : Type 0) → (P → Q) → ConfigDecided f P → ConfigDecided f Q
-config_decided config.Memory P Q by h = tt
-config_decided config.NotToml P Q by h = by h
-config_decided config.UnknownKey P Q by h = by h
-config_decided config.MissingKey P Q by h = by h
-config_decided config.WrongType P Q by h = by h
-config_decided config.OutOfRange P Q by h = by h
-config_decided config.BestEffortGuarantee P Q by h = by h
-config_decided config.GuaranteesExceedCores P Q by h = by h
-config_decided config.TooManyThreads P Q by h = by h
-
-pub run_decided : (f : RunFault) (P Q : Type 0) → (P → Q) → Decided f P → Decided f Q
-run_decided fault.Length P Q by h = by h
-run_decided fault.Separator P Q by h = by h
-run_decided (fault.Config f) P Q by h = config_decided f P Q by h
-run_decided (fault.Trace f) P Q by h = decided f.kind P Q by h
-run_decided fault.Memory P Q by h = tt
-run_decided fault.Read P Q by h = absurd h
-run_decided fault.Write P Q by h = absurd h
-run_decided fault.Spawn P Q by h = absurd h
-run_decided fault.Gate P Q by h = absurd h
 
 no_report : (outcome : Result Run RunFault) (f : RunFault) → report_of outcome ≡ Err f → outcome ≡ Err f
 no_report (Err g) f e = cc

@@ -1,15 +1,24 @@
--- The passes that signals lead to: each is decided after all before it.
-use Rattle.std.specs.Prelude.{◌≡◌, List, [], ◌∷◌, ◌++◌}
+-- The passes that signals lead to, each decided after all before it; and the run that an input of
+-- signals asks for.
+use Rattle.std.specs.Prelude.{◌≡◌, List, [], ◌∷◌, ◌++◌, ℕ, Result, Ok, Err}
 use Rattle.cal_machine.specs.Table.{Table}
+use Rattle.cal_machine.specs.Tasks.{threads_in}
 use Rattle.cal_policy.specs.Book.{board_in}
 use Rattle.cal_policy.specs.State.{IsStateAfter}
-use Rattle.cal_policy.specs.declared.history.entry.PassEntry.{PassEntry}
-use Rattle.cal_policy.specs.declared.history.input.Input.{Input}
 use Rattle.cal_policy.specs.Judgement.OpenInput.{judged_input}
 use Rattle.cal_policy.specs.Pass.{pass_of}
 use Rattle.cal_policy.specs.Setting.{setting}
+use Rattle.cal_policy.specs.declared.history.entry.PassEntry.{PassEntry}
+use Rattle.cal_policy.specs.declared.history.input.Input.{Input}
 use Rattle.cal_trace.specs.Report.{passes_text, IsReportOf}
+use Rattle.cal_trace.specs.Rows.{rows_of}
+use Rattle.cal_trace.specs.Signals.{signals_of}
 use Rattle.cal_trace.specs.declared.signals.SignalPass.{SignalPass}
+use Rattle.cal_trace.specs.declared.fault.TraceFault.{TraceFault}
+use Rattle.cal_input.specs.Parts.{parts_of, Parts}
+use Rattle.cal_input.specs.Recorded.{Run}
+use Rattle.cal_input.specs.declared.fault.RunFault.{RunFault}
+use Rattle.cal_input.specs.declared.fault.RunFault.TheVariants as fault
 use Rattle.cal_engine.specs.declared.jobs.deciding.OpenReport.{OpenReport}
 
 -- the input of a pass after this history: each look as it is judged, and the rooms
@@ -38,3 +47,17 @@ pub record Tells (history : List PassEntry) (report : OpenReport) : Type 0 where
   pub agrees : IsStateAfter (board_in report.decider.book) history
   pub of : IsReportOf history report.report
   pub written : report.text.items ≡ passes_text history
+
+-- the table and the passes that are decided on these signals
+abbrev pub decided_on : Table → Result (List SignalPass) TraceFault → Result Run RunFault
+decided_on table (Err f) = Err (fault.Trace f)
+decided_on table (Ok passes) = Ok (record { table = table; history = decided table passes })
+
+abbrev pub decided_run : Result Parts RunFault → Result Run RunFault
+decided_run (Err f) = Err f
+decided_run (Ok parts) =
+    decided_on parts.table (signals_of (threads_in parts.table.tasks) (rows_of parts.trace))
+
+-- the run that an input of signals asks for, or its first fault
+abbrev pub decided_run_of : List ℕ → Result Run RunFault
+decided_run_of input = decided_run (parts_of input)

@@ -1,6 +1,6 @@
 -- What stands before a history.
 use Rattle.std.specs.Prelude.{◌++◌, ℕ, List, [], codes, Option, Some, None}
-use Rattle.cal_engine.specs.Input.{input_parts}
+use Rattle.cal_input.specs.Input.{input_parts}
 use Rattle.cal_engine.specs.declared.jobs.front.Front.{Front}
 use Rattle.cal_engine.specs.declared.jobs.front.Front.TheVariants as fronts
 

@@ -5,8 +5,9 @@ use Rattle.cal_policy.specs.Pass.{IsLegal}
 use Rattle.cal_policy.specs.declared.history.entry.PassEntry.{PassEntry}
 use Rattle.cal_trace.specs.History.Ranges.{IsSized}
 use Rattle.cal_trace.specs.History.Text.{history_text}
+use Rattle.cal_input.specs.Parts.{parts_of}
+use Rattle.cal_input.specs.Recorded.{recorded_run_of}
 use Rattle.cal_engine.specs.Front.{front_of}
-use Rattle.cal_engine.specs.Runs.{parts_of, recorded_run_of}
 use Rattle.cal_engine.specs.declared.jobs.front.Front.TheVariants as fronts
 
 -- the text of a legal history that a file can hold, with the table of an input in front, is an

@@ -1,11 +1,7 @@
-pub mod Limits
-pub mod Input
-pub mod Faults
 pub mod Front
 pub mod Deciding
-pub mod Runs
 pub mod Outcome
-pub mod Recorded
+pub mod Auditing
 pub mod Running
 pub mod CommandWords
 pub mod Program

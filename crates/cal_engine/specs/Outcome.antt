@@ -1,50 +1,15 @@
 -- What an engine answers and writes, against what its input asks for.
-use Rattle.std.specs.Prelude.{◌≡◌, ◌++◌, ℕ, List, [], ◌∷◌, codes, decimal, Option, Result, Ok, Err}
-use Rattle.std.specs.Prelude.{IsOk, ⊤}
+use Rattle.std.specs.Prelude.{◌++◌, ℕ, List, [], ◌∷◌, codes, decimal, Option, Result, Ok, Err}
 use Rattle.std.specs.Io.KnownBytes.{Appends}
 use Rattle.std.specs.List.{concat}
-use Rattle.cal_machine.specs.declared.fault.ConfigFault.{ConfigFault}
-use Rattle.cal_machine.specs.declared.fault.ConfigFault.TheVariants as config
 use Rattle.cal_policy.specs.Verdict.{IsVerdict}
 use Rattle.cal_policy.specs.declared.verdict.Verdict.{Verdict}
 use Rattle.cal_policy.specs.declared.verdict.Verdict.TheVariants.{Legal, Illegal}
-use Rattle.cal_trace.specs.Rows.Answers as files
 use Rattle.cal_trace.specs.Report.{report_text}
-use Rattle.cal_engine.specs.Runs.{Run}
-use Rattle.cal_engine.specs.declared.fault.RunFault.{RunFault}
-use Rattle.cal_engine.specs.declared.fault.RunFault.TheVariants as fault
-
--- P holds, unless the fault is Memory
-abbrev pub ConfigDecided : ConfigFault → Type 0 → Type 0
-ConfigDecided config.Memory P = ⊤
-ConfigDecided _ P = P
-
--- P holds, unless the fault is Memory, which no input determines; no fault of a reader, a writer or
--- a thread, which no input has
-abbrev pub Decided : RunFault → Type 0 → Type 0
-Decided fault.Length P = P
-Decided fault.Separator P = P
-Decided (fault.Config f) P = ConfigDecided f P
-Decided (fault.Trace f) P = files.Decided f.kind P
-Decided fault.Memory P = ⊤
-Decided fault.Read P = ⊥
-Decided fault.Write P = ⊥
-Decided fault.Spawn P = ⊥
-Decided fault.Gate P = ⊥
-
--- What a fault says of the input: nothing where the reader failed; that there is a run where the
--- writer did, since writing comes last; else that it is the input's first, running out of memory
--- aside.
-abbrev pub Failed : {X : Type 0} → RunFault → Result X RunFault → Type 0
-Failed fault.Read outcome = ⊤
-Failed fault.Write outcome = IsOk outcome
-Failed f outcome = Decided f (outcome ≡ Err f)
-
--- the answer, seen by view, is what the input says
-abbrev pub IsWhatInputSays : {X Y : Type 0} → (X → Y) → Result X RunFault → Result Y RunFault →
-    Type 0
-IsWhatInputSays view (Ok x) outcome = outcome ≡ Ok (view x)
-IsWhatInputSays view (Err f) outcome = Decided f (outcome ≡ Err f)
+use Rattle.cal_input.specs.Answers.{Failed}
+use Rattle.cal_input.specs.Recorded.{Run}
+use Rattle.cal_input.specs.declared.fault.RunFault.{RunFault}
+use Rattle.cal_input.specs.declared.fault.RunFault.TheVariants as fault
 
 -- the report of a run
 abbrev pub run_report : Run → List ℕ

@@ -2,13 +2,16 @@
 use Rattle.std.specs.Prelude.{◌≡◌, ℕ, List, Bool, false, Option, Result, Ok, Err, IfOk}
 use Rattle.cal_policy.specs.declared.verdict.Verdict.{Verdict}
 use Rattle.cal_policy.specs.declared.verdict.Verdict.TheVariants.{Legal, Illegal}
-use Rattle.cal_engine.specs.Faults.{status_of}
-use Rattle.cal_engine.specs.Outcome.{Failed, IsAudit, Reports}
-use Rattle.cal_engine.specs.Runs.{Run, decided_run_of, recorded_run_of, within_limit}
-use Rattle.cal_engine.specs.Running.{is_told, run_input_of, Runs, RunsInThreads}
+use Rattle.cal_input.specs.Answers.{Failed}
+use Rattle.cal_input.specs.Faults.{status_of}
+use Rattle.cal_input.specs.Parts.{run_input_of, within_limit}
+use Rattle.cal_input.specs.Recorded.{Run, recorded_run_of}
+use Rattle.cal_input.specs.declared.fault.RunFault.{RunFault}
+use Rattle.cal_engine.specs.Outcome.{IsAudit, Reports}
+use Rattle.cal_engine.specs.Deciding.{decided_run_of}
+use Rattle.cal_engine.specs.Running.{is_told, Runs, RunsInThreads}
 use Rattle.cal_engine.specs.declared.command_words.command_line.Job.{Job}
 use Rattle.cal_engine.specs.declared.command_words.command_line.Job.TheVariants as job
-use Rattle.cal_engine.specs.declared.fault.RunFault.{RunFault}
 
 -- the exit status after an audit
 abbrev pub verdict_status : Verdict → ℕ

@@ -1,47 +1,26 @@
--- Whole runs: what an input gives to one, and what is written of what it came to.
+-- Whole runs: what is written of what one came to.
 use Rattle.std.specs.Prelude.{◌≡◌, ◌++◌, ℕ, List, length, map, take, Bool, true, false, Option}
 use Rattle.std.specs.Prelude.{Result, Ok, Err, IsOk}
 use Rattle.std.specs.Io.KnownBytes.{Appends}
 use Rattle.cal_machine.specs.Table.{Table}
-use Rattle.cal_machine.specs.Tasks.{threads_in}
 use Rattle.cal_policy.specs.Pass.{IsLegal}
 use Rattle.cal_policy.specs.declared.history.entry.PassEntry.{PassEntry}
+use Rattle.cal_trace.specs.History.Text.{begun_text, history_text}
+use Rattle.cal_trace.specs.Report.Summary.{summary_text}
 use Rattle.cal_run.specs.Outcome.{IsRun, figures_of}
 use Rattle.cal_run.specs.declared.outcome.Outcome.{Outcome}
-use Rattle.cal_trace.specs.Arrivals.{arrivals_of}
-use Rattle.cal_trace.specs.History.Text.{begun_text, history_text}
-use Rattle.cal_trace.specs.Rows.{rows_of}
-use Rattle.cal_trace.specs.Report.Summary.{summary_text}
-use Rattle.cal_trace.specs.declared.arrivals.Arrivals.{Arrivals}
-use Rattle.cal_trace.specs.declared.fault.TraceFault.{TraceFault}
+use Rattle.cal_input.specs.Answers.{Failed}
+use Rattle.cal_input.specs.Parts.{RunInput}
+use Rattle.cal_input.specs.Recorded.{Run}
+use Rattle.cal_input.specs.declared.fault.RunFault.{RunFault}
+use Rattle.cal_input.specs.declared.fault.RunFault.TheVariants as fault
 use Rattle.cal_engine.specs.Front.{front_of}
-use Rattle.cal_engine.specs.Outcome.{Failed, run_report}
-use Rattle.cal_engine.specs.Runs.{Parts, Run, parts_of}
-use Rattle.cal_engine.specs.declared.fault.RunFault.{RunFault}
-use Rattle.cal_engine.specs.declared.fault.RunFault.TheVariants as fault
+use Rattle.cal_engine.specs.Outcome.{run_report}
 use Rattle.cal_engine.specs.declared.jobs.front.Front.{Front}
 use Rattle.cal_engine.specs.declared.jobs.front.Front.TheVariants as fronts
 use Rattle.cal_engine.specs.declared.jobs.running.RunAnswer.{RunAnswer}
-use Rattle.cal_engine.specs.declared.jobs.running.RunAnswer.TheVariants.{History, WithTable}
-use Rattle.cal_engine.specs.declared.jobs.running.RunAnswer.TheVariants.{Summary, Report}
-
--- what a run is given: a table, and arrivals for its threads
-pub record RunInput : Type 0 where
-  pub table : Table
-  pub arrivals : Arrivals
-
-abbrev pub arrivals_on : Table → Result Arrivals TraceFault → Result RunInput RunFault
-arrivals_on table (Err f) = Err (fault.Trace f)
-arrivals_on table (Ok arrivals) = Ok (record { table = table; arrivals = arrivals })
-
-abbrev pub run_input : Result Parts RunFault → Result RunInput RunFault
-run_input (Err f) = Err f
-run_input (Ok parts) =
-    arrivals_on parts.table (arrivals_of (threads_in parts.table.tasks) (rows_of parts.trace))
-
--- the table and the arrivals of an input, or its first fault
-abbrev pub run_input_of : List ℕ → Result RunInput RunFault
-run_input_of input = run_input (parts_of input)
+use Rattle.cal_engine.specs.declared.jobs.running.RunAnswer.TheVariants.{History, Report, Summary}
+use Rattle.cal_engine.specs.declared.jobs.running.RunAnswer.TheVariants.{WithTable}
 
 -- the history that a run on this came to, with its table
 abbrev pub run_made : RunInput → Outcome → Run

@@ -3,26 +3,26 @@
 //!
 //! An engine takes any reader and any writer. It reads one input to its end, and writes its answer
 //! and nothing else, once the whole input was read and accepted. What the words of a command line
-//! ask for is `words`, and what the program says and exits with after a fault are `fault_line` and
-//! `status`. `caladan_view` refuses words by the same shell (shell.rt).
+//! ask for is `words`. `caladan_view` refuses words by the same shell (shell.rt).
+//!
+//! How an input is read, and what the program says and exits with after a fault, is cal_input's; its
+//! names are given out here too.
 #![tactic(auto)]
 
 mod command_words;
-mod fault;
-mod input;
 mod jobs;
 mod laws;
 mod program;
 mod shell;
 
+pub use cal_input::{
+    INPUT_LIMIT, RunFault, fault_line, fault_line_as, read_input, read_parts, recorded_passes,
+    run_input, split_input, status,
+};
 pub use cal_policy::Verdict;
 pub use command_words::command_line::{Job, VERSION, words};
 pub use command_words::words_given::given_words;
-pub use fault::{RunFault, fault_line, fault_line_as, status};
-pub use input::parts::{read_parts, run_input};
-pub use input::separator::split_input;
-pub use input::{INPUT_LIMIT, read_input};
-pub use jobs::auditing::{recorded_passes, run_audit};
+pub use jobs::auditing::run_audit;
 pub use jobs::deciding::{decide, decided_run};
 pub use jobs::front::{Front, write_front};
 pub use jobs::running::{RunAnswer, run_lockstep};

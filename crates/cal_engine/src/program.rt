@@ -7,12 +7,12 @@ ghost use Rattle.cal_engine.specs.Program.{is_told_job, verdict_status, DoesJob,
 ghost use Rattle.cal_engine.specs.declared.command_words.command_line.Job.{Job as JobOf};
 
 use crate::command_words::command_line::{Job, words};
-use crate::fault::RunFault;
 use crate::jobs::auditing::run_audit;
 use crate::jobs::deciding::decide;
 use crate::jobs::running::run_lockstep;
 use crate::jobs::simulating::run_sim;
 use crate::shell::{end_with, refuse_words, words_after_first};
+use cal_input::RunFault;
 use cal_policy::Verdict;
 use std::alloc::Global;
 use std::io::{Read, Write};

@@ -6,9 +6,9 @@ ghost use Rattle.std.specs.Prelude.{string_bytes};
 ghost use Rattle.clap.specs.Values.{kind_of};
 ghost use Rattle.clap.specs.declared.error.kind.ErrorKind.TheVariants.{DisplayHelp, DisplayVersion};
 ghost use Rattle.clap.specs.declared.error.kind.ErrorKind.TheVariants.{OutOfMemory};
-ghost use Rattle.cal_engine.specs.Faults.{status_of};
+ghost use Rattle.cal_input.specs.Faults.{status_of};
 
-use crate::fault::{RunFault, fault_line_as, status};
+use cal_input::{RunFault, fault_line_as, status};
 use clap::error::{Error, ErrorKind};
 use std::alloc::{AllocError, Global};
 use std::io::Write;

@@ -9,13 +9,11 @@ use cal_policy::{CoreClass, Holder};
 use std::io;
 use std::io::Write;
 
-/// Writes the class of a core for a task, and whether it is the one that is chosen; of one that is
-/// no candidate why not.
-pub fn tell_candidate<W: Write>(
+/// Writes the class of a core for a task; of one that is no candidate why not.
+pub fn write_candidate<W: Write>(
     walk: &PassWalk<'_>,
     task: usize,
     core: u8,
-    is_chosen: bool,
     writer: &mut W,
 ) -> io::Result<()>
     requires walk { IsWalk walk.now }
@@ -26,14 +24,10 @@ pub fn tell_candidate<W: Write>(
     match walk.class(task, core) {
         Some(class) => {
             let number = class.number();
-            write!(writer, "class {number} {}", class_name(class))?;
-            if is_chosen {
-                write!(writer, ", chosen")?;
-            }
+            write!(writer, "class {number} {}", class_name(class))
         }
-        None => write_no_class(walk, task, core, writer)?,
+        None => write_no_class(walk, task, core, writer),
     }
-    writeln!(writer)
 }
 
 /// The name of a class in docs/POLICY.md.

@@ -3,29 +3,24 @@
 ghost use Rattle.std.specs.Prelude.{◌≡◌, ◌<◌};
 ghost use Rattle.cal_machine.specs.TableTasks.{threads_of_table};
 ghost use Rattle.cal_policy.specs.Explain.Walks.{IsWalk};
-ghost use Rattle.cal_policy.specs.Judgement.Judging.{IsInput};
-ghost use Rattle.cal_policy.specs.Judgement.Orderly.{IsOrderly};
 
 use crate::explaining::{TURN_BOUND, name_of, tell_turn};
 use crate::fault::ExplainFault;
-use crate::scope::Scope;
+use crate::recorded::Explainer;
 use crate::telling::{tell_made, write_action};
 use cal_machine::Config;
 use cal_policy::explain::{PassWalk, Turn, part_of};
-use cal_policy::{Action, Cause, PassEntry, is_input, orderly};
-use std::alloc::Global;
+use cal_policy::{Action, Cause, is_input, orderly};
 use std::io;
 use std::io::Write;
 
 /// Writes why a pass of a history is none of the policy's.
 pub fn tell_illegal<W: Write>(
-    alloc: Global,
-    config: &Config,
-    history: &[PassEntry],
+    explainer: &Explainer<'_>,
     pass: usize,
-    scope: Scope,
     writer: &mut W,
 ) -> Result<(), ExplainFault> {
+    let (alloc, config, history) = (explainer.alloc, explainer.config, explainer.history);
     if pass >= history.len() {
         return Ok(());
     }
@@ -38,37 +33,31 @@ pub fn tell_illegal<W: Write>(
         writeln!(writer, "the pass may not be given its looks")?;
         return Ok(());
     }
-    tell_difference(alloc, config, before, entry, scope, writer)
-}
-
-/// Writes what the policy does in a pass, what the file has, and the first action that differs.
-fn tell_difference<W: Write>(
-    alloc: Global,
-    config: &Config,
-    before: &[PassEntry],
-    entry: &PassEntry,
-    scope: Scope,
-    writer: &mut W,
-) -> Result<(), ExplainFault>
-    requires orderly { IsOrderly config.now before.now }
-    requires input { IsInput config.now before.now entry.now.input }
-{
-    let mut walk = PassWalk::begin(alloc, config, before, &entry.input)?;
-    walk_to(&mut walk, Turn::End)?;
-    let recorded = entry.actions.as_slice();
-    let at = first_difference(walk.made(), recorded);
-    tell_both(walk.made(), recorded, at, writer)?;
-    let deciding = match walk.made().get(at) {
-        Some(action) => turn_of(config, *action),
-        None => match recorded.get(at) {
-            Some(action) => turn_of(config, *action),
-            None => Turn::End,
-        },
-    };
+    let walk = PassWalk::begin(alloc, config, before, &entry.input)?;
+    let deciding = tell_difference(walk, entry.actions.as_slice(), writer)?;
     let mut again = PassWalk::begin(alloc, config, before, &entry.input)?;
     walk_to(&mut again, deciding)?;
-    tell_turn(&again, scope, writer)?;
+    tell_turn(&again, explainer.scope, writer)?;
     Ok(())
+}
+
+/// Writes what the policy does in the pass that a walk goes over, what the file has, and the first
+/// action that differs; answers the turn that decides on it.
+fn tell_difference<W: Write>(
+    mut walk: PassWalk<'_>,
+    recorded: &[Action],
+    writer: &mut W,
+) -> Result<Turn, ExplainFault>
+    requires { IsWalk walk }
+{
+    walk_to(&mut walk, Turn::End)?;
+    let made = walk.made();
+    let at = first_difference(made, recorded);
+    tell_both(made, recorded, at, writer)?;
+    match made.get(at).or(recorded.get(at)) {
+        Some(action) => Ok(turn_of(walk.config(), *action)),
+        None => Ok(Turn::End),
+    }
 }
 
 /// Makes the turns before this one.

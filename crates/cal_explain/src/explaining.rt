@@ -1,7 +1,5 @@
 //! The turns of a pass in their order, how things stand at each, and what it makes.
 
-ghost use Rattle.cal_policy.specs.Judgement.Judging.{IsInput};
-ghost use Rattle.cal_policy.specs.Judgement.Orderly.{IsOrderly};
 ghost use Rattle.cal_policy.specs.Explain.Walks.{IsWalk};
 
 use crate::bandwidth::tell_bandwidth;
@@ -10,11 +8,9 @@ use crate::cores::{tell_free, tell_unban};
 use crate::fault::ExplainFault;
 use crate::grants::tell_grant;
 use crate::scope::Scope;
-use crate::telling::tell_action;
-use cal_machine::Config;
+use crate::telling::{tell_action, tell_made};
+use cal_policy::Action;
 use cal_policy::explain::{Part, PassWalk, Turn};
-use cal_policy::{Action, Input, PassEntry};
-use std::alloc::Global;
 use std::io;
 use std::io::Write;
 
@@ -22,19 +18,14 @@ use std::io::Write;
 /// end.
 pub const TURN_BOUND: usize = 512;
 
-/// Writes the explanation of the pass on this input after these passes.
+/// Writes the explanation of the pass that a walk goes over, from its turn on.
 pub fn tell_pass<W: Write>(
-    alloc: Global,
-    config: &Config,
-    before: &[PassEntry],
-    input: &Input,
+    mut walk: PassWalk<'_>,
     scope: Scope,
     writer: &mut W,
 ) -> Result<(), ExplainFault>
-    requires orderly { IsOrderly config.now before.now }
-    requires input { IsInput config.now before.now input.now }
+    requires { IsWalk walk }
 {
-    let mut walk = PassWalk::begin(alloc, config, before, input)?;
     let mut part = None;
     for n in 0..TURN_BOUND {
         let _ = n;
@@ -48,7 +39,11 @@ pub fn tell_pass<W: Write>(
         }
         let before = walk.made().len();
         walk.take()?;
-        tell_made_since(&walk, before, is_told, scope, writer)?;
+        if is_told {
+            tell_made(made_since(&walk, before), writer)?;
+        } else {
+            tell_made_of(&walk, made_since(&walk, before), scope, writer)?;
+        }
     }
     Ok(())
 }
@@ -132,22 +127,25 @@ pub fn tell_turn<W: Write>(walk: &PassWalk<'_>, scope: Scope, writer: &mut W) ->
     }
 }
 
-/// Writes the actions that the walk has made after the first of so many: all of a turn that is told
-/// of, and of another those of a core that is.
-fn tell_made_since<W: Write>(
+/// The actions that a walk has made after the first of so many.
+fn made_since<'a>(walk: &'a PassWalk<'_>, before: usize) -> &'a [Action] {
+    match walk.made().get(before..) {
+        Some(made) => made,
+        None => &[],
+    }
+}
+
+/// Writes those of some actions whose core is told of.
+fn tell_made_of<W: Write>(
     walk: &PassWalk<'_>,
-    before: usize,
-    is_told: bool,
+    made: &[Action],
     scope: Scope,
     writer: &mut W,
 ) -> io::Result<()>
     requires { IsWalk walk.now }
 {
-    let Some(made) = walk.made().get(before..) else {
-        return Ok(())
-    };
     for action in made {
-        if is_told || has_core_of(walk, *action, scope) {
+        if has_core_of(walk, *action, scope) {
             tell_action(*action, writer)?;
         }
     }

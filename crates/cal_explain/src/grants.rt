@@ -4,7 +4,7 @@ ghost use Rattle.std.specs.Prelude.{◌<◌, ◌≤◌, ◌+◌, length};
 ghost use Rattle.cal_machine.specs.TableTasks.{threads_of_table};
 ghost use Rattle.cal_policy.specs.Explain.Walks.{IsWalk};
 
-use crate::candidates::tell_candidate;
+use crate::candidates::write_candidate;
 use crate::scope::Scope;
 use crate::telling::kind_word;
 use cal_policy::Holder;
@@ -145,7 +145,8 @@ fn tell_candidates<W: Write>(
             None => false,
         };
         if scope.has_candidate(core) {
-            tell_candidate(walk, task, core, is_chosen, writer)?;
+            write_candidate(walk, task, core, writer)?;
+            writeln!(writer, "{}", if is_chosen { ", chosen" } else { "" })?;
         }
     }
     Ok(())

@@ -18,5 +18,5 @@ mod scope;
 mod telling;
 
 pub use fault::ExplainFault;
-pub use recorded::{Explained, explain_pass, explain_verdict};
+pub use recorded::{Explained, Explainer};
 pub use scope::Scope;

@@ -6,6 +6,7 @@ use crate::fault::ExplainFault;
 use crate::scope::Scope;
 use crate::telling::tell_looks;
 use cal_machine::Config;
+use cal_policy::explain::PassWalk;
 use cal_policy::{Auditor, PassEntry, Verdict, is_input, orderly};
 use std::alloc::{AllocError, Global};
 use std::io::Write;
@@ -23,52 +24,59 @@ pub enum Explained {
     NoInput,
 }
 
-/// Writes the explanation of a pass of a history, from 0: what the policy does on its looks after
-/// the passes before it, whatever the history says that the pass did.
-pub fn explain_pass<W: Write>(
-    alloc: Global,
-    config: &Config,
-    history: &[PassEntry],
-    pass: usize,
-    scope: Scope,
-    writer: &mut W,
-) -> Result<Explained, ExplainFault> {
-    if pass >= history.len() {
-        return Ok(Explained::NoPass);
-    }
-    let entry = &history[pass];
-    let before = &history[..pass];
-    if !orderly(config, before) {
-        return Ok(Explained::NotOrderly);
-    }
-    if !is_input(config, before, &entry.input) {
-        return Ok(Explained::NoInput);
-    }
-    let (now, bandwidth) = (entry.input.now, entry.input.bandwidth);
-    writeln!(writer, "pass {pass} now {now} bandwidth {bandwidth}")?;
-    tell_looks(entry.input.seen.as_slice(), writer)?;
-    tell_pass(alloc, config, before, &entry.input, scope, writer)?;
-    Ok(Explained::Done)
+/// Explains passes of a history.
+#[derive(Clone, Copy)]
+pub struct Explainer<'a> {
+    /// What it takes memory from.
+    pub alloc: Global,
+    /// The task table that the history goes by.
+    pub config: &'a Config,
+    /// The passes of the history, all from its first on.
+    pub history: &'a [PassEntry],
+    /// What of a pass is told.
+    pub scope: Scope,
 }
 
-/// Writes whether a history is legal, and of one that is not why its first illegal pass is none of
-/// the policy's; answers the verdict.
-pub fn explain_verdict<W: Write>(
-    alloc: Global,
-    config: &Config,
-    history: &[PassEntry],
-    scope: Scope,
-    writer: &mut W,
-) -> Result<Verdict, ExplainFault> {
-    let verdict = audited(alloc, config, history)?;
-    match verdict {
-        Verdict::Legal => writeln!(writer, "legal")?,
-        Verdict::Illegal { pass } => {
-            writeln!(writer, "illegal pass {pass}")?;
-            tell_illegal(alloc, config, history, pass as usize, scope, writer)?;
+impl Explainer<'_> {
+    /// Writes the explanation of a pass, from 0: what the policy does on its looks after the passes
+    /// before it, whatever the history says that the pass did.
+    pub fn explain_pass<W: Write>(
+        &self,
+        pass: usize,
+        writer: &mut W,
+    ) -> Result<Explained, ExplainFault> {
+        if pass >= self.history.len() {
+            return Ok(Explained::NoPass);
         }
+        let entry = &self.history[pass];
+        let before = &self.history[..pass];
+        if !orderly(self.config, before) {
+            return Ok(Explained::NotOrderly);
+        }
+        if !is_input(self.config, before, &entry.input) {
+            return Ok(Explained::NoInput);
+        }
+        let (now, bandwidth) = (entry.input.now, entry.input.bandwidth);
+        writeln!(writer, "pass {pass} now {now} bandwidth {bandwidth}")?;
+        tell_looks(entry.input.seen.as_slice(), writer)?;
+        let walk = PassWalk::begin(self.alloc, self.config, before, &entry.input)?;
+        tell_pass(walk, self.scope, writer)?;
+        Ok(Explained::Done)
     }
-    Ok(verdict)
+
+    /// Writes whether the history is legal, and of one that is not why its first illegal pass is
+    /// none of the policy's; answers the verdict.
+    pub fn explain_verdict<W: Write>(&self, writer: &mut W) -> Result<Verdict, ExplainFault> {
+        let verdict = audited(self.alloc, self.config, self.history)?;
+        match verdict {
+            Verdict::Legal => writeln!(writer, "legal")?,
+            Verdict::Illegal { pass } => {
+                writeln!(writer, "illegal pass {pass}")?;
+                tell_illegal(self, pass as usize, writer)?;
+            }
+        }
+        Ok(verdict)
+    }
 }
 
 /// The verdict on a history.

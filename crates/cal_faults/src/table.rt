@@ -69,7 +69,10 @@ fn tell_values(
         ConfigFault::GuaranteesExceedCores => tell_guarantees(told, text, table),
         ConfigFault::TooManyThreads => tell_threads(told, text, table),
         _ => match first_spot(table, fault) {
-            Some(spot) => tell_spot(told, text, table, spot, fault),
+            Some(spot) => {
+                text.tell_key(told, spot)?;
+                tell_spot(told, table, spot, fault)
+            }
             None => Ok(()),
         },
     }
@@ -78,12 +81,10 @@ fn tell_values(
 /// Puts what is wrong at a key.
 fn tell_spot(
     told: &mut String,
-    text: TableText<'_>,
     table: &Table,
     spot: Spot<'_>,
     fault: ConfigFault,
 ) -> Result<(), AllocError> {
-    text.tell_key(told, spot)?;
     match fault {
         ConfigFault::UnknownKey => tell_unknown(told, spot),
         ConfigFault::MissingKey => tell_missing(told, spot),

@@ -19,4 +19,4 @@ pub use fault::{LoadFault, Why, WordFault, refused};
 pub use loads::{MOST_LOAD, loads_of};
 pub use making::{Pattern, TaskLoad, Timing, pattern_of};
 pub use service::{ServicePart, service_of};
-pub use writing::{Count, MOST_REQUESTS, Made, made_arrivals};
+pub use writing::{ArrivalPlan, Count, MOST_REQUESTS, Made, made_arrivals};

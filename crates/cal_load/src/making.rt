@@ -95,11 +95,13 @@ pub struct Coming {
     pub left_out: u64,
     /// The turns that all others take.
     pub work: u64,
+    /// How many turns each thread makes.
+    turns: u64,
 }
 
 impl Coming {
-    /// Nothing, for so many threads.
-    fn new(alloc: Global, threads: usize) -> Result<Coming, AllocError> {
+    /// Nothing, for so many threads that make so many turns each.
+    fn new(alloc: Global, threads: usize, turns: u64) -> Result<Coming, AllocError> {
         let mut queues = Vec::new(alloc);
         for _ in 0..threads {
             queues.push(Queue {
@@ -113,18 +115,38 @@ impl Coming {
             later: 0,
             left_out: 0,
             work: 0,
+            turns,
         })
+    }
+
+    /// Gives the requests of a load that come at once to a turn, each to a thread by chance.
+    fn give_all<R: Rng>(
+        &mut self,
+        rng: &mut R,
+        load: &TaskLoad,
+        turn: u64,
+    ) -> Result<(), AllocError> {
+        let threads = self.queues.len();
+        if threads == 0 {
+            return Ok(());
+        }
+        for _ in 0..load.at_once() {
+            let work = next_turns(rng, load.service.as_slice());
+            let thread = rng.random_range(0..threads as u64) as usize;
+            self.give(thread, Slot { turn, work })?;
+        }
+        Ok(())
     }
 
     /// Gives a request that came to a turn to a thread: before that turn or the first after it that
     /// is free.
-    fn give(&mut self, thread: usize, slot: Slot, turns: u64) -> Result<(), AllocError> {
+    fn give(&mut self, thread: usize, slot: Slot) -> Result<(), AllocError> {
         self.came = self.came.saturating_add(1);
         let Some(queue) = self.queues.as_mut_slice().get_mut(thread) else {
             return Ok(());
         };
         let turn = slot.turn.max(queue.free);
-        if turn >= turns {
+        if turn >= self.turns {
             self.left_out = self.left_out.saturating_add(1);
             return Ok(());
         }
@@ -181,50 +203,30 @@ impl TaskLoad {
             Pattern::Bursts(number) => number,
         }
     }
-}
 
-/// Gives the requests that come at once to a turn, each to a thread by chance.
-fn give_all<R: Rng>(
-    rng: &mut R,
-    load: &TaskLoad,
-    turn: u64,
-    turns: u64,
-    coming: &mut Coming,
-) -> Result<(), AllocError> {
-    let threads = coming.queues.len();
-    if threads == 0 {
-        return Ok(());
-    }
-    for _ in 0..load.at_once() {
-        let work = next_turns(rng, load.service.as_slice());
-        let thread = rng.random_range(0..threads as u64) as usize;
-        coming.give(thread, Slot { turn, work }, turns)?;
-    }
-    Ok(())
-}
-
-/// What comes to so many threads of a task in so many turns; nothing where it is more than
-/// `MOST_REQUESTS`. The same generator gives the same. Fails only when out of memory.
-pub fn come<R: Rng>(
-    alloc: Global,
-    rng: &mut R,
-    load: &TaskLoad,
-    threads: usize,
-    turns: u64,
-) -> Result<Option<Coming>, AllocError> {
-    let mut coming = Coming::new(alloc, threads)?;
-    let gap = Gap::of(load, threads);
-    let mut time = 0u128;
-    for _ in 0..MOST_REQUESTS {
-        time = time.saturating_add(gap.next(rng));
-        let turn = (time >> 32).min(u128::from(turns)) as u64;
-        if turn >= turns {
-            return Ok(Some(coming));
+    /// What comes to so many threads of the task in so many turns; nothing where it is more than
+    /// `MOST_REQUESTS`. The same generator gives the same. Fails only when out of memory.
+    pub fn come<R: Rng>(
+        &self,
+        alloc: Global,
+        rng: &mut R,
+        threads: usize,
+        turns: u64,
+    ) -> Result<Option<Coming>, AllocError> {
+        let mut coming = Coming::new(alloc, threads, turns)?;
+        let gap = Gap::of(self, threads);
+        let mut time = 0u128;
+        for _ in 0..MOST_REQUESTS {
+            time = time.saturating_add(gap.next(rng));
+            let turn = (time >> 32).min(u128::from(turns)) as u64;
+            if turn >= turns {
+                return Ok(Some(coming));
+            }
+            if coming.came >= MOST_REQUESTS {
+                return Ok(None);
+            }
+            coming.give_all(rng, self, turn)?;
         }
-        if coming.came >= MOST_REQUESTS {
-            return Ok(None);
-        }
-        give_all(rng, load, turn, turns, &mut coming)?;
+        Ok(None)
     }
-    Ok(None)
 }

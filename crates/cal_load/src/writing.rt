@@ -2,7 +2,7 @@
 
 use crate::fault::{LoadFault, Why, refused};
 use crate::loads::FLAG;
-use crate::making::{Coming, Queue, TaskLoad, Timing, come};
+use crate::making::{Coming, Queue, TaskLoad, Timing};
 use cal_machine::Config;
 use rand_core::SeedableRng;
 use rand_xoshiro::Xoshiro256PlusPlus;
@@ -25,6 +25,29 @@ pub struct Count {
     pub left_out: u64,
     /// The turns that all others take.
     pub work: u64,
+}
+
+/// Arrivals that are to be made for a table.
+#[derive(Clone, Copy)]
+pub struct ArrivalPlan<'a> {
+    /// What comes to tasks: no two of these are of one task.
+    pub loads: &'a [TaskLoad],
+    /// How many passes and turns there are, and how far apart they are.
+    pub timing: Timing,
+    /// The seed of all that comes by chance.
+    pub seed: u64,
+}
+
+impl<'a> ArrivalPlan<'a> {
+    /// The load of a task, where it has one.
+    fn load_of(&self, task: usize) -> Option<&'a TaskLoad> {
+        for load in self.loads {
+            if load.task == task {
+                return Some(load);
+            }
+        }
+        None
+    }
 }
 
 /// Arrivals that were made.
@@ -59,19 +82,17 @@ fn generator(seed: u64, task: usize) -> Xoshiro256PlusPlus {
 fn all_that_come(
     alloc: Global,
     config: &Config,
-    loads: &[TaskLoad],
-    turns: u64,
-    seed: u64,
+    plan: &ArrivalPlan<'_>,
 ) -> Result<Option<Vec<OfTask>>, AllocError> {
     let mut all = Vec::new(alloc);
     let mut came = 0u64;
     for task in 0..config.tasks() {
-        let Some(load) = load_of(loads, task) else {
+        let Some(load) = plan.load_of(task) else {
             continue;
         };
         let (first, threads) = config.threads_of(task);
-        let mut rng = generator(seed, task);
-        let Some(coming) = come(alloc, &mut rng, load, threads, turns)? else {
+        let mut rng = generator(plan.seed, task);
+        let Some(coming) = load.come(alloc, &mut rng, threads, plan.timing.turns)? else {
             return Ok(None);
         };
         came = came.saturating_add(coming.came);
@@ -85,16 +106,6 @@ fn all_that_come(
         return Ok(None);
     }
     Ok(Some(all))
-}
-
-/// The load of a task, where it has one.
-fn load_of(loads: &[TaskLoad], task: usize) -> Option<&TaskLoad> {
-    for load in loads {
-        if load.task == task {
-            return Some(load);
-        }
-    }
-    None
 }
 
 /// The rows of a file, while they are put.
@@ -180,26 +191,23 @@ fn count_of(of_task: &OfTask) -> Count {
     }
 }
 
-/// Arrivals for a table: so many passes and turns, and the requests of these loads, of which no two
-/// are of one task. What comes to a task depends on the seed, its number, its limit and its load
-/// alone.
+/// The arrivals of a plan for a table: so many passes and turns, and the requests of its loads. What
+/// comes to a task depends on the seed, its number, its limit and its load alone.
 ///
-/// The fault is that of the word of the first load, where more than `MOST_REQUESTS` come.
+/// The fault is that of this word, that of the first load, where more than `MOST_REQUESTS` come.
 pub fn made_arrivals<'a>(
     alloc: Global,
     config: &Config,
-    loads: &[TaskLoad],
-    timing: Timing,
-    seed: u64,
+    plan: &ArrivalPlan<'_>,
     word: &'a str,
 ) -> Result<Made, LoadFault<'a>> {
-    let Some(all) = all_that_come(alloc, config, loads, timing.turns, seed)? else {
+    let Some(all) = all_that_come(alloc, config, plan)? else {
         return Err(refused(FLAG, word, Why::TooMany(MOST_REQUESTS)));
     };
     let mut rows = Rows::new(alloc)?;
     let mut counts = Vec::new(alloc);
-    rows.put_passes(timing)?;
-    rows.put_turns(timing)?;
+    rows.put_passes(plan.timing)?;
+    rows.put_turns(plan.timing)?;
     for of_task in all.as_slice() {
         rows.put_task(of_task)?;
         counts.push(count_of(of_task))?;

@@ -6,3 +6,9 @@ pub mod Whole
 pub mod OneMore
 pub mod SpanLemmas
 pub mod EachTaskLemmas
+pub mod AllOfOk
+pub mod GivenFit
+pub mod Paired
+pub mod AtMostOne
+pub mod ThreadTurns
+pub mod TotalsOfEach

@@ -5,6 +5,7 @@ pub mod Services
 pub mod Spread
 pub mod Clocks
 pub mod Work
+pub mod ThreadWork
 pub mod Shares
 pub mod Requests
 pub mod States

@@ -1,7 +1,7 @@
 //! When the turns of a kernel thread end.
 
-ghost use Rattle.std.specs.Prelude.{◌≡◌, ◌<◌, ◌++◌, length, IfOk, OnOk};
-ghost use Rattle.cal_measure.specs.Ends.{end_of, ticks_of, timed_at, timed_of};
+ghost use Rattle.std.specs.Prelude.{◌≡◌, ◌<◌, ◌++◌, ◌∷◌, [], length, IfOk, OnOk, Some};
+ghost use Rattle.cal_measure.specs.Ends.{end_of, ticks_of, timed_at, timed_by, timed_of};
 
 use crate::turns::Turn;
 use std::alloc::{AllocError, Global};
@@ -30,6 +30,18 @@ fn end_of(last: u64, turn: Turn, next: Option<Turn>) -> u64
     }
 }
 
+/// A turn with its end, told its thread's next one and the run's last clock.
+pub(crate) fn with_end(last: u64, turn: Turn, next: Option<Turn>) -> TimedTurn
+    ensures { result ∷ [] ≡ timed_by last (Some turn) next }
+{
+    TimedTurn {
+        served: turn.served,
+        stamp: turn.stamp,
+        ends: end_of(last, turn, next),
+        at_work: turn.at_work,
+    }
+}
+
 /// Puts the turn at a place, with its end, at the end of a list. Fails only when out of memory.
 fn put_timed(
     turns: &[Turn],
@@ -40,14 +52,8 @@ fn put_timed(
     requires { place < length turns.now }
     ensures { OnOk result (timed.new.items ≡ timed.old.items ++ timed_at last turns.now place) }
 {
-    let turn = turns[place];
     let next = turns.get(place + 1).copied();
-    timed.push(TimedTurn {
-        served: turn.served,
-        stamp: turn.stamp,
-        ends: end_of(last, turn, next),
-        at_work: turn.at_work,
-    })?;
+    timed.push(with_end(last, turns[place], next))?;
     Ok(())
 }
 

@@ -8,7 +8,8 @@ ghost use Rattle.cal_machine.specs.TableTasks.{owner_of, threads_of_table};
 ghost use Rattle.cal_trace.specs.Arrivals.FitsTable.{FitsTable};
 ghost use Rattle.cal_trace.specs.declared.arrivals.Arrival.{Arrival};
 ghost use Rattle.cal_measure.specs.Clocks.{AreClocksOf, run_end};
-ghost use Rattle.cal_measure.specs.Requests.{AreRequestsOf, given_to, left_at, left_of_task};
+ghost use Rattle.cal_measure.specs.Requests.{AreOfServices, AreRequestsOf, given_to, left_at};
+ghost use Rattle.cal_measure.specs.Requests.{left_of_task};
 ghost use Rattle.cal_measure.specs.Requests.{response_of, services_at, services_of_task};
 ghost use Rattle.cal_measure.specs.Requests.{slowdown_of, slowdowns_of, so_far_of, wait_of};
 ghost use Rattle.cal_measure.specs.Requests.{worked_of};
@@ -211,7 +212,7 @@ fn left_with(left: &[RequestList], thread: usize) -> &[Request]
 
 /// Puts the requests that were left with the threads of a task, thread by thread, into a list.
 /// Fails only when out of memory.
-fn task_left(
+pub(crate) fn task_left(
     alloc: Global,
     config: &Config,
     left: &[RequestList],
@@ -257,7 +258,7 @@ fn is_for(config: &Config, task: usize, arrival: &Arrival) -> bool
 }
 
 /// How many requests come to the threads of a task.
-fn given_to(config: &Config, requests: &[Arrival], task: usize) -> usize
+pub(crate) fn given_to(config: &Config, requests: &[Arrival], task: usize) -> usize
     requires { All (λ (arrival : Arrival). arrival.thread < threads_of_table config.now)
         requests.now }
     ensures { result ≡ given_to config.now requests.now task }
@@ -278,6 +279,59 @@ fn spread_of_known(alloc: Global, times: Vec<u64>) -> Result<Spread, AllocError>
     spread_of(times, Vec::new(alloc))
 }
 
+/// What is told of the requests of a task.
+#[derive(Drop)]
+pub(crate) struct TaskShare {
+    /// How many came to its threads.
+    pub(crate) given: usize,
+    /// Those that were served, thread by thread.
+    pub(crate) served: Vec<Service>,
+    /// Those that were left, thread by thread.
+    pub(crate) left: Vec<Request>,
+    /// What its threads did in their turns.
+    pub(crate) work: TaskWork,
+}
+
+/// What came of the requests of a task, of which this is told, in a run on these arrivals. Fails
+/// only when out of memory.
+pub(crate) fn requests_of_share(
+    alloc: Global,
+    arrivals: &Arrivals,
+    clocks: &ArrivalClocks,
+    share: &TaskShare,
+) -> Result<TaskRequests, AllocError>
+    requires { AreClocksOf arrivals.now.turns arrivals.now.requests clocks.now }
+    ensures given { IfOk result (λ numbers. numbers.given ≡ share.now.given) }
+    ensures are { IfOk result
+        (AreOfServices arrivals.now share.now.served.items share.now.left.items) }
+    ensures work { IfOk result (λ numbers. numbers.work ≡ share.now.work) }
+{
+    let end = run_end(arrivals);
+    let served = share.served.as_slice();
+    let left = share.left.as_slice();
+    let answered = responses(alloc, clocks, served)?;
+    let pending = so_far(alloc, clocks, end, left)?;
+    let together = total_of(answered.as_slice()) + total_of(pending.as_slice());
+    let response = spread_of(answered, pending)?;
+    let wait = spread_of_known(alloc, waits(alloc, clocks, served)?)?;
+    let service = spread_of_known(alloc, works(alloc, served)?)?;
+    let slowdown = spread_of_known(alloc, slowdowns(alloc, clocks, served)?)?;
+    let oldest = so_far(alloc, clocks, end, left)?;
+    let so_far = spread_of_known(alloc, oldest)?;
+    Ok(TaskRequests {
+        given: share.given,
+        served: served.len(),
+        left: left.len(),
+        response,
+        together,
+        wait,
+        service,
+        slowdown,
+        so_far,
+        work: share.work,
+    })
+}
+
 /// What came of the requests of a task, in a run on these arrivals. Fails only when out of memory.
 pub fn requests_of(
     alloc: Global,
@@ -294,28 +348,11 @@ pub fn requests_of(
     ensures { IfOk result (AreRequestsOf config.now arrivals.now journals.now left.now task) }
 {
     let end = run_end(arrivals);
-    let services = task_services(alloc, config, end, journals, task)?;
-    let remaining = task_left(alloc, config, left, task)?;
-    let answered = responses(alloc, clocks, services.as_slice())?;
-    let pending = so_far(alloc, clocks, end, remaining.as_slice())?;
-    let together = total_of(answered.as_slice()) + total_of(pending.as_slice());
-    let response = spread_of(answered, pending)?;
-    let wait = spread_of_known(alloc, waits(alloc, clocks, services.as_slice())?)?;
-    let service = spread_of_known(alloc, works(alloc, services.as_slice())?)?;
-    let slowdown = spread_of_known(alloc, slowdowns(alloc, clocks, services.as_slice())?)?;
-    let oldest = so_far(alloc, clocks, end, remaining.as_slice())?;
-    let so_far = spread_of_known(alloc, oldest)?;
-    let work = work_of(alloc, config, end, journals, task)?;
-    Ok(TaskRequests {
+    let share = TaskShare {
         given: given_to(config, arrivals.requests.as_slice(), task),
-        served: services.len(),
-        left: remaining.len(),
-        response,
-        together,
-        wait,
-        service,
-        slowdown,
-        so_far,
-        work,
-    })
+        served: task_services(alloc, config, end, journals, task)?,
+        left: task_left(alloc, config, left, task)?,
+        work: work_of(alloc, config, end, journals, task)?,
+    };
+    requests_of_share(alloc, arrivals, clocks, &share)
 }

@@ -31,7 +31,7 @@ fn stamp_at_work(turn: TimedTurn) -> Option<u64>
 }
 
 /// When the request at work was begun, if there is one, with one turn more.
-fn begun_after(begun: Option<u64>, turn: TimedTurn) -> Option<u64>
+pub(crate) fn begun_after(begun: Option<u64>, turn: TimedTurn) -> Option<u64>
     ensures { (turns : List TimedTurn) → begun ≡ begun_since turns →
         result ≡ begun_since (turns ++ turn ∷ []) }
 {
@@ -46,7 +46,7 @@ fn begun_after(begun: Option<u64>, turn: TimedTurn) -> Option<u64>
 }
 
 /// For how long the request at work was worked at, with one turn more.
-fn worked_after(worked: u64, turn: TimedTurn) -> u64
+pub(crate) fn worked_after(worked: u64, turn: TimedTurn) -> u64
     ensures { (turns : List TimedTurn) → worked ≡ clocked (worked_since turns) →
         result ≡ clocked (worked_since (turns ++ turn ∷ [])) }
 {
@@ -60,7 +60,7 @@ fn worked_after(worked: u64, turn: TimedTurn) -> u64
 }
 
 /// The request that a turn served, if it did.
-fn service_by(begun: Option<u64>, worked: u64, turn: TimedTurn) -> Option<Service>
+pub(crate) fn service_by(begun: Option<u64>, worked: u64, turn: TimedTurn) -> Option<Service>
     ensures { (turns : List TimedTurn) → begun ≡ begun_since turns →
         worked ≡ clocked (worked_since turns) → one_of result ≡ service_by turns turn }
 {
@@ -76,7 +76,10 @@ fn service_by(begun: Option<u64>, worked: u64, turn: TimedTurn) -> Option<Servic
 }
 
 /// Puts a service, if there is one, at the end of a list. Fails only when out of memory.
-fn put_one(services: &mut Vec<Service>, service: Option<Service>) -> Result<(), AllocError>
+pub(crate) fn put_one(
+    services: &mut Vec<Service>,
+    service: Option<Service>,
+) -> Result<(), AllocError>
     ensures { OnOk result (services.new.items ≡ services.old.items ++ one_of service) }
 {
     match service {

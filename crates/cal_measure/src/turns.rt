@@ -21,7 +21,7 @@ pub struct Turn {
 }
 
 /// The request that was served in this turn so far, with one entry more.
-fn served_after(served: Option<u64>, entry: Entry) -> Option<u64>
+pub(crate) fn served_after(served: Option<u64>, entry: Entry) -> Option<u64>
     ensures { (before : List Entry) → served ≡ served_since before →
         result ≡ served_since (before ++ entry ∷ []) }
 {
@@ -36,7 +36,7 @@ fn served_after(served: Option<u64>, entry: Entry) -> Option<u64>
 }
 
 /// The turn that an entry ends, if it does.
-fn turn_by(served: Option<u64>, entry: Entry) -> Option<Turn>
+pub(crate) fn turn_by(served: Option<u64>, entry: Entry) -> Option<Turn>
     ensures { (before : List Entry) → served ≡ served_since before →
         one_of result ≡ turn_by before entry }
 {

@@ -65,7 +65,7 @@ pub fn put_number(numbers: &mut Vec<u64>, number: Option<u64>) -> Result<(), All
 }
 
 /// How long a turn worked, if it did.
-fn time_worked(turn: TimedTurn) -> Option<u64>
+pub(crate) fn time_worked(turn: TimedTurn) -> Option<u64>
     ensures { (before : List TimedTurn) → one_of result ≡ time_worked before turn }
 {
     if turn.at_work {
@@ -108,7 +108,7 @@ fn times_worked(
 }
 
 /// The request that an entry says was stolen, if it does.
-fn stolen_by(entry: Entry) -> Option<u64>
+pub(crate) fn stolen_by(entry: Entry) -> Option<u64>
     ensures { (before : List Entry) → one_of result ≡ stolen_by before entry }
 {
     match entry {
@@ -152,7 +152,7 @@ fn stolen(
 }
 
 /// When a request was suspended between two turns, if one was.
-fn suspension_by(turn: Option<Turn>, next: Option<Turn>) -> Option<u64>
+pub(crate) fn suspension_by(turn: Option<Turn>, next: Option<Turn>) -> Option<u64>
     ensures { one_of result ≡ suspension_by turn next }
 {
     match turn {

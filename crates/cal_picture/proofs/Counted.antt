@@ -10,13 +10,12 @@ use Rattle.cal_trace.specs.Rows.Answers as files
 use Rattle.cal_trace.specs.declared.fault.TraceFault.{TraceFault}
 use Rattle.cal_trace.specs.declared.history.file.HistoryRows.{HistoryRows}
 use Rattle.cal_trace.proofs.HistoryLemmas.GivenPasses.{few_given}
-use Rattle.cal_engine.specs.Outcome.{Decided}
-use Rattle.cal_engine.specs.Recorded.{recorded_in, HasGivenOf}
-use Rattle.cal_engine.specs.Runs.{Run, parts_of, recorded_on, recorded_run, recorded_run_of}
-use Rattle.cal_engine.specs.declared.fault.RunFault.{RunFault}
-use Rattle.cal_engine.specs.declared.fault.RunFault.TheVariants as fault
-use Rattle.cal_engine.proofs.Audited.{refused_history}
-use Rattle.cal_engine.proofs.Reporting.{run_decided}
+use Rattle.cal_input.specs.Answers.{Decided}
+use Rattle.cal_input.specs.Parts.{parts_of}
+use Rattle.cal_input.specs.Recorded.{recorded_in, recorded_on, recorded_run, recorded_run_of, HasGivenOf, Run}
+use Rattle.cal_input.specs.declared.fault.RunFault.{RunFault}
+use Rattle.cal_input.specs.declared.fault.RunFault.TheVariants as fault
+use Rattle.cal_input.proofs.Refusals.{refused_history, run_decided}
 use Rattle.cal_picture.specs.Counting.{passes_in}
 
 -- the first passes of an input were given, and they are so many

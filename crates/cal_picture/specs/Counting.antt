@@ -1,7 +1,7 @@
 -- How many passes the history of an input has.
 use Rattle.std.specs.Prelude.{ℕ, length, Result, Ok, Err}
-use Rattle.cal_engine.specs.Runs.{Run}
-use Rattle.cal_engine.specs.declared.fault.RunFault.{RunFault}
+use Rattle.cal_input.specs.Recorded.{Run}
+use Rattle.cal_input.specs.declared.fault.RunFault.{RunFault}
 
 abbrev pub passes_in : Result Run RunFault → Result ℕ RunFault
 passes_in (Err f) = Err f

@@ -1,10 +1,10 @@
 //! How many passes an input has.
 
-ghost use Rattle.cal_engine.specs.Outcome.{IsWhatInputSays};
-ghost use Rattle.cal_engine.specs.Runs.{recorded_run_of};
+ghost use Rattle.cal_input.specs.Answers.{IsWhatInputSays};
+ghost use Rattle.cal_input.specs.Recorded.{recorded_run_of};
 ghost use Rattle.cal_picture.specs.Counting.{passes_in};
 
-use cal_engine::{RunFault, recorded_passes};
+use cal_input::{RunFault, recorded_passes};
 use std::alloc::Global;
 
 /// Reads the history of an input to its end, and answers how many passes it has; none is kept. The

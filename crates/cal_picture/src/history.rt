@@ -8,6 +8,7 @@ pub mod heading;
 pub mod layout;
 pub mod legend;
 pub mod overview;
+pub mod rectangle;
 pub mod sheet;
 pub mod style;
 pub mod tasks;
@@ -29,7 +30,7 @@ use crate::history::tasks::draw_tasks;
 use crate::page::Page;
 use crate::story::Story;
 use crate::story::window::{Columns, Window};
-use cal_engine::{RunFault, recorded_passes};
+use cal_input::{RunFault, recorded_passes};
 use cal_machine::Config;
 use cal_tables::Labels;
 use std::alloc::Global;
@@ -90,11 +91,10 @@ pub fn draw_picture<W: Write>(
     let story = Story::of(alloc, &config, history, window)?;
     let story = story.kept(alloc, &config, shown.task)?;
     let columns = Columns::new(alloc, story.shown.as_slice(), window)?;
-    let layout = Layout::new(alloc, &config, &story, window, &columns, shown.task)?;
+    let layout = Layout::new(alloc, &config, &story, &columns)?;
     let sheet = Sheet {
         config: &config,
         window,
-        only: shown.task,
         labels,
         story: &story,
         columns: &columns,

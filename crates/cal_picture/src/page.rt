@@ -1,6 +1,6 @@
 //! The text of a picture or of a tooltip, while it is written.
 
-use cal_engine::RunFault;
+use cal_input::RunFault;
 use cal_tables::{Labels, letters};
 use std::alloc::{AllocError, Global};
 use std::fmt::Write;

@@ -18,7 +18,7 @@ use crate::story::slots::Slot;
 use crate::story::standing::Row;
 use crate::story::sums::Sums;
 use crate::story::window::Window;
-use cal_engine::RunFault;
+use cal_input::RunFault;
 use cal_machine::Config;
 use cal_policy::PassEntry;
 use cal_trace::HistoryRows;
@@ -27,6 +27,8 @@ use std::alloc::{AllocError, Global};
 /// All that is drawn of a history: what touches the window, and sums of all.
 #[derive(Drop)]
 pub struct Story {
+    /// The task whose spans and bans these are, where it is not all of them.
+    pub only: Option<usize>,
     /// The spans that show in the window.
     pub spans: Vec<ClockedSpan>,
     /// The bans that show in the window.
@@ -56,8 +58,8 @@ impl Story {
     ) -> Result<Story, RunFault>
         requires { IsOpen history }
     {
-        let mut gathering = Gathering::new(alloc, config);
-        gathering.passes(config, &mut history, window)?;
+        let mut gathering = Gathering::new(alloc, config, window);
+        gathering.passes(config, &mut history)?;
         Ok(gathering.story())
     }
 
@@ -75,6 +77,7 @@ impl Story {
         let spans = spans_of_task(alloc, config, self.spans.as_slice(), task)?;
         let bans = bans_of_task(alloc, config, self.bans.as_slice(), task)?;
         Ok(Story {
+            only: Some(task),
             spans,
             bans,
             ..self

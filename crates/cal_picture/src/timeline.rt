@@ -21,11 +21,11 @@ use crate::counting::count_passes;
 use crate::story::standing::Row;
 use crate::story::walk::Walk;
 use crate::timeline::events::Events;
-use crate::timeline::figures::{put_figure, put_row};
+use crate::timeline::figures::{RowAt, put_figure};
 use crate::timeline::names::{put_names, put_request_names};
-use crate::timeline::requests::put_requests;
+use crate::timeline::requests::ToldRun;
 use crate::timeline::slices::put_ended;
-use cal_engine::{RunFault, read_parts, recorded_passes};
+use cal_input::{RunFault, read_parts, recorded_passes};
 use cal_machine::Config;
 use cal_policy::{Action, PassEntry};
 use cal_run::lockstep_end;
@@ -48,9 +48,9 @@ pub fn write_timeline<W: Write>(
 ) -> Result<(), RunFault> {
     let (config, trace) = read_parts(alloc, input)?;
     match read_arrivals(alloc, &config, trace) {
-        Ok(arrivals) => write_run(alloc, &config, &arrivals, labels, writer),
+        Ok(arrivals) => write_run(&config, &arrivals, Events::new(alloc, labels), writer),
         Err(fault) if fault.kind == FaultKind::Header => {
-            write_history(alloc, input, labels, writer)
+            write_history(input, Events::new(alloc, labels), writer)
         }
         Err(fault) => Err(RunFault::from(fault)),
     }
@@ -62,17 +62,15 @@ const OPENING: &str = "{\"displayTimeUnit\":\"ns\",\"traceEvents\":[";
 /// What stands after the last event.
 const CLOSING: &str = "\n]}\n";
 
-/// Writes the history of an input.
+/// Writes the history of an input, with no event before it.
 fn write_history<W: Write>(
-    alloc: Global,
     input: &[u8],
-    labels: Labels<'_>,
+    mut events: Events<'_>,
     writer: &mut W,
 ) -> Result<(), RunFault> {
     // To its end, so that a fault of the input comes before anything is written.
-    count_passes(alloc, input)?;
-    let (config, history) = recorded_passes(alloc, input)?;
-    let mut events = Events::new(alloc, labels);
+    count_passes(events.alloc, input)?;
+    let (config, history) = recorded_passes(events.alloc, input)?;
     events.page.put(OPENING);
     put_names(&config, &mut events);
     put_passes(&config, history, &mut events, writer)?;
@@ -80,25 +78,28 @@ fn write_history<W: Write>(
     events.page.send(writer)
 }
 
-/// Makes the run on one thread of a table and arrivals, and writes it: its history, and then what
-/// came of its requests. Nothing is written before the run was made.
+/// Makes the run on one thread of a table and arrivals, and writes it, with no event before it: its
+/// history, and then what came of its requests. Nothing is written before the run was made.
 fn write_run<W: Write>(
-    alloc: Global,
     config: &Config,
     arrivals: &Arrivals,
-    labels: Labels<'_>,
+    mut events: Events<'_>,
     writer: &mut W,
 ) -> Result<(), RunFault>
     requires { FitsTable config.now arrivals.now }
 {
-    let end = lockstep_end(alloc, config, arrivals)?;
-    let mut events = Events::new(alloc, labels);
+    let end = lockstep_end(events.alloc, config, arrivals)?;
     events.begin_at(first_clock(arrivals));
     events.page.put(OPENING);
     put_names(config, &mut events);
     put_request_names(config, &mut events);
     put_history(config, end.history.as_slice(), &mut events, writer)?;
-    put_requests(config, arrivals, &end, &mut events, writer)?;
+    let run = ToldRun {
+        config,
+        arrivals,
+        end: &end,
+    };
+    run.put_requests(&mut events, writer)?;
     events.page.put(CLOSING);
     events.page.send(writer)
 }
@@ -186,7 +187,13 @@ impl Told {
         self.walk.take_looks(config, &entry.input);
         self.note(config, entry.actions.as_slice(), events);
         let row = self.walk.row(config, self.now);
-        put_row(config, self.now, &row, self.row, events);
+        let now = self.now;
+        RowAt {
+            config,
+            now,
+            row: &row,
+        }
+        .put_changes(self.row, events);
         put_figure("bandwidth", self.now, entry.input.bandwidth, events);
         self.row = Some(row);
         self.passes = self.passes.saturating_add(1);

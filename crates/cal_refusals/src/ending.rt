@@ -1,10 +1,11 @@
 //! The end after a fault of an input, explained.
 
 ghost use Rattle.std.specs.Prelude.{◌≡◌};
-ghost use Rattle.cal_engine.specs.Faults.{status_of};
+ghost use Rattle.cal_input.specs.Faults.{status_of};
 
-use cal_engine::{RunFault, end_with};
+use cal_engine::end_with;
 use cal_faults::{Lines, Refusal, TraceKind, explanation};
+use cal_input::RunFault;
 use std::alloc::{AllocError, Global};
 use std::fmt::Write as _;
 use std::io::Write;

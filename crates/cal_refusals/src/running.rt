@@ -3,8 +3,9 @@
 ghost use Rattle.std.specs.Prelude.{◌≡◌, ◌≢◌, IfErr, IfOk};
 
 use crate::ending::{RefusedInput, end_explained};
-use cal_engine::{Job, RunFault, do_job, end_with, read_input, refuse_words, words};
+use cal_engine::{Job, do_job, end_with, refuse_words, words};
 use cal_faults::TraceKind;
+use cal_input::{RunFault, read_input};
 use std::alloc::{AllocError, Global};
 use std::io::{Read, Write};
 use std::sync::Wait;

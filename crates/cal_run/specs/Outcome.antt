@@ -2,9 +2,10 @@
 -- their steps.
 pub mod GivenOnce
 pub mod Headline
-use Rattle.std.specs.Prelude.{◌≡◌, ◌<◌, ℕ, [], length, map, min}
+use Rattle.std.specs.Prelude.{◌≡◌, ◌<◌, ℕ, List, [], length, map, min}
 use Rattle.std.specs.List.{AllZip}
 use Rattle.cal_machine.specs.Table.{Table}
+use Rattle.cal_machine.specs.declared.request.Request.{Request}
 use Rattle.cal_signal.specs.Pages.{FitsPage}
 use Rattle.cal_policy.specs.declared.history.entry.PassEntry.{PassEntry}
 use Rattle.cal_machine.specs.TableTasks.{threads_of_table}
@@ -12,6 +13,7 @@ use Rattle.cal_policy.specs.History.{actions_of, commands_to}
 use Rattle.cal_policy.specs.History.Found.{looks_at}
 use Rattle.cal_kthread.specs.End.Account.{IsAccounted}
 use Rattle.cal_kthread.specs.Journal.{IsJournal, commands_of}
+use Rattle.cal_kthread.specs.declared.journal.entry.Entry.{Entry}
 use Rattle.cal_kthread.specs.End.OnePlace.{LeftAt, Nowhere, ServedAt, StandsInOnePlace}
 use Rattle.cal_kthread.specs.Turn.Turns.{AreTurns}
 use Rattle.cal_linear.specs.Law.{IsLinearised}
@@ -92,3 +94,12 @@ pub record IsTalliedEnd (table : Table) (arrivals : Arrivals) (end : TalliedEnd)
   pub run : IsRun table arrivals outcome
   pub tallies : AllZip IsTallyOf outcome.journals end.tallies
   pub left : outcome.left ≡ end.left
+
+-- a run on these arrivals came to some outcome, of whose history and journals this holds, and of
+-- which this is what was left
+pub record IsCollectedEnd (holds : List PassEntry → List (List Entry) → Type 0) (table : Table)
+    (arrivals : Arrivals) (left : List (List Request)) : Type 0 where
+  pub outcome : Outcome
+  pub run : IsRun table arrivals outcome
+  pub collected : holds outcome.history outcome.journals
+  pub left : outcome.left ≡ left

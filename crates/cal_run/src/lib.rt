@@ -23,7 +23,7 @@ pub use collector::collected::Collected;
 pub use collector::scheduler::CollectingScheduler;
 pub use collector::worker::{CollectingWorker, split_workers};
 pub use fault::SimFault;
-pub use one_thread::{lockstep, lockstep_end, lockstep_tallied};
+pub use one_thread::{lockstep, lockstep_collected, lockstep_end, lockstep_tallied};
 pub use outcome::given_once::given_stand_once;
 pub use outcome::headline::headline_of_runs;
 pub use outcome::{Outcome, RunEnd, TalliedEnd};

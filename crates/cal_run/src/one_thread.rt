@@ -1,15 +1,17 @@
 //! A whole run on one thread.
 
-ghost use Rattle.std.specs.Prelude.{◌≡◌, IfOk, IfErr, length};
+ghost use Rattle.std.specs.Prelude.{◌≡◌, [], IfOk, IfErr, length, replicate};
+ghost use Rattle.cal_machine.specs.TableTasks.{threads_of_table};
 ghost use Rattle.cal_run.specs.Collecting.{IsCollectedOf};
 ghost use Rattle.cal_run.specs.Outcome.Headline.{Headline};
 ghost use Rattle.cal_run.specs.Outcome.{EachStandsOnce, IsRun, IsRunEnd};
-ghost use Rattle.cal_run.specs.Outcome.{IsTalliedEnd, outcome_of};
+ghost use Rattle.cal_run.specs.Outcome.{IsCollectedEnd, IsTalliedEnd, outcome_of};
 ghost use Rattle.cal_run.specs.Parts.{AreParts, rounds_of};
 ghost use Rattle.cal_run.specs.declared.fault.SimFault.TheVariants.{Memory};
 ghost use Rattle.cal_trace.specs.Arrivals.FitsTable.{FitsTable};
 
 use crate::closing::{RunRest, close_parts, end_parts, end_run};
+use crate::collector::Collector;
 use crate::collector::collected::{Collected, OpenCollection};
 use crate::collector::tallies::Tallies;
 use crate::fault::SimFault;
@@ -18,9 +20,10 @@ use crate::outcome::{Outcome, RunEnd, TalliedEnd};
 use crate::parts::Parts;
 use crate::parts::opening::open_parts;
 use crate::rounds::make_rounds;
+use cal_kthread::RequestList;
 use cal_machine::{Config, Listed};
 use cal_trace::Arrivals;
-use std::alloc::Global;
+use std::alloc::{AllocError, Global};
 
 /// A whole run on one thread: a scheduler, the kernel threads of the table and a watch make the
 /// passes and the turns that are given. In round `r` comes first pass `r`, then turn `r` of each
@@ -77,6 +80,28 @@ pub fn lockstep_tallied(
         tallies: Listed::new(tallies.tallies),
         left,
     })
+}
+
+/// What is left with the kernel threads of the same run, in thread order, where a collector of the
+/// caller's makes its passes and takes what its turns hand out: to begin with it holds nothing, for
+/// no pass and for threads that did nothing. No pass and no entry is kept here. Fails only when out
+/// of memory, or where the collector does; what the collector holds then is of no run.
+pub fn lockstep_collected<C: Collector>(
+    alloc: Global,
+    config: &Config,
+    arrivals: &Arrivals,
+    collector: &mut C,
+) -> Result<Listed<RequestList>, C::Fault>
+    requires fits { FitsTable config.now arrivals.now }
+    requires opened { C.holds collector.old [] (replicate (threads_of_table config.now) []) }
+    ensures run { IfOk result (IsCollectedEnd (C.holds collector.new) config.now arrivals.now) }
+{
+    let Ok(mut parts) = open_parts(alloc, config, arrivals) else {
+        return Err(C::Fault::from(AllocError));
+    };
+    make_rounds(&mut parts, arrivals, collector)?;
+    let RunRest { left, .. } = end_run(alloc, config, arrivals, parts)?;
+    Ok(left)
 }
 
 /// The parts of a run, whose passes, turns and rounds were all made, and its history and its

@@ -1,6 +1,6 @@
 -- The runs of a sweep.
 use Rattle.std.specs.Prelude.{◌≡◌, ℕ, List, [], ◌∷◌, map, Option, Some, None, Ok}
-use Rattle.cal_engine.specs.declared.fault.RunFault.TheVariants.{Write}
+use Rattle.cal_input.specs.declared.fault.RunFault.TheVariants.{Write}
 use Rattle.cal_machine.specs.Reading.{table_in}
 use Rattle.cal_machine.specs.Table.{Table}
 use Rattle.cal_tables.specs.Compared.{AreEachOf, AreToldFor}

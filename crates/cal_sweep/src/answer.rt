@@ -5,87 +5,79 @@ ghost use Rattle.cal_sweep.specs.Objectives.{EndsSweep, status_of_sweep};
 ghost use Rattle.cal_sweep.specs.Sweeps.{of_writer, varying_of};
 
 use crate::fault::SweepFault;
-use crate::naming::SweepNames;
+use crate::job::SweepJob;
 use crate::picture::picture_of;
 use crate::runs::{Sweep, swept};
-use crate::table::sheet_of;
+use crate::table::ShownSweep;
 use crate::verdict::{say_misses, status_of_sweep};
-use crate::words::{Asked, SweepForm};
-use cal_engine::RunFault;
+use crate::words::SweepForm;
+use cal_input::RunFault;
 use cal_tables::ComparisonFault;
-use std::alloc::{AllocError, Global};
+use std::alloc::AllocError;
 use std::io::Write;
 use std::thread::Threads;
 
 /// What is written of a sweep, in memory.
-fn text_of(
-    alloc: Global,
-    sweep: &Sweep,
-    asked: &Asked<'_>,
-    names: SweepNames<'_>,
-    form: SweepForm,
-) -> Result<String, AllocError> {
-    match form {
+fn text_of(job: &SweepJob<'_>, sweep: &Sweep) -> Result<String, AllocError> {
+    match job.asked.form {
         SweepForm::Numbers(form) => {
-            sheet_of(alloc, sweep, asked.task(), names, form)?.written(alloc, form)
+            let shown = ShownSweep {
+                sweep,
+                task: job.asked.task(),
+                names: job.names,
+                form,
+            };
+            shown.sheet(job.alloc)?.written(job.alloc, form)
         }
-        SweepForm::Picture => picture_of(alloc, sweep, asked, names),
+        SweepForm::Picture => picture_of(job, sweep),
     }
 }
 
-/// Writes a sweep under these names, and answers the exit status: 1 where one of the runs of its
-/// last load misses the objective, and 0 else. Of a miss a line is written to `errors`, with its
-/// numbers.
+/// Writes the sweep that a job asked for, and answers the exit status: 1 where one of the runs of
+/// its last load misses the objective, and 0 else. Of a miss a line is written to `errors`, with
+/// its numbers.
 ///
 /// The fault is `Write`, or `Memory` before anything is written.
 pub fn end_sweep<'a, W: Write, E: Write>(
-    alloc: Global,
+    job: &SweepJob<'a>,
     sweep: &Sweep,
-    asked: &Asked<'a>,
-    names: SweepNames<'_>,
-    form: SweepForm,
     output: &mut W,
     errors: &mut E,
 ) -> Result<u8, SweepFault<'a>>
     ensures status { IfOk result (λ status.
-        status ≡ status_of_sweep asked.now.objective sweep.now.loads.items) }
+        status ≡ status_of_sweep job.now.asked.now.objective sweep.now.loads.items) }
     ensures untouched { IfErr result (λ fault.
         fault ≢ SweepFault.Run of_writer → output.new ≡ output.old) }
 {
-    let text = text_of(alloc, sweep, asked, names, form)?;
+    let text = text_of(job, sweep)?;
     if output.write_all(text.as_bytes()).is_err() {
         return Err(SweepFault::Run(ComparisonFault::from(RunFault::Write)));
     }
-    let status = status_of_sweep(asked.objective, sweep.loads.as_slice());
-    if let Some(objective) = asked.objective {
-        say_misses(sweep, &objective, names, errors);
+    let status = status_of_sweep(job.asked.objective, sweep.loads.as_slice());
+    if let Some(objective) = job.asked.objective {
+        say_misses(sweep, &objective, job.names, errors);
     }
     Ok(status)
 }
 
-/// Makes the runs of an input's task table that are asked for, writes what came of them under these
-/// names, and answers the exit status: 1 where one of the runs of the last load misses the
-/// objective, and 0 else. What follows a separator line in the input is not read.
+/// Makes the runs that a job asks for, writes what came of them, and answers the exit status: 1
+/// where one of the runs of the last load misses the objective, and 0 else.
 ///
 /// The faults are those of `swept`, and then `Write`. Nothing is written before all runs were made
 /// and the text is in memory.
 pub fn answer_sweep<'a, W: Write, E: Write>(
     rt: &(impl Threads + Sync),
-    alloc: Global,
-    input: &[u8],
-    asked: &Asked<'a>,
-    names: SweepNames<'_>,
-    form: SweepForm,
+    job: &SweepJob<'a>,
     output: &mut W,
     errors: &mut E,
 ) -> Result<u8, SweepFault<'a>>
     // A sweep of the input was made, and the status is that of its runs.
-    ensures status { IfOk result (EndsSweep input.now (varying_of names.entry.variation)
-        asked.now.loads.items asked.now.objective) }
+    ensures status { IfOk result (EndsSweep job.now.input.now (varying_of job.now.names.variation)
+        job.now.asked.now.loads.items job.now.asked.now.objective) }
     // Nothing is written before the runs were made.
     ensures untouched { IfErr result (λ fault.
         fault ≢ SweepFault.Run of_writer → output.new ≡ output.old) }
 {
-    let sweep = swept(rt, alloc, input, asked, names)?;
-    end_sweep(alloc, &sweep, asked, names, form, output, errors)
+    let sweep = swept(rt, job)?;
+    end_sweep(job, &sweep, output, errors)
 }

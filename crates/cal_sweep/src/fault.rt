@@ -1,6 +1,6 @@
 //! Why there is no sweep.
 
-use cal_engine::RunFault;
+use cal_input::RunFault;
 use cal_load::{LoadFault, WordFault};
 use cal_machine::ConfigFault;
 use cal_tables::ComparisonFault;

@@ -9,6 +9,7 @@
 
 mod answer;
 mod fault;
+mod job;
 mod naming;
 mod objective;
 mod picture;
@@ -20,6 +21,7 @@ mod words;
 
 pub use answer::{answer_sweep, end_sweep};
 pub use fault::SweepFault;
+pub use job::SweepJob;
 pub use naming::SweepNames;
 pub use objective::{Objective, objective_of};
 pub use runs::{Sweep, SweptLoad, SweptRun, swept};

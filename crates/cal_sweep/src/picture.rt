@@ -1,9 +1,8 @@
 //! What is drawn of a sweep: how long a task's requests took, over its load.
 
-use crate::naming::SweepNames;
+use crate::job::SweepJob;
 use crate::objective::{Objective, rank_word, response_at};
 use crate::runs::{Sweep, SweptRun};
-use crate::words::Asked;
 use cal_picture::{LoadCurves, LoadTimes, RunTimes, TimeLimit, draw_load_curves};
 use cal_tables::Rank;
 use std::alloc::{AllocError, Global};
@@ -11,15 +10,16 @@ use std::alloc::{AllocError, Global};
 /// The ranks that are drawn.
 const RANKS: [Rank; 3] = [Rank::Median, Rank::NinetyNine, Rank::MostOfThousand];
 
-/// The picture of a sweep, which stands alone, under these names: over the load, the median of the
-/// responses of the task that is swept, their 99th and their 99.9th of 100, a colour for each
+/// The picture of the sweep that a job asked for, which stands alone: over the load, the median of
+/// the responses of the task that is swept, their 99th and their 99.9th of 100, a colour for each
 /// table, and the objective. Fails only when out of memory.
-pub fn picture_of(
-    alloc: Global,
-    sweep: &Sweep,
-    asked: &Asked<'_>,
-    names: SweepNames<'_>,
-) -> Result<String, AllocError> {
+pub fn picture_of(job: &SweepJob<'_>, sweep: &Sweep) -> Result<String, AllocError> {
+    let SweepJob {
+        alloc,
+        asked,
+        names,
+        ..
+    } = *job;
     let task = asked.task();
     let curves = LoadCurves {
         task,

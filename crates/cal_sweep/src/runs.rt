@@ -5,10 +5,10 @@ ghost use Rattle.cal_sweep.specs.Sweeps.{AreSweptLoads, AreSweptRuns, AreTablesO
 ghost use Rattle.cal_sweep.specs.Sweeps.{IsRunOn, IsSweptLoad, IsSweptRun, varying_of};
 
 use crate::fault::SweepFault;
-use crate::naming::{SweepNames, are_counted};
-use crate::words::Asked;
-use cal_engine::RunFault;
-use cal_load::{Count, Made, are_known, made_arrivals};
+use crate::job::SweepJob;
+use crate::naming::are_counted;
+use cal_input::RunFault;
+use cal_load::{ArrivalPlan, Count, Made, are_known, made_arrivals};
 use cal_machine::Config;
 use cal_tables::{
     ComparisonFault, Reason, RunNumbers, Variation, measured_run, table_at, table_part,
@@ -78,33 +78,36 @@ fn run_on(
 
 /// The run of a table on the arrivals that are made for it with this load.
 fn swept_run<'a>(
-    alloc: Global,
+    job: &SweepJob<'a>,
     table: &Config,
     place: usize,
-    asked: &Asked<'a>,
     load: u64,
 ) -> Result<SweptRun, SweepFault<'a>>
     ensures { IfOk result (IsSweptRun table.now) }
 {
-    let tasks = asked.at(alloc, load)?;
-    let tasks = tasks.as_slice();
-    let made = made_arrivals(alloc, table, tasks, asked.timing, asked.seed, asked.word)?;
-    let run = run_on(alloc, table, place, made)?;
+    let asked = job.asked;
+    let loads = asked.at(job.alloc, load)?;
+    let plan = ArrivalPlan {
+        loads: loads.as_slice(),
+        timing: asked.timing,
+        seed: asked.seed,
+    };
+    let made = made_arrivals(job.alloc, table, &plan, asked.word)?;
+    let run = run_on(job.alloc, table, place, made)?;
     Ok(run)
 }
 
 /// A run of each table with this load, in the order of the tables.
 fn swept_runs<'a>(
-    alloc: Global,
+    job: &SweepJob<'a>,
     tables: &[Config],
-    asked: &Asked<'a>,
     load: u64,
 ) -> Result<Vec<SweptRun>, SweepFault<'a>>
     ensures { IfOk result (λ runs. AreSweptRuns tables.now runs.items) }
 {
-    let mut runs = Vec::new(alloc);
+    let mut runs = Vec::new(job.alloc);
     for place in 0..tables.len() {
-        let of_table = swept_run(alloc, table_at(tables, place), place, asked, load)?;
+        let of_table = swept_run(job, table_at(tables, place), place, load)?;
         runs.push(of_table)?;
     }
     Ok(runs)
@@ -112,14 +115,13 @@ fn swept_runs<'a>(
 
 /// The runs of a load: one of each table.
 fn swept_load<'a>(
-    alloc: Global,
+    job: &SweepJob<'a>,
     tables: &[Config],
-    asked: &Asked<'a>,
     load: u64,
 ) -> Result<SweptLoad, SweepFault<'a>>
     ensures { IfOk result (IsSweptLoad tables.now load) }
 {
-    let runs = swept_runs(alloc, tables, asked, load)?;
+    let runs = swept_runs(job, tables, load)?;
     Ok(SweptLoad { load, runs })
 }
 
@@ -128,9 +130,8 @@ fn swept_load<'a>(
 /// answered does not depend on the threads. Fails only when out of memory.
 fn answered_loads<'a>(
     rt: &(impl Threads + Sync),
-    alloc: Global,
+    job: &SweepJob<'a>,
     tables: &[Config],
-    asked: &Asked<'a>,
     loads: &[u64],
 ) -> Result<Result<Vec<SweptLoad>, SweepFault<'a>>, AllocError>
     ensures { IfOk result (λ answer. IfOk answer
@@ -142,22 +143,21 @@ fn answered_loads<'a>(
         .map(
             |load: &u64| -> Result<SweptLoad, SweepFault>
                 ensures { IfOk result (IsSweptLoad tables.entry.now load.now) }
-            { swept_load(alloc, tables, asked, *load) },
+            { swept_load(job, tables, *load) },
         )
-        .collect(rt, alloc)
+        .collect(rt, job.alloc)
 }
 
 /// For each of these loads a run of each table, in the order of the loads.
 fn swept_loads<'a>(
     rt: &(impl Threads + Sync),
-    alloc: Global,
+    job: &SweepJob<'a>,
     tables: &[Config],
-    asked: &Asked<'a>,
     loads: &[u64],
 ) -> Result<Vec<SweptLoad>, SweepFault<'a>>
     ensures { IfOk result (λ swept. AreSweptLoads tables.now loads.now swept.items) }
 {
-    answered_loads(rt, alloc, tables, asked, loads)?
+    answered_loads(rt, job, tables, loads)?
 }
 
 /// One table alone. Fails only when out of memory.
@@ -183,26 +183,26 @@ fn tables_of(
     }
 }
 
-/// The table of an input, or those that it gives with each value of a variation, and for each load
-/// in turn a run of each of these tables on arrivals that are made for it with this load.
+/// The table of a job's input, or those that it gives with each value of a variation, and for each
+/// load in turn a run of each of these tables on arrivals that are made for it with this load.
 ///
 /// The fault is that of the table, then `Names` where the names are not as many as its tasks, then
 /// that of the first word that names a task which it has not, then that of the first value that
 /// makes the table faulty; then that of the first run that has one. `Memory` may come at any place.
-pub fn swept<'a>(
-    rt: &(impl Threads + Sync),
-    alloc: Global,
-    input: &[u8],
-    asked: &Asked<'a>,
-    names: SweepNames<'_>,
-) -> Result<Sweep, SweepFault<'a>>
-    ensures { IfOk result (λ sweep. IsSweep input.now (varying_of names.entry.variation)
-        asked.now.loads.items sweep.tables.items sweep.loads.items) }
+pub fn swept<'a>(rt: &(impl Threads + Sync), job: &SweepJob<'a>) -> Result<Sweep, SweepFault<'a>>
+    ensures { IfOk result (λ sweep. IsSweep job.now.input.now (varying_of job.now.names.variation)
+        job.now.asked.now.loads.items sweep.tables.items sweep.loads.items) }
 {
+    let SweepJob {
+        alloc,
+        input,
+        asked,
+        names,
+    } = *job;
     let table = Config::read(alloc, table_part(input))?;
     are_counted(&table, names.labels)?;
     are_known(&table, asked.tasks.as_slice(), asked.named.as_slice())?;
     let tables = tables_of(alloc, table, names.variation)?;
-    let loads = swept_loads(rt, alloc, tables.as_slice(), asked, asked.loads.as_slice())?;
+    let loads = swept_loads(rt, job, tables.as_slice(), asked.loads.as_slice())?;
     Ok(Sweep { tables, loads })
 }

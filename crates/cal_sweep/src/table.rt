@@ -110,11 +110,12 @@ fn figure_of(table: &Config, run: &SweptRun, task: usize, column: Column) -> Opt
 
 /// Which sweep is shown, of which task, under which names, and in which form.
 #[derive(Clone, Copy)]
-struct ShownSweep<'a> {
-    sweep: &'a Sweep,
-    task: usize,
-    names: SweepNames<'a>,
-    form: NumberForm,
+pub struct ShownSweep<'a> {
+    pub sweep: &'a Sweep,
+    /// The number of the task.
+    pub task: usize,
+    pub names: SweepNames<'a>,
+    pub form: NumberForm,
 }
 
 impl<'a> ShownSweep<'a> {
@@ -202,27 +203,15 @@ impl<'a> ShownSweep<'a> {
         }
         Ok(())
     }
-}
 
-/// The runs of a sweep, a row for each, under these names: what came of a task in it. Fails only
-/// when out of memory.
-pub fn sheet_of(
-    alloc: Global,
-    sweep: &Sweep,
-    task: usize,
-    names: SweepNames<'_>,
-    form: NumberForm,
-) -> Result<Sheet, AllocError> {
-    let shown = ShownSweep {
-        sweep,
-        task,
-        names,
-        form,
-    };
-    let mut sheet = Sheet::new(alloc);
-    sheet.put(shown.heading(alloc)?)?;
-    for load in sweep.loads.as_slice() {
-        shown.put_load(alloc, load, &mut sheet)?;
+    /// The runs of the sweep, a row for each: what came of the task in it. Fails only when out of
+    /// memory.
+    pub fn sheet(self, alloc: Global) -> Result<Sheet, AllocError> {
+        let mut sheet = Sheet::new(alloc);
+        sheet.put(self.heading(alloc)?)?;
+        for load in self.sweep.loads.as_slice() {
+            self.put_load(alloc, load, &mut sheet)?;
+        }
+        Ok(sheet)
     }
-    Ok(sheet)
 }

@@ -67,7 +67,12 @@ pub fn say_misses<E: Write>(
         let run = &last.runs[table];
         if is_missed_by(objective, run) {
             say_name(names.variation, table, errors);
-            say_missed(objective, last.load, run, names.labels, errors);
+            let miss = Miss {
+                objective,
+                load: last.load,
+                run,
+            };
+            say_missed(miss, names.labels, errors);
             say_kept(kept_up_to(objective, loads, table), errors);
         }
     }
@@ -83,14 +88,22 @@ fn say_name<E: Write>(variation: Option<Variation<'_>>, table: usize, errors: &m
     }
 }
 
-/// Writes the objective that a run misses, and what stands at its rank.
-fn say_missed<E: Write>(
-    objective: &Objective,
+/// A run that misses an objective.
+#[derive(Clone, Copy)]
+struct Miss<'a> {
+    objective: &'a Objective,
+    /// The load of the run, in thousandths.
     load: u64,
-    run: &SweptRun,
-    labels: Labels<'_>,
-    errors: &mut E,
-) {
+    run: &'a SweptRun,
+}
+
+/// Writes the objective that a run misses, and what stands at its rank.
+fn say_missed<E: Write>(miss: Miss<'_>, labels: Labels<'_>, errors: &mut E) {
+    let Miss {
+        objective,
+        load,
+        run,
+    } = miss;
     let (ones, rest) = (load / 1000, load % 1000);
     let _ = write!(errors, "{objective} is missed at load {ones}.{rest:03}: ");
     let (rank, unit) = (rank_word(objective.rank), labels.ticks());

@@ -47,6 +47,8 @@ pub struct Asked<'a> {
     pub word: &'a str,
     /// The words of the tasks.
     pub named: Vec<&'a str>,
+    /// As what it is shown.
+    pub form: SweepForm,
 }
 
 /// The objective of a word, of one of the tasks to which requests come.
@@ -93,6 +95,7 @@ pub fn asked_of<'a>(alloc: Global, words: &SweepWords<'a>) -> Result<Asked<'a>, 
         seed: words.load.seed,
         word: stepped.word,
         named: words.load.tasks.clone()?,
+        form: words.form,
     })
 }
 

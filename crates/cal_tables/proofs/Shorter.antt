@@ -1,7 +1,7 @@
 -- What stands behind a separator line is shorter than the whole.
 use Rattle.std.proofs.Common.{◌≡◌, ◌<◌, ◌+◌, ◌==◌, ◌++◌, ◌∷◌, [], ℕ, Bool, true, false, List, length, Option, Some, None, ◌∙◌, option_map, if◌then◌else◌, length-append, refl, sym, ap, arith}
 use Rattle.std.specs.List.{concat}
-use Rattle.cal_engine.specs.Input.{before_line, lines_of, is_separator, parts_at, input_parts}
+use Rattle.cal_input.specs.Input.{before_line, lines_of, is_separator, parts_at, input_parts}
 use Rattle.cal_machine.proofs.Last.{some_same}
 
 none_is_some : {X : Type 0} (x : X) → None ≡ Some x → ⊥

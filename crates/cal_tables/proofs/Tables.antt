@@ -1,7 +1,7 @@
 -- The tables of an input, read one by one.
 use Rattle.std.proofs.Common.{◌≡◌, ◌++◌, ◌∷◌, [], ℕ, List, Some, None, Ok, refl, sym, subst, append_assoc}
 use Rattle.std.proofs.lemmas.List.{append-nil}
-use Rattle.cal_engine.specs.Input.{input_parts}
+use Rattle.cal_input.specs.Input.{input_parts}
 use Rattle.cal_machine.specs.Reading.{table_in}
 use Rattle.cal_machine.specs.Table.{Table}
 use Rattle.cal_tables.specs.Compared.{AreTables}

@@ -1,6 +1,6 @@
 -- Runs of several tables on the same arrivals, side by side.
 use Rattle.std.specs.Prelude.{◌≡◌, ℕ, List, [], ◌∷◌, length, Some, None, Ok, slice_get}
-use Rattle.cal_engine.specs.Input.{input_parts}
+use Rattle.cal_input.specs.Input.{input_parts}
 use Rattle.cal_machine.specs.Reading.{table_in}
 use Rattle.cal_machine.specs.Table.{Table}
 use Rattle.cal_machine.specs.Tasks.{threads_in}

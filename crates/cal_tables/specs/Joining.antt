@@ -1,7 +1,7 @@
 -- A task table as it stands in an input.
 use Rattle.std.specs.Prelude.{ℕ, List, ◌++◌, codes, Option, Some, None, if◌then◌else◌}
 use Rattle.std.specs.Io.BufRead.{ends_with_byte}
-use Rattle.cal_engine.specs.Input.{input_parts}
+use Rattle.cal_input.specs.Input.{input_parts}
 
 -- a text with a line feed at the end of its last line
 abbrev pub ended : List ℕ → List ℕ

@@ -2,7 +2,7 @@
 use Rattle.std.specs.Prelude.{◌≡◌, ◌<◌, ◌≤◌, ◌⊎◌, ℕ, ◌+◌, ◌-◌, ◌*◌, ◌%◌, ◌^◌, List, length, map}
 use Rattle.std.specs.List.{Contains}
 use Rattle.std.specs.List.Sorted.{IsPermutation}
-use Rattle.cal_engine.specs.declared.fault.RunFault.TheVariants.{Memory}
+use Rattle.cal_input.specs.declared.fault.RunFault.TheVariants.{Memory}
 use Rattle.cal_machine.specs.Table.{Table}
 use Rattle.cal_machine.specs.Tasks.{first_thread, task_at, task_of}
 use Rattle.cal_machine.specs.declared.task.Task.{Task}

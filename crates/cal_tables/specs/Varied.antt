@@ -2,7 +2,7 @@
 use Rattle.std.specs.Prelude.{◌≡◌, bytes_eq, ℕ, Bool, List, map, Result, Ok, Err}
 use Rattle.std.specs.Prelude.{if◌then◌else◌}
 use Rattle.std.specs.List.{list_any}
-use Rattle.cal_engine.specs.Running.{run_input_of}
+use Rattle.cal_input.specs.Parts.{run_input_of}
 use Rattle.cal_machine.specs.Reading.{table_in}
 use Rattle.cal_machine.specs.Table.{Table}
 use Rattle.cal_machine.specs.declared.fault.ConfigFault.{ConfigFault}

@@ -22,7 +22,7 @@ use crate::comparing::varying::varied_given;
 use crate::labels::Labels;
 use crate::measuring::RunNumbers;
 use crate::sheet::NumberForm;
-use cal_engine::{RunFault, read_input};
+use cal_input::{RunFault, read_input};
 use cal_machine::Config;
 use std::alloc::Global;
 use std::io::{Read, Write};

@@ -9,7 +9,7 @@ ghost use Rattle.cal_tables.specs.Courses.{AreTaskCourses, IsRunCourse, IsTaskCo
 
 use crate::comparing::runs::OfRun;
 use crate::measuring::{RunNumbers, numbers_of_run};
-use cal_engine::RunFault;
+use cal_input::RunFault;
 use cal_machine::Config;
 use cal_measure::{ArrivalClocks, held_course, responses_of};
 use cal_policy::PassEntry;

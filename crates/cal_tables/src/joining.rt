@@ -4,7 +4,7 @@ ghost use Rattle.std.specs.Prelude.{◌≡◌, IfOk};
 ghost use Rattle.std.specs.Io.BufRead.{ends_with_byte};
 ghost use Rattle.cal_tables.specs.Joining.{front_of_table, table_part};
 
-use cal_engine::split_input;
+use cal_input::split_input;
 use std::alloc::{AllocError, Global};
 
 /// A task table with the line --- below it. Where its last line has no line feed it is given one.

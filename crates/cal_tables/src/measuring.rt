@@ -13,7 +13,7 @@ use crate::labels::Labels;
 use crate::recorded::{HistoryNumbers, Recorded, history_numbers, measured_recording};
 use crate::sheet::NumberForm;
 use crate::writing::{history_sheet, sheet_of};
-use cal_engine::{RunFault, read_input, read_parts};
+use cal_input::{RunFault, read_input, read_parts};
 use cal_machine::Config;
 use cal_measure::{ArrivalClocks, MachineCores, TaskCores, TaskRequests, requests_of, turns_last};
 use cal_policy::Verdict;

@@ -7,7 +7,7 @@ ghost use Rattle.cal_policy.specs.declared.history.entry.TheConstants.{MOST_PASS
 ghost use Rattle.cal_tables.specs.Measured.{AreHistoryNumbers};
 ghost use Rattle.cal_tables.specs.Recording.{IsMeasured, IsRecorded};
 
-use cal_engine::RunFault;
+use cal_input::RunFault;
 use cal_machine::Config;
 use cal_measure::{MachineCores, TaskCores, walked};
 use cal_policy::{Auditor, MOST_PASSES, PassEntry, Verdict};

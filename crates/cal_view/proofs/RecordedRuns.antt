@@ -2,12 +2,14 @@
 use Rattle.std.proofs.Common.{◌≡◌, ◌≤◌, ◌++◌, ◌∙◌, nat_lt, ℕ, false, List, length, Option, Some, None, IfSome, IfErr, OnOk, Result, Ok, Err, refl, sym, ap, subst, arith}
 use Rattle.std.proofs.lemmas.List.{append-nil}
 use Rattle.std.specs.Io.KnownBytes.{Appends, Consumes, IsAtEnd}
-use Rattle.cal_engine.specs.Outcome.{Failed}
-use Rattle.cal_engine.specs.Runs.{Run, decided_run_of, within_limit}
-use Rattle.cal_engine.specs.declared.fault.RunFault.{RunFault}
-use Rattle.cal_engine.specs.declared.fault.RunFault.TheVariants as fault
+use Rattle.cal_input.specs.Answers.{Failed}
+use Rattle.cal_input.specs.Parts.{within_limit}
+use Rattle.cal_input.specs.Recorded.{Run}
+use Rattle.cal_input.specs.declared.fault.RunFault.{RunFault}
+use Rattle.cal_input.specs.declared.fault.RunFault.TheVariants as fault
+use Rattle.cal_input.specs.declared.reading.TheConstants.{INPUT_LIMIT}
+use Rattle.cal_engine.specs.Deciding.{decided_run_of}
 use Rattle.cal_engine.specs.declared.jobs.front.Front.{Front}
-use Rattle.cal_engine.specs.declared.input.TheConstants.{INPUT_LIMIT}
 use Rattle.cal_view.specs.Recording.{recorded_text, Records}
 
 within : (text : List ℕ) (outcome : Result Run RunFault) → length text ≤ INPUT_LIMIT → within_limit text outcome ≡ outcome

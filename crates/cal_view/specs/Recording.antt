@@ -1,10 +1,10 @@
 -- What is written of a run that was decided.
 use Rattle.std.specs.Prelude.{◌++◌, ℕ, List, Option, Result, Ok, Err}
 use Rattle.std.specs.Io.KnownBytes.{Appends}
+use Rattle.cal_input.specs.Answers.{Failed}
+use Rattle.cal_input.specs.Recorded.{Run}
+use Rattle.cal_input.specs.declared.fault.RunFault.{RunFault}
 use Rattle.cal_engine.specs.Front.{front_of}
-use Rattle.cal_engine.specs.Outcome.{Failed}
-use Rattle.cal_engine.specs.Runs.{Run}
-use Rattle.cal_engine.specs.declared.fault.RunFault.{RunFault}
 use Rattle.cal_engine.specs.declared.jobs.front.Front.{Front}
 use Rattle.cal_policy.specs.declared.history.entry.PassEntry.{PassEntry}
 use Rattle.cal_trace.specs.History.Text.{history_text}

@@ -5,6 +5,7 @@ pub mod checking;
 pub mod comparing;
 pub mod drawing;
 pub mod explaining;
+pub mod input;
 pub mod measuring;
 pub mod naming;
 pub mod recording;

@@ -8,19 +8,20 @@ use crate::edge::beside::open_beside;
 use crate::edge::failure::Failure;
 use crate::edge::noted::Noted;
 use crate::edge::sources::{open_named, read_tables, said_of_reading};
-use crate::jobs::arriving::answer_arrivals;
+use crate::jobs::arriving::Arriving;
 use crate::jobs::checking::answer_check;
 use crate::jobs::comparing::answer_compare;
 use crate::jobs::drawing::answer_picture;
 use crate::jobs::explaining::answer_explain;
+use crate::jobs::input::JobInput;
 use crate::jobs::measuring::answer_measure;
 use crate::jobs::naming::{names_of, refuse_count, refuse_words_of_labels};
 use crate::jobs::recording::record;
-use crate::jobs::sweeping::answer_swept;
+use crate::jobs::sweeping::Sweeping;
 use crate::refusing::{end_refusal, refused_input};
-use cal_engine::{RunFault, read_input, refuse_words, words_after_first};
+use cal_engine::{refuse_words, words_after_first};
+use cal_input::{RunFault, read_input};
 use cal_picture::write_timeline;
-use cal_refusals::RefusedInput;
 use cal_tables::Labels;
 use std::alloc::Global;
 use std::io::{BufWriter, Read, Write};
@@ -49,7 +50,14 @@ pub fn run_program<H: Files + Threads + Sync, R: Read + Drop, W: Write, E: Write
     };
     let mut output = Noted::new(output);
     match words(alloc, given.as_slice()) {
-        Ok(request) => end_request(rt, alloc, &request, reader, &mut output, errors),
+        Ok(request) => {
+            let run = ProgramRun {
+                rt,
+                alloc,
+                request: &request,
+            };
+            run.end(reader, &mut output, errors)
+        }
         Err(error) => {
             let answer = refuse_words(&error, &mut output, errors);
             end_answer(answer, &output, errors)
@@ -83,25 +91,6 @@ fn said_of_writing<W: Write>(fault: RunFault, output: &Noted<W>) -> Option<std::
     }
 }
 
-/// Does what the words ask for, and answers the exit status.
-fn end_request<H: Files + Threads + Sync, R: Read + Drop, W: Write, E: Write>(
-    rt: &H,
-    alloc: Global,
-    request: &Request<'_>,
-    reader: R,
-    output: &mut Noted<W>,
-    errors: &mut E,
-) -> u8 {
-    if let Job::Help = request.job {
-        let answer = say_help(alloc, errors);
-        return end_answer(answer, output, errors);
-    }
-    match answer_request(rt, alloc, request, reader, output, errors) {
-        Ok(status) => status,
-        Err(failure) => failure.end(errors),
-    }
-}
-
 /// Says in short how the program is used, where no word was given. That is no job, so the status is
 /// 2.
 pub fn say_help<E: Write>(alloc: Global, errors: &mut E) -> Result<u8, RunFault>
@@ -114,178 +103,205 @@ pub fn say_help<E: Write>(alloc: Global, errors: &mut E) -> Result<u8, RunFault>
     }
 }
 
-/// Does what the words ask for on the reader or on the files that they name, and answers the exit
-/// status where there is no fault.
-fn answer_request<'a, H: Files + Threads + Sync, R: Read + Drop, W: Write, E: Write>(
-    rt: &H,
+/// A run of the program that words ask for.
+#[derive(Drop)]
+struct ProgramRun<'a, H> {
+    /// What opens files and starts threads.
+    rt: &'a H,
+    /// What it takes memory from.
     alloc: Global,
-    request: &Request<'a>,
-    reader: R,
-    output: &mut Noted<W>,
-    errors: &mut E,
-) -> Result<u8, Failure<'a>> {
-    if let Some(status) = refuse_words_of_labels(request.labels, errors) {
-        return Ok(status);
-    }
-    let tables = read_tables(rt, alloc, request.tables.as_slice())?;
-    let front = tables.as_slice();
-    let Some(name) = request.input else {
-        let mut input = Noted::new(front.chain(reader));
-        return answer_input(rt, alloc, request, &mut input, output, errors);
-    };
-    let mut input = Noted::new(front.chain(open_named(rt, name)?));
-    answer_input(rt, alloc, request, &mut input, output, errors)
+    /// What the words ask for.
+    request: &'a Request<'a>,
 }
 
-/// Does what the words ask for on an input, and answers the exit status where there is no fault.
-fn answer_input<'a, H: Files + Threads + Sync, R: Read, W: Write, E: Write>(
-    rt: &H,
-    alloc: Global,
-    request: &Request<'a>,
-    input: &mut Noted<R>,
-    output: &mut Noted<W>,
-    errors: &mut E,
-) -> Result<u8, Failure<'a>> {
-    let answer = match request.output {
-        Some(name) => return answer_into(rt, alloc, request, name, input, errors),
-        None => answer_job(rt, alloc, request, &mut *input, output, errors),
-    };
-    match answer {
-        Ok(status) => Ok(status),
-        Err(fault) => Err(failure_of(fault, request, None, input, output)),
-    }
-}
-
-/// Does what the words ask for on an input, and writes the answer to the file of this name. Nothing
-/// is left of it where there is none.
-fn answer_into<'a, H: Files + Threads + Sync, R: Read, E: Write>(
-    rt: &H,
-    alloc: Global,
-    request: &Request<'a>,
-    name: &'a str,
-    input: &mut Noted<R>,
-    errors: &mut E,
-) -> Result<u8, Failure<'a>> {
-    let file = match open_beside(rt, alloc, name) {
-        Ok(file) => file,
-        Err(said) => return Err(Failure::of_file(RunFault::Write, name, said)),
-    };
-    let mut file = Noted::new(file);
-    match answer_job(rt, alloc, request, &mut *input, &mut file, errors) {
-        Ok(2) => {
-            file.inner().remove(rt);
-            Ok(2)
+impl<'a, H: Files + Threads + Sync> ProgramRun<'a, H> {
+    /// Does what the words ask for, and answers the exit status.
+    fn end<R: Read + Drop, W: Write, E: Write>(
+        &self,
+        reader: R,
+        output: &mut Noted<W>,
+        errors: &mut E,
+    ) -> u8 {
+        if let Job::Help = self.request.job {
+            let answer = say_help(self.alloc, errors);
+            return end_answer(answer, output, errors);
         }
-        Ok(status) => match file.inner().keep(rt) {
-            Ok(()) => Ok(status),
-            Err(said) => Err(Failure::of_file(RunFault::Write, name, said)),
-        },
-        Err(fault) => {
-            file.inner().remove(rt);
-            Err(failure_of(fault, request, Some(name), input, &file))
+        match self.answer(reader, output, errors) {
+            Ok(status) => status,
+            Err(failure) => failure.end(errors),
         }
     }
-}
 
-/// The failure of a job: what is said of its input or its output is of the file that was named.
-fn failure_of<'a, R: Read, W: Write>(
-    fault: RunFault,
-    request: &Request<'a>,
-    file: Option<&'a str>,
-    input: &Noted<R>,
-    output: &Noted<W>,
-) -> Failure<'a> {
-    match fault {
-        RunFault::Read => Failure {
-            fault,
-            file: request.input,
-            said: said_of_reading(fault, input),
-        },
-        RunFault::Write => Failure {
-            fault,
-            file,
-            said: said_of_writing(fault, output),
-        },
-        fault => Failure::from(fault),
-    }
-}
-
-/// Does the job of a request on an input, and answers the exit status where there is no fault. Of an
-/// input that is refused it says why.
-fn answer_job<H: Threads + Sync, R: Read + Drop, W: Write, E: Write>(
-    rt: &H,
-    alloc: Global,
-    request: &Request<'_>,
-    mut reader: R,
-    output: &mut W,
-    errors: &mut E,
-) -> Result<u8, RunFault> {
-    let names = names_of(alloc, request.labels)?;
-    let labels = Labels {
-        names: names.as_slice(),
-        tick: request.labels.tick,
-    };
-    // These two refuse their words before they read.
-    match &request.job {
-        Job::Arrivals { asked } => return answer_arrivals(alloc, reader, asked, output, errors),
-        Job::Sweep { asked } => {
-            return answer_swept(rt, alloc, reader, asked, labels, output, errors);
+    /// Does what the words ask for on the reader or on the files that they name, and answers the
+    /// exit status where there is no fault.
+    fn answer<R: Read + Drop, W: Write, E: Write>(
+        &self,
+        reader: R,
+        output: &mut Noted<W>,
+        errors: &mut E,
+    ) -> Result<u8, Failure<'a>> {
+        let request = self.request;
+        if let Some(status) = refuse_words_of_labels(request.labels, errors) {
+            return Ok(status);
         }
-        _ => {}
+        let tables = read_tables(self.rt, self.alloc, request.tables.as_slice())?;
+        let front = tables.as_slice();
+        let Some(name) = request.input else {
+            let mut input = Noted::new(front.chain(reader));
+            return self.answer_input(&mut input, output, errors);
+        };
+        let mut input = Noted::new(front.chain(open_named(self.rt, name)?));
+        self.answer_input(&mut input, output, errors)
     }
-    let input = read_input(alloc, &mut reader)?;
-    let refused = refused_input(request, input.as_slice());
-    match answer_read(alloc, &request.job, labels, refused, output, errors) {
-        Ok(status) => Ok(status),
-        Err(fault) => end_refusal(alloc, refused, fault, errors),
+
+    /// Does what the words ask for on an input, and answers the exit status where there is no fault.
+    fn answer_input<R: Read, W: Write, E: Write>(
+        &self,
+        input: &mut Noted<R>,
+        output: &mut Noted<W>,
+        errors: &mut E,
+    ) -> Result<u8, Failure<'a>> {
+        let answer = match self.request.output {
+            Some(name) => return self.answer_into(name, input, errors),
+            None => self.answer_job(&mut *input, output, errors),
+        };
+        match answer {
+            Ok(status) => Ok(status),
+            Err(fault) => Err(self.failure_of(fault, None, input, output)),
+        }
+    }
+
+    /// Does what the words ask for on an input, and writes the answer to the file of this name.
+    /// Nothing is left of it where there is none.
+    fn answer_into<R: Read, E: Write>(
+        &self,
+        name: &'a str,
+        input: &mut Noted<R>,
+        errors: &mut E,
+    ) -> Result<u8, Failure<'a>> {
+        let file = match open_beside(self.rt, self.alloc, name) {
+            Ok(file) => file,
+            Err(said) => return Err(Failure::of_file(RunFault::Write, name, said)),
+        };
+        let mut file = Noted::new(file);
+        match self.answer_job(&mut *input, &mut file, errors) {
+            Ok(2) => {
+                file.inner().remove(self.rt);
+                Ok(2)
+            }
+            Ok(status) => match file.inner().keep(self.rt) {
+                Ok(()) => Ok(status),
+                Err(said) => Err(Failure::of_file(RunFault::Write, name, said)),
+            },
+            Err(fault) => {
+                file.inner().remove(self.rt);
+                Err(self.failure_of(fault, Some(name), input, &file))
+            }
+        }
+    }
+
+    /// The failure of a job: what is said of its input or its output is of the file that was named.
+    fn failure_of<R: Read, W: Write>(
+        &self,
+        fault: RunFault,
+        file: Option<&'a str>,
+        input: &Noted<R>,
+        output: &Noted<W>,
+    ) -> Failure<'a> {
+        match fault {
+            RunFault::Read => Failure {
+                fault,
+                file: self.request.input,
+                said: said_of_reading(fault, input),
+            },
+            RunFault::Write => Failure {
+                fault,
+                file,
+                said: said_of_writing(fault, output),
+            },
+            fault => Failure::from(fault),
+        }
+    }
+
+    /// Does the job of the words on an input, and answers the exit status where there is no fault.
+    /// Of an input that is refused it says why.
+    fn answer_job<R: Read + Drop, W: Write, E: Write>(
+        &self,
+        mut reader: R,
+        output: &mut W,
+        errors: &mut E,
+    ) -> Result<u8, RunFault> {
+        let (alloc, request) = (self.alloc, self.request);
+        let names = names_of(alloc, request.labels)?;
+        let labels = Labels {
+            names: names.as_slice(),
+            tick: request.labels.tick,
+        };
+        // These two refuse their words before they read.
+        match &request.job {
+            Job::Arrivals { asked } => {
+                let arriving = Arriving { alloc, asked };
+                return arriving.answer_arrivals(reader, output, errors);
+            }
+            Job::Sweep { asked } => {
+                let sweeping = Sweeping {
+                    alloc,
+                    words: asked,
+                    labels,
+                };
+                return sweeping.answer(self.rt, reader, output, errors);
+            }
+            _ => {}
+        }
+        let input = read_input(alloc, &mut reader)?;
+        let read = refused_input(request, input.as_slice());
+        let input = JobInput {
+            alloc,
+            read,
+            labels,
+        };
+        match answer_read(&request.job, &input, output, errors) {
+            Ok(status) => Ok(status),
+            Err(fault) => end_refusal(alloc, read, fault, errors),
+        }
     }
 }
 
-/// Does a job on an input that was read, and answers the exit status where there is no fault: 2
-/// where there are more or fewer names than tasks.
+/// Does a job on an input, and answers the exit status where there is no fault: 2 where there are
+/// more or fewer names than tasks.
 fn answer_read<W: Write, E: Write>(
-    alloc: Global,
     job: &Job<'_>,
-    labels: Labels<'_>,
-    read: RefusedInput<'_>,
+    input: &JobInput<'_>,
     output: &mut W,
     errors: &mut E,
 ) -> Result<u8, RunFault> {
-    let input = read.input;
-    if let Some(status) = refuse_count(alloc, labels, input, errors)? {
+    if let Some(status) = refuse_count(input.alloc, input.labels, input.bytes(), errors)? {
         return Ok(status);
     }
     match job {
-        Job::Check => answer_check(alloc, input, output),
-        Job::Explain { asked } => answer_explain(alloc, input, *asked, output, errors),
-        Job::Compare { vary, form } => {
-            answer_compare(alloc, read, *vary, labels, *form, output, errors)
-        }
-        Job::Measure { form } => answer_measure(alloc, input, labels, *form, output, errors),
-        Job::Picture { shown } => answer_picture(alloc, input, *shown, labels, output, errors),
+        Job::Check => answer_check(input.alloc, input.bytes(), output),
+        Job::Explain { asked } => answer_explain(input, *asked, output, errors),
+        Job::Compare { asked } => answer_compare(input, *asked, output, errors),
+        Job::Measure { form } => answer_measure(input, *form, output, errors),
+        Job::Picture { shown } => answer_picture(input, *shown, output, errors),
         job => {
-            do_job(alloc, job, labels, input, output)?;
+            do_job(job, input, output)?;
             Ok(0)
         }
     }
 }
 
 /// Does a job that says nothing of an input that it accepts. What is written goes through a buffer.
-fn do_job<W: Write>(
-    alloc: Global,
-    job: &Job<'_>,
-    labels: Labels<'_>,
-    input: &[u8],
-    output: &mut W,
-) -> Result<(), RunFault> {
+fn do_job<W: Write>(job: &Job<'_>, input: &JobInput<'_>, output: &mut W) -> Result<(), RunFault> {
+    let (alloc, bytes) = (input.alloc, input.bytes());
     let mut buffer = match BufWriter::new(alloc, output) {
         Ok(buffer) => buffer,
         Err(_) => return Err(RunFault::Memory),
     };
     match job {
-        Job::History { front } => record(alloc, input, *front, &mut buffer)?,
-        Job::Timeline => write_timeline(alloc, input, labels, &mut buffer)?,
-        // (answer_job and answer_read do these)
+        Job::History { front } => record(alloc, bytes, *front, &mut buffer)?,
+        Job::Timeline => write_timeline(alloc, bytes, input.labels, &mut buffer)?,
+        // (the calls above do these)
         Job::Arrivals { .. } | Job::Check | Job::Compare { .. } | Job::Explain { .. } => {}
         Job::Measure { .. } | Job::Picture { .. } | Job::Sweep { .. } | Job::Help => {}
     }

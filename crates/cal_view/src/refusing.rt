@@ -3,8 +3,8 @@
 ghost use Rattle.std.specs.Prelude.{◌≡◌, IfErr, IfOk};
 
 use crate::command_words::command_line::{Job, Request};
-use cal_engine::RunFault;
 use cal_faults::TraceKind;
+use cal_input::RunFault;
 use cal_load::WordFault;
 use cal_refusals::{PartFiles, RefusedInput, end_explained};
 use std::alloc::Global;
@@ -83,7 +83,7 @@ fn traces_of(job: &Job<'_>) -> &'static [TraceKind] {
 /// separator.
 fn tables_of(job: &Job<'_>) -> usize {
     match job {
-        Job::Compare { vary: None, .. } => usize::MAX,
+        Job::Compare { asked } if asked.vary.is_none() => usize::MAX,
         _ => 1,
     }
 }

@@ -5,7 +5,7 @@
 //! with it. tools/count_requests reads this.
 #![tactic(auto)]
 
-use cal_engine::{RunFault, fault_line, read_input, run_input, status};
+use cal_input::{RunFault, fault_line, read_input, run_input, status};
 use cal_kthread::Entry;
 use cal_machine::{Command, Request};
 use cal_run::{RunEnd, lockstep_end};
@@ -14,6 +14,7 @@ use std::io;
 use std::io::{BufWriter, Read, Write};
 use std::process::ExitCode;
 
+// begin
 fn main(rt: HostRuntime) -> ExitCode {
     match tell_run(rt.alloc(), rt.stdin(), &mut rt.stdout()) {
         Ok(()) => ExitCode::from(0),
@@ -41,6 +42,7 @@ fn tell_run<R: Read + Drop, W: Write>(
         Err(_) => Err(RunFault::Write),
     }
 }
+// end
 
 /// Writes the rows of each thread.
 fn put_journals<W: Write>(end: &RunEnd, writer: &mut W) -> io::Result<()> {

@@ -1,6 +1,6 @@
 //! Tries of a call.
 
-use cal_engine::RunFault;
+use cal_input::RunFault;
 use cal_kthread::TurnFault;
 use cal_machine::ConfigFault;
 use cal_run::SimFault;

@@ -2,7 +2,7 @@
 
 ghost use Rattle.std.specs.Prelude.{◌≡◌, IfErr};
 
-use crate::fault::RunFault;
+use cal_input::RunFault;
 use std::alloc::{AllocError, Global};
 use std::env::{self, Args, Env};
 use std::io;

@@ -4,8 +4,8 @@ ghost use Rattle.std.specs.Prelude.{◌≡◌, ◌++◌, IfErr, OnOk};
 ghost use Rattle.std.specs.Io.KnownBytes.{Appends};
 ghost use Rattle.cal_engine.specs.Front.{front_of};
 
-use crate::fault::RunFault;
 use crate::jobs::front::{Front, write_front};
+use cal_input::RunFault;
 use std::io::Write;
 
 /// Writes the whole answer. The fault is `Write`, if the writer returns an error; how much was

@@ -7,14 +7,14 @@ ghost use Rattle.cal_policy.specs.Pass.{IsLegal};
 ghost use Rattle.cal_policy.specs.Verdict.{IsVerdict};
 ghost use Rattle.cal_trace.specs.History.Reading.{extent_of, HasGiven, IsOpen};
 ghost use Rattle.cal_trace.specs.Report.{report_text};
-ghost use Rattle.cal_engine.specs.Outcome.{audit_text, illegal_line, Audits, Decided};
-ghost use Rattle.cal_engine.specs.Recorded.{recorded_in, HasGivenOf, HasTaken, IsAnswerTo, Takes};
-ghost use Rattle.cal_engine.specs.Runs.{recorded_run_of, within_limit};
+ghost use Rattle.cal_input.specs.Answers.{Decided};
+ghost use Rattle.cal_input.specs.Parts.{within_limit};
+ghost use Rattle.cal_input.specs.Recorded.{recorded_in, recorded_run_of};
+ghost use Rattle.cal_engine.specs.Outcome.{audit_text, illegal_line, Audits};
+ghost use Rattle.cal_engine.specs.Auditing.{HasTaken, IsAnswerTo, Takes};
 
-use crate::fault::RunFault;
-use crate::input::parts::read_parts;
-use crate::input::read_input;
 use crate::jobs::answer::write_answer;
+use cal_input::{RunFault, read_input, read_parts};
 use cal_machine::Config;
 use cal_policy::{Auditor, PassEntry, Verdict};
 use cal_trace::{HistoryRows, Report};
@@ -46,19 +46,6 @@ pub fn run_audit<R: Read + Drop, W: Write>(
     let (verdict, answer) = audited(alloc, input.as_slice())?;
     write_answer(answer.as_slice(), writer)?;
     Ok(verdict)
-}
-
-/// The task table of an input, and its history as it is there, before its first pass. The faults
-/// come in this order: `Separator`, `Config`, `Trace` where the history has not its header;
-/// `Memory` may come at any place.
-pub fn recorded_passes(alloc: Global, input: &[u8]) -> Result<(Config, HistoryRows<'_>), RunFault>
-    ensures ready { IfOk result (λ r. IsOpen r.1) }
-    ensures given { IfOk result (λ r. HasGivenOf input.now r.0 [] r.1) }
-    ensures fault { IfErr result (λ fault. Decided fault (recorded_run_of input.now ≡ Err fault)) }
-{
-    let (config, trace) = read_parts(alloc, input)?;
-    let rows = HistoryRows::open(alloc, &config, trace)?;
-    Ok((config, rows))
 }
 
 /// The verdict on the history of an input, and what the program writes of it. The text is gone over

@@ -2,10 +2,10 @@
 
 ghost use Rattle.std.specs.Prelude.{OnOk};
 ghost use Rattle.std.specs.Io.KnownBytes.{Appends};
+ghost use Rattle.cal_input.specs.Input.{input_parts};
 ghost use Rattle.cal_engine.specs.Front.{front_of, table_text};
-ghost use Rattle.cal_engine.specs.Input.{input_parts};
 
-use crate::input::separator::split_input;
+use cal_input::split_input;
 use std::io;
 use std::io::Write;
 

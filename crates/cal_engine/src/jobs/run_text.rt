@@ -8,8 +8,8 @@ ghost use Rattle.cal_run.specs.Outcome.{outcome_of};
 ghost use Rattle.cal_trace.specs.Report.Summary.{IsTallyOf, summary_text};
 ghost use Rattle.cal_engine.specs.Running.{run_text};
 
-use crate::fault::RunFault;
 use crate::jobs::running::RunAnswer;
+use cal_input::RunFault;
 use cal_kthread::{Journal, RequestList};
 use cal_machine::Config;
 use cal_policy::legal_is_orderly;

@@ -2,19 +2,17 @@
 
 ghost use Rattle.std.specs.Prelude.{◌≡◌, ◌≢◌, ◌⊎◌, Err, IfOk, IfErr, IfSome, OnOk, false};
 ghost use Rattle.cal_trace.specs.Arrivals.FitsTable.{FitsTable};
+ghost use Rattle.cal_input.specs.Answers.{Decided, Failed};
+ghost use Rattle.cal_input.specs.Parts.{run_input_of, within_limit};
 ghost use Rattle.cal_engine.specs.Front.{front_of};
-ghost use Rattle.cal_engine.specs.Outcome.{Decided, Failed};
-ghost use Rattle.cal_engine.specs.Runs.{within_limit};
-ghost use Rattle.cal_engine.specs.Running.{is_told, run_front, run_input_of, Begins, IsTextOfRun};
-ghost use Rattle.cal_engine.specs.Running.{Runs, Tells, TellsRun};
+ghost use Rattle.cal_engine.specs.Running.{is_told, run_front, Begins, IsTextOfRun, Runs, Tells};
+ghost use Rattle.cal_engine.specs.Running.{TellsRun};
 
-use crate::fault::RunFault;
-use crate::input::parts::run_input;
-use crate::input::read_input;
 use crate::jobs::answer::write_after_front;
 use crate::jobs::front::Front;
 use crate::jobs::run_text::{run_text, tallied_summary};
 use crate::jobs::telling::tell_lockstep;
+use cal_input::{RunFault, read_input, run_input};
 use cal_machine::Config;
 use cal_run::{lockstep_end, lockstep_tallied};
 use cal_trace::Arrivals;

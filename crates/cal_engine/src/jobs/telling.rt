@@ -13,9 +13,9 @@ ghost use Rattle.cal_trace.specs.Rows.Text.{line_of};
 ghost use Rattle.cal_engine.specs.Front.{front_of};
 ghost use Rattle.cal_engine.specs.Running.{AreFirstPasses, IsBegunTold, IsTold};
 
-use crate::fault::RunFault;
 use crate::jobs::answer::write_answer;
 use crate::jobs::front::{Front, write_front};
+use cal_input::RunFault;
 use cal_machine::Config;
 use cal_policy::{PassEntry, nothing_is_legal};
 use cal_run::{Parts, end_told, open_parts, rounds_to_make, told_round};

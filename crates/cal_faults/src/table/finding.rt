@@ -27,7 +27,10 @@ pub fn find_key(text: &[u8], spot: Spot<'_>) -> Option<usize> {
             if let Section::Task(_) = section {
                 tasks = tasks.saturating_add(1);
             }
-            head = head_of(head, section, name, spot, place_in(line, at));
+            // The first one tells most of the place of a key.
+            if head.is_none() && is_head_of(spot, section, name) {
+                head = Some(place_in(line, at));
+            }
         } else if is_section_of(section, spot) && key_in(shown) == spot.key.as_bytes() {
             return Some(place_in(line, at));
         }
@@ -36,20 +39,11 @@ pub fn find_key(text: &[u8], spot: Spot<'_>) -> Option<usize> {
     head
 }
 
-/// The head that tells most of the place of a key so far: its task's, or the first of its name.
-fn head_of(
-    head: Option<usize>,
-    section: Section,
-    name: &[u8],
-    spot: Spot<'_>,
-    at: usize,
-) -> Option<usize> {
-    let is_its_task = spot.task.is_some() && is_section_of(section, spot);
-    let is_its_own = spot.task.is_none() && name == spot.key.as_bytes() && head.is_none();
-    if is_its_task || is_its_own {
-        Some(at)
-    } else {
-        head
+/// Whether a head is that of a key's task, or for a key above all tasks one of its name.
+fn is_head_of(spot: Spot<'_>, section: Section, name: &[u8]) -> bool {
+    match spot.task {
+        Some(_) => is_section_of(section, spot),
+        None => name == spot.key.as_bytes(),
     }
 }
 

@@ -19,6 +19,14 @@ struct Range {
     by: &'static str,
 }
 
+/// A field of a row.
+#[derive(Clone, Copy)]
+struct Field<'a> {
+    /// Its place in the row, of which the word has the first.
+    place: usize,
+    name: &'a str,
+}
+
 /// The numbers below this one.
 fn below(end: u64, by: &'static str) -> Range {
     Range {
@@ -78,7 +86,7 @@ pub fn tell_range(told: &mut String, case: &Case<'_>) -> Result<(), AllocError> 
         let number = case.rows.number_or_zero(place);
         match range_of(case, name) {
             Some(range) if number < range.least || range.most < number => {
-                return tell_field(told, case, place, name, range);
+                return tell_field(told, case, Field { place, name }, range);
             }
             _ => {}
         }
@@ -92,10 +100,10 @@ pub fn tell_range(told: &mut String, case: &Case<'_>) -> Result<(), AllocError> 
 fn tell_field(
     told: &mut String,
     case: &Case<'_>,
-    place: usize,
-    name: &str,
+    field: Field<'_>,
     range: Range,
 ) -> Result<(), AllocError> {
+    let Field { place, name } = field;
     let number = case.rows.number_or_zero(place);
     let Range { least, most, by } = range;
     case.tell_field(told, place)?;

@@ -37,7 +37,7 @@ const LEGEND: u64 = 96;
 
 /// What came of a task in a run.
 #[derive(Clone, Copy)]
-pub struct DrawnTask<'a> {
+pub struct ComparedTask<'a> {
     /// The numbers of its requests.
     pub requests: &'a TaskRequests,
     /// How long each took that was served, in clock ticks, the shortest first.
@@ -168,10 +168,10 @@ impl<'a> Graphs<'a> {
     }
 
     /// What came of a task in a run that may have no such task.
-    pub fn course(&self, run: usize, task: usize) -> Option<DrawnTask<'a>> {
+    pub fn course(&self, run: usize, task: usize) -> Option<ComparedTask<'a>> {
         let run = self.compared.runs.as_slice().get(run)?;
         let course = run.tasks.as_slice().get(task)?;
-        Some(DrawnTask {
+        Some(ComparedTask {
             requests: run.numbers.requests.as_slice().get(task)?,
             responses: course.responses.as_slice(),
             held: course.held.as_slice(),

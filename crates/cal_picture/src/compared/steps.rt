@@ -1,6 +1,6 @@
 //! The plot of a task: which share of its requests was answered within how long, run by run.
 
-use crate::compared::sheet::{DrawnTask, GRAPH, Graphs, LEFT, RIGHT};
+use crate::compared::sheet::{ComparedTask, GRAPH, Graphs, LEFT, RIGHT};
 use crate::compared::style::dash_of_run;
 use crate::compared::words::tell_task;
 use crate::page::Page;
@@ -54,39 +54,63 @@ fn draw_within(graphs: &Graphs<'_>, y: u64, page: &mut Page) {
 
 /// The lines of the shares.
 fn draw_shares(graphs: &Graphs<'_>, task: usize, page: &mut Page) {
-    for (pending, name, decades) in MARKS {
-        if decades <= graphs.shares.decades {
-            draw_share(graphs, graphs.base(task), pending, name, page);
+    for share in shares() {
+        if share.decades <= graphs.shares.decades {
+            draw_share(graphs, graphs.base(task), share, page);
         }
     }
 }
 
-/// The shares that have a line: how many of 1,000 requests are pending there, the share's name, and
-/// how many powers of ten a scale has at least that shows it.
-const MARKS: [(u64, &str, u64); 6] = [
-    (1000, "0%", 1),
-    (500, "50%", 1),
-    (100, "90%", 1),
-    (10, "99%", 2),
-    (1, "99.9%", 3),
-    (0, "100%", 1),
-];
+/// A share of all requests.
+#[derive(Clone, Copy)]
+struct Share {
+    name: &'static str,
+    /// How many of 1,000 requests are pending where so many were answered.
+    pending: u64,
+    /// How many powers of ten a scale has at least that shows it.
+    decades: u64,
+}
 
-/// The line of a share of all requests.
-fn draw_share(graphs: &Graphs<'_>, base: u64, pending: u64, name: &str, page: &mut Page) {
-    let y = base.saturating_sub(graphs.shares.height(pending, 1000));
+fn share_at(name: &'static str, pending: u64, decades: u64) -> Share {
+    Share {
+        name,
+        pending,
+        decades,
+    }
+}
+
+/// The shares that have a line.
+fn shares() -> [Share; 6] {
+    [
+        share_at("0%", 1000, 1),
+        share_at("50%", 500, 1),
+        share_at("90%", 100, 1),
+        share_at("99%", 10, 2),
+        share_at("99.9%", 1, 3),
+        share_at("100%", 0, 1),
+    ]
+}
+
+/// The line of a share of all requests, in a plot with this foot.
+fn draw_share(graphs: &Graphs<'_>, base: u64, share: Share, page: &mut Page) {
+    let y = base.saturating_sub(graphs.shares.height(share.pending, 1000));
     page.fill(
         "<path class='g' d='M{} {}H{}'/><text class='q e' x='{}' y='{}'>",
         &[LEFT, y, RIGHT, LEFT - 6, y.saturating_add(4)],
     );
-    page.join("{}</text>\n", &[name]);
+    page.join("{}</text>\n", &[share.name]);
 }
 
 /// A tick at 0 and at each power of ten, and at two and five times it, up to the greatest time.
 fn draw_ticks(graphs: &Graphs<'_>, task: usize, page: &mut Page) {
     let base = graphs.base(task);
     page.put("<g class='m'>");
-    draw_tick(LEFT, base, 0, true, page);
+    let zero = Tick {
+        x: LEFT,
+        time: 0,
+        is_told: true,
+    };
+    draw_tick(base, zero, page);
     for exponent in graphs.times.first..graphs.times.last {
         draw_decade(graphs, base, exponent, page);
     }
@@ -102,16 +126,33 @@ fn draw_decade(graphs: &Graphs<'_>, base: u64, exponent: u64, page: &mut Page) {
     for times in [1u64, 2, 5] {
         let time = graphs.times.tick(exponent, times);
         if time <= graphs.times.greatest {
-            draw_tick(graphs.times.at(time), base, time, room || times == 1, page);
+            let tick = Tick {
+                x: graphs.times.at(time),
+                time,
+                is_told: room || times == 1,
+            };
+            draw_tick(base, tick, page);
         }
     }
 }
 
-/// A tick, and what it stands for.
-fn draw_tick(x: u64, base: u64, time: u64, told: bool, page: &mut Page) {
+/// A time that has a line.
+#[derive(Clone, Copy)]
+struct Tick {
+    /// Where it stands, in pixels.
+    x: u64,
+    /// The time, in clock ticks.
+    time: u64,
+    /// Whether its number stands below.
+    is_told: bool,
+}
+
+/// Writes the line of a time, in a plot with this foot.
+fn draw_tick(base: u64, tick: Tick, page: &mut Page) {
+    let Tick { x, time, is_told } = tick;
     let top = base.saturating_sub(GRAPH);
     page.fill("<path class='g' d='M{} {}V{}'/>", &[x, top, base]);
-    if told {
+    if is_told {
         let foot = base.saturating_add(14);
         page.fill("<text class='q' x='{}' y='{}'>{}</text>", &[x, foot, time]);
     }
@@ -134,7 +175,7 @@ fn draw_steps(graphs: &Graphs<'_>, task: usize, run: usize, page: &mut Page) {
 
 /// A step for each place of the paper at which a request was answered: up to the share of all
 /// requests of the task that were answered until then.
-fn draw_stairs(graphs: &Graphs<'_>, course: DrawnTask<'_>, base: u64, page: &mut Page) {
+fn draw_stairs(graphs: &Graphs<'_>, course: ComparedTask<'_>, base: u64, page: &mut Page) {
     let times = course.responses;
     let given = course.requests.given as u64;
     for place in 0..times.len() {

@@ -1,21 +1,31 @@
 //! The strips of a task: how many cores it held over time, run by run.
 
-use crate::compared::sheet::{DrawnTask, Graphs, LEFT, PLOT, RIGHT, STRIP};
+use crate::compared::sheet::{ComparedTask, Graphs, LEFT, PLOT, RIGHT, STRIP};
 use crate::compared::words::{most_held, tell_task};
 use crate::page::Page;
 use crate::scale::scaled;
+
+/// The strips of a task.
+#[derive(Clone, Copy)]
+struct Strips<'a> {
+    graphs: &'a Graphs<'a>,
+    task: usize,
+    /// How many cores the whole height of a strip is.
+    most: u64,
+}
 
 /// Writes the strips of a task.
 pub fn draw_strips(graphs: &Graphs<'_>, task: usize, page: &mut Page) {
     let head = graphs.strip(task, 0).saturating_sub(6);
     let most = most_in_all(graphs, task);
+    let strips = Strips { graphs, task, most };
     page.fill(
         "<text class='q' x='{}' y='{}'>cores held, full height {}</text>\
 <text class='q' x='{}' y='{}'>answered</text>\n",
         &[LEFT, head, most, RIGHT + 6, head],
     );
     for run in 0..graphs.runs() {
-        draw_strip(graphs, task, run, most, page);
+        strips.draw_strip(run, page);
     }
     draw_clocks(graphs, task, page);
 }
@@ -47,60 +57,57 @@ fn draw_clocks(graphs: &Graphs<'_>, task: usize, page: &mut Page) {
     page.put("</text>\n");
 }
 
-/// The strip of a run: its name, its ground, and where the run has the task what it held.
-fn draw_strip(graphs: &Graphs<'_>, task: usize, run: usize, most: u64, page: &mut Page) {
-    let top = graphs.strip(task, run);
-    let foot = top.saturating_add(15);
-    page.fill("<text x='16' y='{}'>", &[foot]);
-    graphs.tell_short(run, page);
-    page.fill(
-        "</text><path class='n' d='M{} {}h{}v{}h-{}z'/>",
-        &[LEFT, top, PLOT, STRIP, PLOT],
-    );
-    if let Some(course) = graphs.course(run, task) {
-        draw_area(graphs, course, run, top, most, page);
-        page.put("<title>");
-        tell_task(graphs, task, run, page);
+impl Strips<'_> {
+    /// The strip of a run: its name, its ground, and where the run has the task what it held.
+    fn draw_strip(self, run: usize, page: &mut Page) {
+        let graphs = self.graphs;
+        let top = graphs.strip(self.task, run);
+        let foot = top.saturating_add(15);
+        page.fill("<text x='16' y='{}'>", &[foot]);
+        graphs.tell_short(run, page);
         page.fill(
-            "</title></path><text class='q' x='{}' y='{}'>{} of {}</text>",
-            &[
-                RIGHT + 6,
-                foot,
-                course.requests.served as u64,
-                course.requests.given as u64,
-            ],
+            "</text><path class='n' d='M{} {}h{}v{}h-{}z'/>",
+            &[LEFT, top, PLOT, STRIP, PLOT],
         );
+        if let Some(course) = graphs.course(run, self.task) {
+            self.draw_area(run, course, page);
+            page.put("<title>");
+            tell_task(graphs, self.task, run, page);
+            page.fill(
+                "</title></path><text class='q' x='{}' y='{}'>{} of {}</text>",
+                &[
+                    RIGHT + 6,
+                    foot,
+                    course.requests.served as u64,
+                    course.requests.given as u64,
+                ],
+            );
+        }
+        page.put("\n");
     }
-    page.put("\n");
+
+    /// What the task held in a run, as an area under steps.
+    fn draw_area(self, run: usize, course: ComparedTask<'_>, page: &mut Page) {
+        let graphs = self.graphs;
+        let base = graphs.strip(self.task, run).saturating_add(STRIP);
+        let clocks = graphs.clocks_of(run);
+        page.fill("<path class='a a{}", &[run as u64]);
+        page.put(rim_of(clocks.len()));
+        page.fill("' d='M{} {}", &[LEFT, base]);
+        let held = course.held;
+        let mut level = Level::new(base, self.most);
+        for pass in 0..held.len().min(clocks.len()) {
+            let x = graphs.clocks.at(clocks[pass]);
+            level.take(x, u64::from(held[pass]), page);
+        }
+        level.put(page);
+        page.fill("H{}V{}z'>", &[RIGHT, base]);
+    }
 }
 
 /// What the classes of an area end with: it has no rim where that would hide it.
 fn rim_of(passes: usize) -> &'static str {
     if passes as u64 > PLOT / 2 { " nr" } else { "" }
-}
-
-/// What a task held in a run, as an area under steps.
-fn draw_area(
-    graphs: &Graphs<'_>,
-    course: DrawnTask<'_>,
-    run: usize,
-    top: u64,
-    most: u64,
-    page: &mut Page,
-) {
-    let base = top.saturating_add(STRIP);
-    let clocks = graphs.clocks_of(run);
-    page.fill("<path class='a a{}", &[run as u64]);
-    page.put(rim_of(clocks.len()));
-    page.fill("' d='M{} {}", &[LEFT, base]);
-    let held = course.held;
-    let mut level = Level::new(base, most);
-    for pass in 0..held.len().min(clocks.len()) {
-        let x = graphs.clocks.at(clocks[pass]);
-        level.take(x, u64::from(held[pass]), page);
-    }
-    level.put(page);
-    page.fill("H{}V{}z'>", &[RIGHT, base]);
 }
 
 /// What was held at one place of the paper, over which many passes may stand.

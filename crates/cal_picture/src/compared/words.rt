@@ -1,11 +1,11 @@
 //! What the picture of several runs says in words.
 
-use crate::compared::sheet::{DrawnTask, Graphs};
+use crate::compared::sheet::{ComparedTask, Graphs};
 use crate::page::Page;
 use cal_measure::{TaskRequests, Time};
 
 /// The most cores that a task held after a pass.
-pub fn most_held(course: DrawnTask<'_>) -> u64 {
+pub fn most_held(course: ComparedTask<'_>) -> u64 {
     let mut most = 0u64;
     for cores in course.held {
         most = most.max(u64::from(*cores));

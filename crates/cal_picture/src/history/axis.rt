@@ -58,6 +58,15 @@ fn scale_of(sheet: &Sheet<'_>) -> Scale {
     Scale { far, zero, need }
 }
 
+/// An axis on a sheet.
+#[derive(Clone, Copy)]
+struct Axis<'a> {
+    sheet: &'a Sheet<'a>,
+    /// Where the numbers stand, in pixels; the clocks stand below.
+    y: u64,
+    scale: Scale,
+}
+
 /// Writes the numbers and clocks of the passes. Clocks of more than seven digits are told from the
 /// first one shown.
 pub fn draw_axis(sheet: &Sheet<'_>, y: u64, page: &mut Page) {
@@ -70,36 +79,39 @@ pub fn draw_axis(sheet: &Sheet<'_>, y: u64, page: &mut Page) {
     );
     page.put_unit(sheet.labels);
     page.join("{}</text><g class='m'>\n", &[words]);
-    draw_pass_numbers(sheet, y, scale, page);
+    Axis { sheet, y, scale }.draw_pass_numbers(page);
     page.put("</g>\n");
 }
 
-/// The numbers and the clocks of the passes so far apart, where the one before leaves room.
-fn draw_pass_numbers(sheet: &Sheet<'_>, y: u64, scale: Scale, page: &mut Page) {
-    let count = sheet.window.count as u64;
-    let step = sheet.columns.width().checked_div(count).unwrap_or(1);
-    let every = passes_a_number(step, scale.need);
-    let half = scale.need / 2;
-    let mut free = 0u64;
-    for pass in sheet.window.first..sheet.window.end() {
-        let x = sheet.columns.at(pass);
-        if pass.checked_rem(every) == Some(0) && x.saturating_sub(half) >= free {
-            draw_pass_number(sheet, pass, y, scale, page);
-            free = x.saturating_add(half);
+impl Axis<'_> {
+    /// The numbers and the clocks of the passes so far apart, where the one before leaves room.
+    fn draw_pass_numbers(self, page: &mut Page) {
+        let Axis { sheet, scale, .. } = self;
+        let count = sheet.window.count as u64;
+        let step = sheet.columns.width().checked_div(count).unwrap_or(1);
+        let every = passes_a_number(step, scale.need);
+        let half = scale.need / 2;
+        let mut free = 0u64;
+        for pass in sheet.window.first..sheet.window.end() {
+            let x = sheet.columns.at(pass);
+            if pass.checked_rem(every) == Some(0) && x.saturating_sub(half) >= free {
+                self.draw_pass_number(pass, page);
+                free = x.saturating_add(half);
+            }
         }
     }
-}
 
-/// The number of a pass, and its clock below.
-fn draw_pass_number(sheet: &Sheet<'_>, pass: usize, y: u64, scale: Scale, page: &mut Page) {
-    let x = sheet.columns.at(pass);
-    let below = y.saturating_add(14);
-    page.fill(
-        "<text class='b' x='{}' y='{}'>{}</text><text class='q' x='{}' y='{}'>",
-        &[x, y, pass as u64, x, below],
-    );
-    tell_clock(sheet.clock(pass), scale, page);
-    page.put("</text>\n");
+    /// The number of a pass, and its clock below.
+    fn draw_pass_number(self, pass: usize, page: &mut Page) {
+        let x = self.sheet.columns.at(pass);
+        let below = self.y.saturating_add(14);
+        page.fill(
+            "<text class='b' x='{}' y='{}'>{}</text><text class='q' x='{}' y='{}'>",
+            &[x, self.y, pass as u64, x, below],
+        );
+        tell_clock(self.sheet.clock(pass), self.scale, page);
+        page.put("</text>\n");
+    }
 }
 
 /// A clock, as the axis tells it.

@@ -1,8 +1,9 @@
 //! The lanes of the cores: their spans, and the bans that keep them empty.
 
-use crate::history::layout::{Ground, Sizes, digits};
+use crate::history::layout::{Ground, IdleCores, PairLanes, Sizes, digits};
+use crate::history::rectangle::Rectangle;
 use crate::history::sheet::Sheet;
-use crate::history::telling::{draw_box, tell_ban, tell_span};
+use crate::history::telling::{tell_ban, tell_span};
 use crate::page::Page;
 use crate::story::clocks::{ClockedBan, ClockedSpan};
 use crate::story::numbers::task_of;
@@ -62,18 +63,30 @@ fn draw_spans(sheet: &Sheet<'_>, page: &mut Page) {
 /// The ground that spans lie on, with the names of its cores.
 fn draw_ground(sheet: &Sheet<'_>, ground: Ground, page: &mut Page) {
     match ground {
-        Ground::Pair { core, top } => draw_pair(sheet, core, top, page),
-        Ground::Idle { from, to, top } => draw_idle(sheet, from, to, top, page),
+        Ground::Pair(pair) => draw_pair(sheet, pair, page),
+        Ground::Idle(idle) => draw_idle(sheet, idle, page),
     }
 }
 
-fn draw_idle(sheet: &Sheet<'_>, from: u8, to: u8, top: u64, page: &mut Page) {
+/// A line across the plot, of this height.
+fn put_ground(sheet: &Sheet<'_>, top: u64, high: u64, page: &mut Page) {
+    let ground = Rectangle {
+        x: LEFT,
+        y: top,
+        wide: sheet.columns.width(),
+        high,
+    };
+    ground.put(page);
+}
+
+fn draw_idle(sheet: &Sheet<'_>, idle: IdleCores, page: &mut Page) {
+    let IdleCores { from, to, top } = idle;
     let last = to.saturating_sub(1);
     let count = to.saturating_sub(from);
     let y = top.saturating_add(11);
     let x = LEFT.saturating_add(6);
     page.put("<path class='n' d='");
-    draw_box(LEFT, top, sheet.columns.width(), 14, page);
+    put_ground(sheet, top, 14, page);
     page.fill(
         "'/><text class='e' x='162' y='{}'>{} to {}</text>",
         &[y, from as u64, last as u64],
@@ -82,7 +95,7 @@ fn draw_idle(sheet: &Sheet<'_>, from: u8, to: u8, top: u64, page: &mut Page) {
         "<text class='q' x='{}' y='{}'>{} cores, ",
         &[x, y, count as u64],
     );
-    match sheet.only {
+    match sheet.story.only {
         Some(task) => {
             page.put("without ");
             page.put_task(sheet.labels, task);
@@ -92,22 +105,21 @@ fn draw_idle(sheet: &Sheet<'_>, from: u8, to: u8, top: u64, page: &mut Page) {
     page.put(" in all passes shown</text>\n");
 }
 
-fn draw_pair(sheet: &Sheet<'_>, core: u8, top: u64, page: &mut Page) {
+fn draw_pair(sheet: &Sheet<'_>, pair: PairLanes, page: &mut Page) {
     let sizes = sheet.layout.sizes;
-    let width = sheet.columns.width();
-    let below = top.saturating_add(sizes.lane).saturating_add(sizes.inner);
     page.put("<path class='n' d='");
-    draw_box(LEFT, top, width, sizes.lane, page);
-    draw_box(LEFT, below, width, sizes.lane, page);
+    put_ground(sheet, pair.top, sizes.lane, page);
+    put_ground(sheet, pair.below, sizes.lane, page);
     page.fill(
         "'/><path class='br' d='M171 {}h-4V{}h4'/>",
-        &[top, below.saturating_add(sizes.lane)],
+        &[pair.top, pair.below.saturating_add(sizes.lane)],
     );
-    draw_pair_name(sizes, core, top, below, page);
+    draw_pair_name(sizes, pair, page);
 }
 
 /// The names of two siblings, each beside its lane where the lanes are high enough.
-fn draw_pair_name(sizes: Sizes, core: u8, top: u64, below: u64, page: &mut Page) {
+fn draw_pair_name(sizes: Sizes, pair: PairLanes, page: &mut Page) {
+    let PairLanes { core, top, below } = pair;
     let sibling = core.saturating_add(1) as u64;
     if sizes.numbers {
         let half = (sizes.lane / 2).saturating_add(4);
@@ -163,41 +175,71 @@ fn end_of(sheet: &Sheet<'_>, to: Option<usize>) -> u64 {
     }
 }
 
+/// Where a span is drawn, in whole pixels.
+#[derive(Clone, Copy)]
+struct Bar {
+    /// The top of its lane.
+    top: u64,
+    /// Where it begins.
+    x: u64,
+    /// Where its core begins to be left; its end, where that never happens.
+    middle: u64,
+    /// Where it ends.
+    end: u64,
+}
+
+fn bar_of(sheet: &Sheet<'_>, span: &Span) -> Bar {
+    let end = end_of(sheet, span.to);
+    Bar {
+        top: sheet.layout.top(span.core),
+        x: sheet.columns.at(span.from),
+        middle: match span.left {
+            Some(left) => sheet.columns.at(left.pass).min(end),
+            None => end,
+        },
+        end,
+    }
+}
+
 /// A span: full where it is held, hatched where it is being left, with its thread's number.
 fn draw_span(sheet: &Sheet<'_>, clocked: &ClockedSpan, page: &mut Page) {
     let span = &clocked.span;
-    let x = sheet.columns.at(span.from);
-    let end = end_of(sheet, span.to);
-    let middle = match span.left {
-        Some(left) => sheet.columns.at(left.pass).min(end),
-        None => end,
-    };
+    let bar = bar_of(sheet, span);
     match task_of(sheet.config, span.thread) {
         Some(task) => page.fill("<g class='t{}'><title>", &[task as u64]),
         None => page.put("<g><title>"),
     }
     tell_span(sheet.config, sheet.labels, clocked, page);
     page.put("</title>");
-    draw_bars(sheet, span, x, middle, end, page);
-    draw_thread(sheet, span, x, middle, page);
+    draw_bar(sheet.layout.sizes, bar, page);
+    draw_thread(sheet.layout.sizes, span.thread, bar, page);
     if let Some(left) = span.left {
-        draw_revocation(sheet, left, middle, end, sheet.layout.top(span.core), page);
+        draw_revocation(sheet, left, bar, page);
     }
     page.put("</g>\n");
 }
 
 /// The full and the hatched part of a span, where there are such.
-fn draw_bars(sheet: &Sheet<'_>, span: &Span, x: u64, middle: u64, end: u64, page: &mut Page) {
-    let top = sheet.layout.top(span.core);
-    let high = sheet.layout.sizes.tall.saturating_sub(1);
-    if middle > x {
+fn draw_bar(sizes: Sizes, bar: Bar, page: &mut Page) {
+    let whole = Rectangle {
+        x: bar.x,
+        y: bar.top,
+        wide: bar.middle.saturating_sub(bar.x),
+        high: sizes.tall.saturating_sub(1),
+    };
+    if bar.middle > bar.x {
         page.put("<path d='");
-        draw_box(x, top, middle.saturating_sub(x), high, page);
+        whole.put(page);
         page.put("'/>");
     }
-    if middle < end {
+    if bar.middle < bar.end {
+        let hatched = Rectangle {
+            x: bar.middle,
+            wide: bar.end.saturating_sub(bar.middle),
+            ..whole
+        };
         page.put("<path class='l' d='");
-        draw_box(middle, top, end.saturating_sub(middle), high, page);
+        hatched.put(page);
         page.put("'/>");
     }
 }
@@ -210,65 +252,77 @@ fn room_of(thread: u8, around: u64) -> u64 {
 }
 
 /// The number of a span's thread, if there is room.
-fn draw_thread(sheet: &Sheet<'_>, span: &Span, x: u64, middle: u64, page: &mut Page) {
-    let sizes = sheet.layout.sizes;
-    let need = room_of(span.thread, 8);
-    if sizes.numbers && middle.saturating_sub(x) >= need {
-        let y = sheet.layout.top(span.core).saturating_add(sizes.foot);
+fn draw_thread(sizes: Sizes, thread: u8, bar: Bar, page: &mut Page) {
+    let need = room_of(thread, 8);
+    if sizes.numbers && bar.middle.saturating_sub(bar.x) >= need {
+        let y = bar.top.saturating_add(sizes.foot);
         page.fill(
             "<text x='{}' y='{}'>{}</text>",
-            &[x.saturating_add(5), y, span.thread as u64],
+            &[bar.x.saturating_add(5), y, thread as u64],
         );
     }
 }
 
+/// Where words stand, in whole pixels.
+#[derive(Clone, Copy)]
+struct Words {
+    x: u64,
+    foot: u64,
+    /// How much room there is for them.
+    room: u64,
+}
+
+/// The words behind the mark of a revocation, for which a low lane has no room.
+fn words_of(sizes: Sizes, bar: Bar) -> Words {
+    let mark = sizes.mark.saturating_mul(2);
+    let x = bar.middle.saturating_add(mark).saturating_add(6);
+    Words {
+        x,
+        foot: bar.top.saturating_add(sizes.foot),
+        room: if sizes.numbers {
+            bar.end.saturating_sub(x)
+        } else {
+            0
+        },
+    }
+}
+
 /// The mark of a revocation, if it stands in the window, and a word if there is room.
-fn draw_revocation(sheet: &Sheet<'_>, left: Left, x: u64, end: u64, top: u64, page: &mut Page) {
+fn draw_revocation(sheet: &Sheet<'_>, left: Left, bar: Bar, page: &mut Page) {
     if !sheet.window.has(left.pass) {
         return;
     }
     let sizes = sheet.layout.sizes;
-    let y = top.saturating_add(sizes.tall / 2);
-    let word = x
-        .saturating_add(sizes.mark.saturating_mul(2))
-        .saturating_add(6);
-    let foot = top.saturating_add(sizes.foot);
-    let room = if sizes.numbers {
-        end.saturating_sub(word)
-    } else {
-        0
-    };
+    let x = bar.middle.saturating_add(2);
+    let y = bar.top.saturating_add(sizes.tall / 2);
+    let words = words_of(sizes, bar);
     match left.cause {
         // The sign of a ban stands with the ban.
         Cause::Ban { .. } => {}
         Cause::Bandwidth => {
-            page.fill("<use href='#qb' x='{}' y='{}'/>", &[x.saturating_add(2), y]);
-            if room >= 60 {
+            page.fill("<use href='#qb' x='{}' y='{}'/>", &[x, y]);
+            if words.room >= 60 {
                 page.fill(
                     "<text class='v' x='{}' y='{}'>bandwidth</text>",
-                    &[word, foot],
+                    &[words.x, words.foot],
                 );
             }
         }
         Cause::Preempt { task } => {
-            let task = task as usize;
-            page.fill(
-                "<use href='#q{}' x='{}' y='{}'/>",
-                &[task as u64, x.saturating_add(2), y],
-            );
-            draw_taker(sheet, task, word, foot, room, page)
+            page.fill("<use href='#q{}' x='{}' y='{}'/>", &[task as u64, x, y]);
+            draw_taker(sheet, task as usize, words, page)
         }
     }
 }
 
 /// What the task that a core is left for is called, if there is room.
-fn draw_taker(sheet: &Sheet<'_>, task: usize, x: u64, foot: u64, room: u64, page: &mut Page) {
+fn draw_taker(sheet: &Sheet<'_>, task: usize, words: Words, page: &mut Page) {
     let long = match sheet.labels.name(task) {
         Some(name) => letters(name) as u64,
         None => 6,
     };
-    if room >= long.saturating_mul(8) {
-        page.fill("<text class='v' x='{}' y='{}'>", &[x, foot]);
+    if words.room >= long.saturating_mul(8) {
+        page.fill("<text class='v' x='{}' y='{}'>", &[words.x, words.foot]);
         page.put_task(sheet.labels, task);
         page.put("</text>");
     }
@@ -279,14 +333,23 @@ fn draw_ban(sheet: &Sheet<'_>, clocked: &ClockedBan, page: &mut Page) {
     let ban = &clocked.ban;
     let sizes = sheet.layout.sizes;
     let x = sheet.columns.at(ban.from);
-    let wide = sheet.columns.end_of(ban.to).saturating_sub(x);
-    let top = sheet.layout.top(ban.core);
+    let dotted = Rectangle {
+        x,
+        y: sheet.layout.top(ban.core),
+        wide: sheet.columns.end_of(ban.to).saturating_sub(x),
+        high: sizes.tall,
+    };
+    let rail = Rectangle {
+        y: dotted.y.saturating_add(sizes.tall),
+        high: sizes.rail,
+        ..dotted
+    };
     page.put("<g class='ban'><title>");
     tell_ban(sheet.config, sheet.labels, clocked, page);
     page.put("</title><path class='d' d='");
-    draw_box(x, top, wide, sizes.tall, page);
+    dotted.put(page);
     page.put("'/><path d='");
-    draw_box(x, top.saturating_add(sizes.tall), wide, sizes.rail, page);
+    rail.put(page);
     page.put("'/></g>\n");
 }
 

@@ -88,7 +88,7 @@ pub fn tell_window(sheet: &Sheet<'_>, page: &mut Page) {
     page.fill(", clock {} to {}", &[from, to]);
     page.put_unit(sheet.labels);
     page.put(".");
-    if let Some(task) = sheet.only {
+    if let Some(task) = sheet.story.only {
         page.put(" Drawn of ");
         page.put_task(sheet.labels, task);
         page.put(" alone.");

@@ -55,10 +55,32 @@ impl TaskLane {
 /// What stands on the paper for some cores.
 #[derive(Clone, Copy)]
 pub enum Ground {
-    /// A pair of siblings, by its lower core, each in a lane.
-    Pair { core: u8, top: u64 },
-    /// The cores from one to before another, free in all passes shown, in one line.
-    Idle { from: u8, to: u8, top: u64 },
+    /// Two siblings.
+    Pair(PairLanes),
+    /// Cores that are free in all passes shown.
+    Idle(IdleCores),
+}
+
+/// A pair of siblings, each in a lane.
+#[derive(Clone, Copy)]
+pub struct PairLanes {
+    /// The lower core.
+    pub core: u8,
+    /// The top of its lane.
+    pub top: u64,
+    /// The top of its sibling's lane.
+    pub below: u64,
+}
+
+/// Some cores in one line.
+#[derive(Clone, Copy)]
+pub struct IdleCores {
+    /// The first of them.
+    pub from: u8,
+    /// The first core after them.
+    pub to: u8,
+    /// The top of the line.
+    pub top: u64,
 }
 
 /// Where everything stands.
@@ -118,16 +140,24 @@ fn sizes_of(cores: u8, width: u64, count: usize) -> Sizes {
     }
 }
 
-/// The lanes of the tasks, from this height down, and where they end. A task that is not drawn takes
-/// no room.
+/// Whether each task that is drawn has two lines.
+fn are_few(config: &Config, only: Option<usize>) -> bool {
+    config.tasks() <= 6 || only.is_some()
+}
+
+/// The lanes of the tasks, from this height down, and where they end. Where one task alone is drawn
+/// no other takes room.
 fn task_lanes(
     alloc: Global,
     config: &Config,
-    few: bool,
     only: Option<usize>,
     top: u64,
 ) -> Result<(Vec<TaskLane>, u64), AllocError> {
-    let (most, least, gap) = if few { (36, 24, 16) } else { (24, 16, 12) };
+    let (most, least, gap) = if are_few(config, only) {
+        (36, 24, 16)
+    } else {
+        (24, 16, 12)
+    };
     let mut lanes = Vec::new(alloc);
     let mut y = top;
     for task in 0..config.tasks() {
@@ -163,24 +193,34 @@ fn used_pairs(spans: &[ClockedSpan], bans: &[ClockedBan]) -> [bool; MOST_CORES] 
     used
 }
 
-/// The first core, of a used pair or past them all, from this pair on.
-fn next_used(used: &[bool; MOST_CORES], from: u8, cores: u8) -> u8 {
-    let mut core = from;
-    for pair in from / 2..cores / 2 {
-        if used[pair as usize] {
-            break;
+/// The pairs of a machine.
+#[derive(Clone, Copy)]
+struct Pairs {
+    /// How many cores there are.
+    cores: u8,
+    /// Which pairs have a span or a ban that shows.
+    used: [bool; MOST_CORES],
+}
+
+impl Pairs {
+    /// The first core, of a used pair or past them all, from this pair on.
+    fn next_used(&self, from: u8) -> u8 {
+        let mut core = from;
+        for pair in from / 2..self.cores / 2 {
+            if self.used[pair as usize] {
+                break;
+            }
+            core = core.saturating_add(2);
         }
-        core = core.saturating_add(2);
+        core.min(self.cores)
     }
-    core.min(cores)
 }
 
 /// What stands on the paper for the cores, from this height down, and the height below it. Three
 /// idle pairs in a row or more are one line.
 fn grounds_of(
     alloc: Global,
-    used: &[bool; MOST_CORES],
-    cores: u8,
+    pairs: &Pairs,
     sizes: Sizes,
     top: u64,
 ) -> Result<(Vec<Ground>, u64), AllocError> {
@@ -188,23 +228,27 @@ fn grounds_of(
     let mut y = top;
     let mut core = 0u8;
     for _ in 0..64 {
-        if core >= cores {
+        if core >= pairs.cores {
             break;
         }
-        let next = next_used(used, core, cores);
+        let next = pairs.next_used(core);
         if next.saturating_sub(core) > 4 {
-            grounds.push(Ground::Idle {
+            grounds.push(Ground::Idle(IdleCores {
                 from: core,
                 to: next,
                 top: y,
-            })?;
+            }))?;
             core = next;
             y = y.saturating_add(14).saturating_add(sizes.outer);
         } else {
-            grounds.push(Ground::Pair { core, top: y })?;
+            let below = y.saturating_add(sizes.lane).saturating_add(sizes.inner);
+            grounds.push(Ground::Pair(PairLanes {
+                core,
+                top: y,
+                below,
+            }))?;
             core = core.saturating_add(2);
-            let pair = sizes.lane.saturating_mul(2).saturating_add(sizes.inner);
-            y = y.saturating_add(pair).saturating_add(sizes.outer);
+            y = below.saturating_add(sizes.lane).saturating_add(sizes.outer);
         }
     }
     Ok((grounds, y.saturating_sub(sizes.outer)))
@@ -216,16 +260,15 @@ fn put_top(tops: &mut [u64; MOST_CORES], core: u8, top: u64) {
     }
 }
 
-fn tops_of(grounds: &[Ground], sizes: Sizes) -> [u64; MOST_CORES] {
+fn tops_of(grounds: &[Ground]) -> [u64; MOST_CORES] {
     let mut tops = [0; MOST_CORES];
     for ground in grounds {
         match *ground {
-            Ground::Pair { core, top } => {
-                put_top(&mut tops, core, top);
-                let below = top.saturating_add(sizes.lane).saturating_add(sizes.inner);
-                put_top(&mut tops, core.saturating_add(1), below);
+            Ground::Pair(pair) => {
+                put_top(&mut tops, pair.core, pair.top);
+                put_top(&mut tops, pair.core.saturating_add(1), pair.below);
             }
-            Ground::Idle { .. } => {}
+            Ground::Idle(_) => {}
         }
     }
     tops
@@ -293,33 +336,30 @@ pub fn digits(number: u64) -> u64 {
 }
 
 impl Layout {
-    /// Where everything stands of a story.
+    /// Where everything stands of a story, the passes of its window in these columns.
     pub fn new(
         alloc: Global,
         config: &Config,
         story: &Story,
-        window: Window,
         columns: &Columns,
-        only: Option<usize>,
     ) -> Result<Layout, AllocError> {
-        let cores = config.machine().cores();
+        let (window, cores) = (columns.window, config.machine().cores());
         let sizes = sizes_of(cores, columns.width(), window.count);
-        let few = config.tasks() <= 6 || only.is_some();
         let (overview, axis) = first_tops(window);
         let tasks_top = axis.saturating_add(28);
         let first = tasks_top.saturating_add(18);
-        let (tasks, tasks_end) = task_lanes(alloc, config, few, only, first)?;
+        let (tasks, tasks_end) = task_lanes(alloc, config, story.only, first)?;
         let (bandwidth, cores_top) = bandwidth_top(story, window, tasks_end.saturating_add(4));
         let used = used_pairs(story.spans.as_slice(), story.bans.as_slice());
         let first = cores_top.saturating_add(18);
-        let (grounds, bottom) = grounds_of(alloc, &used, cores, sizes, first)?;
+        let (grounds, bottom) = grounds_of(alloc, &Pairs { cores, used }, sizes, first)?;
         let second_axis = second_axis_of(axis, bottom);
         let under = if second_axis.is_some() { 58u64 } else { 30 };
         let legend = bottom.saturating_add(under);
-        let tops = tops_of(grounds.as_slice(), sizes);
+        let tops = tops_of(grounds.as_slice());
         Ok(Layout {
             sizes,
-            few,
+            few: are_few(config, story.only),
             canvas: canvas_of(config, columns),
             overview,
             axis,

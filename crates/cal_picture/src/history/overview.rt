@@ -1,8 +1,8 @@
 //! The overview: the whole run in one strip, where the window does not show it whole.
 
 use crate::history::layout::BAND;
+use crate::history::rectangle::Rectangle;
 use crate::history::sheet::Sheet;
-use crate::history::telling::draw_box;
 use crate::page::Page;
 use crate::scale::scaled;
 use crate::story::slots::Slot;
@@ -22,8 +22,14 @@ pub fn draw_overview(sheet: &Sheet<'_>, page: &mut Page) {
         return;
     };
     draw_names(sheet, top, page);
+    let strip = Rectangle {
+        x: LEFT,
+        y: top,
+        wide: sheet.columns.width(),
+        high: BAND,
+    };
     page.put("<path class='n' d='");
-    draw_box(LEFT, top, sheet.columns.width(), BAND, page);
+    strip.put(page);
     page.put("'/><path class='o2' d='");
     draw_cores_held(sheet, top, Tasks::All, page);
     page.put("'/><path class='o1' d='");
@@ -31,11 +37,20 @@ pub fn draw_overview(sheet: &Sheet<'_>, page: &mut Page) {
     page.put("'/><path class='i' d='");
     draw_over_limit(sheet, top, page);
     page.put("'/><path class='win' d='");
+    frame_of(sheet, top).put(page);
+    page.put("'/>\n");
+}
+
+/// The box round the window, in the strip with this top.
+fn frame_of(sheet: &Sheet<'_>, top: u64) -> Rectangle {
     let from = x_of_pass(sheet, sheet.window.first);
     let to = x_of_pass(sheet, sheet.window.end());
-    let wide = to.saturating_sub(from).max(3);
-    draw_box(from, top.saturating_sub(3), wide, BAND + 15, page);
-    page.put("'/>\n");
+    Rectangle {
+        x: from,
+        y: top.saturating_sub(3),
+        wide: to.saturating_sub(from).max(3),
+        high: BAND + 15,
+    }
 }
 
 /// The x of a pass of the whole run.
@@ -52,9 +67,9 @@ fn draw_names(sheet: &Sheet<'_>, top: u64, page: &mut Page) {
 <text class='q' x='84' y='{}'>cores held</text>",
         &[first, first],
     );
-    draw_key("o2", 9, top.saturating_add(23), "best-effort", page);
-    draw_key("o1", 9, top.saturating_add(36), "latency-critical", page);
-    draw_key("i", 8, top.saturating_add(49), "bandwidth over limit", page);
+    draw_key(BEST_EFFORT, top.saturating_add(23), page);
+    draw_key(LATENCY_CRITICAL, top.saturating_add(36), page);
+    draw_key(OVER_LIMIT, top.saturating_add(49), page);
     let right = sheet.columns.right;
     let cores = sheet.config.machine().cores();
     page.fill(
@@ -70,12 +85,46 @@ fn draw_names(sheet: &Sheet<'_>, top: u64, page: &mut Page) {
     );
 }
 
-/// A square of this height, and what it stands for.
-fn draw_key(sign: &str, high: u64, foot: u64, words: &str, page: &mut Page) {
-    page.join("<path class='{}' d='", &[sign]);
-    draw_box(16, foot.saturating_sub(8), 9, high, page);
+/// A square, and what it stands for.
+#[derive(Clone, Copy)]
+struct Key {
+    /// The class that colours it.
+    class: &'static str,
+    /// How high it is, in pixels.
+    high: u64,
+    words: &'static str,
+}
+
+const BEST_EFFORT: Key = Key {
+    class: "o2",
+    high: 9,
+    words: "best-effort",
+};
+
+const LATENCY_CRITICAL: Key = Key {
+    class: "o1",
+    high: 9,
+    words: "latency-critical",
+};
+
+const OVER_LIMIT: Key = Key {
+    class: "i",
+    high: 8,
+    words: "bandwidth over limit",
+};
+
+/// Writes a key, whose words stand at this height.
+fn draw_key(key: Key, foot: u64, page: &mut Page) {
+    let square = Rectangle {
+        x: 16,
+        y: foot.saturating_sub(8),
+        wide: 9,
+        high: key.high,
+    };
+    page.join("<path class='{}' d='", &[key.class]);
+    square.put(page);
     page.fill("'/><text class='q' x='31' y='{}'>", &[foot]);
-    page.join("{}</text>", &[words]);
+    page.join("{}</text>", &[key.words]);
 }
 
 /// How high a piece of the overview stands.
@@ -117,9 +166,13 @@ fn draw_over_limit(sheet: &Sheet<'_>, top: u64, page: &mut Page) {
         let over = slots[slot].over;
         if over > 0 {
             let x = x_of_slot(sheet, slot);
-            let wide = x_of_slot(sheet, slot.saturating_add(1)).saturating_sub(x);
-            let high = scaled(8, over, slots[slot].passes).max(1);
-            draw_box(x, y, wide, high, page);
+            let part = Rectangle {
+                x,
+                y,
+                wide: x_of_slot(sheet, slot.saturating_add(1)).saturating_sub(x),
+                high: scaled(8, over, slots[slot].passes).max(1),
+            };
+            part.put(page);
         }
     }
 }

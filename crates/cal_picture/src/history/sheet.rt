@@ -12,8 +12,6 @@ use cal_tables::Labels;
 pub struct Sheet<'a> {
     pub config: &'a Config,
     pub window: Window,
-    /// The task that is drawn, where it is not all of them.
-    pub only: Option<usize>,
     /// What tasks and clock ticks are called.
     pub labels: Labels<'a>,
     pub story: &'a Story,
@@ -24,7 +22,7 @@ pub struct Sheet<'a> {
 impl<'a> Sheet<'a> {
     /// Whether a task is drawn.
     pub fn draws(&self, task: usize) -> bool {
-        self.only.is_none() || self.only == Some(task)
+        self.story.only.is_none() || self.story.only == Some(task)
     }
 
     /// A pass that is shown.

@@ -1,6 +1,6 @@
 //! The rules of a picture's style sheet, and the patterns and signs that it draws with.
 
-use crate::colours::{Paper, Scheme, Shade, paper_of, shade_of};
+use crate::colours::{Paper, Scheme, paper_of, shade_of};
 use crate::history::sheet::Sheet;
 use crate::page::Page;
 use crate::story::numbers::is_critical;
@@ -90,25 +90,47 @@ fn draw_paper(tone: &Paper, page: &mut Page) {
     );
 }
 
-/// The colours of a task: its spans and steps, the words on them, the ground of its lined pattern,
-/// its hatching and its diamond.
-fn draw_tone(config: &Config, scheme: Scheme, task: usize, page: &mut Page) {
+/// The colours of a task in a scheme.
+#[derive(Clone, Copy)]
+struct TaskColours {
+    /// Its spans and steps, and the ground of its lined pattern.
+    full: &'static str,
+    /// Their rims.
+    edge: &'static str,
+    /// The words on them.
+    words: &'static str,
+    /// Its hatching.
+    hatch: &'static str,
+    /// Its diamond.
+    diamond: &'static str,
+}
+
+/// A latency-critical task has full colours, a best-effort one pale ones.
+fn colours_of(config: &Config, scheme: Scheme, task: usize) -> TaskColours {
     let shade = shade_of(scheme, task);
-    if is_critical(config, task) {
-        draw_shade(task, &shade, shade.fill, shade.fill, shade.on, page);
-    } else {
-        let ink = paper_of(scheme).ink;
-        draw_shade(task, &shade, shade.pale, shade.edge, ink, page);
+    let is_full = is_critical(config, task);
+    TaskColours {
+        full: if is_full { shade.fill } else { shade.pale },
+        edge: shade.edge,
+        words: if is_full {
+            shade.on
+        } else {
+            paper_of(scheme).ink
+        },
+        hatch: if is_full { shade.fill } else { shade.edge },
+        diamond: shade.fill,
     }
 }
 
-fn draw_shade(task: usize, shade: &Shade, full: &str, hatch: &str, words: &str, page: &mut Page) {
-    draw_rule(".t{} path{fill:", task, full, page);
-    page.join(";stroke:{}}", &[shade.edge]);
-    draw_rule(".st .t{}{fill:", task, words, page);
-    draw_rule("}.p{}{fill:", task, full, page);
-    draw_rule("}.s{}{stroke:", task, hatch, page);
-    draw_rule("}.f{}{fill:", task, shade.fill, page);
+/// The rules of a task that have its colours.
+fn draw_tone(config: &Config, scheme: Scheme, task: usize, page: &mut Page) {
+    let colours = colours_of(config, scheme, task);
+    draw_rule(".t{} path{fill:", task, colours.full, page);
+    page.join(";stroke:{}}", &[colours.edge]);
+    draw_rule(".st .t{}{fill:", task, colours.words, page);
+    draw_rule("}.p{}{fill:", task, colours.full, page);
+    draw_rule("}.s{}{stroke:", task, colours.hatch, page);
+    draw_rule("}.f{}{fill:", task, colours.diamond, page);
     page.put("}");
 }
 

@@ -1,4 +1,4 @@
-//! The words of a picture: what its tooltips tell, and the small marks of its paths.
+//! The words of a picture: what its tooltips tell.
 
 use crate::history::sheet::Sheet;
 use crate::page::Page;
@@ -20,11 +20,6 @@ pub fn kind_word(config: &Config, task: usize) -> &'static str {
 /// A word and, unless there is one of them, how it ends.
 pub fn ending(count: u64, many: &'static str) -> &'static str {
     if count == 1 { "" } else { many }
-}
-
-/// A rectangle, as a piece of a path.
-pub fn draw_box(x: u64, y: u64, wide: u64, high: u64, page: &mut Page) {
-    page.fill("M{} {}h{}v{}h-{}z", &[x, y, wide, high, wide]);
 }
 
 /// A thread with its task and kind.

@@ -11,7 +11,7 @@ use crate::story::standing::Row;
 use crate::story::sums::Sums;
 use crate::story::walk::{SpanAndBan, Walk};
 use crate::story::window::Window;
-use cal_engine::RunFault;
+use cal_input::RunFault;
 use cal_machine::Config;
 use cal_policy::{Action, PassEntry};
 use cal_trace::HistoryRows;
@@ -20,6 +20,7 @@ use std::alloc::{AllocError, Global};
 /// What is gathered while a history is walked: of spans and bans only those that show.
 #[derive(Drop)]
 pub struct Gathering {
+    window: Window,
     walk: Walk,
     spans: Vec<ClockedSpan>,
     bans: Vec<ClockedBan>,
@@ -34,12 +35,13 @@ pub struct Gathering {
 
 impl Gathering {
     /// Before the first pass.
-    pub fn new(alloc: Global, config: &Config) -> Gathering
+    pub fn new(alloc: Global, config: &Config, window: Window) -> Gathering
         ensures ready { IsWalkOf config.now result.walk }
     {
         let walk = Walk::new();
         let last = walk.row(config, 0);
         Gathering {
+            window,
             walk,
             spans: Vec::new(alloc),
             bans: Vec::new(alloc),
@@ -54,9 +56,10 @@ impl Gathering {
     }
 
     /// Keeps a span and a ban, where they show in the window.
-    fn keep(&mut self, window: Window, both: SpanAndBan) -> Result<(), AllocError>
+    fn keep(&mut self, both: SpanAndBan) -> Result<(), AllocError>
         ensures walk { self.new.walk ≡ self.old.walk }
     {
+        let window = self.window;
         match both.span {
             Some(clocked) if window.shows(clocked.span.from, clocked.span.to) => self
                 .spans
@@ -76,7 +79,6 @@ impl Gathering {
     fn note(
         &mut self,
         config: &Config,
-        window: Window,
         pass: usize,
         now: u64,
         actions: &[Action],
@@ -87,7 +89,7 @@ impl Gathering {
         for action in actions {
             self.sums.note(*action);
             let ended = self.walk.note(config, pass, now, *action);
-            self.keep(window, ended)?;
+            self.keep(ended)?;
         }
         Ok(())
     }
@@ -102,11 +104,11 @@ impl Gathering {
     }
 
     /// Adds a pass to the overview.
-    fn add(&mut self, window: Window, config: &Config, over: bool) -> Result<(), AllocError>
+    fn add(&mut self, config: &Config, over: bool) -> Result<(), AllocError>
         ensures walk { self.new.walk ≡ self.old.walk }
     {
         self.slot.note(config, &self.last, over);
-        if self.slot.passes >= passes_a_slot(window) as u64 {
+        if self.slot.passes >= passes_a_slot(self.window) as u64 {
             self.slots.push(self.slot)?;
             self.slot = Slot::new();
         }
@@ -114,54 +116,44 @@ impl Gathering {
     }
 
     /// Goes on by one pass.
-    fn pass(
-        &mut self,
-        config: &Config,
-        window: Window,
-        pass: usize,
-        entry: PassEntry,
-    ) -> Result<(), AllocError>
+    fn pass(&mut self, config: &Config, pass: usize, entry: PassEntry) -> Result<(), AllocError>
         requires ready { IsWalkOf config.now self.old.walk }
         ensures ready { OnOk result (IsWalkOf config.now self.new.walk) }
     {
         self.walk.take_looks(config, &entry.input);
         let actions = entry.actions.as_slice();
-        self.note(config, window, pass, entry.input.now, actions)?;
+        self.note(config, pass, entry.input.now, actions)?;
         self.note_order(pass);
         self.last = self.walk.row(config, entry.input.now);
         let over = entry.input.bandwidth > config.bandwidth_limit();
-        self.add(window, config, over)?;
-        if window.has(pass) {
+        self.add(config, over)?;
+        if self.window.has(pass) {
             self.rows.push(self.last)?;
         }
-        if window.has(pass) || pass == window.end() {
+        if self.window.has(pass) || pass == self.window.end() {
             self.shown.push(entry)?;
         }
         Ok(())
     }
 
     /// Goes over the passes of a history to its end.
-    pub fn passes(
-        &mut self,
-        config: &Config,
-        history: &mut HistoryRows<'_>,
-        window: Window,
-    ) -> Result<(), RunFault>
+    pub fn passes(&mut self, config: &Config, history: &mut HistoryRows<'_>) -> Result<(), RunFault>
         requires rows { IsOpen history.old }
         requires ready { IsWalkOf config.now self.old.walk }
     {
         let mut pass = 0usize;
         while let Some(entry) = history.next()? {
-            self.pass(config, window, pass, entry)?;
+            self.pass(config, pass, entry)?;
             pass = pass.saturating_add(1);
         }
-        self.close(config, window)?;
+        self.close(config)?;
         Ok(())
     }
 
     /// What was gathered.
     pub fn story(self) -> Story {
         Story {
+            only: None,
             spans: self.spans,
             bans: self.bans,
             shown: self.shown,
@@ -174,10 +166,10 @@ impl Gathering {
     }
 
     /// Keeps what goes on at the end of the history.
-    fn close(&mut self, config: &Config, window: Window) -> Result<(), AllocError> {
+    fn close(&mut self, config: &Config) -> Result<(), AllocError> {
         for core in 0..config.machine().cores() {
             let open = self.walk.open(core);
-            self.keep(window, open)?;
+            self.keep(open)?;
         }
         if self.slot.passes > 0 {
             self.slots.push(self.slot)?;

@@ -67,7 +67,8 @@ impl Window {
 /// The place of each pass that is shown.
 #[derive(Drop)]
 pub struct Columns {
-    window: Window,
+    /// The passes that are shown.
+    pub window: Window,
     edges: Vec<u64>,
     /// The passes whose step is not to scale.
     pub bent: Vec<usize>,

@@ -7,11 +7,59 @@ use crate::story::standing::{Figures, Row};
 use crate::timeline::events::{COUNTERS, Counter, Events, Figure, TaskCounter, TaskFigures};
 use cal_machine::Config;
 
-/// The figures of the tasks that are others than before.
-pub fn put_row(config: &Config, now: u64, row: &Row, last: Option<Row>, events: &mut Events<'_>) {
-    for task in 0..config.tasks() {
-        if changes(row, last, task) {
-            put_task(config, now, row, task, events);
+/// What the tasks have after a pass.
+#[derive(Clone, Copy)]
+pub struct RowAt<'a> {
+    /// The task table.
+    pub config: &'a Config,
+    /// The clock of the pass, in ticks.
+    pub now: u64,
+    pub row: &'a Row,
+}
+
+impl RowAt<'_> {
+    /// Puts the figures of the tasks that are others than before.
+    pub fn put_changes(self, last: Option<Row>, events: &mut Events<'_>) {
+        for task in 0..self.config.tasks() {
+            if changes(self.row, last, task) {
+                self.put_task(task, events);
+            }
+        }
+    }
+
+    /// What a task holds and leaves, and the cap of a best-effort one.
+    fn put_task(self, task: usize, events: &mut Events<'_>) {
+        let Figures {
+            held,
+            booked,
+            cap,
+            ..
+        } = self.row.of(task);
+        let figures = TaskFigures {
+            held,
+            leaving: booked.saturating_sub(held),
+        };
+        self.put_task_figures(task, figures, events);
+        if !is_critical(self.config, task) {
+            put_cap(self.now, task, cap, events);
+        }
+    }
+
+    fn put_task_figures(self, task: usize, figures: TaskFigures, events: &mut Events<'_>) {
+        let mut page = Page::plain(events.alloc);
+        page.put_task(events.labels, task);
+        page.join(" ({})", &[kind_word(self.config, task)]);
+        match page.whole() {
+            Ok(name) => {
+                let counter = TaskCounter {
+                    name,
+                    ph: "C",
+                    pid: COUNTERS,
+                    args: figures,
+                };
+                events.put_at(self.now, None, &counter)
+            }
+            Err(_) => events.page.refuse(),
         }
     }
 }
@@ -23,48 +71,6 @@ fn changes(row: &Row, last: Option<Row>, task: usize) -> bool {
     };
     let (before, after) = (last.of(task), row.of(task));
     before.held != after.held || before.booked != after.booked || before.cap != after.cap
-}
-
-/// What a task holds and leaves, and the cap of a best-effort one.
-fn put_task(config: &Config, now: u64, row: &Row, task: usize, events: &mut Events<'_>) {
-    let Figures {
-        held,
-        booked,
-        cap,
-        ..
-    } = row.of(task);
-    let figures = TaskFigures {
-        held,
-        leaving: booked.saturating_sub(held),
-    };
-    put_task_figures(kind_word(config, task), now, task, figures, events);
-    if !is_critical(config, task) {
-        put_cap(now, task, cap, events);
-    }
-}
-
-fn put_task_figures(
-    kind: &str,
-    now: u64,
-    task: usize,
-    figures: TaskFigures,
-    events: &mut Events<'_>,
-) {
-    let mut page = Page::plain(events.alloc);
-    page.put_task(events.labels, task);
-    page.join(" ({})", &[kind]);
-    match page.whole() {
-        Ok(name) => {
-            let counter = TaskCounter {
-                name,
-                ph: "C",
-                pid: COUNTERS,
-                args: figures,
-            };
-            events.put_at(now, None, &counter)
-        }
-        Err(_) => events.page.refuse(),
-    }
 }
 
 fn put_cap(now: u64, task: usize, cap: u8, events: &mut Events<'_>) {

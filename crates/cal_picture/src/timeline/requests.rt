@@ -8,7 +8,7 @@ use crate::timeline::events::{
 };
 use crate::timeline::slices::colour_of;
 use crate::timeline::work::{WorkTurn, begun_of, work_turns};
-use cal_engine::RunFault;
+use cal_input::RunFault;
 use cal_machine::Config;
 use cal_measure::run_end;
 use cal_run::RunEnd;
@@ -16,51 +16,80 @@ use cal_trace::{Arrival, Arrivals};
 use std::collections::HashSet;
 use std::io::Write;
 
-/// Puts all that came of the requests of a run. The events of each go to the writer together.
-pub fn put_requests<W: Write>(
-    config: &Config,
-    arrivals: &Arrivals,
-    end: &RunEnd,
-    events: &mut Events<'_>,
-    writer: &mut W,
-) -> Result<(), RunFault> {
-    let last = run_end(arrivals);
-    let begun = begun_of(events.alloc, config, end, last)?;
-    for arrival in arrivals.requests.as_slice() {
-        put_arrival(config, arrivals, arrival, &begun, events);
-        events.page.send(writer)?;
-    }
-    put_work(config, end, last, events, writer)
+/// A run of a task table and arrivals.
+#[derive(Clone, Copy)]
+pub struct ToldRun<'a> {
+    pub config: &'a Config,
+    pub arrivals: &'a Arrivals,
+    /// What came of it.
+    pub end: &'a RunEnd,
 }
 
-/// Puts the turns of all threads in which they worked.
-fn put_work<W: Write>(
-    config: &Config,
-    end: &RunEnd,
-    last: u64,
-    events: &mut Events<'_>,
-    writer: &mut W,
-) -> Result<(), RunFault> {
-    for thread in 0..config.threads() as u8 {
-        let turns = work_turns(events.alloc, end, last, thread)?;
-        put_work_of(config, thread, turns.as_slice(), events, writer)?;
+impl ToldRun<'_> {
+    /// Puts all that came of the requests of the run. The events of each go to the writer together.
+    pub fn put_requests<W: Write>(
+        self,
+        events: &mut Events<'_>,
+        writer: &mut W,
+    ) -> Result<(), RunFault> {
+        let last = run_end(self.arrivals);
+        let begun = begun_of(events.alloc, self.config, self.end, last)?;
+        for arrival in self.arrivals.requests.as_slice() {
+            self.put_arrival(arrival, &begun, events);
+            events.page.send(writer)?;
+        }
+        self.put_work(events, writer)
     }
-    Ok(())
-}
 
-/// Puts the turns of a thread in which it worked.
-fn put_work_of<W: Write>(
-    config: &Config,
-    thread: u8,
-    turns: &[WorkTurn],
-    events: &mut Events<'_>,
-    writer: &mut W,
-) -> Result<(), RunFault> {
-    for turn in turns {
-        put_work_turn(config, thread, turn, events);
-        events.page.send(writer)?;
+    /// A request that comes: a slice for the turn before which it does, and where it was begun the
+    /// start of its flow.
+    fn put_arrival(self, arrival: &Arrival, begun: &HashSet<u64>, events: &mut Events<'_>) {
+        let request = arrival.request;
+        let (start, end) = turn_at(self.arrivals, arrival.turn);
+        let place = Place {
+            request: request.id,
+            cat: "arrival",
+            pid: ARRIVALS,
+            thread: arrival.thread,
+            start,
+            end,
+        };
+        let mut told = Page::plain(events.alloc);
+        told.fill(
+            "request {}: comes at {}, for {} turn",
+            &[request.id, start, request.work],
+        );
+        told.put(if request.work == 1 { "" } else { "s" });
+        told.put(" of work");
+        put_slice(self.config, place, &told, events);
+        if begun.contains(&request.id) {
+            put_flow("s", place, events);
+        }
     }
-    Ok(())
+
+    /// Puts the turns of all threads in which they worked.
+    fn put_work<W: Write>(self, events: &mut Events<'_>, writer: &mut W) -> Result<(), RunFault> {
+        for thread in 0..self.config.threads() as u8 {
+            self.put_work_of(thread, events, writer)?;
+        }
+        Ok(())
+    }
+
+    /// Puts the turns of a thread in which it worked.
+    fn put_work_of<W: Write>(
+        self,
+        thread: u8,
+        events: &mut Events<'_>,
+        writer: &mut W,
+    ) -> Result<(), RunFault> {
+        let last = run_end(self.arrivals);
+        let turns = work_turns(events.alloc, self.end, last, thread)?;
+        for turn in turns.as_slice() {
+            put_work_turn(self.config, thread, turn, events);
+            events.page.send(writer)?;
+        }
+        Ok(())
+    }
 }
 
 /// A request on a track of its thread, from one clock to another.
@@ -82,38 +111,6 @@ fn turn_at(arrivals: &Arrivals, turn: u64) -> (u64, u64) {
     match turns.get(place.saturating_add(1)) {
         Some(next) => (start, *next),
         None => (start, run_end(arrivals)),
-    }
-}
-
-/// A request that comes: a slice for the turn before which it does, and where it was begun the
-/// start of its flow.
-fn put_arrival(
-    config: &Config,
-    arrivals: &Arrivals,
-    arrival: &Arrival,
-    begun: &HashSet<u64>,
-    events: &mut Events<'_>,
-) {
-    let request = arrival.request;
-    let (start, end) = turn_at(arrivals, arrival.turn);
-    let place = Place {
-        request: request.id,
-        cat: "arrival",
-        pid: ARRIVALS,
-        thread: arrival.thread,
-        start,
-        end,
-    };
-    let mut told = Page::plain(events.alloc);
-    told.fill(
-        "request {}: comes at {}, for {} turn",
-        &[request.id, start, request.work],
-    );
-    told.put(if request.work == 1 { "" } else { "s" });
-    told.put(" of work");
-    put_slice(config, place, &told, events);
-    if begun.contains(&request.id) {
-        put_flow("s", place, events);
     }
 }
 

@@ -50,6 +50,15 @@ same_empty (x ∷ xs) (y ∷ ys) many a b =
     let rest : xs ≡ ys = same_empty xs ys (omega (arith, many)) (λ k j at. a (suc k) j at) (λ k j at. b (suc k) j at) in
     cc
 
+pub all_empty : (journals : List (List Entry)) (n : ℕ) → length journals ≡ n → AreEmpty journals → replicate n [] ≡ journals
+all_empty [] zero many empty = refl
+all_empty [] (suc n) many empty = absurd (omega (arith, many))
+all_empty (j ∷ js) zero many empty = absurd (omega (arith, many))
+all_empty (j ∷ js) (suc n) many empty =
+    let first : j ≡ [] = empty 0 j refl in
+    let rest : replicate n [] ≡ js = all_empty js n (omega (arith, many)) (λ k journal at. empty (suc k) journal at) in
+    cc
+
 -- and nothing is counted of them
 pub none_counted : (journals : List (List Entry)) (n : ℕ) → length journals ≡ n → AreEmpty journals → AllZip IsTallyOf journals (replicate n NONE)
 none_counted [] zero many empty = tt

@@ -2,7 +2,7 @@
 
 ghost use Rattle.std.specs.Prelude.{◌≡◌};
 
-use cal_engine::RunFault;
+use cal_input::RunFault;
 use std::alloc::{AllocError, AllocFailed};
 use std::error::Error;
 use std::fmt;
@@ -81,7 +81,7 @@ impl From<RunFault> for Reason {
 }
 
 impl From<AllocError> for Reason {
-    ghost use Rattle.cal_engine.specs.declared.fault.RunFault.TheVariants.{Memory};
+    ghost use Rattle.cal_input.specs.declared.fault.RunFault.TheVariants.{Memory};
     ghost use Rattle.cal_tables.specs.declared.comparing.fault.Reason.TheVariants.{Run};
 
     ghost from_gives = { λ _ e. e ≡ Run Memory };
@@ -92,7 +92,7 @@ impl From<AllocError> for Reason {
 }
 
 impl<T: Drop> From<AllocFailed<T>> for Reason {
-    ghost use Rattle.cal_engine.specs.declared.fault.RunFault.TheVariants.{Memory};
+    ghost use Rattle.cal_input.specs.declared.fault.RunFault.TheVariants.{Memory};
     ghost use Rattle.cal_tables.specs.declared.comparing.fault.Reason.TheVariants.{Run};
 
     ghost from_gives = { λ _ e. e ≡ Run Memory };
@@ -127,7 +127,7 @@ pub enum ComparisonFault {
 }
 
 impl From<AllocError> for ComparisonFault {
-    ghost use Rattle.cal_engine.specs.declared.fault.RunFault.TheVariants.{Memory};
+    ghost use Rattle.cal_input.specs.declared.fault.RunFault.TheVariants.{Memory};
     ghost use Rattle.cal_tables.specs.declared.comparing.fault.ComparisonFault.TheVariants.{Run};
 
     ghost from_gives = { λ _ e. e ≡ Run Memory };
@@ -138,7 +138,7 @@ impl From<AllocError> for ComparisonFault {
 }
 
 impl<T: Drop> From<AllocFailed<T>> for ComparisonFault {
-    ghost use Rattle.cal_engine.specs.declared.fault.RunFault.TheVariants.{Memory};
+    ghost use Rattle.cal_input.specs.declared.fault.RunFault.TheVariants.{Memory};
     ghost use Rattle.cal_tables.specs.declared.comparing.fault.ComparisonFault.TheVariants.{Run};
 
     ghost from_gives = { λ _ e. e ≡ Run Memory };

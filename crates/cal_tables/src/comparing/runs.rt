@@ -8,7 +8,7 @@ ghost use Rattle.cal_trace.specs.declared.arrivals.Arrivals.{Arrivals as RunArri
 
 use crate::comparing::fault::{ComparisonFault, Reason, fault_of};
 use crate::comparing::moving::moved_arrivals;
-use cal_engine::RunFault;
+use cal_input::RunFault;
 use cal_machine::Config;
 use cal_trace::Arrivals;
 use std::alloc::Global;

@@ -1,13 +1,12 @@
 //! The tables of an input that stand one after the other, and the arrivals after them.
 
 ghost use Rattle.std.specs.Prelude.{◌≡◌, Ok, IfOk, slice_get};
-ghost use Rattle.cal_engine.specs.Outcome.{IsWhatInputSays};
 ghost use Rattle.cal_machine.specs.Reading.{table_in};
 ghost use Rattle.cal_tables.specs.Compared.{AreTables, AreTablesWith, AreToldFor};
 ghost use Rattle.cal_trace.specs.Arrivals.FitsTable.{FitsTable};
 
 use crate::comparing::fault::{ComparisonFault, Reason, fault_of};
-use cal_engine::{RunFault, split_input};
+use cal_input::{RunFault, split_input};
 use cal_machine::Config;
 use cal_trace::{Arrivals, read_arrivals};
 use std::alloc::Global;

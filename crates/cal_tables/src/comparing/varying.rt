@@ -3,7 +3,7 @@
 ghost use Rattle.std.specs.Prelude.{◌≡◌, ◌++◌, bytes_eq, codes, decimal, IfErr, IfOk, OnOk, map};
 ghost use Rattle.std.specs.Prelude.{◌<◌, length, slice_get, string_bytes};
 ghost use Rattle.std.specs.List.{concat};
-ghost use Rattle.cal_engine.specs.Outcome.{ConfigDecided};
+ghost use Rattle.cal_input.specs.Answers.{ConfigDecided};
 ghost use Rattle.cal_trace.specs.Rows.Text.{numbered};
 ghost use Rattle.cal_tables.specs.TableText.{field_key, kind_text, text_of_lines};
 ghost use Rattle.cal_tables.specs.Varied.{AreVaried, AreVariedWith, has_key, varied};
@@ -15,7 +15,7 @@ ghost use Rattle.cal_trace.specs.Arrivals.FitsTable.{FitsTable};
 use crate::comparing::Variation;
 use crate::comparing::fault::{ComparisonFault, Reason, fault_of};
 use crate::comparing::tables::GivenTables;
-use cal_engine::{RunFault, run_input};
+use cal_input::{RunFault, run_input};
 use cal_machine::{Config, ConfigFault, Kind, Task};
 use std::alloc::{AllocError, Global};
 use std::fmt::Write;

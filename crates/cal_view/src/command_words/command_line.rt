@@ -35,10 +35,8 @@ pub enum Job<'a> {
     },
     /// Make runs of several tables on the same arrivals, and show them side by side.
     Compare {
-        /// The key of a table and the values that make several tables of it, as `KEY=V1,V2`.
-        vary: Option<&'a str>,
-        /// As what they are shown.
-        form: Form,
+        /// Which tables, and as what the runs are shown.
+        asked: CompareWords<'a>,
     },
     /// Explain a pass of a history or of signals, or the first illegal one.
     Explain {
@@ -59,6 +57,16 @@ pub enum Job<'a> {
     Check,
     /// Say how the program is used.
     Help,
+}
+
+/// What the words after `compare` ask for.
+#[derive(Clone, Copy, Debug, PartialEq, Eq)]
+pub struct CompareWords<'a> {
+    /// The key of a table and the values that make several tables of it, as `KEY=V1,V2`; without
+    /// it the input has the tables.
+    pub vary: Option<&'a str>,
+    /// As what the runs are shown.
+    pub form: Form,
 }
 
 /// As what several runs are shown.
@@ -428,7 +436,9 @@ fn job_of<'a>(matches: &ArgMatches<'a>) -> Result<Job<'a>, Mistake> {
         Some((name, own)) if name == "measure" => Job::Measure {
             form: number_form_of(own.get_flag("csv")),
         },
-        Some((name, own)) if name == "compare" => comparison_of(own)?,
+        Some((name, own)) if name == "compare" => Job::Compare {
+            asked: comparison_of(own)?,
+        },
         Some((name, own)) if name == "explain" => Job::Explain {
             asked: asked_of(own),
         },
@@ -539,7 +549,7 @@ fn tables_of<'a>(
 }
 
 /// What the options of `compare` ask for.
-fn comparison_of<'a>(matches: &ArgMatches<'a>) -> Result<Job<'a>, Mistake> {
+fn comparison_of<'a>(matches: &ArgMatches<'a>) -> Result<CompareWords<'a>, Mistake> {
     let vary = matches.get_str("vary");
     let form = match number(matches, "write-input") {
         Some(table) => Form::Input(table),
@@ -547,7 +557,7 @@ fn comparison_of<'a>(matches: &ArgMatches<'a>) -> Result<Job<'a>, Mistake> {
     };
     match vary {
         Some(vary) if !vary.contains('=') => Err(Mistake::NoValues),
-        _ => Ok(Job::Compare { vary, form }),
+        _ => Ok(CompareWords { vary, form }),
     }
 }
 

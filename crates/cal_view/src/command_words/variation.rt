@@ -1,9 +1,10 @@
 //! What a word `KEY=V1,V2` says.
 
+use cal_tables::Variation;
 use std::alloc::{AllocError, Global};
 
 /// The key: what stands before the first `=`, or all.
-pub fn key_of(vary: &str) -> &str {
+fn key_of(vary: &str) -> &str {
     match vary.split_once('=') {
         Some((key, _)) => key,
         None => vary,
@@ -11,15 +12,24 @@ pub fn key_of(vary: &str) -> &str {
 }
 
 /// The values, by commas: what stands after the first `=`. Without one there is one empty value,
-/// which no table has. Fails only when out of memory.
-pub fn values_of<'a>(alloc: Global, vary: &'a str) -> Result<Vec<&'a str>, AllocError> {
+/// which no table has. No word has none. Fails only when out of memory.
+pub fn values_of<'a>(alloc: Global, vary: Option<&'a str>) -> Result<Vec<&'a str>, AllocError> {
+    let mut values = Vec::new(alloc);
+    let Some(vary) = vary else {
+        return Ok(values);
+    };
     let text = match vary.split_once('=') {
         Some((_, values)) => values,
         None => "",
     };
-    let mut values = Vec::new(alloc);
     for value in text.split(',') {
         values.push(value)?;
     }
     Ok(values)
+}
+
+/// The variation of a word and its values, where there is a word.
+pub fn variation_of<'a>(vary: Option<&'a str>, values: &'a [&'a str]) -> Option<Variation<'a>> {
+    let key = key_of(vary?);
+    Some(Variation { key, values })
 }

@@ -1,6 +1,7 @@
 //! Why a run has no answer, and the line that the program says of it.
 
-use cal_engine::{RunFault, end_with, status};
+use cal_engine::end_with;
+use cal_input::{RunFault, status};
 use std::alloc::{AllocError, AllocFailed};
 use std::io;
 use std::io::{ErrorKind, Write};

@@ -2,7 +2,7 @@
 
 use crate::edge::failure::Failure;
 use crate::edge::noted::Noted;
-use cal_engine::{RunFault, read_input, split_input};
+use cal_input::{RunFault, read_input, split_input};
 use cal_tables::front_of_table;
 use std::alloc::Global;
 use std::io::{ErrorKind, Read};

@@ -7,9 +7,10 @@ ghost use Rattle.std.specs.Prelude.{◌≡◌, ◌≢◌, IfErr, IfOk};
 use crate::command_words::arrival_words::{ArrivalForm, ArrivalWords};
 use crate::jobs::arriving::summary::summary_of;
 use crate::refusing::{end_refusal, refuse_word, table_alone};
-use cal_engine::{INPUT_LIMIT, RunFault, read_input};
+use cal_input::{INPUT_LIMIT, RunFault, read_input};
 use cal_load::{
-    LoadFault, Made, TaskLoad, WordFault, are_known, asked_loads, made_arrivals, word_at,
+    ArrivalPlan, LoadFault, Made, TaskLoad, WordFault, are_known, asked_loads, made_arrivals,
+    word_at,
 };
 use cal_machine::{Config, ConfigFault};
 use cal_tables::table_part;
@@ -59,33 +60,81 @@ struct Answer {
     text: String,
 }
 
-/// Reads a task table, makes the arrivals that the words ask for, writes them, and answers the exit
-/// status: 2 where a word is refused, of which one line then says why. What follows a separator
-/// line in the input is not read.
-///
-/// The faults of words that need no table come first, then those of the input, the table's, and
-/// those of words that it refuses. Nothing is written before all was made.
-pub fn answer_arrivals<R: Read + Drop, W: Write, E: Write>(
-    alloc: Global,
-    mut reader: R,
-    asked: &ArrivalWords<'_>,
-    output: &mut W,
-    errors: &mut E,
-) -> Result<u8, RunFault>
-    // Nothing is written where anything is refused.
-    ensures refused { IfOk result (λ status. status ≢ 0 → output.new ≡ output.old) }
-    ensures untouched { IfErr result (λ fault. fault ≢ RunFault.Write → output.new ≡ output.old) }
-{
-    let loads = match asked_loads(alloc, &asked.load) {
-        Ok(loads) => loads,
-        Err(LoadFault::Memory) => return Err(RunFault::Memory),
-        Err(LoadFault::Word(fault)) => return Ok(refuse_word(&fault, errors)),
-    };
-    let input = read_input(alloc, &mut reader)?;
-    match made_answer(alloc, input.as_slice(), asked, loads.as_slice()) {
-        Ok(answer) => write_answer(&answer, output),
-        Err(Unmade::Run(fault)) => end_refusal(alloc, table_alone(input.as_slice()), fault, errors),
-        Err(Unmade::Word(fault)) => Ok(refuse_word(&fault, errors)),
+/// Arrivals that words ask for.
+#[derive(Clone, Copy)]
+pub struct Arriving<'a> {
+    /// What they take memory from.
+    pub alloc: Global,
+    pub asked: &'a ArrivalWords<'a>,
+}
+
+impl<'a> Arriving<'a> {
+    /// Reads a task table, makes the arrivals, writes them, and answers the exit status: 2 where a
+    /// word is refused, of which one line then says why. What follows a separator line in the input
+    /// is not read.
+    ///
+    /// The faults of words that need no table come first, then those of the input, the table's, and
+    /// those of words that it refuses. Nothing is written before all was made.
+    pub fn answer_arrivals<R: Read + Drop, W: Write, E: Write>(
+        &self,
+        mut reader: R,
+        output: &mut W,
+        errors: &mut E,
+    ) -> Result<u8, RunFault>
+        // Nothing is written where anything is refused.
+        ensures refused { IfOk result (λ status. status ≢ 0 → output.new ≡ output.old) }
+        ensures untouched { IfErr result (λ fault.
+            fault ≢ RunFault.Write → output.new ≡ output.old) }
+    {
+        let loads = match asked_loads(self.alloc, &self.asked.load) {
+            Ok(loads) => loads,
+            Err(LoadFault::Memory) => return Err(RunFault::Memory),
+            Err(LoadFault::Word(fault)) => return Ok(refuse_word(&fault, errors)),
+        };
+        let input = read_input(self.alloc, &mut reader)?;
+        let input = input.as_slice();
+        match self.made_answer(input, loads.as_slice()) {
+            Ok(answer) => write_answer(&answer, output),
+            Err(Unmade::Run(fault)) => end_refusal(self.alloc, table_alone(input), fault, errors),
+            Err(Unmade::Word(fault)) => Ok(refuse_word(&fault, errors)),
+        }
+    }
+
+    /// Makes these loads for the task table of an input.
+    fn made_answer(&self, input: &[u8], loads: &[TaskLoad]) -> Result<Answer, Unmade<'a>> {
+        let words = &self.asked.load;
+        let table = table_part(input);
+        let config = Config::read(self.alloc, table)?;
+        are_known(&config, loads, words.tasks.as_slice())?;
+        let plan = ArrivalPlan {
+            loads,
+            timing: words.timing,
+            seed: words.seed,
+        };
+        let word = word_at(words.loads.as_slice(), 0);
+        let made = made_arrivals(self.alloc, &config, &plan, word)?;
+        self.answer_of(&config, table, made)
+    }
+
+    /// What was made for a table, as it is written.
+    fn answer_of(&self, config: &Config, table: &[u8], made: Made) -> Result<Answer, Unmade<'a>> {
+        let mut front = Vec::new(self.alloc);
+        let text = match self.asked.form {
+            ArrivalForm::Arrivals => made.text,
+            ArrivalForm::Input => {
+                put_table(table, &mut front)?;
+                made.text
+            }
+            ArrivalForm::Summary => {
+                let turns = self.asked.load.timing.turns;
+                summary_of(self.alloc, config, made.counts.as_slice(), turns)?
+            }
+        };
+        // An input is read up to this length.
+        if front.len().saturating_add(text.len()) > INPUT_LIMIT {
+            return Err(Unmade::Run(RunFault::Length));
+        }
+        Ok(Answer { front, text })
     }
 }
 
@@ -101,53 +150,6 @@ fn write_answer<W: Write>(answer: &Answer, output: &mut W) -> Result<u8, RunFaul
         Ok(()) => Ok(0),
         Err(_) => Err(RunFault::Write),
     }
-}
-
-/// Makes what the words ask for, which are these loads, for the task table of an input.
-fn made_answer<'a>(
-    alloc: Global,
-    input: &[u8],
-    asked: &ArrivalWords<'a>,
-    loads: &[TaskLoad],
-) -> Result<Answer, Unmade<'a>> {
-    let words = &asked.load;
-    let table = table_part(input);
-    let config = Config::read(alloc, table)?;
-    are_known(&config, loads, words.tasks.as_slice())?;
-    let word = word_at(words.loads.as_slice(), 0);
-    let made = made_arrivals(alloc, &config, loads, words.timing, words.seed, word)?;
-    answer_of(alloc, &config, asked, table, made)
-}
-
-/// What was made, as it is written.
-fn answer_of<'a>(
-    alloc: Global,
-    config: &Config,
-    asked: &ArrivalWords<'a>,
-    table: &[u8],
-    made: Made,
-) -> Result<Answer, Unmade<'a>> {
-    let mut front = Vec::new(alloc);
-    let text = match asked.form {
-        ArrivalForm::Arrivals => made.text,
-        ArrivalForm::Input => {
-            put_table(table, &mut front)?;
-            made.text
-        }
-        ArrivalForm::Summary => {
-            summary_of(
-                alloc,
-                config,
-                made.counts.as_slice(),
-                asked.load.timing.turns,
-            )?
-        }
-    };
-    // An input is read up to this length.
-    if front.len().saturating_add(text.len()) > INPUT_LIMIT {
-        return Err(Unmade::Run(RunFault::Length));
-    }
-    Ok(Answer { front, text })
 }
 
 /// Puts a task table, whose last line is ended where it is not, and the separator line.

@@ -1,7 +1,7 @@
 //! An input checked: what it is, or why it is refused.
 
-use cal_engine::{RunFault, read_parts, split_input};
 use cal_faults::is_table_alone;
+use cal_input::{RunFault, read_parts, split_input};
 use cal_machine::Config;
 use cal_picture::count_passes;
 use cal_trace::{FaultKind, read_arrivals, read_signals};

@@ -1,76 +1,53 @@
 //! The runs of an input compared, as numbers or as a picture.
 
-use crate::command_words::command_line::Form;
-use crate::command_words::variation::{key_of, values_of};
-use crate::fault::{end_comparison, explain_comparison};
+use crate::command_words::command_line::{CompareWords, Form};
+use crate::command_words::variation::{values_of, variation_of};
+use crate::fault::RefusedRuns;
+use crate::jobs::input::JobInput;
 use cal_compared::draw_comparison;
-use cal_engine::RunFault;
-use cal_refusals::RefusedInput;
-use cal_tables::{ComparisonFault, Labels, Variation, compare, write_input};
-use std::alloc::Global;
+use cal_input::RunFault;
+use cal_tables::{ComparisonFault, Variation, compare, write_input};
 use std::io::{BufWriter, Write};
 
 /// Compares the runs of an input, of its tables or, with a key and values, of those that its table
-/// gives with each of them, and answers the exit status.
+/// gives with each of them, and answers the exit status: its faults name the table or the value
+/// that has them, and why.
 pub fn answer_compare<W: Write, E: Write>(
-    alloc: Global,
-    read: RefusedInput<'_>,
-    vary: Option<&str>,
-    labels: Labels<'_>,
-    form: Form,
+    input: &JobInput<'_>,
+    asked: CompareWords<'_>,
     output: &mut W,
     errors: &mut E,
 ) -> Result<u8, RunFault> {
-    let Some(vary) = vary else {
-        return answer_comparison(alloc, read, None, labels, form, output, errors);
-    };
-    let values = values_of(alloc, vary)?;
-    let key = key_of(vary);
-    let variation = Variation {
-        key,
-        values: values.as_slice(),
-    };
-    answer_comparison(alloc, read, Some(variation), labels, form, output, errors)
-}
-
-/// Compares the runs of an input, and answers the exit status: its faults name the table or the
-/// value that has them, and why.
-fn answer_comparison<W: Write, E: Write>(
-    alloc: Global,
-    read: RefusedInput<'_>,
-    variation: Option<Variation<'_>>,
-    labels: Labels<'_>,
-    form: Form,
-    output: &mut W,
-    errors: &mut E,
-) -> Result<u8, RunFault> {
-    match write_comparison(alloc, read.input, variation, labels, form, output) {
+    let values = values_of(input.alloc, asked.vary)?;
+    let variation = variation_of(asked.vary, values.as_slice());
+    match write_comparison(input, variation, asked.form, output) {
         Ok(()) => Ok(0),
         Err(fault) => {
-            let status = end_comparison(&fault, variation, errors)?;
-            explain_comparison(alloc, read, &fault, variation, errors);
-            Ok(status)
+            let runs = RefusedRuns {
+                read: input.read,
+                variation,
+            };
+            runs.end(input.alloc, &fault, errors)
         }
     }
 }
 
 /// Compares the runs of an input. What is written goes through a buffer.
 fn write_comparison<W: Write>(
-    alloc: Global,
-    input: &[u8],
+    input: &JobInput<'_>,
     variation: Option<Variation<'_>>,
-    labels: Labels<'_>,
     form: Form,
     output: &mut W,
 ) -> Result<(), ComparisonFault> {
+    let (alloc, bytes, labels) = (input.alloc, input.bytes(), input.labels);
     let mut buffer = match BufWriter::new(alloc, output) {
         Ok(buffer) => buffer,
         Err(_) => return Err(ComparisonFault::from(RunFault::Memory)),
     };
     match form {
-        Form::Numbers(form) => compare(alloc, input, variation, labels, form, &mut buffer)?,
-        Form::Picture => draw_comparison(alloc, input, variation, labels, &mut buffer)?,
-        Form::Input(table) => write_input(alloc, input, variation, table, &mut buffer)?,
+        Form::Numbers(form) => compare(alloc, bytes, variation, labels, form, &mut buffer)?,
+        Form::Picture => draw_comparison(alloc, bytes, variation, labels, &mut buffer)?,
+        Form::Input(table) => write_input(alloc, bytes, variation, table, &mut buffer)?,
     }
     match buffer.flush() {
         Ok(()) => Ok(()),

@@ -1,27 +1,24 @@
 //! The history of an input drawn.
 
 use crate::fault::{end_without_pass, end_without_task};
-use cal_engine::RunFault;
+use crate::jobs::input::JobInput;
+use cal_input::RunFault;
 use cal_picture::{Drawn, Shown, draw_picture};
-use cal_tables::Labels;
-use std::alloc::Global;
 use std::io::{BufWriter, Write};
 
 /// Draws what is to be shown of an input of a table and a history. Answers the exit status: 0, or 2
 /// where there is no such pass or task. The faults are those of `draw_picture`.
 pub fn answer_picture<W: Write, E: Write>(
-    alloc: Global,
-    input: &[u8],
+    input: &JobInput<'_>,
     shown: Shown,
-    labels: Labels<'_>,
     output: &mut W,
     errors: &mut E,
 ) -> Result<u8, RunFault> {
-    let mut buffer = match BufWriter::new(alloc, output) {
+    let mut buffer = match BufWriter::new(input.alloc, output) {
         Ok(buffer) => buffer,
         Err(_) => return Err(RunFault::Memory),
     };
-    match draw_picture(alloc, input, shown, labels, &mut buffer)? {
+    match draw_picture(input.alloc, input.bytes(), shown, input.labels, &mut buffer)? {
         Drawn::Done => {}
         Drawn::NoPass { passes } => {
             return Ok(end_without_pass(shown.from.unwrap_or(0), passes, errors));

@@ -1,8 +1,10 @@
 //! A pass of an input explained.
 
 use crate::fault::{end_without_pass, end_without_task};
-use cal_engine::{RunFault, decided_run, read_parts};
-use cal_explain::{ExplainFault, Explained, Scope, explain_pass, explain_verdict};
+use crate::jobs::input::JobInput;
+use cal_engine::decided_run;
+use cal_explain::{ExplainFault, Explained, Explainer, Scope};
+use cal_input::{RunFault, read_parts};
 use cal_machine::Config;
 use cal_policy::{PassEntry, Verdict};
 use cal_trace::read_history;
@@ -52,17 +54,16 @@ enum Unexplained {
 /// or core, or the pass cannot be explained. Nothing is written before the whole input was read and
 /// accepted.
 pub fn answer_explain<W: Write, E: Write>(
-    alloc: Global,
-    input: &[u8],
+    input: &JobInput<'_>,
     asked: Asked,
     output: &mut W,
     errors: &mut E,
 ) -> Result<u8, RunFault> {
-    let mut buffer = match BufWriter::new(alloc, output) {
+    let mut buffer = match BufWriter::new(input.alloc, output) {
         Ok(buffer) => buffer,
         Err(_) => return Err(RunFault::Memory),
     };
-    let status = match explain_read(alloc, input, asked, &mut buffer)? {
+    let status = match explain_read(input, asked, &mut buffer)? {
         Answer::Done => 0,
         Answer::Illegal => 1,
         Answer::Refused(reason) => return Ok(refuse(reason, errors)),
@@ -102,19 +103,25 @@ fn refuse<E: Write>(reason: Unexplained, errors: &mut E) -> u8 {
 
 /// Explains a pass of an input, or says why it cannot.
 fn explain_read<W: Write>(
-    alloc: Global,
-    input: &[u8],
+    input: &JobInput<'_>,
     asked: Asked,
     writer: &mut W,
 ) -> Result<Answer, RunFault> {
-    let (config, history) = passes_of(alloc, input)?;
+    let alloc = input.alloc;
+    let (config, history) = passes_of(alloc, input.bytes())?;
     let scope = match scope_of(&config, asked) {
         Ok(scope) => scope,
         Err(reason) => return Ok(Answer::Refused(reason)),
     };
+    let explainer = Explainer {
+        alloc,
+        config: &config,
+        history: history.as_slice(),
+        scope,
+    };
     match asked.pass {
-        Some(pass) => explain_one(alloc, &config, history.as_slice(), pass, scope, writer),
-        None => explain_all(alloc, &config, history.as_slice(), scope, writer),
+        Some(pass) => explain_one(&explainer, pass, writer),
+        None => explain_all(&explainer, writer),
     }
 }
 
@@ -144,15 +151,12 @@ fn scope_of(config: &Config, asked: Asked) -> Result<Scope, Unexplained> {
 
 /// Explains this pass of a history, or says why it cannot.
 fn explain_one<W: Write>(
-    alloc: Global,
-    config: &Config,
-    history: &[PassEntry],
+    explainer: &Explainer<'_>,
     pass: usize,
-    scope: Scope,
     writer: &mut W,
 ) -> Result<Answer, RunFault> {
-    let passes = history.len();
-    match explain_pass(alloc, config, history, pass, scope, writer) {
+    let passes = explainer.history.len();
+    match explainer.explain_pass(pass, writer) {
         Ok(Explained::Done) => Ok(Answer::Done),
         Ok(Explained::NoPass) => Ok(Answer::Refused(Unexplained::NoPass { pass, passes })),
         Ok(Explained::NotOrderly) => Ok(Answer::Refused(Unexplained::NotOrderly { pass })),
@@ -163,14 +167,8 @@ fn explain_one<W: Write>(
 
 /// Writes whether a history is legal, and of one that is not why its first illegal pass is none of
 /// the policy's.
-fn explain_all<W: Write>(
-    alloc: Global,
-    config: &Config,
-    history: &[PassEntry],
-    scope: Scope,
-    writer: &mut W,
-) -> Result<Answer, RunFault> {
-    match explain_verdict(alloc, config, history, scope, writer) {
+fn explain_all<W: Write>(explainer: &Explainer<'_>, writer: &mut W) -> Result<Answer, RunFault> {
+    match explainer.explain_verdict(writer) {
         Ok(Verdict::Legal) => Ok(Answer::Done),
         Ok(Verdict::Illegal { .. }) => Ok(Answer::Illegal),
         Err(fault) => Err(run_fault(fault)),

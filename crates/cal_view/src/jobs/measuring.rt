@@ -1,22 +1,20 @@
 //! The numbers of a run, or of a recorded history.
 
-use cal_engine::RunFault;
+use crate::jobs::input::JobInput;
+use cal_input::RunFault;
 use cal_policy::Verdict;
-use cal_tables::{Labels, NumberForm, measure};
-use std::alloc::Global;
+use cal_tables::{NumberForm, measure};
 use std::io::Write;
 
 /// Writes the numbers of an input, and answers the exit status: of a history that is not legal
 /// nothing is written but the line that names its first illegal pass.
 pub fn answer_measure<W: Write, E: Write>(
-    alloc: Global,
-    input: &[u8],
-    labels: Labels<'_>,
+    input: &JobInput<'_>,
     form: NumberForm,
     output: &mut W,
     errors: &mut E,
 ) -> Result<u8, RunFault> {
-    match measure(alloc, input, labels, form, output)? {
+    match measure(input.alloc, input.bytes(), input.labels, form, output)? {
         Verdict::Legal => Ok(0),
         Verdict::Illegal { pass } => {
             let _ = writeln!(errors, "caladan_view: illegal pass {pass}");

@@ -1,6 +1,6 @@
 //! The names of tasks and the unit of clock ticks that words give.
 
-use cal_engine::RunFault;
+use cal_input::RunFault;
 use cal_machine::Config;
 use cal_tables::{ComparisonFault, Labels, letters, read_tables};
 use std::alloc::{AllocError, Global};

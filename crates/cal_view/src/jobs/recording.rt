@@ -2,10 +2,12 @@
 
 ghost use Rattle.std.specs.Prelude.{◌≡◌, ◌≢◌, IfErr, IfSome, OnOk};
 ghost use Rattle.std.specs.Io.KnownBytes.{Appends};
-ghost use Rattle.cal_engine.specs.Runs.{decided_run_of, within_limit};
+ghost use Rattle.cal_input.specs.Parts.{within_limit};
+ghost use Rattle.cal_engine.specs.Deciding.{decided_run_of};
 ghost use Rattle.cal_view.specs.Recording.{Records, recorded_text};
 
-use cal_engine::{Front, RunFault, decided_run, read_input, write_front};
+use cal_engine::{Front, decided_run, write_front};
+use cal_input::{RunFault, read_input};
 use cal_policy::PassEntry;
 use cal_trace::write_history;
 use std::alloc::Global;

@@ -1,7 +1,8 @@
 //! Readers that never end or fail, and a writer that fails.
 
 use crate::engine::one_pass::{INPUT, REPORT};
-use cal_engine::{RunFault, decide, fault_line, read_input, status};
+use cal_engine::decide;
+use cal_input::{RunFault, fault_line, read_input, status};
 use std::alloc::Global;
 use std::io;
 use std::io::{Read, Write};

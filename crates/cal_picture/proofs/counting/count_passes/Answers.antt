@@ -1,8 +1,8 @@
 use Rattle.std.proofs.Common.{◌≡◌, [], ◌∷◌, ◌++◌, Err, refl, arith, rules}
 use Rattle.std.proofs.lemmas.List.{length-append}
 use Rattle.cal_trace.specs.History.Reading.{extent_of}
-use Rattle.cal_engine.specs.Runs.{recorded_run_of}
-use Rattle.cal_engine.specs.declared.fault.RunFault.TheVariants as fault
+use Rattle.cal_input.specs.Recorded.{recorded_run_of}
+use Rattle.cal_input.specs.declared.fault.RunFault.TheVariants as fault
 use Rattle.cal_picture.proofs.Counted.{all_counted, no_passes, one_more, refused_rows}
 use Rattle.cal_picture.proofs.counting.count_passes.Goals as goal
 

@@ -3,8 +3,9 @@ use Rattle.cal_trace.specs.History.{history_of}
 use Rattle.cal_trace.specs.History.Reading.{extent_of}
 use Rattle.cal_trace.specs.Rows.{rows_of}
 use Rattle.cal_trace.proofs.HistoryLemmas.GivenPasses.{few_given}
-use Rattle.cal_engine.specs.declared.fault.RunFault.TheVariants as fault
-use Rattle.cal_engine.proofs.Audited.{refused_history, audited}
+use Rattle.cal_input.specs.declared.fault.RunFault.TheVariants as fault
+use Rattle.cal_input.proofs.Refusals.{refused_history}
+use Rattle.cal_engine.proofs.Audited.{audited}
 use Rattle.cal_engine.proofs.jobs.auditing.audit_rows.Goals as goal
 
 pub loop-audit-init : goal.loop-audit-init

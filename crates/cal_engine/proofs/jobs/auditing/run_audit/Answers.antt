@@ -1,6 +1,6 @@
 use Rattle.std.proofs.Common.{◌≡◌, Err, rules}
-use Rattle.cal_engine.specs.Runs.{recorded_run_of}
-use Rattle.cal_engine.proofs.Reading.{refused}
+use Rattle.cal_input.specs.Recorded.{recorded_run_of}
+use Rattle.cal_input.proofs.WholeInput.{refused}
 use Rattle.cal_engine.proofs.jobs.auditing.run_audit.Goals as goal
 
 pub returns-in_err-verdict-clause-exact : goal.returns-in_err-verdict-clause-exact

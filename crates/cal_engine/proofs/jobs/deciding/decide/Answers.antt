@@ -1,8 +1,9 @@
 use Rattle.std.proofs.Common.{◌≡◌, ℕ, List, Err, Result, rules}
+use Rattle.cal_input.specs.Recorded.{Run}
+use Rattle.cal_input.specs.declared.fault.RunFault.{RunFault}
+use Rattle.cal_input.proofs.WholeInput.{answered, refused}
 use Rattle.cal_engine.specs.Outcome.{Reports}
-use Rattle.cal_engine.specs.Runs.{Run, decided_run_of}
-use Rattle.cal_engine.specs.declared.fault.RunFault.{RunFault}
-use Rattle.cal_engine.proofs.Reading.{answered, refused}
+use Rattle.cal_engine.specs.Deciding.{decided_run_of}
 use Rattle.cal_engine.proofs.Reporting.{not_reported, reports}
 use Rattle.cal_engine.proofs.jobs.deciding.decide.Goals as goal
 

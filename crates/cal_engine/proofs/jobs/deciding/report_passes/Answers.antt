@@ -8,8 +8,8 @@ use Rattle.cal_trace.specs.Signals.Reading.{HasGiven}
 use Rattle.cal_trace.specs.Signals.{signals_of}
 use Rattle.cal_trace.proofs.SignalLemmas.Accepted.{last_fits}
 use Rattle.cal_trace.proofs.GivenSignals.{few_given}
+use Rattle.cal_input.specs.declared.fault.RunFault.TheVariants as fault
 use Rattle.cal_engine.specs.Deciding.{decided_pass, input_of}
-use Rattle.cal_engine.specs.declared.fault.RunFault.TheVariants as fault
 use Rattle.cal_engine.proofs.Decided.{IsDecided-none, IsDecided-append, judged_is_input}
 use Rattle.cal_engine.proofs.Reporting.{refused_signals, whole_report}
 use Rattle.cal_engine.proofs.jobs.deciding.report_passes.Goals as goal

@@ -4,7 +4,8 @@ use Rattle.cal_machine.specs.declared.request.Request.{Request}
 use Rattle.cal_run.specs.Outcome.{IsRun, outcome_of}
 use Rattle.cal_run.specs.declared.outcome.Outcome.{Outcome}
 use Rattle.cal_trace.specs.Report.Summary.{summary_text}
-use Rattle.cal_engine.specs.Running.{IsTextOfRun, RunInput}
+use Rattle.cal_input.specs.Parts.{RunInput}
+use Rattle.cal_engine.specs.Running.{IsTextOfRun}
 use Rattle.cal_engine.specs.declared.jobs.running.RunAnswer.{RunAnswer}
 use Rattle.cal_engine.specs.declared.jobs.running.RunAnswer.TheVariants.{Summary}
 use Rattle.cal_engine.proofs.jobs.running.lockstep_on.Goals as goal

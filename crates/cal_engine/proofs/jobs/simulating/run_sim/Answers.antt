@@ -1,7 +1,8 @@
 use Rattle.std.proofs.Common.{◌≡◌, ℕ, List, Err, Result, rules}
-use Rattle.cal_engine.specs.Running.{run_input_of, FailedInThreads, RunInput, RunsInThreads}
-use Rattle.cal_engine.specs.declared.fault.RunFault.{RunFault}
-use Rattle.cal_engine.proofs.Reading.{answered}
+use Rattle.cal_input.specs.Parts.{run_input_of, RunInput}
+use Rattle.cal_input.specs.declared.fault.RunFault.{RunFault}
+use Rattle.cal_input.proofs.WholeInput.{answered}
+use Rattle.cal_engine.specs.Running.{FailedInThreads, RunsInThreads}
 use Rattle.cal_engine.proofs.WrittenRuns.{runs_in_threads}
 use Rattle.cal_engine.proofs.jobs.simulating.run_sim.Goals as goal
 

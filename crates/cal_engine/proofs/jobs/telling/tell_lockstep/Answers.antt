@@ -3,9 +3,9 @@ use Rattle.std.proofs.lemmas.Result.{on_ok_weaker, IfErr-weaker}
 use Rattle.cal_machine.specs.Table.{Table}
 use Rattle.cal_policy.specs.declared.history.entry.PassEntry.{PassEntry}
 use Rattle.cal_run.specs.Parts.{AreParts, rounds_of}
+use Rattle.cal_input.specs.declared.fault.RunFault.TheVariants as fault
 use Rattle.cal_engine.specs.Front.{front_of}
 use Rattle.cal_engine.specs.Running.{AreFirstPasses}
-use Rattle.cal_engine.specs.declared.fault.RunFault.TheVariants as fault
 use Rattle.cal_engine.proofs.Telling.{all_passed, begun, ended}
 use Rattle.cal_engine.proofs.jobs.telling.tell_lockstep.Goals as goal
 

@@ -8,7 +8,7 @@ use Rattle.cal_policy.specs.Pass.{IsLegal}
 use Rattle.cal_policy.specs.declared.history.entry.PassEntry.{PassEntry}
 use Rattle.cal_run.proofs.RoundsLemmas.Rounds.{before_rounds, with_table}
 use Rattle.cal_trace.specs.History.Text.{entry_rows, lines_of}
-use Rattle.cal_engine.specs.declared.fault.RunFault.TheVariants as fault
+use Rattle.cal_input.specs.declared.fault.RunFault.TheVariants as fault
 use Rattle.cal_engine.proofs.Telling.{first_passes, none_passed, told_more}
 use Rattle.cal_engine.proofs.jobs.telling.tell_rounds.Goals as goal
 

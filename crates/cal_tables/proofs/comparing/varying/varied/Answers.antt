@@ -1,5 +1,5 @@
 use Rattle.std.proofs.Common.{◌≡◌, ℕ, Bool, true, cond, List, Result, Ok, Err, IfErr, sym, ap, ◌∙◌, rules}
-use Rattle.cal_engine.specs.Outcome.{ConfigDecided}
+use Rattle.cal_input.specs.Answers.{ConfigDecided}
 use Rattle.cal_machine.specs.Outcome.{Fails, Gives}
 use Rattle.cal_machine.specs.Reading.{table_in}
 use Rattle.cal_machine.specs.Table.{Table}

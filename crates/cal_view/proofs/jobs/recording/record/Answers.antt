@@ -1,6 +1,6 @@
 use Rattle.std.proofs.Common.{◌≡◌, Err, rules}
-use Rattle.cal_engine.proofs.Reading.{refused}
-use Rattle.cal_engine.specs.Runs.{decided_run_of}
+use Rattle.cal_input.proofs.WholeInput.{refused}
+use Rattle.cal_engine.specs.Deciding.{decided_run_of}
 use Rattle.cal_view.proofs.RecordedRuns.{recorded}
 use Rattle.cal_view.proofs.jobs.recording.record.Goals as goal
 

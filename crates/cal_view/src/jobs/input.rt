@@ -1,0 +1,23 @@
+//! What a job is done on.
+
+use cal_refusals::RefusedInput;
+use cal_tables::Labels;
+use std::alloc::Global;
+
+/// An input that was read to its end, and what its tasks and clock ticks are called.
+#[derive(Clone, Copy)]
+pub struct JobInput<'a> {
+    /// What a job takes memory from.
+    pub alloc: Global,
+    /// The input, as it is told of where it is refused.
+    pub read: RefusedInput<'a>,
+    /// What its tasks and clock ticks are called.
+    pub labels: Labels<'a>,
+}
+
+impl<'a> JobInput<'a> {
+    /// The bytes of the input.
+    pub fn bytes(&self) -> &'a [u8] {
+        self.read.input
+    }
+}
