@@ -1,7 +1,6 @@
 pub mod Serving
 pub mod Steps
 pub mod Counting
-pub mod Passes
 pub mod Whole
 pub mod OneMore
 pub mod SpanLemmas
@@ -12,3 +11,5 @@ pub mod Paired
 pub mod AtMostOne
 pub mod ThreadTurns
 pub mod TotalsOfEach
+pub mod Held
+pub mod WorksOfEach

@@ -1,16 +1,14 @@
 //! What came of the requests of a task.
 
-ghost use Rattle.std.specs.Prelude.{◌≡◌, ◌<◌, ◌++◌, ◌==◌, ℕ, List, length, map, IfOk, OnOk};
+ghost use Rattle.std.specs.Prelude.{◌≡◌, ◌<◌, ◌==◌, ℕ, List, length, map, IfOk};
 ghost use Rattle.std.specs.Prelude.{[], option_map};
-ghost use Rattle.std.specs.List.{count_by};
 ghost use Rattle.std.specs.List.{All};
 ghost use Rattle.cal_machine.specs.TableTasks.{owner_of, threads_of_table};
-ghost use Rattle.cal_trace.specs.Arrivals.FitsTable.{FitsTable};
 ghost use Rattle.cal_trace.specs.declared.arrivals.Arrival.{Arrival};
 ghost use Rattle.cal_measure.specs.Clocks.{AreClocksOf, run_end};
-ghost use Rattle.cal_measure.specs.Requests.{AreOfServices, AreRequestsOf, given_to, left_at};
+ghost use Rattle.cal_measure.specs.Requests.{AreOfServices, given_to, left_at};
 ghost use Rattle.cal_measure.specs.Requests.{left_of_task};
-ghost use Rattle.cal_measure.specs.Requests.{response_of, services_at, services_of_task};
+ghost use Rattle.cal_measure.specs.Requests.{response_of};
 ghost use Rattle.cal_measure.specs.Requests.{slowdown_of, slowdowns_of, so_far_of, wait_of};
 ghost use Rattle.cal_measure.specs.Requests.{worked_of};
 ghost use Rattle.cal_measure.specs.Services.{clocked};
@@ -18,12 +16,12 @@ ghost use Rattle.cal_measure.specs.Shares.{thousandths_of};
 ghost use Rattle.cal_measure.specs.Spread.{IsSpread};
 
 use crate::clocks::{ArrivalClocks, run_end};
-use crate::services::{Service, services_of};
+use crate::services::Service;
 use crate::shares::thousandths;
 use crate::spread::{Spread, spread_of};
 use crate::totals::total_of;
-use crate::work::{TaskWork, put_number, turns_at, work_of};
-use cal_kthread::{Journal, RequestList};
+use crate::work::{TaskWork, put_number};
+use cal_kthread::RequestList;
 use cal_machine::{Config, Request};
 use cal_trace::{Arrival, Arrivals};
 use std::alloc::{AllocError, Global};
@@ -54,46 +52,9 @@ pub struct TaskRequests {
     pub work: TaskWork,
 }
 
-/// Puts the requests that a thread served at the end of a list, in a run with this last clock. Fails
-/// only when out of memory.
-fn put_services(
-    alloc: Global,
-    journals: &[Journal],
-    last: u64,
-    thread: usize,
-    services: &mut Vec<Service>,
-) -> Result<(), AllocError>
-    ensures { OnOk result (services.new.items
-        ≡ services.old.items ++ services_at last journals.now thread) }
-{
-    let turns = turns_at(alloc, journals, last, thread)?;
-    services_of(turns.as_slice(), services)
-}
-
-/// The requests that the threads of a task served, thread by thread. Fails only when out of memory.
-fn task_services(
-    alloc: Global,
-    config: &Config,
-    last: u64,
-    journals: &[Journal],
-    task: usize,
-) -> Result<Vec<Service>, AllocError>
-    requires { task < length config.now.tasks }
-    ensures { IfOk result (λ services. services.items
-        ≡ services_of_task config.now last journals.now task) }
-{
-    config.limits();
-    let (first, count) = config.threads_of(task);
-    let mut services = Vec::new(alloc);
-    for j in 0..count {
-        put_services(alloc, journals, last, first + j, &mut services)?;
-    }
-    Ok(services)
-}
-
 /// How long each of these requests took, from its arrival to its answer. Fails only when out of
 /// memory.
-fn responses(
+pub(crate) fn responses(
     alloc: Global,
     clocks: &ArrivalClocks,
     services: &[Service],
@@ -111,26 +72,6 @@ fn responses(
         )?;
     }
     Ok(times)
-}
-
-/// How long each request took that the threads of a task served, from its arrival to its answer,
-/// thread by thread. Fails only when out of memory.
-pub fn responses_of(
-    alloc: Global,
-    config: &Config,
-    arrivals: &Arrivals,
-    clocks: &ArrivalClocks,
-    journals: &[Journal],
-    task: usize,
-) -> Result<Vec<u64>, AllocError>
-    requires clocks { AreClocksOf arrivals.now.turns arrivals.now.requests clocks.now }
-    requires task { task < length config.now.tasks }
-    ensures { IfOk result (λ times. times.items
-        ≡ map (response_of arrivals.now.turns arrivals.now.requests)
-        (services_of_task config.now (run_end arrivals.now) journals.now task)) }
-{
-    let services = task_services(alloc, config, run_end(arrivals), journals, task)?;
-    responses(alloc, clocks, services.as_slice())
 }
 
 /// How long each of these requests waited, from its arrival until it was begun. Fails only when out
@@ -330,29 +271,4 @@ pub(crate) fn requests_of_share(
         so_far,
         work: share.work,
     })
-}
-
-/// What came of the requests of a task, in a run on these arrivals. Fails only when out of memory.
-pub fn requests_of(
-    alloc: Global,
-    config: &Config,
-    arrivals: &Arrivals,
-    clocks: &ArrivalClocks,
-    journals: &[Journal],
-    left: &[RequestList],
-    task: usize,
-) -> Result<TaskRequests, AllocError>
-    requires fits { FitsTable config.now arrivals.now }
-    requires clocks { AreClocksOf arrivals.now.turns arrivals.now.requests clocks.now }
-    requires task { task < length config.now.tasks }
-    ensures { IfOk result (AreRequestsOf config.now arrivals.now journals.now left.now task) }
-{
-    let end = run_end(arrivals);
-    let share = TaskShare {
-        given: given_to(config, arrivals.requests.as_slice(), task),
-        served: task_services(alloc, config, end, journals, task)?,
-        left: task_left(alloc, config, left, task)?,
-        work: work_of(alloc, config, end, journals, task)?,
-    };
-    requests_of_share(alloc, arrivals, clocks, &share)
 }

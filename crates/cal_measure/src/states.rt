@@ -1,13 +1,10 @@
 //! What is so after the passes so far: the states of the cores, and which tasks are congested.
 
-ghost use Rattle.std.specs.Prelude.{◌≡◌, ◌<◌, ◌≤◌, ◌++◌, ◌∷◌, [], ℕ, List, length, slice_index_or};
+ghost use Rattle.std.specs.Prelude.{◌≡◌, ◌<◌, List, length};
 ghost use Rattle.std.specs.Prelude.{nat_lt};
-ghost use Rattle.std.specs.List.{All};
-ghost use Rattle.cal_machine.specs.Table.{IsTable};
 ghost use Rattle.cal_machine.specs.declared.machine.TheConstants.{MOST_CORES};
 ghost use Rattle.cal_machine.specs.declared.numbering.TheConstants.{MOST_THREADS};
-ghost use Rattle.cal_policy.specs.Board.{NamesTable};
-ghost use Rattle.cal_policy.specs.State.{IsReady, Agrees, KeepingAgrees};
+ghost use Rattle.cal_policy.specs.State.{Agrees, KeepingAgrees};
 ghost use Rattle.cal_policy.specs.History.Looks.{kept_by};
 ghost use Rattle.cal_policy.specs.History.{holder_of, is_banned};
 ghost use Rattle.cal_machine.specs.TableTasks.{delay_of};
@@ -117,29 +114,4 @@ pub fn is_congested(config: &Config, board: &Board, clock: u64, task: usize) -> 
         result ≡ nat_lt (delay_of config.now task) (delay_after config.now looks clock task) }
 {
     task_delay(config, board, clock, task) > config.task(task).delay
-}
-
-/// Brings a board up to one more action, which names the table's cores, threads and tasks.
-fn apply_one(config: &Config, board: &mut Board, action: Action)
-    requires ready { IsReady config.now board.old }
-    requires names { NamesTable config.now action }
-    ensures agrees { (x : List Action) → Agrees board.old x → Agrees board.new (x ++ action ∷ []) }
-    ensures ready { IsReady config.now board.new }
-    ensures keeping { board.new.keeping ≡ board.old.keeping }
-{
-    config.limits();
-    board.apply(config, action);
-}
-
-/// Brings a board up to more actions, each of which names the table's cores, threads and tasks.
-pub fn apply_each(config: &Config, board: &mut Board, actions: &[Action])
-    requires ready { IsReady config.now board.old }
-    requires names { All (NamesTable config.now) actions.now }
-    ensures agrees { (x : List Action) → Agrees board.old x → Agrees board.new (x ++ actions.now) }
-    ensures ready { IsReady config.now board.new }
-    ensures keeping { board.new.keeping ≡ board.old.keeping }
-{
-    for action in actions {
-        apply_one(config, board, *action);
-    }
 }

@@ -1,8 +1,8 @@
 //! What the turns of a kernel thread come to, while its journal grows.
 
+pub mod each;
 pub mod ended;
 pub mod so_far;
-pub mod task;
 pub mod totals;
 
 ghost use Rattle.std.specs.Prelude.{◌≤◌, ◌++◌, ◌∷◌, [], List, IfOk, OnOk, length};

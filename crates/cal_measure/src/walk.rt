@@ -4,12 +4,13 @@ pub mod each_task;
 pub mod machine_time;
 pub mod task_time;
 
-ghost use Rattle.std.specs.Prelude.{◌≡◌, ◌<◌, ◌≤◌, ◌++◌, ◌∷◌, [], ℕ, List, IfOk, length};
+ghost use Rattle.std.specs.Prelude.{◌≡◌, ◌<◌, ◌≤◌, ◌+◌, ◌++◌, ◌∷◌, [], ℕ, List, IfOk, length};
 ghost use Rattle.std.specs.List.{All};
 ghost use Rattle.cal_machine.specs.declared.numbering.TheConstants.{MOST_THREADS};
 ghost use Rattle.cal_measure.specs.Actions.{AreActionsOf};
 ghost use Rattle.cal_machine.specs.Table.{Table};
 ghost use Rattle.cal_measure.specs.Cores.{AreCoresOfTasks, AreMachineCores, MakeTheWhole};
+ghost use Rattle.cal_measure.specs.Cores.{held_after};
 ghost use Rattle.cal_measure.specs.Walk.{EachTask, IsOpenFor, IsTimeOf, IsWalkOf};
 ghost use Rattle.cal_measure.specs.Walk.{since};
 ghost use Rattle.cal_policy.specs.Board.{NamesTable};
@@ -124,6 +125,30 @@ impl Walk {
         let figure = entry.input.bandwidth;
         self.machine = self.machine.with_pass(config, &self.board, figure, lasts);
         self.clock = Some(now);
+    }
+
+    /// Takes the pass with which a legal history goes on.
+    pub fn next_pass(&mut self, config: &Config, entry: &PassEntry)
+        requires open { IsOpenFor config.now self.old }
+        requires legal { (h : List PassEntry) × IsLegal config.now (h ++ entry.now ∷ []) }
+        ensures open { IsOpenFor config.now self.new }
+        ensures walk { (h : List PassEntry) → length h < MOST_PASSES →
+            IsLegal config.now (h ++ entry.now ∷ []) → IsWalkOf config.now h self.old →
+            IsWalkOf config.now (h ++ entry.now ∷ []) self.new }
+    {
+        legal_is_orderly();
+        legal_is_short();
+        config.limits();
+        self.pass(config, entry);
+    }
+
+    /// How many cores the threads of a task hold since the last pass.
+    pub fn holds(&self, task: usize) -> u8
+        requires { task < length self.now.times.items }
+        ensures { (table : Table) (h : List PassEntry) (p : ℕ) → IsWalkOf table h self.now →
+            length h ≡ p + 1 → result ≡ held_after table h task p }
+    {
+        self.times[task].holds
     }
 
     /// The numbers of each task's cores, in task order. Fails only when out of memory.

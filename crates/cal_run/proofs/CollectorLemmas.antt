@@ -1,5 +1,5 @@
 -- What goes to a collector of a run, thread by thread.
-pub mod Counted
+pub mod HeldOfEach
 pub mod Few
 pub mod Journals
 pub mod Opened

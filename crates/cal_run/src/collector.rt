@@ -12,6 +12,7 @@ ghost use Rattle.std.specs.Prelude.{slice_set, IfOk, OnOk};
 ghost use Rattle.cal_kthread.specs.Turn.Entries.{entries_of};
 ghost use Rattle.cal_kthread.specs.declared.journal.entry.Entry.{Entry};
 ghost use Rattle.cal_kthread.specs.declared.kernel_thread.TheConstants.{MOST_ENTRIES};
+ghost use Rattle.cal_machine.specs.Table.{Table};
 ghost use Rattle.cal_policy.specs.declared.history.entry.PassEntry.{PassEntry as EntryOfPass};
 ghost use Rattle.cal_run.specs.Parts.{HasPassed, scheduler_seat_of};
 ghost use Rattle.cal_run.specs.Workers.{FitSomeTable};
@@ -32,6 +33,9 @@ pub trait Collector {
     /// What it holds of these passes and of these journals, which are in thread order.
     ghost holds: { Self → List EntryOfPass → List (List Entry) → Type 0 };
 
+    /// Of which tables' runs it can take passes.
+    ghost suits: { Self → Table → Type 0 };
+
     /// Makes pass `p` of those given, the next one, and takes of it what it collects.
     fn make_pass(
         &mut self,
@@ -39,9 +43,11 @@ pub trait Collector {
         arrivals: &Arrivals,
         p: usize,
     ) -> Result<(), Self::Fault>
+        requires suits { suits self.old scheduler.old.table }
         requires fits { FitSomeTable arrivals.now }
         requires given { p < length arrivals.now.passes }
         requires passed { HasPassed arrivals.now p scheduler.old }
+        ensures suits { IfOk result (λ _. suits self.new scheduler.old.table) }
         ensures passed { IfOk result (λ _. HasPassed arrivals.now (p + 1) scheduler.new) }
         ensures seat { scheduler_seat_of scheduler.new ≡ scheduler_seat_of scheduler.old }
         ensures collected { (journals : List (List Entry)) →
@@ -50,7 +56,9 @@ pub trait Collector {
 
     /// Takes what a turn of thread `k` added to its journal.
     fn add_turn(&mut self, k: usize, entries: TurnEntries) -> Result<(), Self::Fault>
-        ensures { (history : List EntryOfPass) (journals : List (List Entry))
+        ensures suits { (table : Table) → suits self.old table →
+            IfOk result (λ _. suits self.new table) }
+        ensures collected { (history : List EntryOfPass) (journals : List (List Entry))
             (journal : List Entry) → holds self.old history journals →
             slice_get journals k ≡ Some journal →
             length (journal ++ entries_of entries) ≤ MOST_ENTRIES →

@@ -93,6 +93,7 @@ pub fn lockstep_collected<C: Collector>(
     collector: &mut C,
 ) -> Result<Listed<RequestList>, C::Fault>
     requires fits { FitsTable config.now arrivals.now }
+    requires suits { C.suits collector.old config.now }
     requires opened { C.holds collector.old [] (replicate (threads_of_table config.now) []) }
     ensures run { IfOk result (IsCollectedEnd (C.holds collector.new) config.now arrivals.now) }
 {

@@ -7,6 +7,7 @@ ghost use Rattle.std.specs.Prelude.{◌≡◌, ◌+◌, ◌++◌, List, length, 
 ghost use Rattle.std.specs.Prelude.{IfOk, OnOk};
 ghost use Rattle.cal_policy.specs.Pass.{IsLegal};
 ghost use Rattle.cal_kthread.specs.declared.journal.entry.Entry.{Entry};
+ghost use Rattle.cal_machine.specs.Table.{Table};
 ghost use Rattle.cal_policy.specs.declared.history.entry.PassEntry.{PassEntry as EntryOfPass};
 ghost use Rattle.cal_run.specs.Parts.{AreParts, HasPassed, rounds_of, scheduler_seat_of};
 ghost use Rattle.cal_run.specs.Rounds.{AreAfterRounds};
@@ -31,6 +32,7 @@ pub(crate) fn make_rounds<C: Collector>(
     arrivals: &Arrivals,
     collector: &mut C,
 ) -> Result<(), C::Fault>
+    requires suits { C.suits collector.old parts.old.scheduler.table }
     requires fits { FitSomeTable arrivals.now }
     requires opened { AreParts parts.old.scheduler.table arrivals.now 0 0 0 parts.old }
     ensures made { IfOk result (λ _. AreParts parts.old.scheduler.table arrivals.now
@@ -41,9 +43,7 @@ pub(crate) fn make_rounds<C: Collector>(
         OnOk result (C.holds collector.new parts.new.scheduler.history
         (journals_of parts.new.workers.items)) }
 {
-    let passes = arrivals.passes.as_slice().len();
-    let turns = arrivals.turns.as_slice().len();
-    for r in 0..passes.max(turns) {
+    for r in 0..rounds_to_make(arrivals) {
         make_round(parts, arrivals, r, collector)?;
     }
     Ok(())
@@ -57,8 +57,10 @@ fn make_round<C: Collector>(
     r: usize,
     collector: &mut C,
 ) -> Result<(), C::Fault>
+    requires suits { C.suits collector.old parts.old.scheduler.table }
     requires fits { FitSomeTable arrivals.now }
     requires before { AreAfterRounds parts.old.scheduler.table arrivals.now r parts.old }
+    ensures suits { IfOk result (λ _. C.suits collector.new parts.old.scheduler.table) }
     ensures made { IfOk result (λ _.
         AreAfterRounds parts.old.scheduler.table arrivals.now (r + 1) parts.new) }
     ensures collected { C.holds collector.old parts.old.scheduler.history
@@ -135,8 +137,10 @@ fn pass_of_round<C: Collector>(
     r: usize,
     collector: &mut C,
 ) -> Result<(), C::Fault>
+    requires suits { C.suits collector.old scheduler.old.table }
     requires fits { FitSomeTable arrivals.now }
     requires passed { HasPassed arrivals.now (min r (length arrivals.now.passes)) scheduler.old }
+    ensures suits { IfOk result (λ _. C.suits collector.new scheduler.old.table) }
     ensures passed { IfOk result (λ _.
         HasPassed arrivals.now (min (r + 1) (length arrivals.now.passes)) scheduler.new) }
     ensures seat { scheduler_seat_of scheduler.new ≡ scheduler_seat_of scheduler.old }
@@ -159,6 +163,8 @@ fn turns_of_round<C: Collector>(
 ) -> Result<(), C::Fault>
     requires fits { FitSomeTable arrivals.now }
     requires made { HaveMade arrivals.now (min r (length arrivals.now.turns)) workers.old }
+    ensures suits { (table : Table) → C.suits collector.old table →
+        IfOk result (λ _. C.suits collector.new table) }
     ensures made { IfOk result (λ _.
         HaveMade arrivals.now (min (r + 1) (length arrivals.now.turns)) workers.new) }
     ensures seats { IfOk result (λ _. seats_of workers.new ≡ seats_of workers.old) }

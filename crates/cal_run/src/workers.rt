@@ -3,6 +3,7 @@
 pub mod worker;
 
 ghost use Rattle.std.specs.Prelude.{◌≡◌, ◌+◌, ◌<◌, List, length, IfOk, OnOk};
+ghost use Rattle.cal_machine.specs.Table.{Table};
 ghost use Rattle.cal_policy.specs.declared.history.entry.PassEntry.{PassEntry};
 ghost use Rattle.cal_run.specs.Workers.{FitSomeTable, HaveMade, journals_of, seats_of};
 
@@ -22,6 +23,8 @@ pub(crate) fn turn_each<C: Collector>(
     requires fits { FitSomeTable arrivals.now }
     requires given { j < length arrivals.now.turns }
     requires made { HaveMade arrivals.now j workers.old }
+    ensures suits { (table : Table) → C.suits collector.old table →
+        IfOk result (λ _. C.suits collector.new table) }
     ensures made { IfOk result (λ _. HaveMade arrivals.now (j + 1) workers.new) }
     ensures seats { IfOk result (λ _. seats_of workers.new ≡ seats_of workers.old) }
     ensures collected { (history : List PassEntry) →

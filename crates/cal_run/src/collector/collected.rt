@@ -1,6 +1,6 @@
 //! The history and the journals of a run, which are collected.
 
-ghost use Rattle.std.specs.Prelude.{◌≡◌, List, [], IfOk, length};
+ghost use Rattle.std.specs.Prelude.{◌≡◌, List, [], IfOk, length, ⊤};
 ghost use Rattle.cal_kthread.specs.declared.journal.entry.Entry.{Entry};
 ghost use Rattle.cal_run.specs.Collecting.{AreEmpty};
 
@@ -74,6 +74,8 @@ impl Collector for OpenCollection {
 
     ghost holds = { λ collection history journals.
         (collection.history.items ≡ history) × (collection.journals.items ≡ journals) };
+
+    ghost suits = { λ collection table. ⊤ };
 
     fn make_pass(
         &mut self,

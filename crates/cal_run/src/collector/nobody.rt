@@ -18,6 +18,8 @@ impl Collector for Nobody {
 
     ghost holds = { λ nobody history journals. ⊤ };
 
+    ghost suits = { λ nobody table. ⊤ };
+
     fn make_pass(
         &mut self,
         scheduler: &mut BareScheduler,

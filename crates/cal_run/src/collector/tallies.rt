@@ -1,6 +1,6 @@
 //! What the kernel threads of a run did, counted while it is made.
 
-ghost use Rattle.std.specs.Prelude.{◌≡◌, List, IfOk, length, replicate};
+ghost use Rattle.std.specs.Prelude.{◌≡◌, List, IfOk, length, replicate, ⊤};
 ghost use Rattle.std.specs.List.{AllZip};
 ghost use Rattle.cal_trace.specs.Report.Summary.{IsTallyOf};
 ghost use Rattle.cal_trace.specs.declared.report.tally.TheConstants.Tally.{NONE};
@@ -40,6 +40,8 @@ impl Collector for Tallies {
     type Fault = AllocError;
 
     ghost holds = { λ all history journals. AllZip IsTallyOf journals all.tallies.items };
+
+    ghost suits = { λ all table. ⊤ };
 
     fn make_pass(
         &mut self,

@@ -1,11 +1,19 @@
-use Rattle.std.proofs.Common.{◌≡◌, length, refl, sym, arith}
+use Rattle.std.proofs.Common.{◌≡◌, List, [], length, refl, replicate, subst, sym, arith}
 use Rattle.std.proofs.lemmas.List.{length-map}
+use Rattle.cal_kthread.specs.declared.journal.entry.Entry.{Entry}
+use Rattle.cal_machine.specs.Table.{Table}
 use Rattle.cal_machine.specs.TableTasks.{threads_of_table}
+use Rattle.cal_policy.specs.declared.history.entry.PassEntry.{PassEntry}
 use Rattle.cal_run.specs.Outcome.{outcome_of}
 use Rattle.cal_run.specs.Workers.{journals_of, seat_of}
 use Rattle.cal_run.specs.declared.workers.worker.Worker.{Worker}
 use Rattle.cal_run.proofs.CollectorLemmas.Opened.{all_empty, no_pass_yet, no_turn_yet}
 use Rattle.cal_run.proofs.one_thread.lockstep_collected.Goals as goal
+
+pub make_rounds-requires-clause-suits : goal.make_rounds-requires-clause-suits
+make_rounds-requires-clause-suits g c =
+    let P : Table → Type 0 = λ t. g.C.Collector.suits c.args.collector.now t in
+    subst P (sym c.in-Ok.ensures.parts.together.same_table) c.requires.suits
 
 -- before the first round nothing was made
 pub returns : goal.returns
@@ -16,12 +24,17 @@ returns g c =
     let made = c.make_rounds.new.parts in
     let n = threads_of_table c.args.config.now in
     let journals = journals_of opened.workers.items in
+    let team = are.together.threads in
+    let seats = length-map opened.workers.items (λ (w : Worker). seat_of w.thread) in
     let threads = length-map opened.workers.items (λ (w : Worker). w.thread.journal) in
-    let many : length journals ≡ n = let team = are.together.threads in let seats = length-map opened.workers.items (λ (w : Worker). seat_of w.thread) in omega (arith, threads, team, seats) in
+    let many : length journals ≡ n = omega (arith, threads, team, seats) in
+    let nothing : replicate n [] ≡ journals = all_empty journals n many (no_turn_yet arrivals opened.workers.items are.turns) in
+    let P : List (List Entry) → Type 0 = λ l. g.C.Collector.holds c.args.collector.now [] l in
+    let Q : List PassEntry → Type 0 = λ h. g.C.Collector.holds c.args.collector.now h journals in
+    let held : Q opened.scheduler.history = subst Q (sym (no_pass_yet arrivals opened.scheduler are.passes)) (subst P nothing c.requires.opened) in
     record {
       outcome = outcome_of (record { history = made.scheduler.history; journals = journals_of made.workers.items; left = c.in_ok-left.field-0.left; watched = c.in_ok-left.field-0.watched });
       run = c.in_ok-left.ensures;
-      collected = c.in_ok-make_rounds.ensures.collected
-          (rw (no_pass_yet arrivals opened.scheduler are.passes, sym (all_empty journals n many (no_turn_yet arrivals opened.workers.items are.turns))) c.requires.opened);
+      collected = c.in_ok-make_rounds.ensures.collected held;
       left = refl;
     }

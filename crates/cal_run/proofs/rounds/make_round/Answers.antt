@@ -41,3 +41,6 @@ returns-clause-collected g c = λ held.
     let P : List Worker → Type 0 = λ l. g.C.Collector.holds c.pass_of_round.new.collector history (journals_of l) in
     let Q : List Worker → Type 0 = λ l. g.C.Collector.holds c.turns_of_round.new.collector history (journals_of l) in
     subst Q (sym is) (c.in_ok-turns_of_round.ensures.collected history (subst P (sym c.as_mut_slice.ensures.value) passed))
+
+pub returns-clause-suits : goal.returns-clause-suits
+returns-clause-suits g c = c.in_ok-turns_of_round.ensures.suits c.args.parts.now.scheduler.table c.in_ok-pass_of_round.ensures.suits

@@ -1,10 +1,12 @@
-use Rattle.std.proofs.Common.{sym}
+use Rattle.std.proofs.Common.{subst, sym}
+use Rattle.cal_machine.specs.Table.{Table}
 use Rattle.cal_run.proofs.RoundsLemmas.Rounds.{before_rounds, with_table}
 use Rattle.cal_run.proofs.rounds.make_rounds.Goals as goal
 
 pub loop-r-init : goal.loop-r-init
 loop-r-init g c = record {
   made = before_rounds c.args.parts.now.scheduler.table c.args.arrivals.now c.args.parts.now c.requires.opened;
+  suits = c.requires.suits;
   collected = λ held. held;
 }
 
@@ -13,10 +15,17 @@ make_round-requires-clause-before g c =
     let made = c.loop-r.invariant.made in
     with_table c.args.parts.now.scheduler.table _ c.args.arrivals.now c.loop-r.r c.loop-r.parts (sym made.together.same_table) made
 
+pub make_round-requires-clause-suits : goal.make_round-requires-clause-suits
+make_round-requires-clause-suits g c =
+    let P : Table → Type 0 = λ t. g.C.Collector.suits c.loop-r.collector t in
+    subst P (sym c.loop-r.invariant.made.together.same_table) c.loop-r.invariant.suits
+
 pub loop-r-preserved : goal.loop-r-preserved
 loop-r-preserved g c =
     let made = c.loop-r.invariant.made in
+    let P : Table → Type 0 = λ t. g.C.Collector.suits c.make_round.new.collector t in
     record {
+      suits = subst P made.together.same_table c.in_ok-make_round.ensures.suits;
       made = with_table _ c.args.parts.now.scheduler.table c.args.arrivals.now _ c.make_round.new.parts made.together.same_table c.in_ok-make_round.ensures.made;
       collected = λ held. c.in_ok-make_round.ensures.collected (c.loop-r.invariant.collected held);
     }

@@ -14,6 +14,7 @@ use Rattle.cal_run.proofs.workers.turn_each.Goals as goal
 pub loop-k-init : goal.loop-k-init
 loop-k-init g c = record {
   turned = none_turned c.args.arrivals.now c.args.j c.args.workers.now c.requires.made;
+  suits = λ table held. held;
   collected = λ history held. held;
 }
 
@@ -42,12 +43,16 @@ loop-k-preserved g c =
     let P : List Entry → Type 0 = λ l. length l ≤ MOST_ENTRIES in
     record {
       turned = one_turned arrivals j k c.args.workers.now workers _ is c.loop-k.invariant.turned at made c.turn.ensures.seat;
+      suits = λ table held. c.in_ok-add_turn.ensures.suits table (c.loop-k.invariant.suits table held);
       collected = λ history held.
           let Q : List (List Entry) → Type 0 = λ l. g.C.Collector.holds c.add_turn.new.self history l in
           subst Q (journals_after workers k is (was.thread.journal ++ entries_of entries) handed)
-          (c.in_ok-add_turn.ensures history _ was.thread.journal (c.loop-k.invariant.collected history held) (journal_at_place workers k was at) (subst P handed fits));
+          (c.in_ok-add_turn.ensures.collected history _ was.thread.journal (c.loop-k.invariant.collected history held) (journal_at_place workers k was at) (subst P handed fits));
     }
 
 pub returns-clause-made : goal.returns-clause-made
 returns-clause-made g c = all_turned c.args.arrivals.now c.args.j c.loop-k.k c.args.workers.now c.loop-k.workers c.loop-k.invariant.turned
     (let a = c.loop-k-test.false in let b = c.loop-k.auto.workers in omega (arith, a, b))
+
+pub returns-clause-suits : goal.returns-clause-suits
+returns-clause-suits g c = c.loop-k.invariant.suits

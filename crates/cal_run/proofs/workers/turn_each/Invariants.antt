@@ -1,4 +1,5 @@
 use Rattle.std.proofs.Common.{List}
+use Rattle.cal_machine.specs.Table.{Table}
 use Rattle.cal_policy.specs.declared.history.entry.PassEntry.{PassEntry}
 use Rattle.cal_run.specs.Workers.{journals_of}
 use Rattle.cal_run.proofs.WorkersLemmas.Turns.{TurnedUpTo}
@@ -8,6 +9,7 @@ use Rattle.cal_run.proofs.workers.turn_each.Given as goal
 abbrev pub invariant-loop-k : goal.invariant-loop-k
 invariant-loop-k g l = record {
   turned : TurnedUpTo l.arrivals l.j l.k l.initial.workers l.workers;
+  suits : (table : Table) → g.C.Collector.suits l.initial.collector table → g.C.Collector.suits l.collector table;
   collected : (history : List PassEntry) → g.C.Collector.holds l.initial.collector history (journals_of l.initial.workers) →
       g.C.Collector.holds l.collector history (journals_of l.workers);
 }

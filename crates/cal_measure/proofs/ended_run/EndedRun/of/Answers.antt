@@ -1,0 +1,7 @@
+use Rattle.std.proofs.Common.{ℕ, subst}
+use Rattle.cal_measure.specs.ThreadWork.{AreTotalsOfEach}
+use Rattle.cal_measure.proofs.ended_run.EndedRun.of.Goals as goal
+
+pub returns-clause-threads : goal.returns-clause-threads
+returns-clause-threads c = λ journals each.
+    subst (λ e. AreTotalsOfEach e journals c.in_ok-threads.threads.items) c.run_end.ensures (c.in_ok-threads.ensures journals each)

@@ -1,0 +1,11 @@
+use Rattle.std.proofs.Common.{◌≡◌, ℕ, List}
+use Rattle.cal_kthread.specs.declared.journal.entry.Entry.{Entry}
+use Rattle.cal_machine.specs.TableTasks.{thread_of}
+use Rattle.cal_measure.specs.Joined.{joined_below}
+use Rattle.cal_measure.specs.Requests.{services_at}
+use Rattle.cal_measure.specs.ThreadWork.{AreTotalsOfEach}
+use Rattle.cal_measure.proofs.ended_run.services_of_threads.Given as goal
+
+abbrev pub invariant-loop-j : goal.invariant-loop-j
+invariant-loop-j l = (last : ℕ) (journals : List (List Entry)) → AreTotalsOfEach last journals l.threads →
+    l.services.items ≡ joined_below (λ j. services_at last journals (thread_of l.config l.task j)) l.j
