@@ -95,6 +95,7 @@ pub fn lockstep_collected<C: Collector>(
     requires fits { FitsTable config.now arrivals.now }
     requires suits { C.suits collector.old config.now }
     requires opened { C.holds collector.old [] (replicate (threads_of_table config.now) []) }
+    ensures suits { IfOk result (λ _. C.suits collector.new config.now) }
     ensures run { IfOk result (IsCollectedEnd (C.holds collector.new) config.now arrivals.now) }
 {
     let Ok(mut parts) = open_parts(alloc, config, arrivals) else {

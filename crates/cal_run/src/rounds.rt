@@ -35,6 +35,7 @@ pub(crate) fn make_rounds<C: Collector>(
     requires suits { C.suits collector.old parts.old.scheduler.table }
     requires fits { FitSomeTable arrivals.now }
     requires opened { AreParts parts.old.scheduler.table arrivals.now 0 0 0 parts.old }
+    ensures suits { IfOk result (λ _. C.suits collector.new parts.old.scheduler.table) }
     ensures made { IfOk result (λ _. AreParts parts.old.scheduler.table arrivals.now
         (length arrivals.now.passes) (length arrivals.now.turns) (rounds_of arrivals.now)
         parts.new) }

@@ -16,8 +16,8 @@ make_rounds-requires-clause-suits g c =
     subst P (sym c.in-Ok.ensures.parts.together.same_table) c.requires.suits
 
 -- before the first round nothing was made
-pub returns : goal.returns
-returns g c =
+pub returns-clause-run : goal.returns-clause-run
+returns-clause-run g c =
     let arrivals = c.args.arrivals.now in
     let opened = c.in-Ok.parts in
     let are = c.in-Ok.ensures.parts in
@@ -38,3 +38,8 @@ returns g c =
       collected = c.in_ok-make_rounds.ensures.collected held;
       left = refl;
     }
+
+pub returns-clause-suits : goal.returns-clause-suits
+returns-clause-suits g c =
+    let P : Table → Type 0 = λ t. g.C.Collector.suits c.make_rounds.new.collector t in
+    subst P c.in-Ok.ensures.parts.together.same_table c.in_ok-make_rounds.ensures.suits

@@ -29,3 +29,6 @@ loop-r-preserved g c =
       made = with_table _ c.args.parts.now.scheduler.table c.args.arrivals.now _ c.make_round.new.parts made.together.same_table c.in_ok-make_round.ensures.made;
       collected = λ held. c.in_ok-make_round.ensures.collected (c.loop-r.invariant.collected held);
     }
+
+pub returns-clause-suits : goal.returns-clause-suits
+returns-clause-suits g c = c.loop-r.invariant.suits
