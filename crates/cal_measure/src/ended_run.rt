@@ -14,9 +14,7 @@ ghost use Rattle.cal_measure.specs.Work.{AreWorkOf, stolen_at, suspensions_at, w
 ghost use Rattle.cal_trace.specs.Arrivals.FitsTable.{FitsTable};
 
 use crate::clocks::{ArrivalClocks, run_end};
-use crate::requests::{
-    TaskRequests, TaskShare, given_to, requests_of_share, responses, task_left,
-};
+use crate::requests::{TaskRequests, TaskShare, given_to, requests_of_share, responses, task_left};
 use crate::services::Service;
 use crate::thread_work::ThreadWork;
 use crate::thread_work::each::end_works;

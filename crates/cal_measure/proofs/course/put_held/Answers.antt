@@ -23,7 +23,7 @@ loop-task-preserved c = λ table h e is each.
     one_done (λ i (course : Vec ℕ Global). IsHeldCourse table h i course.items) (λ i (course : Vec ℕ Global). IsHeldCourse table (h ++ e ∷ []) i course.items)
     t rows c.index-courses-task.result c.push.new.self low (c.loop-task.invariant table h e is each)
     (λ held. subst (λ (l : List ℕ). IsHeldCourse table (h ++ e ∷ []) t l) (sym more)
-        (held_more table h e t was.items c.holds.result held (c.holds.ensures table (h ++ e ∷ []) (length h) is (omega (arith, size)))))
+    (held_more table h e t was.items c.holds.result held (c.holds.ensures table (h ++ e ∷ []) (length h) is (omega (arith, size)))))
 
 pub returns-clause-held : goal.returns-clause-held
 returns-clause-held c = λ table h e is each.

@@ -19,12 +19,12 @@ returns c =
     let last = run_end arrivals in
     IfOk-weaker c.responses.result
     (λ (times : Vec ℕ Global). (turns : List ℕ) (requests : List Arrival) → AreClocksOf turns requests c.args.self.now.clocks →
-        times.items ≡ map (response_of turns requests) c.as_slice.result.now)
+    times.items ≡ map (response_of turns requests) c.as_slice.result.now)
     (λ (times : Vec ℕ Global). (journals : List (List Entry)) → AreTotalsOfEach last journals c.args.self.now.threads.items →
-        times.items ≡ map (response_of arrivals.turns arrivals.requests) (services_of_task table last journals t))
+    times.items ≡ map (response_of arrivals.turns arrivals.requests) (services_of_task table last journals t))
     (λ times are journals each.
-        let told : AreTotalsOfEach last journals c.as_slice-threads.result.now =
-        subst (λ (l : List ThreadTotals). AreTotalsOfEach last journals l) (sym c.as_slice-threads.ensures.value) each in
-        are arrivals.turns arrivals.requests c.requires.clocks
-        ∙ ap (λ (l : List Service). map (response_of arrivals.turns arrivals.requests) l) (c.as_slice.ensures.value ∙ c.in_ok-services.ensures last journals told))
+    let told : AreTotalsOfEach last journals c.as_slice-threads.result.now =
+    subst (λ (l : List ThreadTotals). AreTotalsOfEach last journals l) (sym c.as_slice-threads.ensures.value) each in
+    are arrivals.turns arrivals.requests c.requires.clocks
+    ∙ ap (λ (l : List Service). map (response_of arrivals.turns arrivals.requests) l) (c.as_slice.ensures.value ∙ c.in_ok-services.ensures last journals told))
     c.responses.ensures

@@ -15,4 +15,4 @@ loop-preserved c =
     let journals : List (List Entry) = replicate c.loop.counter [] in
     rw c.in_ok-push.ensures.items
     (subst (λ (l : List (List Entry)). AllZip IsThreadWorkOf l (works ++ c.open.result ∷ [])) (replicate_more c.loop.counter [])
-        (zip_more IsThreadWorkOf journals works [] c.open.result c.loop.invariant c.open.ensures))
+    (zip_more IsThreadWorkOf journals works [] c.open.result c.loop.invariant c.open.ensures))
