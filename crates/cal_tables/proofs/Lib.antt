@@ -1,4 +1,4 @@
-pub mod Passes
+pub mod PassClocks
 pub mod Moving
 pub mod Joined
 pub mod Shorter

@@ -1,13 +1,19 @@
 -- The numbers of a run.
 use Rattle.std.specs.Prelude.{◌≡◌, ℕ, List, length, Some, slice_get}
+use Rattle.std.specs.List.{AllZip}
+use Rattle.cal_kthread.specs.declared.journal.entry.Entry.{Entry}
 use Rattle.cal_machine.specs.Table.{Table}
-use Rattle.cal_measure.specs.Clocks.{turns_last}
+use Rattle.cal_measure.specs.Clocks.{run_end, turns_last}
 use Rattle.cal_measure.specs.Cores.{AreCoresOfTasks, AreMachineCores, MakeTheWhole}
 use Rattle.cal_measure.specs.Requests.{AreRequestsOf}
+use Rattle.cal_measure.specs.ThreadWork.{AreTotalsOfEach, IsThreadWorkOf}
+use Rattle.cal_measure.specs.Walk.{IsWalkOf}
 use Rattle.cal_measure.specs.declared.requests.TaskRequests.{TaskRequests}
 use Rattle.cal_policy.specs.declared.history.entry.PassEntry.{PassEntry}
 use Rattle.cal_run.specs.Outcome.{IsRun}
 use Rattle.cal_run.specs.declared.outcome.Outcome.{Outcome}
+use Rattle.cal_tables.specs.declared.collecting.EndedNumbers.{EndedNumbers}
+use Rattle.cal_tables.specs.declared.collecting.OpenNumbers.{OpenNumbers}
 use Rattle.cal_tables.specs.declared.measuring.RunNumbers.{RunNumbers}
 use Rattle.cal_tables.specs.declared.recorded.HistoryNumbers.{HistoryNumbers}
 use Rattle.cal_trace.specs.declared.arrivals.Arrivals.{Arrivals}
@@ -26,6 +32,20 @@ pub record AreHistoryNumbers (table : Table) (history : List PassEntry)
   pub cores : AreCoresOfTasks table history numbers.cores.items
   pub machine : AreMachineCores table history numbers.machine
   pub whole : MakeTheWhole table numbers.machine
+
+-- what is held of a run while it is made, which made these passes and whose threads keep these
+-- journals: the walk over the passes, and what the turns of each thread came to
+pub record AreNumbersSoFar (history : List PassEntry) (journals : List (List Entry))
+    (numbers : OpenNumbers) : Type 0 where
+  pub walk : IsWalkOf numbers.config history numbers.walk
+  pub threads : AllZip IsThreadWorkOf journals numbers.threads.items
+
+-- what is held of it once it has come to this outcome
+pub record AreNumbersAtEnd (arrivals : Arrivals) (outcome : Outcome)
+    (ended : EndedNumbers) : Type 0 where
+  pub walk : IsWalkOf ended.config outcome.history ended.walk
+  pub threads : AreTotalsOfEach (run_end arrivals) outcome.journals ended.run.threads.items
+  pub left : outcome.left ≡ ended.run.left
 
 -- the numbers of this run: of requests, of the tasks' cores, of the machine's, whose parts make the
 -- whole, and how long its turns last

@@ -1,30 +1,26 @@
 //! What a run on one thread went through, told so that a picture can be drawn of it.
 
-ghost use Rattle.std.specs.Prelude.{◌≡◌, ◌<◌, IfErr, IfOk, length, map};
+ghost use Rattle.std.specs.Prelude.{◌≡◌, ◌×◌, ◌<◌, [], IfErr, IfOk, length, map, replicate};
+ghost use Rattle.cal_machine.specs.TableTasks.{threads_of_table};
 ghost use Rattle.cal_measure.specs.Clocks.{AreClocksOf};
-ghost use Rattle.cal_policy.specs.Pass.{IsLegal};
-ghost use Rattle.cal_run.specs.Outcome.{outcome_of};
+ghost use Rattle.cal_measure.specs.Walk.{IsOpenFor};
+ghost use Rattle.cal_run.specs.declared.outcome.Outcome.{Outcome};
 ghost use Rattle.cal_trace.specs.Arrivals.FitsTable.{FitsTable};
-ghost use Rattle.cal_tables.specs.Courses.{AreTaskCourses, IsRunCourse, IsTaskCourse};
+ghost use Rattle.cal_tables.specs.Courses.{AreResponsesOf, AreResponsesOfEach, IsCourseSoFar};
+ghost use Rattle.cal_tables.specs.Courses.{IsRunCourse};
+ghost use Rattle.cal_tables.specs.Measured.{AreNumbersAtEnd};
 
+use crate::collecting::{EndedNumbers, OpenNumbers};
 use crate::comparing::runs::OfRun;
 use crate::measuring::{RunNumbers, numbers_of_run};
 use cal_input::RunFault;
+use cal_kthread::TurnEntries;
 use cal_machine::Config;
-use cal_measure::{ArrivalClocks, held_course, responses_of};
-use cal_policy::PassEntry;
-use cal_run::{RunEnd, lockstep_end};
-use cal_trace::Arrivals;
+use cal_measure::{no_courses, put_held};
+use cal_run::{Collector, lockstep_collected};
+use cal_sched::BareScheduler;
+use cal_trace::{Arrivals, GivenPass};
 use std::alloc::{AllocError, Global};
-
-/// What a task went through in a run.
-#[derive(Drop)]
-pub struct TaskCourse {
-    /// How long each request took that its threads served, in clock ticks, the shortest first.
-    pub responses: Vec<u64>,
-    /// How many cores its threads held after each pass.
-    pub held: Vec<u8>,
-}
 
 /// What a run went through.
 #[derive(Drop)]
@@ -33,62 +29,111 @@ pub struct RunCourse {
     pub numbers: RunNumbers,
     /// The clock of each pass.
     pub clocks: Vec<u64>,
-    /// What each task went through, in task order.
-    pub tasks: Vec<TaskCourse>,
+    /// For each task, in task order, how long each request took that its threads served, in clock
+    /// ticks, the shortest first.
+    pub responses: Vec<Vec<u64>>,
+    /// For each task, in task order, how many cores its threads held after each pass.
+    pub held: Vec<Vec<u8>>,
 }
 
-/// What a task went through in a run. Fails only when out of memory.
-fn task_course(
-    alloc: Global,
-    config: &Config,
-    arrivals: &Arrivals,
-    clocks: &ArrivalClocks,
-    end: &RunEnd,
-    task: usize,
-) -> Result<TaskCourse, AllocError>
-    requires fits { FitsTable config.now arrivals.now }
-    requires clocks { AreClocksOf arrivals.now.turns arrivals.now.requests clocks.now }
-    requires legal { IsLegal config.now end.now.history }
-    requires task { task < length config.now.tasks }
-    ensures { IfOk result (IsTaskCourse config.now arrivals.now (outcome_of end.now) task) }
-{
-    let journals = end.journals.as_slice();
-    let mut responses = responses_of(alloc, config, arrivals, clocks, journals, task)?;
-    responses.sort()?;
-    let held = held_course(alloc, config, end.history.as_slice(), task)?;
-    Ok(TaskCourse { responses, held })
+/// What a run goes through while it is made.
+#[derive(Drop)]
+pub struct OpenCourse {
+    /// Its numbers so far.
+    pub numbers: OpenNumbers,
+    /// For each task, in task order, how many cores its threads held after each pass so far.
+    pub held: Vec<Vec<u8>>,
 }
 
-/// What each task went through in a run, in task order. Fails only when out of memory.
-fn task_courses(
-    alloc: Global,
-    config: &Config,
-    arrivals: &Arrivals,
-    clocks: &ArrivalClocks,
-    end: &RunEnd,
-) -> Result<Vec<TaskCourse>, AllocError>
-    requires fits { FitsTable config.now arrivals.now }
-    requires clocks { AreClocksOf arrivals.now.turns arrivals.now.requests clocks.now }
-    requires legal { IsLegal config.now end.now.history }
-    ensures { IfOk result (λ courses.
-        AreTaskCourses config.now arrivals.now (outcome_of end.now) courses.items) }
-{
-    let mut courses = Vec::new(alloc);
-    for task in 0..config.tasks() {
-        let course = task_course(alloc, config, arrivals, clocks, end, task)?;
-        courses.push(course)?;
+impl OpenCourse {
+    /// Of a run on this table in which nothing was made yet. Fails only when out of memory.
+    pub fn open(alloc: Global, config: &Config) -> Result<OpenCourse, AllocError>
+        ensures table { IfOk result (λ course. course.numbers.config ≡ config.now) }
+        ensures open { IfOk result (λ course. IsOpenFor config.now course.numbers.walk) }
+        ensures many { IfOk result (λ course.
+            length course.held.items ≡ length config.now.tasks) }
+        ensures nothing { IfOk result
+            (IsCourseSoFar [] (replicate (threads_of_table config.now) [])) }
+    {
+        let numbers = OpenNumbers::open(alloc, config)?;
+        let held = no_courses(alloc, config.tasks())?;
+        Ok(OpenCourse { numbers, held })
     }
-    Ok(courses)
 }
 
-/// The clock of each pass. Fails only when out of memory.
-fn clocks_of(alloc: Global, history: &[PassEntry]) -> Result<Vec<u64>, AllocError>
-    ensures { IfOk result (λ clocks.
-        clocks.items ≡ map (λ entry. entry.input.now) history.now) }
+impl Collector for OpenCourse {
+    type Fault = AllocError;
+
+    ghost holds = { λ course history journals. IsCourseSoFar history journals course };
+
+    ghost suits = { λ course table. (course.numbers.config ≡ table)
+        × IsOpenFor table course.numbers.walk
+        × (length course.held.items ≡ length table.tasks) };
+
+    fn make_pass(
+        &mut self,
+        scheduler: &mut BareScheduler,
+        arrivals: &Arrivals,
+        p: usize,
+    ) -> Result<(), AllocError> {
+        self.numbers.pass(scheduler, arrivals, p)?;
+        put_held(&self.numbers.walk, self.held.as_mut_slice())?;
+        Ok(())
+    }
+
+    fn add_turn(&mut self, k: usize, entries: TurnEntries) -> Result<(), AllocError> {
+        self.numbers.turn(k, entries)?;
+        Ok(())
+    }
+}
+
+/// How long each request of a task took that was served, the shortest first. Fails only when out of
+/// memory.
+fn responses_of(
+    alloc: Global,
+    arrivals: &Arrivals,
+    ended: &EndedNumbers,
+    task: usize,
+) -> Result<Vec<u64>, AllocError>
+    requires clocks { AreClocksOf arrivals.now.turns arrivals.now.requests ended.now.run.clocks }
+    requires task { task < length ended.now.config.tasks }
+    ensures { IfOk result (λ times. (outcome : Outcome) →
+        AreNumbersAtEnd arrivals.now outcome ended.now →
+        AreResponsesOf ended.now.config arrivals.now outcome task times.items) }
+{
+    let mut times = ended
+        .run
+        .responses_of(alloc, &ended.config, arrivals, task)?;
+    times.sort()?;
+    Ok(times)
+}
+
+/// The same of each task, in task order. Fails only when out of memory.
+fn responses_of_each(
+    alloc: Global,
+    arrivals: &Arrivals,
+    ended: &EndedNumbers,
+) -> Result<Vec<Vec<u64>>, AllocError>
+    requires { AreClocksOf arrivals.now.turns arrivals.now.requests ended.now.run.clocks }
+    ensures { IfOk result (λ each. (outcome : Outcome) →
+        AreNumbersAtEnd arrivals.now outcome ended.now →
+        AreResponsesOfEach ended.now.config arrivals.now outcome each.items) }
+{
+    let mut each = Vec::new(alloc);
+    for task in 0..ended.config.tasks() {
+        let times = responses_of(alloc, arrivals, ended, task)?;
+        each.push(times)?;
+    }
+    Ok(each)
+}
+
+/// The clock of each pass that is given. Fails only when out of memory.
+fn clocks_of(alloc: Global, passes: &[GivenPass]) -> Result<Vec<u64>, AllocError>
+    ensures { IfOk result (λ clocks. clocks.items ≡ map (λ pass. pass.now) passes.now) }
 {
     let mut clocks = Vec::new(alloc);
-    for entry in history {
-        clocks.push(entry.input.now)?;
+    for pass in passes {
+        clocks.push(pass.now)?;
     }
     Ok(clocks)
 }
@@ -104,16 +149,17 @@ pub fn run_course(
     ensures course { IfOk result (IsRunCourse config.now arrivals.now) }
     ensures kind { IfErr result (λ fault. fault ≡ RunFault.Memory) }
 {
-    let end = lockstep_end(alloc, config, arrivals)?;
-    let turns = arrivals.turns.as_slice();
-    let arrived = ArrivalClocks::of(alloc, turns, arrivals.requests.as_slice())?;
-    let numbers = numbers_of_run(alloc, config, arrivals, &arrived, &end)?;
-    let tasks = task_courses(alloc, config, arrivals, &arrived, &end)?;
-    let clocks = clocks_of(alloc, end.history.as_slice())?;
+    let mut course = OpenCourse::open(alloc, config)?;
+    let left = lockstep_collected(alloc, config, arrivals, &mut course)?;
+    let OpenCourse { numbers, held } = course;
+    let ended = numbers.end(alloc, arrivals, left)?;
+    let clocks = clocks_of(alloc, arrivals.passes.as_slice())?;
+    let responses = responses_of_each(alloc, arrivals, &ended)?;
     Ok(RunCourse {
-        numbers,
+        numbers: numbers_of_run(alloc, arrivals, &ended)?,
         clocks,
-        tasks,
+        responses,
+        held,
     })
 }
 

@@ -4,6 +4,7 @@
 //! Which numbers these are is proved (`measured_run`); how they are written is only tested.
 #![tactic(auto)]
 
+mod collecting;
 mod comparing;
 mod core_rows;
 mod courses;
@@ -25,7 +26,7 @@ pub use comparing::{
     Comparison, Variation, compare, compared, compared_values, comparison_of, write_input,
 };
 pub use core_rows::{CoreLine, core_figure};
-pub use courses::{RunCourse, TaskCourse, run_course};
+pub use courses::{RunCourse, run_course};
 pub use figures::{Figure, Rank, Unit, count, number, put_figure, put_heading, share, time_in};
 pub use joining::{front_of_table, table_part};
 pub use labels::{Labels, letters};

@@ -1,23 +1,24 @@
 //! A run on one thread or a recorded history, measured.
 
-ghost use Rattle.std.specs.Prelude.{◌≡◌, ◌≢◌, ◌≤◌, IfErr, IfOk, length};
+ghost use Rattle.std.specs.Prelude.{◌≡◌, ◌≢◌, IfErr, IfOk};
 ghost use Rattle.cal_measure.specs.Clocks.{AreClocksOf};
-ghost use Rattle.cal_run.specs.Outcome.{outcome_of};
+ghost use Rattle.cal_measure.specs.Walk.{IsOpenFor};
+ghost use Rattle.cal_run.specs.declared.outcome.Outcome.{Outcome};
 ghost use Rattle.cal_trace.specs.Arrivals.FitsTable.{FitsTable};
-ghost use Rattle.cal_policy.specs.Pass.{IsLegal};
-ghost use Rattle.cal_policy.specs.declared.history.entry.TheConstants.{MOST_PASSES};
-ghost use Rattle.cal_tables.specs.Measured.{AreNumbersOf, AreRunNumbers, IsMeasuredRun};
+ghost use Rattle.cal_tables.specs.Measured.{AreNumbersAtEnd, AreNumbersOf, AreRunNumbers};
+ghost use Rattle.cal_tables.specs.Measured.{IsMeasuredRun};
 
+use crate::collecting::{EndedNumbers, OpenNumbers};
 use crate::comparing::runs::OfRun;
 use crate::labels::Labels;
-use crate::recorded::{HistoryNumbers, Recorded, history_numbers, measured_recording};
+use crate::recorded::{HistoryNumbers, Recorded, measured_recording, numbers_of_walk};
 use crate::sheet::NumberForm;
 use crate::writing::{history_sheet, sheet_of};
 use cal_input::{RunFault, read_input, read_parts};
 use cal_machine::Config;
-use cal_measure::{ArrivalClocks, MachineCores, TaskCores, TaskRequests, requests_of, turns_last};
+use cal_measure::{MachineCores, TaskCores, TaskRequests, turns_last};
 use cal_policy::Verdict;
-use cal_run::{RunEnd, lockstep_end};
+use cal_run::lockstep_collected;
 use cal_trace::{Arrivals, FaultKind, read_arrivals};
 use std::alloc::{AllocError, Global};
 use std::io::{Read, Write};
@@ -38,43 +39,38 @@ pub struct RunNumbers {
 /// The numbers of each task's requests, in task order. Fails only when out of memory.
 fn numbers_of(
     alloc: Global,
-    config: &Config,
     arrivals: &Arrivals,
-    clocks: &ArrivalClocks,
-    end: &RunEnd,
+    ended: &EndedNumbers,
 ) -> Result<Vec<TaskRequests>, AllocError>
-    requires fits { FitsTable config.now arrivals.now }
-    requires clocks { AreClocksOf arrivals.now.turns arrivals.now.requests clocks.now }
-    ensures { IfOk result (λ numbers.
-        AreNumbersOf config.now arrivals.now (outcome_of end.now) numbers.items) }
+    requires fits { FitsTable ended.now.config arrivals.now }
+    requires clocks { AreClocksOf arrivals.now.turns arrivals.now.requests ended.now.run.clocks }
+    ensures { IfOk result (λ numbers. (outcome : Outcome) →
+        AreNumbersAtEnd arrivals.now outcome ended.now →
+        AreNumbersOf ended.now.config arrivals.now outcome numbers.items) }
 {
-    let journals = end.journals.as_slice();
-    let left = end.left.as_slice();
     let mut numbers = Vec::new(alloc);
-    for task in 0..config.tasks() {
-        let of_task = requests_of(alloc, config, arrivals, clocks, journals, left, task)?;
+    for task in 0..ended.config.tasks() {
+        let of_task = ended.run.requests_of(alloc, &ended.config, arrivals, task)?;
         numbers.push(of_task)?;
     }
     Ok(numbers)
 }
 
-/// The numbers of a run. Fails only when out of memory.
+/// The numbers of a run on these arrivals. Fails only when out of memory.
 pub(crate) fn numbers_of_run(
     alloc: Global,
-    config: &Config,
     arrivals: &Arrivals,
-    clocks: &ArrivalClocks,
-    end: &RunEnd,
+    ended: &EndedNumbers,
 ) -> Result<RunNumbers, AllocError>
-    requires fits { FitsTable config.now arrivals.now }
-    requires clocks { AreClocksOf arrivals.now.turns arrivals.now.requests clocks.now }
-    requires legal { IsLegal config.now end.now.history }
-    requires few { length end.now.history ≤ MOST_PASSES }
-    ensures { IfOk result (AreRunNumbers config.now arrivals.now (outcome_of end.now)) }
+    requires fits { FitsTable ended.now.config arrivals.now }
+    requires clocks { AreClocksOf arrivals.now.turns arrivals.now.requests ended.now.run.clocks }
+    requires open { IsOpenFor ended.now.config ended.now.walk }
+    ensures { IfOk result (λ numbers. (outcome : Outcome) →
+        AreNumbersAtEnd arrivals.now outcome ended.now →
+        AreRunNumbers ended.now.config arrivals.now outcome numbers) }
 {
-    let history = end.history.as_slice();
-    let requests = numbers_of(alloc, config, arrivals, clocks, end)?;
-    let HistoryNumbers { cores, machine } = history_numbers(alloc, config, history)?;
+    let requests = numbers_of(alloc, arrivals, ended)?;
+    let HistoryNumbers { cores, machine } = numbers_of_walk(alloc, &ended.walk)?;
     Ok(RunNumbers {
         requests,
         cores,
@@ -83,7 +79,8 @@ pub(crate) fn numbers_of_run(
     })
 }
 
-/// Makes a whole run on one thread on these arrivals, and measures it. Its fault is `Memory`.
+/// Makes a whole run on one thread on these arrivals, and measures it while it is made. Its fault is
+/// `Memory`.
 pub fn measured_run(
     alloc: Global,
     config: &Config,
@@ -93,10 +90,10 @@ pub fn measured_run(
     ensures numbers { IfOk result (IsMeasuredRun config.now arrivals.now) }
     ensures kind { IfErr result (λ fault. fault ≡ RunFault.Memory) }
 {
-    let end = lockstep_end(alloc, config, arrivals)?;
-    let turns = arrivals.turns.as_slice();
-    let clocks = ArrivalClocks::of(alloc, turns, arrivals.requests.as_slice())?;
-    Ok(numbers_of_run(alloc, config, arrivals, &clocks, &end)?)
+    let mut numbers = OpenNumbers::open(alloc, config)?;
+    let left = lockstep_collected(alloc, config, arrivals, &mut numbers)?;
+    let ended = numbers.end(alloc, arrivals, left)?;
+    Ok(numbers_of_run(alloc, arrivals, &ended)?)
 }
 
 impl OfRun for RunNumbers {

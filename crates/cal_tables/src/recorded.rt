@@ -1,15 +1,18 @@
 //! A recorded history, measured.
 
-ghost use Rattle.std.specs.Prelude.{◌≤◌, IfOk, length};
+ghost use Rattle.std.specs.Prelude.{◌≡◌, ◌≤◌, IfOk, List, length};
+ghost use Rattle.cal_machine.specs.Table.{Table};
+ghost use Rattle.cal_measure.specs.Walk.{IsOpenFor, IsWalkOf};
 ghost use Rattle.cal_policy.specs.Pass.{IsLegal};
 ghost use Rattle.cal_policy.specs.Verdict.{IsVerdict};
+ghost use Rattle.cal_policy.specs.declared.history.entry.PassEntry.{PassEntry as EntryOf};
 ghost use Rattle.cal_policy.specs.declared.history.entry.TheConstants.{MOST_PASSES};
 ghost use Rattle.cal_tables.specs.Measured.{AreHistoryNumbers};
 ghost use Rattle.cal_tables.specs.Recording.{IsMeasured, IsRecorded};
 
 use cal_input::RunFault;
 use cal_machine::Config;
-use cal_measure::{MachineCores, TaskCores, walked};
+use cal_measure::{MachineCores, TaskCores, Walk, walked};
 use cal_policy::{Auditor, MOST_PASSES, PassEntry, Verdict};
 use cal_trace::read_history;
 use std::alloc::{AllocError, Global};
@@ -38,6 +41,20 @@ pub enum Recorded {
     },
 }
 
+/// The numbers of the cores in the history over which a walk went. Fails only when out of memory.
+pub(crate) fn numbers_of_walk(alloc: Global, walk: &Walk) -> Result<HistoryNumbers, AllocError>
+    requires { length walk.now.times.items ≡ length walk.now.actions.items }
+    ensures { IfOk result (λ numbers. (table : Table) (history : List EntryOf) →
+        IsOpenFor table walk.now → IsWalkOf table history walk.now →
+        AreHistoryNumbers table history numbers) }
+{
+    let cores = walk.cores(alloc)?;
+    Ok(HistoryNumbers {
+        cores,
+        machine: walk.machine(),
+    })
+}
+
 /// The numbers of the cores in a legal history, by one walk over it. Fails only when out of memory.
 pub fn history_numbers(
     alloc: Global,
@@ -49,11 +66,7 @@ pub fn history_numbers(
     ensures { IfOk result (AreHistoryNumbers config.now history.now) }
 {
     let walk = walked(alloc, config, history)?;
-    let cores = walk.cores(alloc)?;
-    Ok(HistoryNumbers {
-        cores,
-        machine: walk.machine(),
-    })
+    numbers_of_walk(alloc, &walk)
 }
 
 /// What an audit says of a history. Fails only when out of memory.

@@ -83,8 +83,8 @@ fn widened(range: (u64, u64), times: &[u64]) -> (u64, u64) {
 /// The same of all tasks of a run.
 fn run_range(range: (u64, u64), run: &RunCourse) -> (u64, u64) {
     let mut range = range;
-    for task in run.tasks.as_slice() {
-        range = widened(range, task.responses.as_slice());
+    for times in run.responses.as_slice() {
+        range = widened(range, times.as_slice());
     }
     range
 }
@@ -138,7 +138,7 @@ fn clocks_of(runs: &[RunCourse]) -> ClockScale {
 fn most_tasks(runs: &[RunCourse]) -> usize {
     let mut most = 0usize;
     for run in runs {
-        most = most.max(run.tasks.len());
+        most = most.max(run.held.len());
     }
     most
 }
@@ -170,11 +170,10 @@ impl<'a> Graphs<'a> {
     /// What came of a task in a run that may have no such task.
     pub fn course(&self, run: usize, task: usize) -> Option<ComparedTask<'a>> {
         let run = self.compared.runs.as_slice().get(run)?;
-        let course = run.tasks.as_slice().get(task)?;
         Some(ComparedTask {
             requests: run.numbers.requests.as_slice().get(task)?,
-            responses: course.responses.as_slice(),
-            held: course.held.as_slice(),
+            responses: run.responses.as_slice().get(task)?.as_slice(),
+            held: run.held.as_slice().get(task)?.as_slice(),
         })
     }
 

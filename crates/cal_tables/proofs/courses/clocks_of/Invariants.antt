@@ -1,7 +1,7 @@
 use Rattle.std.proofs.Common.{◌≡◌, map, take}
 use Rattle.cal_tables.proofs.courses.clocks_of.Given as goal
 
-abbrev pub invariant-loop-entry : goal.invariant-loop-entry
-invariant-loop-entry l = record {
-  clocks : l.clocks.items ≡ map (λ entry. entry.input.now) (take l.entry-index l.history);
+abbrev pub invariant-loop-pass : goal.invariant-loop-pass
+invariant-loop-pass l = record {
+  clocks : l.clocks.items ≡ map (λ pass. pass.now) (take l.pass-index l.passes);
 }

@@ -1,13 +1,17 @@
-use Rattle.std.proofs.Common.{◌≤◌, List, length, subst, sym}
-use Rattle.cal_policy.specs.Pass.{IsLegal}
-use Rattle.cal_policy.specs.declared.history.entry.PassEntry.{PassEntry}
-use Rattle.cal_policy.specs.declared.history.entry.TheConstants.{MOST_PASSES}
+use Rattle.std.proofs.Common.{◌∙◌, sym}
 use Rattle.cal_tables.proofs.measuring.numbers_of_run.Goals as goal
 
-pub history_numbers-requires-clause-legal : goal.history_numbers-requires-clause-legal
-history_numbers-requires-clause-legal c =
-    subst (λ (h : List PassEntry). IsLegal c.args.config.now h) (sym c.as_slice-history.ensures) c.requires.legal
+pub numbers_of_walk-requires : goal.numbers_of_walk-requires
+numbers_of_walk-requires c = let ready = c.requires.open in ready.times ∙ sym ready.actions
 
-pub history_numbers-requires-clause-few : goal.history_numbers-requires-clause-few
-history_numbers-requires-clause-few c =
-    subst (λ (h : List PassEntry). length h ≤ MOST_PASSES) (sym c.as_slice-history.ensures) c.requires.few
+pub returns : goal.returns
+returns c = λ outcome are.
+    let table = c.args.ended.now.config in
+    let cores = c.in_ok-cores.ensures table outcome.history c.requires.open are.walk in
+    record {
+      requests = c.in_ok-requests.ensures outcome are;
+      cores = cores.cores;
+      machine = cores.machine;
+      whole = cores.whole;
+      turns = c.turns_last.ensures;
+    }

@@ -1,4 +1,4 @@
-use Rattle.std.proofs.Common.{◌≡◌, ◌∙◌, ◌<◌, ℕ, List, length, ap, subst, sym, get_or}
+use Rattle.std.proofs.Common.{◌∙◌, ◌<◌, ℕ, List, length, ap, subst, sym, get_or}
 use Rattle.cal_machine.specs.TableTasks.{threads_of_table}
 use Rattle.cal_machine.specs.declared.request.Request.{Request}
 use Rattle.cal_trace.specs.declared.arrivals.Arrival.{Arrival}

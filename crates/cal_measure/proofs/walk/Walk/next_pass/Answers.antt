@@ -1,4 +1,4 @@
-use Rattle.std.proofs.Common.{◌++◌, ◌∷◌, [], List, length, subst, arith}
+use Rattle.std.proofs.Common.{◌++◌, ◌∷◌, [], List, length, subst, take, arith}
 use Rattle.cal_policy.specs.History.{actions_of}
 use Rattle.cal_policy.specs.Judgement.Orderly.{IsOrderlyEntry}
 use Rattle.cal_policy.specs.declared.history.entry.PassEntry.{PassEntry}
@@ -21,7 +21,7 @@ pass-requires-clause-names c =
     let e = c.args.entry.now in
     let orderly = c.legal_is_orderly.ensures table (h ++ e ∷ []) c.limits.ensures c.requires.legal.1 in
     let fits = orderly.entries (length h) e (slice_here h e) in
-    names_of_fitting table _ e.actions c.limits.ensures fits.actions
+    names_of_fitting table (actions_of (take (length h) (h ++ e ∷ []))) e.actions c.limits.ensures fits.actions
 
 pub pass-requires-clause-few : goal.pass-requires-clause-few
 pass-requires-clause-few c =
