@@ -96,10 +96,10 @@ pub record IsTalliedEnd (table : Table) (arrivals : Arrivals) (end : TalliedEnd)
   pub left : outcome.left ≡ end.left
 
 -- a run on these arrivals came to some outcome, of whose history and journals this holds, and of
--- which this is what was left
+-- which this remained
 pub record IsCollectedEnd (holds : List PassEntry → List (List Entry) → Type 0) (table : Table)
-    (arrivals : Arrivals) (left : List (List Request)) : Type 0 where
+    (arrivals : Arrivals) (remaining : List (List Request)) : Type 0 where
   pub outcome : Outcome
   pub run : IsRun table arrivals outcome
   pub collected : holds outcome.history outcome.journals
-  pub left : outcome.left ≡ left
+  pub left : outcome.left ≡ remaining
