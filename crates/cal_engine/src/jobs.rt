@@ -1,5 +1,6 @@
 //! What the words of the program ask for: a history decided, run or audited, and its answer.
 
+pub mod accepted;
 pub mod answer;
 pub mod auditing;
 pub mod deciding;

@@ -1,6 +1,6 @@
 //! A refusal explained.
 
-use crate::refusal::{Lines, Refusal, TraceKind};
+use crate::refusal::{ExplainedInput, Lines, Refusal};
 use crate::separator::tell_separator;
 use crate::table::{TableText, tell_table};
 use crate::trace::{RefusedTrace, tell_trace};
@@ -9,15 +9,17 @@ use std::alloc::{AllocError, Global};
 
 /// Why an input was refused, as lines that each begin with two blanks and end in a line feed: where,
 /// what stands there, what is wanted, and what to do about it where that is plain. It is given what
-/// the refusing call answered, which traces the word that refused it reads, and from where lines are
-/// counted. Fails only when out of memory.
+/// the refusing call answered. Fails only when out of memory.
 pub fn explanation(
     alloc: Global,
-    input: &[u8],
+    explained: ExplainedInput<'_>,
     refusal: Refusal,
-    wanted: &[TraceKind],
-    lines: Lines,
 ) -> Result<String, AllocError> {
+    let ExplainedInput {
+        input,
+        wanted,
+        lines,
+    } = explained;
     let mut told = String::new(alloc);
     match refusal {
         Refusal::Separator => tell_separator(&mut told, input, wanted)?,

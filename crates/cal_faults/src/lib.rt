@@ -13,6 +13,6 @@ mod table;
 mod trace;
 
 pub use explaining::explanation;
-pub use refusal::{Lines, Refusal, TraceKind};
+pub use refusal::{ExplainedInput, Lines, Refusal, TraceKind};
 pub use separator::is_table_alone;
 pub use table::{keys_wanted, value_wanted};

@@ -26,6 +26,17 @@ pub enum Refusal {
     },
 }
 
+/// An input that was refused, as it is explained.
+#[derive(Clone, Copy)]
+pub struct ExplainedInput<'a> {
+    /// Its bytes.
+    pub input: &'a [u8],
+    /// The traces that the word which refused it reads.
+    pub wanted: &'a [TraceKind],
+    /// From where its lines are counted.
+    pub lines: Lines,
+}
+
 /// From where the lines of an input are counted.
 #[derive(Clone, Copy, Debug, PartialEq, Eq)]
 pub enum Lines {

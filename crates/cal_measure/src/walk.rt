@@ -23,7 +23,7 @@ ghost use Rattle.cal_policy.specs.declared.history.entry.TheConstants.{MOST_PASS
 use crate::cores::{MachineCores, TaskActions, TaskCores};
 use crate::walk::each_task::{count_actions_of_each, time_each};
 use crate::walk::machine_time::MachineTime;
-use crate::walk::task_time::TaskTime;
+use crate::walk::task_time::{PassTiming, TaskTime};
 use cal_machine::Config;
 use cal_policy::state::Board;
 use cal_policy::{PassEntry, legal_is_orderly, legal_is_short};
@@ -121,7 +121,8 @@ impl Walk {
             entry.actions.as_slice(),
         );
         let times = self.times.as_mut_slice();
-        time_each(config, &self.board, times, now, lasts);
+        let timing = PassTiming { clock: now, lasts };
+        time_each(config, &self.board, times, timing);
         let figure = entry.input.bandwidth;
         self.machine = self.machine.with_pass(config, &self.board, figure, lasts);
         self.clock = Some(now);

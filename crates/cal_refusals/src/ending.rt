@@ -4,7 +4,7 @@ ghost use Rattle.std.specs.Prelude.{◌≡◌};
 ghost use Rattle.cal_input.specs.Faults.{status_of};
 
 use cal_engine::end_with;
-use cal_faults::{Lines, Refusal, TraceKind, explanation};
+use cal_faults::{ExplainedInput, Lines, Refusal, TraceKind, explanation};
 use cal_input::RunFault;
 use std::alloc::{AllocError, Global};
 use std::fmt::Write as _;
@@ -79,11 +79,17 @@ fn told_of(
     let Some(refusal) = refusal_of(fault, table, tables) else {
         return Ok(String::new(alloc));
     };
-    let Some(files) = files else {
-        return explanation(alloc, input, refusal, wanted, Lines::OfInput);
+    let (lines, file) = match files {
+        None => (Lines::OfInput, None),
+        Some(files) => (Lines::OfPart, file_of(refusal, files)),
     };
-    let why = explanation(alloc, input, refusal, wanted, Lines::OfPart)?;
-    match file_of(refusal, files) {
+    let explained = ExplainedInput {
+        input,
+        wanted,
+        lines,
+    };
+    let why = explanation(alloc, explained, refusal)?;
+    match file {
         Some(file) => format!(in alloc; "  in {file}\n{why}"),
         None => Ok(why),
     }

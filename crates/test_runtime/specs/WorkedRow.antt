@@ -4,6 +4,7 @@ use Rattle.cal_machine.specs.declared.command.Command.TheVariants.{Run}
 use Rattle.cal_signal.specs.declared.record.Record.{Record}
 use Rattle.cal_signal.specs.declared.look.Look.{Look}
 use Rattle.cal_signal.specs.declared.look.Look.TheVariants as found
+use Rattle.cal_policy.specs.declared.history.look.Seen.{Seen}
 use Rattle.cal_policy.specs.declared.history.look.Seen.TheVariants.{Whole}
 use Rattle.cal_policy.specs.declared.history.action.Action.{Action}
 use Rattle.cal_policy.specs.declared.history.action.Action.TheVariants.{Grant}
@@ -54,19 +55,19 @@ served = record {
   since = 0;
 }
 
--- a pass on a whole look at it, its ring with room
-abbrev pub pass_at : ℕ → ℕ → Record → List Action → PassEntry
-pass_at now number rec actions = record {
-  input = record { now = now; bandwidth = 0; seen = Whole number rec ∷ []; rooms = true ∷ [] };
+-- a pass on this look at it, its ring with room
+abbrev pub pass_at : ℕ → Seen → List Action → PassEntry
+pass_at now look actions = record {
+  input = record { now = now; bandwidth = 0; seen = look ∷ []; rooms = true ∷ [] };
   actions = actions;
 }
 
 -- one that grants it a core, and one that does nothing
 abbrev pub granting : PassEntry
-granting = pass_at 111 1 waiting (Grant 0 0 3 ∷ [])
+granting = pass_at 111 (Whole 1 waiting) (Grant 0 0 3 ∷ [])
 
 abbrev pub resting : PassEntry
-resting = pass_at 130 2 at_work []
+resting = pass_at 130 (Whole 2 at_work) []
 
 abbrev pub passes : List PassEntry
 passes = granting ∷ resting ∷ []

@@ -10,7 +10,6 @@ use cal_machine::Config;
 use cal_run::{Outcome, SimFault};
 use cal_threads::{Gate, simulate};
 use cal_trace::read_arrivals;
-use std::alloc::Global;
 use std::sync::Wait;
 use std::test::Fail;
 use std::thread::Threads;
@@ -43,14 +42,13 @@ end,16
 ";
 
 /// What a run in threads of these arrivals answers.
-fn run<R: Threads + Wait + Sync, G: Gate + Sync>(
+fn run<R: Threads + Wait + Sync + AllocGlobal, G: Gate + Sync>(
     rt: &R,
-    alloc: Global,
     table: &[u8],
     rows: &[u8],
     gate: &G,
 ) -> Result<Result<Outcome, SimFault>, Fail> {
-    let config = Config::read(alloc, table)?;
-    let arrivals = read_arrivals(alloc, &config, rows)?;
-    Ok(simulate(rt, alloc, &config, &arrivals, gate))
+    let config = Config::read(rt.alloc(), table)?;
+    let arrivals = read_arrivals(rt.alloc(), &config, rows)?;
+    Ok(simulate(rt, rt.alloc(), &config, &arrivals, gate))
 }

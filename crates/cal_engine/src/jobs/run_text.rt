@@ -8,10 +8,10 @@ ghost use Rattle.cal_run.specs.Outcome.{outcome_of};
 ghost use Rattle.cal_trace.specs.Report.Summary.{IsTallyOf, summary_text};
 ghost use Rattle.cal_engine.specs.Running.{run_text};
 
+use crate::jobs::accepted::AcceptedInput;
 use crate::jobs::running::RunAnswer;
 use cal_input::RunFault;
 use cal_kthread::{Journal, RequestList};
-use cal_machine::Config;
 use cal_policy::legal_is_orderly;
 use cal_run::{RunEnd, TalliedEnd};
 use cal_trace::{Arrivals, write_history, write_report, write_summary, write_tallied_summary};
@@ -21,16 +21,16 @@ use std::alloc::Global;
 pub(crate) fn run_text(
     alloc: Global,
     answer: RunAnswer,
-    config: &Config,
-    arrivals: &Arrivals,
+    accepted: &AcceptedInput<'_>,
     end: &RunEnd,
 ) -> Result<Vec<u8>, RunFault>
-    requires legal { IsLegal config.now end.now.history }
+    requires legal { IsLegal accepted.now.config.now end.now.history }
     ensures text { IfOk result (λ text. text.items ≡ run_text answer
-        (record { table = config.now; arrivals = arrivals.now }) (outcome_of end.now)) }
+        (record { table = accepted.now.config.now; arrivals = accepted.now.arrivals.now })
+        (outcome_of end.now)) }
     ensures kind { IfErr result (λ fault. fault ≡ RunFault.Memory) }
 {
-    config.limits();
+    accepted.config.limits();
     legal_is_orderly();
     let mut text = Vec::new(alloc);
     let written = match answer {
@@ -40,12 +40,12 @@ pub(crate) fn run_text(
         RunAnswer::Summary => {
             return summary_of(
                 alloc,
-                arrivals,
+                accepted.arrivals,
                 end.journals.as_slice(),
                 end.left.as_slice(),
             );
         }
-        RunAnswer::Report => write_report(config, end.history.as_slice(), &mut text),
+        RunAnswer::Report => write_report(accepted.config, end.history.as_slice(), &mut text),
     };
     match written {
         Ok(()) => Ok(text),

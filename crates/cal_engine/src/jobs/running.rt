@@ -8,14 +8,13 @@ ghost use Rattle.cal_engine.specs.Front.{front_of};
 ghost use Rattle.cal_engine.specs.Running.{is_told, run_front, Begins, IsTextOfRun, Runs, Tells};
 ghost use Rattle.cal_engine.specs.Running.{TellsRun};
 
+use crate::jobs::accepted::AcceptedInput;
 use crate::jobs::answer::write_after_front;
 use crate::jobs::front::Front;
 use crate::jobs::run_text::{run_text, tallied_summary};
 use crate::jobs::telling::tell_lockstep;
 use cal_input::{RunFault, read_input, run_input};
-use cal_machine::Config;
 use cal_run::{lockstep_end, lockstep_tallied};
-use cal_trace::Arrivals;
 use std::alloc::Global;
 use std::io::{Read, Write};
 
@@ -101,7 +100,12 @@ fn told_input<W: Write>(
         fault ≢ RunFault.Memory → writer.new ≡ writer.old) }
 {
     let (config, arrivals) = run_input(alloc, input)?;
-    tell_lockstep(alloc, front, input, &config, &arrivals, writer)
+    let accepted = AcceptedInput {
+        input,
+        config: &config,
+        arrivals: &arrivals,
+    };
+    tell_lockstep(alloc, front, &accepted, writer)
 }
 
 /// What stands before the text of a run.
@@ -120,21 +124,28 @@ fn lockstep_text(alloc: Global, answer: RunAnswer, input: &[u8]) -> Result<Vec<u
     ensures fault { IfErr result (λ fault. Decided fault (run_input_of input.now ≡ Err fault)) }
 {
     let (config, arrivals) = run_input(alloc, input)?;
-    lockstep_on(alloc, answer, &config, &arrivals)
+    let accepted = AcceptedInput {
+        input,
+        config: &config,
+        arrivals: &arrivals,
+    };
+    lockstep_on(alloc, answer, &accepted)
 }
 
-/// What is written of a run on one thread on these arrivals, in memory. Its fault is `Memory`.
+/// What is written of a run on one thread on the arrivals of an accepted input, in memory. Its
+/// fault is `Memory`.
 fn lockstep_on(
     alloc: Global,
     answer: RunAnswer,
-    config: &Config,
-    arrivals: &Arrivals,
+    accepted: &AcceptedInput<'_>,
 ) -> Result<Vec<u8>, RunFault>
-    requires fits { FitsTable config.now arrivals.now }
+    requires fits { FitsTable accepted.now.config.now accepted.now.arrivals.now }
     ensures text { IfOk result (λ text. IsTextOfRun answer
-        (record { table = config.now; arrivals = arrivals.now }) text.items) }
+        (record { table = accepted.now.config.now; arrivals = accepted.now.arrivals.now })
+        text.items) }
     ensures kind { IfErr result (λ fault. fault ≡ RunFault.Memory) }
 {
+    let (config, arrivals) = (accepted.config, accepted.arrivals);
     match answer {
         // A summary counts what the threads do, so neither passes nor journals are kept.
         RunAnswer::Summary => {
@@ -143,7 +154,7 @@ fn lockstep_on(
         }
         _ => {
             let end = lockstep_end(alloc, config, arrivals)?;
-            run_text(alloc, answer, config, arrivals, &end)
+            run_text(alloc, answer, accepted, &end)
         }
     }
 }

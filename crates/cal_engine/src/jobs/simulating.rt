@@ -8,6 +8,7 @@ ghost use Rattle.cal_trace.specs.Arrivals.FitsTable.{FitsTable};
 ghost use Rattle.cal_input.specs.Parts.{run_input_of, within_limit};
 ghost use Rattle.cal_engine.specs.Running.{FailedInThreads, IsTextOfRun, RunsInThreads, TellsRun};
 
+use crate::jobs::accepted::AcceptedInput;
 use crate::jobs::answer::write_after_front;
 use crate::jobs::run_text::run_text;
 use crate::jobs::running::{RunAnswer, run_front};
@@ -62,24 +63,29 @@ fn simulation_text<H: Threads + Wait + Sync>(
     ensures fault { IfErr result (λ fault. FailedInThreads fault (run_input_of input.now)) }
 {
     let (config, arrivals) = run_input(alloc, input)?;
-    simulation_on(rt, alloc, answer, &config, &arrivals)
+    let accepted = AcceptedInput {
+        input,
+        config: &config,
+        arrivals: &arrivals,
+    };
+    simulation_on(rt, alloc, answer, &accepted)
 }
 
-/// What is written of a run in threads on these arrivals, in memory.
+/// What is written of a run in threads on the arrivals of an accepted input, in memory.
 fn simulation_on<H: Threads + Wait + Sync>(
     rt: &H,
     alloc: Global,
     answer: RunAnswer,
-    config: &Config,
-    arrivals: &Arrivals,
+    accepted: &AcceptedInput<'_>,
 ) -> Result<Vec<u8>, RunFault>
-    requires fits { FitsTable config.now arrivals.now }
+    requires fits { FitsTable accepted.now.config.now accepted.now.arrivals.now }
     ensures text { IfOk result (λ text. IsTextOfRun answer
-        (record { table = config.now; arrivals = arrivals.now }) text.items) }
+        (record { table = accepted.now.config.now; arrivals = accepted.now.arrivals.now })
+        text.items) }
     ensures kind { IfErr result (λ fault. (fault ≡ RunFault.Memory) ⊎ (fault ≡ RunFault.Spawn)) }
 {
-    let end = simulate_freely(rt, alloc, config, arrivals)?;
-    run_text(alloc, answer, config, arrivals, &end)
+    let end = simulate_freely(rt, alloc, accepted.config, accepted.arrivals)?;
+    run_text(alloc, answer, accepted, &end)
 }
 
 /// A run in threads that no gate ends.

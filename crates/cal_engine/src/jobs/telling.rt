@@ -13,18 +13,19 @@ ghost use Rattle.cal_trace.specs.Rows.Text.{line_of};
 ghost use Rattle.cal_engine.specs.Front.{front_of};
 ghost use Rattle.cal_engine.specs.Running.{AreFirstPasses, IsBegunTold, IsTold};
 
+use crate::jobs::accepted::AcceptedInput;
 use crate::jobs::answer::write_answer;
 use crate::jobs::front::{Front, write_front};
 use cal_input::RunFault;
-use cal_machine::Config;
 use cal_policy::{PassEntry, nothing_is_legal};
 use cal_run::{Parts, end_told, open_parts, rounds_to_make, told_round};
 use cal_trace::{Arrivals, write_history_end, write_history_header, write_history_pass};
 use std::alloc::Global;
 use std::io::Write;
 
-/// Makes a whole run on one thread on these arrivals, and writes its history as a file, after what
-/// stands before it: the rows of each pass as soon as its round was made. No pass is kept.
+/// Makes a whole run on one thread on the arrivals of an accepted input, and writes its history as
+/// a file, after what stands before it: the rows of each pass as soon as its round was made. No
+/// pass is kept.
 ///
 /// `Memory` where memory was refused: then nothing was written, or what stands before the history,
 /// its first row and whole passes. `Write` where the writer returned an error; then how much was
@@ -32,23 +33,22 @@ use std::io::Write;
 pub(crate) fn tell_lockstep<W: Write>(
     alloc: Global,
     front: Front,
-    input: &[u8],
-    config: &Config,
-    arrivals: &Arrivals,
+    accepted: &AcceptedInput<'_>,
     writer: &mut W,
 ) -> Result<(), RunFault>
-    requires fits { FitsTable config.now arrivals.now }
-    ensures told { OnOk result (IsTold (front_of front input.now)
-        (record { table = config.now; arrivals = arrivals.now })
+    requires fits { FitsTable accepted.now.config.now accepted.now.arrivals.now }
+    ensures told { OnOk result (IsTold (front_of front accepted.now.input.now)
+        (record { table = accepted.now.config.now; arrivals = accepted.now.arrivals.now })
         (W.contents writer.old) (W.contents writer.new)) }
     ensures begun { IfErr result (λ fault. fault ≡ RunFault.Memory →
-        (writer.new ≡ writer.old) ⊎ IsBegunTold (front_of front input.now)
-        (record { table = config.now; arrivals = arrivals.now })
+        (writer.new ≡ writer.old) ⊎ IsBegunTold (front_of front accepted.now.input.now)
+        (record { table = accepted.now.config.now; arrivals = accepted.now.arrivals.now })
         (W.contents writer.old) (W.contents writer.new)) }
     ensures kind { IfErr result (λ fault. (fault ≡ RunFault.Memory) ⊎ (fault ≡ RunFault.Write)) }
 {
+    let (config, arrivals) = (accepted.config, accepted.arrivals);
     let mut parts = open_parts(alloc, config, arrivals)?;
-    let mut text = head_text(alloc, front, input)?;
+    let mut text = head_text(alloc, front, accepted.input)?;
     write_answer(text.as_slice(), writer)?;
     tell_rounds(&mut parts, arrivals, &mut text, writer)?;
     end_told(alloc, config, arrivals, parts)?;

@@ -10,25 +10,25 @@ ghost use Rattle.cal_policy.specs.declared.history.action.Action.{Action as Acti
 ghost use Rattle.cal_policy.specs.declared.history.entry.PassEntry.{PassEntry};
 ghost use Rattle.cal_policy.specs.declared.history.entry.TheConstants.{MOST_PASSES};
 
-use crate::actions::with_one;
+use crate::actions::TaskState;
 use crate::cores::TaskActions;
-use crate::walk::task_time::TaskTime;
+use crate::walk::task_time::{PassTiming, TaskTime};
 use cal_machine::Config;
 use cal_policy::Action;
 use cal_policy::state::Board;
 
 /// The core time of each task, with one pass more: see `TaskTime::with_pass`.
-pub fn time_each(config: &Config, board: &Board, times: &mut [TaskTime], clock: u64, lasts: u64)
+pub fn time_each(config: &Config, board: &Board, times: &mut [TaskTime], timing: PassTiming)
     requires ready { IsReady config.now board.now }
     requires many { length times.old ≡ length config.now.tasks }
     ensures many { length times.new ≡ length times.old }
     ensures times { (h : List PassEntry) (entry : PassEntry) → length h < MOST_PASSES →
-        IsStateAfter board.now (h ++ entry ∷ []) → clock ≡ entry.input.now →
-        lasts ≡ until_next h entry → EachTask (IsTimeOf config.now h) times.old →
+        IsStateAfter board.now (h ++ entry ∷ []) → timing.clock ≡ entry.input.now →
+        timing.lasts ≡ until_next h entry → EachTask (IsTimeOf config.now h) times.old →
         EachTask (IsTimeOf config.now (h ++ entry ∷ [])) times.new }
 {
     for task in 0..times.len() {
-        times[task] = times[task].with_pass(config, board, task, clock, lasts);
+        times[task] = times[task].with_pass(config, board, task, timing);
     }
 }
 
@@ -43,7 +43,12 @@ fn count_each(config: &Config, board: &Board, numbers: &mut [TaskActions], actio
         EachTask (λ t of_task. AreActionsOf config.now t (x ++ action ∷ []) of_task) numbers.new }
 {
     for task in 0..numbers.len() {
-        numbers[task] = with_one(config, board, task, &numbers[task], action);
+        let state = TaskState {
+            config,
+            board,
+            task,
+        };
+        numbers[task] = state.with_one(&numbers[task], action);
     }
 }
 

@@ -31,6 +31,15 @@ pub struct TaskTime {
     pub found: bool,
 }
 
+/// When a pass was made.
+#[derive(Clone, Copy, Debug, PartialEq, Eq)]
+pub struct PassTiming {
+    /// Its clock.
+    pub clock: u64,
+    /// How many ticks what was so after the pass before it lasted.
+    pub lasts: u64,
+}
+
 impl TaskTime {
     /// Of no pass.
     pub fn none() -> TaskTime
@@ -47,27 +56,25 @@ impl TaskTime {
         }
     }
 
-    /// With one pass more, made at this clock, which left the board as it is; what was so after the
-    /// pass before it lasted so many ticks.
+    /// With one pass more, made then, which left the board as it is.
     pub fn with_pass(
         self,
         config: &Config,
         board: &Board,
         task: usize,
-        clock: u64,
-        lasts: u64,
+        timing: PassTiming,
     ) -> TaskTime
         requires ready { IsReady config.now board.now }
         requires task { task < length config.now.tasks }
         ensures { (h : List PassEntry) (entry : PassEntry) → length h < MOST_PASSES →
-            IsStateAfter board.now (h ++ entry ∷ []) → clock ≡ entry.input.now →
-            lasts ≡ until_next h entry → IsTimeOf config.now h task self →
+            IsStateAfter board.now (h ++ entry ∷ []) → timing.clock ≡ entry.input.now →
+            timing.lasts ≡ until_next h entry → IsTimeOf config.now h task self →
             IsTimeOf config.now (h ++ entry ∷ []) task result }
     {
         config.limits();
-        let held = core_time(self.holds, lasts);
-        let leaving = core_time(self.leaves, lasts);
-        let congested = ticks_if(self.found, lasts) as u128;
+        let held = core_time(self.holds, timing.lasts);
+        let leaving = core_time(self.leaves, timing.lasts);
+        let congested = ticks_if(self.found, timing.lasts) as u128;
         let holds = held_by(config, board, task);
         let leaves = booked_by(config, board, task).saturating_sub(holds);
         TaskTime {
@@ -77,7 +84,7 @@ impl TaskTime {
             congested: self.congested.saturating_add(congested),
             holds,
             leaves,
-            found: is_congested(config, board, clock, task),
+            found: is_congested(config, board, timing.clock, task),
         }
     }
 }

@@ -98,7 +98,7 @@ fn three_workers_meet(rt: HostRuntime) -> Result<(), Fail> {
     let gate = Meeting {
         come: [AtomicU64::new(0), AtomicU64::new(0), AtomicU64::new(0)],
     };
-    let answer = run(&rt, rt.alloc(), PREEMPTION_TABLE, PREEMPTION, &gate)?;
+    let answer = run(&rt, PREEMPTION_TABLE, PREEMPTION, &gate)?;
     assert_same(&rt, answer.map(|_| ()), Ok(()));
     Ok(())
 }
@@ -192,7 +192,7 @@ fn passes_and_turns_in_step(rt: HostRuntime) -> Result<(), Fail> {
     let gate = InStep {
         asked: Asked::new(),
     };
-    let outcome = run(&rt, rt.alloc(), PREEMPTION_TABLE, LONGER_PREEMPTION, &gate)??;
+    let outcome = run(&rt, PREEMPTION_TABLE, LONGER_PREEMPTION, &gate)??;
     assert_preempted(&rt, &outcome)
 }
 
@@ -259,7 +259,7 @@ fn pass_between_two_turns(rt: HostRuntime) -> Result<(), Fail> {
     let gate = Crossed {
         asked: Asked::new(),
     };
-    let outcome = run(&rt, rt.alloc(), ONE_THREAD, ONE_GRANT, &gate)??;
+    let outcome = run(&rt, ONE_THREAD, ONE_GRANT, &gate)??;
     assert_same(&rt, first_pass(&outcome), Some((1, grant(0, 0, 3))));
     let took = Entry::Took(1, Command::Run(0));
     assert_same(&rt, second_turn(&outcome), Some(took));
@@ -286,7 +286,7 @@ impl Gate for Refusing {
 
 #[test]
 fn gate_refuses(rt: HostRuntime) -> Result<(), Fail> {
-    let answer = run(&rt, rt.alloc(), PREEMPTION_TABLE, PREEMPTION, &Refusing)?;
+    let answer = run(&rt, PREEMPTION_TABLE, PREEMPTION, &Refusing)?;
     assert_same(&rt, answer.map(|_| ()), Err(SimFault::Gate));
     Ok(())
 }
@@ -336,7 +336,7 @@ fn gate_is_not_asked_again(rt: HostRuntime) -> Result<(), Fail> {
             to,
             asked: AtomicU64::new(0),
         };
-        let answer = run(&rt, rt.alloc(), PREEMPTION_TABLE, PREEMPTION, &gate)?;
+        let answer = run(&rt, PREEMPTION_TABLE, PREEMPTION, &gate)?;
         assert_same(&rt, answer.map(|_| ()), Err(SimFault::Gate));
         assert_same(&rt, gate.asked.load(Ordering::SeqCst), 1);
     }

@@ -54,7 +54,7 @@ fn assert_legal<R: Abort + AllocGlobal>(rt: &R, history: &[PassEntry]) -> Result
 /// served once or left in one place.
 #[test]
 fn sim_is_legal(rt: HostRuntime) -> Result<(), Fail> {
-    let outcome = run(&rt, rt.alloc(), PREEMPTION_TABLE, PREEMPTION, &FreeGate)??;
+    let outcome = run(&rt, PREEMPTION_TABLE, PREEMPTION, &FreeGate)??;
     assert_each_once(&rt, &outcome, 1, 3);
     assert_legal(&rt, outcome.history.as_slice())
 }
@@ -86,7 +86,7 @@ fn rows(alloc: Global) -> Result<String, AllocError> {
 #[test]
 fn hundred_requests(rt: HostRuntime) -> Result<(), Fail> {
     let rows = rows(rt.alloc())?;
-    let outcome = run(&rt, rt.alloc(), FOUR_THREADS, rows.as_bytes(), &FreeGate)??;
+    let outcome = run(&rt, FOUR_THREADS, rows.as_bytes(), &FreeGate)??;
     assert_each_once(&rt, &outcome, 0, 100);
     Ok(())
 }

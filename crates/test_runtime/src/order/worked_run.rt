@@ -60,18 +60,12 @@ pub fn served() -> Record
     }
 }
 
-/// A pass on a whole look at the one thread, whose ring has room.
-fn pass(
-    alloc: Global,
-    now: u64,
-    number: u64,
-    rec: Record,
-    actions: Vec<Action>,
-) -> Result<PassEntry, AllocError>
-    ensures { IfOk result (λ entry. entry ≡ pass_at now number rec actions.items) }
+/// A pass on this look at the one thread, whose ring has room.
+fn pass(alloc: Global, now: u64, look: Seen, actions: Vec<Action>) -> Result<PassEntry, AllocError>
+    ensures { IfOk result (λ entry. entry ≡ pass_at now look actions.items) }
 {
     let mut seen = Vec::new(alloc);
-    seen.push(Seen::Whole { number, rec })?;
+    seen.push(look)?;
     let mut rooms = Vec::new(alloc);
     rooms.push(true)?;
     Ok(PassEntry {
@@ -95,9 +89,17 @@ pub fn passes(alloc: Global) -> Result<Vec<PassEntry>, AllocError>
         thread: 0,
         class: 3,
     })?;
+    let first = Seen::Whole {
+        number: 1,
+        rec: waiting(),
+    };
+    let second = Seen::Whole {
+        number: 2,
+        rec: at_work(),
+    };
     let mut history = Vec::new(alloc);
-    history.push(pass(alloc, 111, 1, waiting(), grants)?)?;
-    history.push(pass(alloc, 130, 2, at_work(), Vec::new(alloc))?)?;
+    history.push(pass(alloc, 111, first, grants)?)?;
+    history.push(pass(alloc, 130, second, Vec::new(alloc))?)?;
     Ok(history)
 }
 

@@ -18,7 +18,7 @@ summary_of_run answer input outcome left text is run same made = record { outcom
 
 pub returns-in_ok-end-in-Summary-clause-text : goal.returns-in_ok-end-in-Summary-clause-text
 returns-in_ok-end-in-Summary-clause-text c =
-    let input : RunInput = record { table = c.args.config.now; arrivals = c.args.arrivals.now } in
+    let input : RunInput = record { table = c.args.accepted.now.config.now; arrivals = c.args.accepted.now.arrivals.now } in
     let of = c.in_ok-end-in-Summary.ensures.run in
     IfOk-weaker c.tallied_summary.result _ _ (λ text made. summary_of_run c.args.answer input of.outcome c.in_ok-end-in-Summary.end.left text.items c.in-Summary.is of.run of.left made)
     (c.tallied_summary.ensures.text of.outcome.journals of.tallies)

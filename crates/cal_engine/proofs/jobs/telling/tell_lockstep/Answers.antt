@@ -12,12 +12,12 @@ use Rattle.cal_engine.proofs.jobs.telling.tell_lockstep.Goals as goal
 pub tell_rounds-requires-clause-opened : goal.tell_rounds-requires-clause-opened
 tell_rounds-requires-clause-opened g c =
     let parts = c.in_ok-parts.parts in
-    let P : Table → Type 0 = λ t. AreParts t c.args.arrivals.now 0 0 0 parts in
+    let P : Table → Type 0 = λ t. AreParts t c.args.accepted.now.arrivals.now 0 0 0 parts in
     subst P (sym c.in_ok-parts.ensures.parts.together.same_table) c.in_ok-parts.ensures.parts
 
 pub end_told-requires-clause-parts : goal.end_told-requires-clause-parts
 end_told-requires-clause-parts g c =
-    let arrivals = c.args.arrivals.now in
+    let arrivals = c.args.accepted.now.arrivals.now in
     let P : Table → Type 0 = λ t. AreParts t arrivals (length arrivals.passes) (length arrivals.turns) (rounds_of arrivals) c.tell_rounds.new.parts in
     subst P c.in_ok-parts.ensures.parts.together.same_table c.in_ok-tell_rounds.ensures.made
 
@@ -27,11 +27,11 @@ returns-in_err-tell_rounds-clause-begun g c =
     let same : c.from_residual-in_err-tell_rounds.result ≡ Err c.in_err-tell_rounds.field-0.0 = search rules in
     rw same (λ is.
     let stopped = c.in_err-tell_rounds.ensures.stopped is in
-    let P : Table → Type 0 = λ t. AreFirstPasses (record { table = t; arrivals = c.args.arrivals.now }) stopped.0 in
+    let P : Table → Type 0 = λ t. AreFirstPasses (record { table = t; arrivals = c.args.accepted.now.arrivals.now }) stopped.0 in
     inr (record {
       history = stopped.0;
       first = subst P c.in_ok-parts.ensures.parts.together.same_table stopped.1;
-      written = begun (front_of c.args.front c.args.input.now) _ _ _ c.in_ok-text.text.items stopped.0 c.in_ok-text.ensures.text (rw c.as_slice.ensures.value at c.in_ok-write_answer.ensures.bytes) stopped.2;
+      written = begun (front_of c.args.front c.args.accepted.now.input.now) _ _ _ c.in_ok-text.text.items stopped.0 c.in_ok-text.ensures.text (rw c.as_slice.ensures.value at c.in_ok-write_answer.ensures.bytes) stopped.2;
     }))
 
 -- or when all were made
@@ -39,27 +39,27 @@ pub returns-in_err-end_told-clause-begun : goal.returns-in_err-end_told-clause-b
 returns-in_err-end_told-clause-begun g c =
     let same : c.from_residual-in_err-end_told.result ≡ Err fault.Memory = search rules in
     let history = c.tell_rounds.new.parts.scheduler.history in
-    let P : Table → Type 0 = λ t. AreFirstPasses (record { table = t; arrivals = c.args.arrivals.now }) history in
+    let P : Table → Type 0 = λ t. AreFirstPasses (record { table = t; arrivals = c.args.accepted.now.arrivals.now }) history in
     rw same (λ is. inr (record {
       history = history;
       first = subst P c.in_ok-parts.ensures.parts.together.same_table c.in_ok-tell_rounds.ensures.first;
-      written = begun (front_of c.args.front c.args.input.now) _ _ _ c.in_ok-text.text.items history c.in_ok-text.ensures.text (rw c.as_slice.ensures.value at c.in_ok-write_answer.ensures.bytes) c.in_ok-tell_rounds.ensures.told;
+      written = begun (front_of c.args.front c.args.accepted.now.input.now) _ _ _ c.in_ok-text.text.items history c.in_ok-text.ensures.text (rw c.as_slice.ensures.value at c.in_ok-write_answer.ensures.bytes) c.in_ok-tell_rounds.ensures.told;
     }))
 
 -- or before its last row
 pub returns-clause-begun : goal.returns-clause-begun
 returns-clause-begun g c =
     let history = c.tell_rounds.new.parts.scheduler.history in
-    let P : Table → Type 0 = λ t. AreFirstPasses (record { table = t; arrivals = c.args.arrivals.now }) history in
+    let P : Table → Type 0 = λ t. AreFirstPasses (record { table = t; arrivals = c.args.accepted.now.arrivals.now }) history in
     let first = subst P c.in_ok-parts.ensures.parts.together.same_table c.in_ok-tell_rounds.ensures.first in
-    let before = begun (front_of c.args.front c.args.input.now) _ _ _ c.in_ok-text.text.items history c.in_ok-text.ensures.text (rw c.as_slice.ensures.value at c.in_ok-write_answer.ensures.bytes) c.in_ok-tell_rounds.ensures.told in
+    let before = begun (front_of c.args.front c.args.accepted.now.input.now) _ _ _ c.in_ok-text.text.items history c.in_ok-text.ensures.text (rw c.as_slice.ensures.value at c.in_ok-write_answer.ensures.bytes) c.in_ok-tell_rounds.ensures.told in
     IfErr-weaker c.tell_end.result _ _ (λ f unwritten is. inr (record { history = history; first = first; written = rw (unwritten is) before })) c.tell_end.ensures.unwritten
 
 pub returns-clause-told : goal.returns-clause-told
 returns-clause-told g c =
-    let front = front_of c.args.front c.args.input.now in
+    let front = front_of c.args.front c.args.accepted.now.input.now in
     let history = c.tell_rounds.new.parts.scheduler.history in
     let run = c.in_ok-end_told.ensures in
-    let many = all_passed c.args.arrivals.now history c.in_ok-tell_rounds.ensures.made.passes ∙ sym (ap (λ l. length l) c.as_slice-2.ensures) in
+    let many = all_passed c.args.accepted.now.arrivals.now history c.in_ok-tell_rounds.ensures.made.passes ∙ sym (ap (λ l. length l) c.as_slice-2.ensures) in
     let before = begun front _ _ _ c.in_ok-text.text.items history c.in_ok-text.ensures.text (rw c.as_slice.ensures.value at c.in_ok-write_answer.ensures.bytes) c.in_ok-tell_rounds.ensures.told in
     on_ok_weaker c.tell_end.result (λ last. record { outcome = run.0; run = run.1; written = rw run.2 (ended front _ _ _ history _ many before last) }) c.tell_end.ensures.bytes

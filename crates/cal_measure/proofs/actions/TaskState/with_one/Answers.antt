@@ -2,12 +2,12 @@ use Rattle.cal_policy.specs.declared.history.core_class.CoreClass.TheVariants as
 use Rattle.cal_measure.specs.Actions as acts
 use Rattle.cal_measure.specs.declared.actions.LossKind.TheVariants as kinds
 use Rattle.cal_measure.proofs.Counting.{counted}
-use Rattle.cal_measure.proofs.actions.with_one.Goals as goal
+use Rattle.cal_measure.proofs.actions.TaskState.with_one.Goals as goal
 
 pub returns : goal.returns
 returns c = λ x low a n.
-    let table = c.args.config.now in
-    let t = c.args.task in
+    let table = c.args.self.now.config.now in
+    let t = c.args.self.now.task in
     let action = c.args.action in
     record {
       grants_beside = counted (acts.is_grant table t classes.Sibling) x action c.args.numbers.now.grants_beside _ c.is_grant.result low n.grants_beside (c.is_grant.ensures x) c.plus.ensures;

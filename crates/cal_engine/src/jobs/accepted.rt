@@ -1,0 +1,15 @@
+//! An input of a run that was accepted.
+
+use cal_machine::Config;
+use cal_trace::Arrivals;
+
+/// An input of a run that was accepted: its bytes, and what stands in it.
+#[derive(Clone, Copy)]
+pub(crate) struct AcceptedInput<'a> {
+    /// Its bytes.
+    pub input: &'a [u8],
+    /// The task table.
+    pub config: &'a Config,
+    /// The arrivals, which fit the table.
+    pub arrivals: &'a Arrivals,
+}
