@@ -8,7 +8,7 @@ ghost use Rattle.std.specs.Prelude.{◌≡◌, ◌≢◌, IfErr};
 
 use cal_input::{RunFault, read_input};
 use cal_picture::comparison_page;
-use cal_tables::{Comparison, ComparisonFault, Labels, RunCourse, Variation, comparison_of};
+use cal_tables::{ComparedInput, Comparison, ComparisonFault, Labels, RunCourse, comparison_of};
 use std::alloc::Global;
 use std::io::{Read, Write};
 
@@ -20,8 +20,7 @@ use std::io::{Read, Write};
 /// The faults are those of the word `compare`, in its order.
 pub fn draw_comparison<R: Read + Drop, W: Write>(
     alloc: Global,
-    mut reader: R,
-    variation: Option<Variation<'_>>,
+    mut input: ComparedInput<'_, R>,
     labels: Labels<'_>,
     writer: &mut W,
 ) -> Result<(), ComparisonFault>
@@ -29,8 +28,9 @@ pub fn draw_comparison<R: Read + Drop, W: Write>(
     ensures untouched { IfErr result (λ fault.
         fault ≢ ComparisonFault.Run RunFault.Write → writer.new ≡ writer.old) }
 {
-    let input = read_input(alloc, &mut reader)?;
-    let runs: Comparison<RunCourse> = comparison_of(alloc, input.as_slice(), variation)?;
+    let bytes = read_input(alloc, &mut input.reader)?;
+    let variation = input.variation;
+    let runs: Comparison<RunCourse> = comparison_of(alloc, bytes.as_slice(), variation)?;
     let page = comparison_page(alloc, &runs, variation, labels);
     let text = page.whole()?;
     match writer.write_all(text.as_bytes()) {

@@ -27,12 +27,12 @@ use crate::history::overview::draw_overview;
 use crate::history::sheet::Sheet;
 use crate::history::style::{draw_signs, draw_style};
 use crate::history::tasks::draw_tasks;
+use crate::labelled::LabelledInput;
 use crate::page::Page;
 use crate::story::Story;
 use crate::story::window::{Columns, Window};
 use cal_input::{RunFault, recorded_passes};
 use cal_machine::Config;
-use cal_tables::Labels;
 use std::alloc::Global;
 use std::io::Write;
 
@@ -64,7 +64,7 @@ pub struct Shown {
     pub task: Option<usize>,
 }
 
-/// Draws what is to be shown of the history of an input as one SVG that stands alone, under these
+/// Draws what is to be shown of the history of an input as one SVG that stands alone, under its
 /// labels. It takes any history; of one that is not orderly it draws what fits and passes over the
 /// rest. It keeps only what shows, and writes nothing of an input that is refused. Of a history
 /// without passes it says that, where `from` is 0.
@@ -73,17 +73,17 @@ pub struct Shown {
 /// place. What is drawn is only tested; the spans in it are `spans_of`.
 pub fn draw_picture<W: Write>(
     alloc: Global,
-    input: &[u8],
+    input: LabelledInput<'_>,
     shown: Shown,
-    labels: Labels<'_>,
     writer: &mut W,
 ) -> Result<Drawn, RunFault> {
-    let count = count_passes(alloc, input)?;
+    let LabelledInput { bytes, labels } = input;
+    let count = count_passes(alloc, bytes)?;
     if is_beyond(shown.from, count) {
         return Ok(Drawn::NoPass { passes: count });
     }
     let window = Window::new(count, shown.from, shown.passes);
-    let (config, history) = recorded_passes(alloc, input)?;
+    let (config, history) = recorded_passes(alloc, bytes)?;
     if is_missing(&config, shown.task) {
         let tasks = config.tasks();
         return Ok(Drawn::NoTask { tasks });

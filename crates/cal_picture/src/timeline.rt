@@ -18,6 +18,7 @@ ghost use Rattle.cal_trace.specs.History.Reading.{IsOpen};
 ghost use Rattle.cal_picture.specs.Walking.{IsWalkOf};
 
 use crate::counting::count_passes;
+use crate::labelled::LabelledInput;
 use crate::story::standing::Row;
 use crate::story::walk::Walk;
 use crate::timeline::events::Events;
@@ -29,12 +30,11 @@ use cal_input::{RunFault, read_parts, recorded_passes};
 use cal_machine::Config;
 use cal_policy::{Action, PassEntry};
 use cal_run::lockstep_end;
-use cal_tables::Labels;
 use cal_trace::{Arrivals, FaultKind, HistoryRows, read_arrivals};
 use std::alloc::Global;
 use std::io::Write;
 
-/// Writes the history of an input as trace events, under these labels. It takes any history, of
+/// Writes the history of an input as trace events, under its labels. It takes any history, of
 /// which it keeps no pass. Of an input of a task table and arrivals it writes the run on one thread
 /// that they make, with its requests. It writes nothing of an input that is refused.
 ///
@@ -42,15 +42,15 @@ use std::io::Write;
 /// place.
 pub fn write_timeline<W: Write>(
     alloc: Global,
-    input: &[u8],
-    labels: Labels<'_>,
+    input: LabelledInput<'_>,
     writer: &mut W,
 ) -> Result<(), RunFault> {
-    let (config, trace) = read_parts(alloc, input)?;
+    let LabelledInput { bytes, labels } = input;
+    let (config, trace) = read_parts(alloc, bytes)?;
     match read_arrivals(alloc, &config, trace) {
         Ok(arrivals) => write_run(&config, &arrivals, Events::new(alloc, labels), writer),
         Err(fault) if fault.kind == FaultKind::Header => {
-            write_history(input, Events::new(alloc, labels), writer)
+            write_history(bytes, Events::new(alloc, labels), writer)
         }
         Err(fault) => Err(RunFault::from(fault)),
     }

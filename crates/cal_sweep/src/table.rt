@@ -7,8 +7,7 @@ use crate::shares::best_effort_share;
 use cal_load::Count;
 use cal_machine::Config;
 use cal_tables::{
-    CoreLine, Figure, Line, NumberForm, Rank, Sheet, Unit, core_figure, number, put_figure,
-    put_heading, request_figure,
+    CoreLine, Figure, Line, NumberForm, Rank, Sheet, Unit, core_figure, number, request_figure,
 };
 use std::alloc::{AllocError, Global};
 
@@ -146,7 +145,7 @@ impl<'a> ShownSweep<'a> {
         }
         for column in COLUMNS {
             let name = String::from_str(alloc, name_of(column))?;
-            put_heading(alloc, &mut row, name, self.form_of(column))?;
+            self.form_of(column).put_heading(alloc, &mut row, name)?;
         }
         Ok(row)
     }
@@ -179,13 +178,8 @@ impl<'a> ShownSweep<'a> {
         }
         for column in COLUMNS {
             let figure = self.figure(place, run, column);
-            put_figure(
-                alloc,
-                &mut row,
-                figure,
-                unit_of(column),
-                self.form_of(column),
-            )?;
+            let form = self.form_of(column);
+            form.put_figure(alloc, &mut row, figure, unit_of(column))?;
         }
         Ok(row)
     }

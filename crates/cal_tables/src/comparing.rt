@@ -16,12 +16,11 @@ ghost use Rattle.cal_tables.specs.Varied.{IsVariation};
 use crate::comparing::fault::ComparisonFault;
 use crate::comparing::input_text::input_text;
 use crate::comparing::runs::{OfRun, runs_of};
-use crate::comparing::sheet::comparison_sheet;
+use crate::comparing::sheet::ShownComparison;
 use crate::comparing::tables::{GivenTables, given_tables};
 use crate::comparing::varying::varied_given;
-use crate::labels::Labels;
 use crate::measuring::RunNumbers;
-use crate::sheet::NumberForm;
+use crate::style::NumberStyle;
 use cal_input::{RunFault, read_input};
 use cal_machine::Config;
 use std::alloc::Global;
@@ -47,12 +46,9 @@ pub fn compared<R: OfRun>(alloc: Global, input: &[u8]) -> Result<Comparison<R>, 
     ensures { IfOk result (λ comparison.
         IsComparison R.tells input.now comparison.tables.items comparison.runs.items) }
 {
-    let GivenTables {
-        tables,
-        given,
-        arrivals,
-    } = given_tables(alloc, input)?;
-    let runs = runs_of(alloc, &given, &arrivals, tables.as_slice())?;
+    let from = given_tables(alloc, input)?;
+    let runs = runs_of(alloc, &from)?;
+    let GivenTables { tables, .. } = from;
     Ok(Comparison { tables, runs })
 }
 
@@ -81,12 +77,9 @@ pub fn compared_values<R: OfRun>(
         (map (λ value. value.now) variation.entry.values.now)
         comparison.tables.items comparison.runs.items) }
 {
-    let GivenTables {
-        tables,
-        given,
-        arrivals,
-    } = varied_given(alloc, input, variation)?;
-    let runs = runs_of(alloc, &given, &arrivals, tables.as_slice())?;
+    let from = varied_given(alloc, input, variation)?;
+    let runs = runs_of(alloc, &from)?;
+    let GivenTables { tables, .. } = from;
     Ok(Comparison { tables, runs })
 }
 
@@ -108,32 +101,43 @@ fn compared_text(
     alloc: Global,
     input: &[u8],
     variation: Option<Variation<'_>>,
-    labels: Labels<'_>,
-    form: NumberForm,
+    style: NumberStyle<'_>,
 ) -> Result<String, ComparisonFault> {
-    let comparison: Comparison<RunNumbers> = comparison_of(alloc, input, variation)?;
-    let sheet = comparison_sheet(alloc, variation, &comparison, labels, form)?;
-    Ok(sheet.written(alloc, form)?)
+    let runs: Comparison<RunNumbers> = comparison_of(alloc, input, variation)?;
+    let shown = ShownComparison {
+        runs: &runs,
+        variation,
+        style,
+    };
+    let sheet = shown.sheet(alloc)?;
+    Ok(sheet.written(alloc, style.form)?)
+}
+
+/// An input of tables and arrivals, that is to be read to its end.
+#[derive(Drop)]
+pub struct ComparedInput<'a, R> {
+    /// What it is read from.
+    pub reader: R,
+    /// What varies its one table; without it the tables are those of the input.
+    pub variation: Option<Variation<'a>>,
 }
 
 /// Reads an input of tables and arrivals to its end, makes a whole run of each table on one thread,
-/// and writes the numbers side by side under these labels: in columns that line up, or as CSV. With
-/// a variation the input has one table, and the runs are those of the tables that it gives. Nothing
+/// and writes the numbers side by side in this style: in columns that line up, or as CSV. With a
+/// variation the input has one table, and the runs are those of the tables that it gives. Nothing
 /// is written before the runs were made and the text is in memory.
 pub fn compare<R: Read + Drop, W: Write>(
     alloc: Global,
-    mut reader: R,
-    variation: Option<Variation<'_>>,
-    labels: Labels<'_>,
-    form: NumberForm,
+    mut input: ComparedInput<'_, R>,
+    style: NumberStyle<'_>,
     writer: &mut W,
 ) -> Result<(), ComparisonFault>
     // Nothing is written before the runs were made.
     ensures untouched { IfErr result (λ fault.
         fault ≢ ComparisonFault.Run RunFault.Write → writer.new ≡ writer.old) }
 {
-    let input = read_input(alloc, &mut reader)?;
-    let text = compared_text(alloc, input.as_slice(), variation, labels, form)?;
+    let bytes = read_input(alloc, &mut input.reader)?;
+    let text = compared_text(alloc, bytes.as_slice(), input.variation, style)?;
     match writer.write_all(text.as_bytes()) {
         Ok(()) => Ok(()),
         Err(_) => Err(ComparisonFault::from(RunFault::Write)),
@@ -148,8 +152,7 @@ pub fn compare<R: Read + Drop, W: Write>(
 /// which the arrivals do not fit.
 pub fn write_input<R: Read + Drop, W: Write>(
     alloc: Global,
-    mut reader: R,
-    variation: Option<Variation<'_>>,
+    mut input: ComparedInput<'_, R>,
     place: usize,
     writer: &mut W,
 ) -> Result<(), ComparisonFault>
@@ -157,8 +160,8 @@ pub fn write_input<R: Read + Drop, W: Write>(
     ensures untouched { IfErr result (λ fault.
         fault ≢ ComparisonFault.Run RunFault.Write → writer.new ≡ writer.old) }
 {
-    let input = read_input(alloc, &mut reader)?;
-    let text = input_text(alloc, input.as_slice(), variation, place)?;
+    let bytes = read_input(alloc, &mut input.reader)?;
+    let text = input_text(alloc, bytes.as_slice(), input.variation, place)?;
     match writer.write_all(text.as_bytes()) {
         Ok(()) => Ok(()),
         Err(_) => Err(ComparisonFault::from(RunFault::Write)),

@@ -189,50 +189,53 @@ fn put_columns(
     Ok(())
 }
 
-/// Puts a figure at the end of a row; a dash where there is none. In a CSV file it has three cells.
-pub fn put_figure(
-    alloc: Global,
-    row: &mut Vec<String>,
-    figure: Option<Figure>,
-    unit: Unit,
-    form: NumberForm,
-) -> Result<(), AllocError> {
-    match (figure, form) {
-        (Some(figure), NumberForm::Columns) => row.push(cell(alloc, figure, unit)?)?,
-        (Some(figure), NumberForm::Csv) => put_columns(alloc, row, figure, unit)?,
-        (None, _) => put_name(alloc, row, String::from_str(alloc, "-")?, ["", ""], form)?,
-    }
-    Ok(())
-}
-
-/// Puts a cell at the end of a row, and in a CSV file two more.
-pub fn put_name(
-    alloc: Global,
-    row: &mut Vec<String>,
-    name: String,
-    more: [&str; 2],
-    form: NumberForm,
-) -> Result<(), AllocError> {
-    row.push(name)?;
-    match form {
-        NumberForm::Columns => {}
-        NumberForm::Csv => {
-            row.push(String::from_str(alloc, more[0])?)?;
-            row.push(String::from_str(alloc, more[1])?)?;
+impl NumberForm {
+    /// Puts a figure at the end of a row; a dash where there is none. In a CSV file it has three
+    /// cells.
+    pub fn put_figure(
+        self,
+        alloc: Global,
+        row: &mut Vec<String>,
+        figure: Option<Figure>,
+        unit: Unit,
+    ) -> Result<(), AllocError> {
+        match (figure, self) {
+            (Some(figure), NumberForm::Columns) => row.push(cell(alloc, figure, unit)?)?,
+            (Some(figure), NumberForm::Csv) => put_columns(alloc, row, figure, unit)?,
+            (None, _) => self.put_name(alloc, row, String::from_str(alloc, "-")?, ["", ""])?,
         }
+        Ok(())
     }
-    Ok(())
-}
 
-/// Puts the heading of figures at the end of a row: their name, and in a CSV file those of the
-/// cells of a bound and of too few times.
-pub fn put_heading(
-    alloc: Global,
-    row: &mut Vec<String>,
-    name: String,
-    form: NumberForm,
-) -> Result<(), AllocError> {
-    let bound = format!(in alloc; "{} bound", name.as_str())?;
-    let few = format!(in alloc; "{} of", name.as_str())?;
-    put_name(alloc, row, name, [bound.as_str(), few.as_str()], form)
+    /// Puts the heading of figures at the end of a row: their name, and in a CSV file those of the
+    /// cells of a bound and of too few times.
+    pub fn put_heading(
+        self,
+        alloc: Global,
+        row: &mut Vec<String>,
+        name: String,
+    ) -> Result<(), AllocError> {
+        let bound = format!(in alloc; "{} bound", name.as_str())?;
+        let few = format!(in alloc; "{} of", name.as_str())?;
+        self.put_name(alloc, row, name, [bound.as_str(), few.as_str()])
+    }
+
+    /// Puts a cell at the end of a row, and in a CSV file two more.
+    fn put_name(
+        self,
+        alloc: Global,
+        row: &mut Vec<String>,
+        name: String,
+        more: [&str; 2],
+    ) -> Result<(), AllocError> {
+        row.push(name)?;
+        match self {
+            NumberForm::Columns => {}
+            NumberForm::Csv => {
+                row.push(String::from_str(alloc, more[0])?)?;
+                row.push(String::from_str(alloc, more[1])?)?;
+            }
+        }
+        Ok(())
+    }
 }

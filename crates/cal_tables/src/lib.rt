@@ -15,6 +15,7 @@ mod laws;
 mod measuring;
 mod recorded;
 mod sheet;
+mod style;
 mod writing;
 
 pub use comparing::fault::{ComparisonFault, Misfit, Reason};
@@ -23,11 +24,12 @@ pub use comparing::runs::{OfRun, table_at};
 pub use comparing::tables::read_tables;
 pub use comparing::varying::varied_tables;
 pub use comparing::{
-    Comparison, Variation, compare, compared, compared_values, comparison_of, write_input,
+    ComparedInput, Comparison, Variation, compare, compared, compared_values, comparison_of,
+    write_input,
 };
 pub use core_rows::{CoreLine, core_figure};
 pub use courses::{RunCourse, run_course};
-pub use figures::{Figure, Rank, Unit, count, number, put_figure, put_heading, share, time_in};
+pub use figures::{Figure, Rank, Unit, count, number, share, time_in};
 pub use joining::{front_of_table, table_part};
 pub use labels::{Labels, letters};
 pub use laws::{
@@ -37,4 +39,5 @@ pub use laws::{
 pub use measuring::{RunNumbers, measure, measured_run};
 pub use recorded::{HistoryNumbers, Recorded, history_numbers, measured_recording};
 pub use sheet::{NumberForm, Sheet};
+pub use style::NumberStyle;
 pub use writing::{Line, request_figure};

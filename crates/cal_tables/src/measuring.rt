@@ -10,9 +10,8 @@ ghost use Rattle.cal_tables.specs.Measured.{IsMeasuredRun};
 
 use crate::collecting::{EndedNumbers, OpenNumbers};
 use crate::comparing::runs::OfRun;
-use crate::labels::Labels;
 use crate::recorded::{HistoryNumbers, Recorded, measured_recording, numbers_of_walk};
-use crate::sheet::NumberForm;
+use crate::style::NumberStyle;
 use crate::writing::{history_sheet, sheet_of};
 use cal_input::{RunFault, read_input, read_parts};
 use cal_machine::Config;
@@ -109,14 +108,13 @@ fn run_text(
     alloc: Global,
     config: &Config,
     arrivals: &Arrivals,
-    labels: Labels<'_>,
-    form: NumberForm,
+    style: NumberStyle<'_>,
 ) -> Result<String, RunFault>
     requires { FitsTable config.now arrivals.now }
 {
     let numbers = measured_run(alloc, config, arrivals)?;
-    let sheet = sheet_of(alloc, config, &numbers, labels, form)?;
-    Ok(sheet.written(alloc, form)?)
+    let sheet = sheet_of(alloc, config, &numbers, style)?;
+    Ok(sheet.written(alloc, style.form)?)
 }
 
 /// What an audit says of a recorded history, and what is written of it, in memory: of one that is
@@ -125,13 +123,12 @@ fn recorded_text(
     alloc: Global,
     config: &Config,
     trace: &[u8],
-    labels: Labels<'_>,
-    form: NumberForm,
+    style: NumberStyle<'_>,
 ) -> Result<(Verdict, String), RunFault> {
     match measured_recording(alloc, config, trace)? {
         Recorded::Legal { numbers } => {
-            let sheet = history_sheet(alloc, config, &numbers, labels, form)?;
-            Ok((Verdict::Legal, sheet.written(alloc, form)?))
+            let sheet = history_sheet(alloc, config, &numbers, style)?;
+            Ok((Verdict::Legal, sheet.written(alloc, style.form)?))
         }
         Recorded::Illegal { pass } => Ok((Verdict::Illegal { pass }, String::new(alloc))),
     }
@@ -142,23 +139,19 @@ fn recorded_text(
 fn measured_text(
     alloc: Global,
     input: &[u8],
-    labels: Labels<'_>,
-    form: NumberForm,
+    style: NumberStyle<'_>,
 ) -> Result<(Verdict, String), RunFault> {
     let (config, trace) = read_parts(alloc, input)?;
     match read_arrivals(alloc, &config, trace) {
-        Ok(arrivals) => Ok((
-            Verdict::Legal,
-            run_text(alloc, &config, &arrivals, labels, form)?,
-        )),
+        Ok(arrivals) => Ok((Verdict::Legal, run_text(alloc, &config, &arrivals, style)?)),
         Err(fault) if fault.kind == FaultKind::Header => {
-            recorded_text(alloc, &config, trace, labels, form)
+            recorded_text(alloc, &config, trace, style)
         }
         Err(fault) => Err(RunFault::from(fault)),
     }
 }
 
-/// Reads an input to its end and writes numbers under these labels: in columns that line up, or as
+/// Reads an input to its end and writes numbers in this style: in columns that line up, or as
 /// CSV. Where it is a task table and arrivals they are those of a whole run on one thread; where it
 /// is a table and a history, those of the history's cores, if it is legal. What is answered is the
 /// audit's verdict; a run is legal. Nothing is written before the whole text is in memory.
@@ -167,8 +160,7 @@ fn measured_text(
 pub fn measure<R: Read + Drop, W: Write>(
     alloc: Global,
     mut reader: R,
-    labels: Labels<'_>,
-    form: NumberForm,
+    style: NumberStyle<'_>,
     writer: &mut W,
 ) -> Result<Verdict, RunFault>
     // Nothing is written before the run was made, and nothing of a history that is not legal.
@@ -177,7 +169,7 @@ pub fn measure<R: Read + Drop, W: Write>(
         verdict ≢ Verdict.Legal → writer.new ≡ writer.old) }
 {
     let input = read_input(alloc, &mut reader)?;
-    let (verdict, text) = measured_text(alloc, input.as_slice(), labels, form)?;
+    let (verdict, text) = measured_text(alloc, input.as_slice(), style)?;
     match verdict {
         Verdict::Illegal { .. } => Ok(verdict),
         Verdict::Legal => match writer.write_all(text.as_bytes()) {

@@ -7,13 +7,12 @@ use crate::core_rows::{
     CORE_LINES, CoreLine, MACHINE_LINES, MachineLine, core_figure, core_label, core_unit,
     is_of_passes, machine_figure, machine_label, machine_unit,
 };
-use crate::figures::{
-    Figure, Rank, Unit, count, put_figure, put_heading, rank_name, ranked_figure, share,
-};
+use crate::figures::{Figure, Rank, Unit, count, rank_name, ranked_figure, share};
 use crate::labels::Labels;
 use crate::measuring::RunNumbers;
 use crate::recorded::HistoryNumbers;
 use crate::sheet::{NumberForm, Sheet};
+use crate::style::NumberStyle;
 use cal_machine::{Config, Kind};
 use cal_measure::{MachineCores, TaskCores, TaskRequests, Time};
 use std::alloc::{AllocError, Global};
@@ -174,9 +173,9 @@ pub fn task_name(alloc: Global, labels: Labels<'_>, task: usize) -> Result<Strin
 fn heading(
     alloc: Global,
     config: &Config,
-    labels: Labels<'_>,
-    form: NumberForm,
+    style: NumberStyle<'_>,
 ) -> Result<Vec<String>, AllocError> {
+    let NumberStyle { labels, form } = style;
     let mut row = Vec::new(alloc);
     row.push(String::from_str(alloc, "measure")?)?;
     for task in 0..config.tasks() {
@@ -186,7 +185,7 @@ fn heading(
         };
         let name = task_name(alloc, labels, task)?;
         let name = format!(in alloc; "{} {kind}", name.as_str())?;
-        put_heading(alloc, &mut row, name, form)?;
+        form.put_heading(alloc, &mut row, name)?;
     }
     Ok(row)
 }
@@ -195,15 +194,15 @@ fn heading(
 fn line_row(
     alloc: Global,
     numbers: &RunNumbers,
-    labels: Labels<'_>,
     line: Line,
-    form: NumberForm,
+    style: NumberStyle<'_>,
 ) -> Result<Vec<String>, AllocError> {
+    let NumberStyle { labels, form } = style;
     let mut row = Vec::new(alloc);
     row.push(label(alloc, labels, line)?)?;
     for task in 0..numbers.requests.len() {
         let figure = request_figure(numbers, task, line);
-        put_figure(alloc, &mut row, figure, unit(line), form)?;
+        form.put_figure(alloc, &mut row, figure, unit(line))?;
     }
     Ok(row)
 }
@@ -233,7 +232,7 @@ impl ToldCores<'_> {
         row.push(String::from_str(alloc, core_label(line))?)?;
         for task in 0..self.tasks.len() {
             let figure = core_figure(self.tasks, self.machine.lasted, task, line);
-            put_figure(alloc, &mut row, figure, core_unit(line), form)?;
+            form.put_figure(alloc, &mut row, figure, core_unit(line))?;
         }
         Ok(row)
     }
@@ -249,7 +248,7 @@ impl ToldCores<'_> {
         row.push(String::from_str(alloc, machine_label(line))?)?;
         let turns = self.turns.unwrap_or(0);
         let figure = machine_figure(self.machine, turns, line, self.cores);
-        put_figure(alloc, &mut row, figure, machine_unit(line), form)?;
+        form.put_figure(alloc, &mut row, figure, machine_unit(line))?;
         Ok(row)
     }
 
@@ -287,13 +286,12 @@ pub fn sheet_of(
     alloc: Global,
     config: &Config,
     numbers: &RunNumbers,
-    labels: Labels<'_>,
-    form: NumberForm,
+    style: NumberStyle<'_>,
 ) -> Result<Sheet, AllocError> {
     let mut sheet = Sheet::new(alloc);
-    sheet.put(heading(alloc, config, labels, form)?)?;
+    sheet.put(heading(alloc, config, style)?)?;
     for line in LINES {
-        sheet.put(line_row(alloc, numbers, labels, line, form)?)?;
+        sheet.put(line_row(alloc, numbers, line, style)?)?;
     }
     let told = ToldCores {
         tasks: numbers.cores.as_slice(),
@@ -301,8 +299,8 @@ pub fn sheet_of(
         turns: Some(numbers.turns),
         cores: config.machine().cores(),
     };
-    told.put_tasks(alloc, &mut sheet, form)?;
-    told.put_machine(alloc, &mut sheet, form)?;
+    told.put_tasks(alloc, &mut sheet, style.form)?;
+    told.put_machine(alloc, &mut sheet, style.form)?;
     Ok(sheet)
 }
 
@@ -311,18 +309,17 @@ pub fn history_sheet(
     alloc: Global,
     config: &Config,
     numbers: &HistoryNumbers,
-    labels: Labels<'_>,
-    form: NumberForm,
+    style: NumberStyle<'_>,
 ) -> Result<Sheet, AllocError> {
     let mut sheet = Sheet::new(alloc);
-    sheet.put(heading(alloc, config, labels, form)?)?;
+    sheet.put(heading(alloc, config, style)?)?;
     let told = ToldCores {
         tasks: numbers.cores.as_slice(),
         machine: &numbers.machine,
         turns: None,
         cores: config.machine().cores(),
     };
-    told.put_tasks(alloc, &mut sheet, form)?;
-    told.put_machine(alloc, &mut sheet, form)?;
+    told.put_tasks(alloc, &mut sheet, style.form)?;
+    told.put_machine(alloc, &mut sheet, style.form)?;
     Ok(sheet)
 }

@@ -300,7 +300,7 @@ fn do_job<W: Write>(job: &Job<'_>, input: &JobInput<'_>, output: &mut W) -> Resu
     };
     match job {
         Job::History { front } => record(alloc, bytes, *front, &mut buffer)?,
-        Job::Timeline => write_timeline(alloc, bytes, input.labels, &mut buffer)?,
+        Job::Timeline => write_timeline(alloc, input.labelled(), &mut buffer)?,
         // (the calls above do these)
         Job::Arrivals { .. } | Job::Check | Job::Compare { .. } | Job::Explain { .. } => {}
         Job::Measure { .. } | Job::Picture { .. } | Job::Sweep { .. } | Job::Help => {}

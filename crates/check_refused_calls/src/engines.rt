@@ -4,7 +4,7 @@ use crate::attempt::{Fault, answer, begin, wrong};
 use crate::runs::write_verdict;
 use crate::table_and_trace::TableAndTrace;
 use cal_engine::{RunAnswer, decide, run_audit, run_lockstep, run_sim};
-use cal_tables::{Labels, NumberForm, compare, measure};
+use cal_tables::{ComparedInput, Labels, NumberForm, NumberStyle, compare, measure};
 use cal_trace::read_history;
 use std::alloc::Global;
 use std::io;
@@ -76,17 +76,19 @@ pub fn in_threads<H: Threads + Wait + Sync>(
     Ok(true)
 }
 
+/// How numbers are written: in columns, under plain labels.
+fn in_columns() -> NumberStyle<'static> {
+    NumberStyle {
+        labels: Labels::plain(),
+        form: NumberForm::Columns,
+    }
+}
+
 /// The numbers of a run.
 pub fn measured(rt: &HostRuntime, given: &TableAndTrace) -> io::Result<bool> {
     let mut text = writer(rt.alloc())?;
     begin(rt)?;
-    let made = measure(
-        rt.alloc(),
-        given.text,
-        Labels::plain(),
-        NumberForm::Columns,
-        &mut text,
-    );
+    let made = measure(rt.alloc(), given.text, in_columns(), &mut text);
     write_text(rt, made, text.as_slice())
 }
 
@@ -94,13 +96,10 @@ pub fn measured(rt: &HostRuntime, given: &TableAndTrace) -> io::Result<bool> {
 pub fn compared(rt: &HostRuntime, given: &TableAndTrace) -> io::Result<bool> {
     let mut text = writer(rt.alloc())?;
     begin(rt)?;
-    let made = compare(
-        rt.alloc(),
-        given.text,
-        None,
-        Labels::plain(),
-        NumberForm::Columns,
-        &mut text,
-    );
+    let input = ComparedInput {
+        reader: given.text,
+        variation: None,
+    };
+    let made = compare(rt.alloc(), input, in_columns(), &mut text);
     write_text(rt, made, text.as_slice())
 }

@@ -8,6 +8,7 @@ ghost use Rattle.cal_trace.specs.declared.arrivals.Arrivals.{Arrivals as RunArri
 
 use crate::comparing::fault::{ComparisonFault, Reason, fault_of};
 use crate::comparing::moving::moved_arrivals;
+use crate::comparing::tables::GivenTables;
 use cal_input::RunFault;
 use cal_machine::Config;
 use cal_trace::Arrivals;
@@ -28,16 +29,11 @@ pub trait OfRun: Drop {
 }
 
 /// What is kept of a table's run on arrivals that were given for another, as the table gets them.
-fn of_moved<R: OfRun>(
-    alloc: Global,
-    given: &Config,
-    arrivals: &Arrivals,
-    table: &Config,
-) -> Result<R, Reason>
-    requires { FitsTable given.now arrivals.now }
-    ensures { IfOk result (IsOfMoved R.tells given.now arrivals.now table.now) }
+fn of_moved<R: OfRun>(alloc: Global, from: &GivenTables, table: &Config) -> Result<R, Reason>
+    requires { FitsTable from.now.given from.now.arrivals }
+    ensures { IfOk result (IsOfMoved R.tells from.now.given from.now.arrivals table.now) }
 {
-    let moved = moved_arrivals(alloc, given, table, arrivals)?;
+    let moved = moved_arrivals(alloc, &from.given, table, &from.arrivals)?;
     Ok(R::of_run(alloc, table, &moved)?)
 }
 
@@ -49,19 +45,18 @@ pub fn table_at(tables: &[Config], place: usize) -> &Config
     &tables[place]
 }
 
-/// What is kept of a table's run on the arrivals that a text tells; a fault is that of the table at
-/// this place. `Memory` may come at any place.
+/// What is kept of a table's run on arrivals that were given for another; a fault is that of the
+/// table at this place. `Memory` may come at any place.
 fn of_placed<R: OfRun>(
     alloc: Global,
-    given: &Config,
-    arrivals: &Arrivals,
+    from: &GivenTables,
     table: &Config,
     place: usize,
 ) -> Result<R, ComparisonFault>
-    requires { FitsTable given.now arrivals.now }
-    ensures { IfOk result (IsOfMoved R.tells given.now arrivals.now table.now) }
+    requires { FitsTable from.now.given from.now.arrivals }
+    ensures { IfOk result (IsOfMoved R.tells from.now.given from.now.arrivals table.now) }
 {
-    match of_moved(alloc, given, arrivals, table) {
+    match of_moved(alloc, from, table) {
         Ok(run) => Ok(run),
         Err(reason) => Err(fault_of(place, reason)),
     }
@@ -70,19 +65,15 @@ fn of_placed<R: OfRun>(
 /// What is kept of each table's run on the arrivals, as the table gets them, in the order of the
 /// tables. The fault is that of the first table which they do not fit. `Memory` may come at any
 /// place.
-pub fn runs_of<R: OfRun>(
-    alloc: Global,
-    given: &Config,
-    arrivals: &Arrivals,
-    tables: &[Config],
-) -> Result<Vec<R>, ComparisonFault>
-    requires { FitsTable given.now arrivals.now }
-    ensures { IfOk result (λ runs.
-        AreOfTables R.tells given.now arrivals.now tables.now runs.items) }
+pub fn runs_of<R: OfRun>(alloc: Global, from: &GivenTables) -> Result<Vec<R>, ComparisonFault>
+    requires { FitsTable from.now.given from.now.arrivals }
+    ensures { IfOk result (λ runs. AreOfTables R.tells from.now.given from.now.arrivals
+        from.now.tables.items runs.items) }
 {
     let mut runs = Vec::new(alloc);
-    for place in 0..tables.len() {
-        let run = of_placed(alloc, given, arrivals, table_at(tables, place), place)?;
+    for place in 0..from.tables.len() {
+        let table = table_at(from.tables.as_slice(), place);
+        let run = of_placed(alloc, from, table, place)?;
         runs.push(run)?;
     }
     Ok(runs)

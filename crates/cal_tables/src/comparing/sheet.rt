@@ -7,10 +7,11 @@ use crate::core_rows::{
     CORE_LINES, CoreLine, MACHINE_LINES, MachineLine, core_figure, core_label, core_unit,
     machine_figure, machine_label, machine_unit,
 };
-use crate::figures::{Figure, Unit, number, put_figure, put_heading};
+use crate::figures::{Figure, Unit, number};
 use crate::labels::Labels;
 use crate::measuring::RunNumbers;
-use crate::sheet::{NumberForm, Sheet};
+use crate::sheet::Sheet;
+use crate::style::NumberStyle;
 use crate::writing::{LINES, Line, label, request_figure, task_name, unit};
 use std::alloc::{AllocError, Global};
 
@@ -76,50 +77,6 @@ fn label_of_task(
     format!(in alloc; "{} {line}", name.as_str())
 }
 
-/// What stands over the rows' names.
-fn corner<'a>(variation: Option<Variation<'a>>) -> &'a str {
-    match variation {
-        Some(variation) => variation.key,
-        None => "measure",
-    }
-}
-
-/// What a column is of: the table of this number, or the value.
-fn name_of(
-    alloc: Global,
-    variation: Option<Variation<'_>>,
-    column: usize,
-) -> Result<String, AllocError> {
-    if let Some(variation) = variation {
-        if let Some(value) = variation.values.get(column) {
-            return String::from_str(alloc, value);
-        }
-    }
-    format!(in alloc; "table {column}")
-}
-
-/// The first row: what each column is of.
-fn heading_row(
-    alloc: Global,
-    variation: Option<Variation<'_>>,
-    columns: usize,
-    form: NumberForm,
-) -> Result<Vec<String>, AllocError> {
-    let mut row = Vec::new(alloc);
-    row.push(String::from_str(alloc, corner(variation))?)?;
-    for column in 0..columns {
-        let name = name_of(alloc, variation, column)?;
-        if column > 0 {
-            let change = format!(in alloc; "change {}", name.as_str())?;
-            put_heading(alloc, &mut row, name, form)?;
-            row.push(change)?;
-        } else {
-            put_heading(alloc, &mut row, name, form)?;
-        }
-    }
-    Ok(row)
-}
-
 /// A change as it is written.
 fn change_cell(alloc: Global, change: Change, unit: Unit) -> Result<String, AllocError> {
     let (sign, by) = match change {
@@ -132,113 +89,127 @@ fn change_cell(alloc: Global, change: Change, unit: Unit) -> Result<String, Allo
     format!(in alloc; "{sign}{}", text.as_str())
 }
 
-/// The number that a row says of each run; where it says a bound, none.
-fn known_in(
-    alloc: Global,
-    runs: &Comparison<RunNumbers>,
-    row: Row,
-) -> Result<Vec<Option<u64>>, AllocError> {
-    let mut known = Vec::new(alloc);
-    for column in 0..runs.runs.len() {
-        let number = match row.figure_in(runs, column) {
-            Some(figure) => figure.known(),
-            None => None,
-        };
-        known.push(number)?;
-    }
-    Ok(known)
+/// Which runs are shown, what made their tables, and how they are written.
+#[derive(Clone, Copy)]
+pub struct ShownComparison<'a> {
+    /// The runs.
+    pub runs: &'a Comparison<RunNumbers>,
+    /// What made the tables, where they are not those of the input.
+    pub variation: Option<Variation<'a>>,
+    /// How they are written.
+    pub style: NumberStyle<'a>,
 }
 
-/// The cells of a row: what it says of each run, and the change from the first.
-fn cells_of(
-    alloc: Global,
-    runs: &Comparison<RunNumbers>,
-    labels: Labels<'_>,
-    row: Row,
-    form: NumberForm,
-) -> Result<Vec<String>, AllocError> {
-    let known = known_in(alloc, runs, row)?;
-    let changes = changes_of(alloc, known.as_slice())?;
-    let mut cells = Vec::new(alloc);
-    cells.push(row.label(alloc, labels)?)?;
-    for column in 0..changes.len() {
-        let figure = row.figure_in(runs, column);
-        put_figure(alloc, &mut cells, figure, row.unit(), form)?;
-        if column > 0 {
-            cells.push(change_cell(alloc, changes[column], row.unit())?)?;
+impl ShownComparison<'_> {
+    /// What a column is of: the table of this number, or the value.
+    fn name_of(self, alloc: Global, column: usize) -> Result<String, AllocError> {
+        if let Some(variation) = self.variation {
+            if let Some(value) = variation.values.get(column) {
+                return String::from_str(alloc, value);
+            }
+        }
+        format!(in alloc; "table {column}")
+    }
+
+    /// What stands over the rows' names.
+    fn corner(self, alloc: Global) -> Result<String, AllocError> {
+        match self.variation {
+            Some(variation) => String::from_str(alloc, variation.key),
+            None => String::from_str(alloc, "measure"),
         }
     }
-    Ok(cells)
-}
 
-/// The most tasks that one of the runs has.
-fn most_tasks(runs: &Comparison<RunNumbers>) -> usize {
-    let mut most = 0usize;
-    for numbers in runs.runs.as_slice() {
-        most = most.max(numbers.requests.len());
+    /// The first row: what each column is of.
+    fn heading(self, alloc: Global) -> Result<Vec<String>, AllocError> {
+        let form = self.style.form;
+        let mut row = Vec::new(alloc);
+        row.push(self.corner(alloc)?)?;
+        for column in 0..self.runs.runs.len() {
+            let name = self.name_of(alloc, column)?;
+            if column > 0 {
+                let change = format!(in alloc; "change {}", name.as_str())?;
+                form.put_heading(alloc, &mut row, name)?;
+                row.push(change)?;
+            } else {
+                form.put_heading(alloc, &mut row, name)?;
+            }
+        }
+        Ok(row)
     }
-    most
-}
 
-/// Puts the rows of a task's requests.
-fn put_requests(
-    alloc: Global,
-    sheet: &mut Sheet,
-    runs: &Comparison<RunNumbers>,
-    labels: Labels<'_>,
-    task: usize,
-    form: NumberForm,
-) -> Result<(), AllocError> {
-    for line in LINES {
-        sheet.put(cells_of(alloc, runs, labels, Row::Requests(task, line), form)?)?;
+    /// The number that a row says of each run; where it says a bound, none.
+    fn known_in(self, alloc: Global, row: Row) -> Result<Vec<Option<u64>>, AllocError> {
+        let mut known = Vec::new(alloc);
+        for column in 0..self.runs.runs.len() {
+            let number = match row.figure_in(self.runs, column) {
+                Some(figure) => figure.known(),
+                None => None,
+            };
+            known.push(number)?;
+        }
+        Ok(known)
     }
-    Ok(())
-}
 
-/// Puts the rows of a task's cores.
-fn put_cores(
-    alloc: Global,
-    sheet: &mut Sheet,
-    runs: &Comparison<RunNumbers>,
-    labels: Labels<'_>,
-    task: usize,
-    form: NumberForm,
-) -> Result<(), AllocError> {
-    for line in CORE_LINES {
-        sheet.put(cells_of(alloc, runs, labels, Row::Cores(task, line), form)?)?;
+    /// The cells of a row: what it says of each run, and the change from the first.
+    fn cells_of(self, alloc: Global, row: Row) -> Result<Vec<String>, AllocError> {
+        let NumberStyle { labels, form } = self.style;
+        let known = self.known_in(alloc, row)?;
+        let changes = changes_of(alloc, known.as_slice())?;
+        let mut cells = Vec::new(alloc);
+        cells.push(row.label(alloc, labels)?)?;
+        for column in 0..changes.len() {
+            let figure = row.figure_in(self.runs, column);
+            form.put_figure(alloc, &mut cells, figure, row.unit())?;
+            if column > 0 {
+                cells.push(change_cell(alloc, changes[column], row.unit())?)?;
+            }
+        }
+        Ok(cells)
     }
-    Ok(())
-}
 
-/// Puts the rows of the machine's cores.
-fn put_machine(
-    alloc: Global,
-    sheet: &mut Sheet,
-    runs: &Comparison<RunNumbers>,
-    labels: Labels<'_>,
-    form: NumberForm,
-) -> Result<(), AllocError> {
-    for line in MACHINE_LINES {
-        sheet.put(cells_of(alloc, runs, labels, Row::Machine(line), form)?)?;
+    /// The most tasks that one of the runs has.
+    fn most_tasks(self) -> usize {
+        let mut most = 0usize;
+        for numbers in self.runs.runs.as_slice() {
+            most = most.max(numbers.requests.len());
+        }
+        most
     }
-    Ok(())
-}
 
-/// The numbers of these runs, task by task and row by row, and last those of the machine. Fails
-/// only when out of memory.
-pub fn comparison_sheet(
-    alloc: Global,
-    variation: Option<Variation<'_>>,
-    runs: &Comparison<RunNumbers>,
-    labels: Labels<'_>,
-    form: NumberForm,
-) -> Result<Sheet, AllocError> {
-    let mut sheet = Sheet::new(alloc);
-    sheet.put(heading_row(alloc, variation, runs.runs.len(), form)?)?;
-    for task in 0..most_tasks(runs) {
-        put_requests(alloc, &mut sheet, runs, labels, task, form)?;
-        put_cores(alloc, &mut sheet, runs, labels, task, form)?;
+    /// Puts the rows of a task's requests.
+    fn put_requests(self, alloc: Global, task: usize, sheet: &mut Sheet) -> Result<(), AllocError> {
+        for line in LINES {
+            sheet.put(self.cells_of(alloc, Row::Requests(task, line))?)?;
+        }
+        Ok(())
     }
-    put_machine(alloc, &mut sheet, runs, labels, form)?;
-    Ok(sheet)
+
+    /// Puts the rows of a task's cores.
+    fn put_cores(self, alloc: Global, task: usize, sheet: &mut Sheet) -> Result<(), AllocError> {
+        for line in CORE_LINES {
+            sheet.put(self.cells_of(alloc, Row::Cores(task, line))?)?;
+        }
+        Ok(())
+    }
+
+    /// Puts the rows of the machine's cores.
+    fn put_machine(self, alloc: Global, sheet: &mut Sheet) -> Result<(), AllocError> {
+        for line in MACHINE_LINES {
+            sheet.put(self.cells_of(alloc, Row::Machine(line))?)?;
+        }
+        Ok(())
+    }
+
+    /// The numbers of the runs, task by task and row by row, and last those of the machine. Fails
+    /// only when out of memory.
+    pub fn sheet(self, alloc: Global) -> Result<Sheet, AllocError> {
+        let mut sheet = Sheet::new(alloc);
+        sheet.put(self.heading(alloc)?)?;
+        for task in 0..self.most_tasks() {
+            self.put_requests(alloc, task, &mut sheet)?;
+            self.put_cores(alloc, task, &mut sheet)?;
+        }
+        self.put_machine(alloc, &mut sheet)?;
+        Ok(sheet)
+    }
 }

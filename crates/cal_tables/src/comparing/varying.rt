@@ -20,10 +20,14 @@ use cal_machine::{Config, ConfigFault, Kind, Task};
 use std::alloc::{AllocError, Global};
 use std::fmt::Write;
 
-/// A key of a table, and the value that stands there.
+/// A key of a table, and the value that stands there where the table is written.
 #[derive(Clone, Copy)]
-struct KeyValue<'a> {
+struct Setting<'a> {
+    /// What the texts of the lines take memory from.
+    alloc: Global,
+    /// The key.
     key: &'a str,
+    /// The value.
     value: &'a str,
 }
 
@@ -32,42 +36,6 @@ fn field_key(alloc: Global, task: usize, name: &str) -> Result<String, AllocErro
     ensures { IfOk result (λ key. string_bytes key ≡ field_key task name.now) }
 {
     format!(in alloc; "task.{task}.{name}")
-}
-
-/// Puts the line of a table at a place: the value, where the place is the key.
-fn put_line(
-    text: &mut String,
-    setting: KeyValue<'_>,
-    place: &str,
-    name: &str,
-    own: &str,
-) -> Result<(), AllocError>
-    ensures { OnOk result (string_bytes text.new ≡ string_bytes text.old
-        ++ key_line setting.entry.key.now setting.entry.value.now place.now name.now own.now) }
-{
-    let stands = if place == setting.key {
-        setting.value
-    } else {
-        own
-    };
-    writeln!(text, "{name} = {stands}")
-}
-
-/// Puts the line of a number of a task.
-fn put_number(
-    alloc: Global,
-    text: &mut String,
-    setting: KeyValue<'_>,
-    task: usize,
-    name: &str,
-    own: u64,
-) -> Result<(), AllocError>
-    ensures { OnOk result (string_bytes text.new ≡ string_bytes text.old
-        ++ varied_line setting.entry.key.now setting.entry.value.now task name.now (decimal own)) }
-{
-    let place = field_key(alloc, task, name)?;
-    let own = format!(in alloc; "{own}")?;
-    put_line(text, setting, place.as_str(), name, own.as_str())
 }
 
 /// How a kind is written in a table.
@@ -80,101 +48,105 @@ fn kind_text(kind: Kind) -> &'static str
     }
 }
 
-/// Puts the line of the kind of a task.
-fn put_kind(
-    alloc: Global,
-    text: &mut String,
-    setting: KeyValue<'_>,
-    task: usize,
-    kind: Kind,
-) -> Result<(), AllocError>
-    ensures { OnOk result (string_bytes text.new ≡ string_bytes text.old
-        ++ varied_line setting.entry.key.now setting.entry.value.now task (codes "kind")
-        (kind_text kind)) }
-{
-    let place = field_key(alloc, task, "kind")?;
-    put_line(text, setting, place.as_str(), "kind", kind_text(kind))
-}
-
-/// Puts the line of a number of the top table.
-fn put_top(
-    alloc: Global,
-    text: &mut String,
-    setting: KeyValue<'_>,
-    name: &str,
-    own: u64,
-) -> Result<(), AllocError>
-    ensures { OnOk result (string_bytes text.new ≡ string_bytes text.old
-        ++ key_line setting.entry.key.now setting.entry.value.now name.now name.now
-        (decimal own)) }
-{
-    let own = format!(in alloc; "{own}")?;
-    put_line(text, setting, name, name, own.as_str())
-}
-
-/// Puts the lines of a task.
-fn put_task(
-    alloc: Global,
-    text: &mut String,
-    setting: KeyValue<'_>,
-    number: usize,
-    task: Task,
-) -> Result<(), AllocError>
-    ensures { OnOk result (string_bytes text.new ≡ string_bytes text.old
-        ++ task_text setting.entry.key.now setting.entry.value.now number task) }
-{
-    text.push_str("\n[[task]]\n")?;
-    put_number(alloc, text, setting, number, "delay", task.delay)?;
-    put_number(
-        alloc,
-        text,
-        setting,
-        number,
-        "guaranteed",
-        task.guaranteed as u64,
-    )?;
-    put_kind(alloc, text, setting, number, task.kind)?;
-    put_number(alloc, text, setting, number, "limit", task.limit as u64)?;
-    put_number(alloc, text, setting, number, "request", task.request)?;
-    Ok(())
-}
-
-/// Puts the lines of the tasks of a table.
-fn put_tasks(
-    alloc: Global,
-    text: &mut String,
-    setting: KeyValue<'_>,
-    table: &Config,
-) -> Result<(), AllocError>
-    ensures { OnOk result (string_bytes text.new ≡ string_bytes text.old
-        ++ concat (numbered (task_text setting.entry.key.now setting.entry.value.now) 0
-        table.now.tasks)) }
-{
-    for number in 0..table.tasks() {
-        put_task(alloc, text, setting, number, table.task(number))?;
+impl Setting<'_> {
+    /// Puts the line of a table at a place: the value, where the place is the key.
+    fn put_line(
+        self,
+        text: &mut String,
+        place: &str,
+        name: &str,
+        own: &str,
+    ) -> Result<(), AllocError>
+        ensures { OnOk result (string_bytes text.new ≡ string_bytes text.old
+            ++ key_line self.entry.key.now self.entry.value.now place.now name.now own.now) }
+    {
+        let stands = if place == self.key { self.value } else { own };
+        writeln!(text, "{name} = {stands}")
     }
-    Ok(())
+
+    /// Puts the line of a number of a task.
+    fn put_number(
+        self,
+        text: &mut String,
+        task: usize,
+        name: &str,
+        own: u64,
+    ) -> Result<(), AllocError>
+        ensures { OnOk result (string_bytes text.new ≡ string_bytes text.old
+            ++ varied_line self.entry.key.now self.entry.value.now task name.now (decimal own)) }
+    {
+        let place = field_key(self.alloc, task, name)?;
+        let own = format!(in self.alloc; "{own}")?;
+        self.put_line(text, place.as_str(), name, own.as_str())
+    }
+
+    /// Puts the line of the kind of a task.
+    fn put_kind(self, text: &mut String, task: usize, kind: Kind) -> Result<(), AllocError>
+        ensures { OnOk result (string_bytes text.new ≡ string_bytes text.old
+            ++ varied_line self.entry.key.now self.entry.value.now task (codes "kind")
+            (kind_text kind)) }
+    {
+        let place = field_key(self.alloc, task, "kind")?;
+        self.put_line(text, place.as_str(), "kind", kind_text(kind))
+    }
+
+    /// Puts the line of a number of the top table.
+    fn put_top(self, text: &mut String, name: &str, own: u64) -> Result<(), AllocError>
+        ensures { OnOk result (string_bytes text.new ≡ string_bytes text.old
+            ++ key_line self.entry.key.now self.entry.value.now name.now name.now
+            (decimal own)) }
+    {
+        let own = format!(in self.alloc; "{own}")?;
+        self.put_line(text, name, name, own.as_str())
+    }
+
+    /// Puts the lines of a task.
+    fn put_task(self, text: &mut String, number: usize, task: Task) -> Result<(), AllocError>
+        ensures { OnOk result (string_bytes text.new ≡ string_bytes text.old
+            ++ task_text self.entry.key.now self.entry.value.now number task) }
+    {
+        text.push_str("\n[[task]]\n")?;
+        self.put_number(text, number, "delay", task.delay)?;
+        self.put_number(text, number, "guaranteed", task.guaranteed as u64)?;
+        self.put_kind(text, number, task.kind)?;
+        self.put_number(text, number, "limit", task.limit as u64)?;
+        self.put_number(text, number, "request", task.request)?;
+        Ok(())
+    }
+
+    /// Puts the lines of the tasks of a table.
+    fn put_tasks(self, text: &mut String, table: &Config) -> Result<(), AllocError>
+        ensures { OnOk result (string_bytes text.new ≡ string_bytes text.old
+            ++ concat (numbered (task_text self.entry.key.now self.entry.value.now) 0
+            table.now.tasks)) }
+    {
+        for number in 0..table.tasks() {
+            self.put_task(text, number, table.task(number))?;
+        }
+        Ok(())
+    }
 }
 
 /// The table as a text, in which the value stands at the key.
-fn varied_text(alloc: Global, table: &Config, setting: KeyValue<'_>) -> Result<String, AllocError>
+fn varied_text(table: &Config, setting: Setting<'_>) -> Result<String, AllocError>
     ensures { IfOk result (λ text. string_bytes text
         ≡ text_of_lines
         (varied_lines setting.entry.key.now setting.entry.value.now table.now)) }
 {
-    let mut text = String::new(alloc);
+    let mut text = String::new(setting.alloc);
     let limit = table.bandwidth_limit();
-    put_top(alloc, &mut text, setting, "bandwidth_limit", limit)?;
+    setting.put_top(&mut text, "bandwidth_limit", limit)?;
     let cores = table.machine().cores() as u64;
-    put_top(alloc, &mut text, setting, "cores", cores)?;
-    put_tasks(alloc, &mut text, setting, table)?;
+    setting.put_top(&mut text, "cores", cores)?;
+    setting.put_tasks(&mut text, table)?;
     Ok(text)
 }
 
 /// The table as a text. Fails only when out of memory.
 pub fn table_text(alloc: Global, table: &Config) -> Result<String, AllocError> {
     // No place is empty, so each has its own value.
-    varied_text(alloc, table, KeyValue { key: "", value: "" })
+    let (key, value) = ("", "");
+    varied_text(table, Setting { alloc, key, value })
 }
 
 /// Whether a key is that of a field of this name of a task.
@@ -227,17 +199,17 @@ fn has_key(alloc: Global, key: &str, table: &Config) -> Result<bool, AllocError>
 
 /// The table with this value at this key. The fault is that of the table; a key that it has not is
 /// unknown.
-fn varied(alloc: Global, table: &Config, setting: KeyValue<'_>) -> Result<Config, ConfigFault>
+fn varied(table: &Config, setting: Setting<'_>) -> Result<Config, ConfigFault>
     ensures made { IfOk result (λ made.
         varied table.now setting.entry.key.now setting.entry.value.now ≡ Ok made) }
     ensures fault { IfErr result (λ fault. ConfigDecided fault
         (varied table.now setting.entry.key.now setting.entry.value.now ≡ Err fault)) }
 {
-    if !has_key(alloc, setting.key, table)? {
+    if !has_key(setting.alloc, setting.key, table)? {
         return Err(ConfigFault::UnknownKey);
     }
-    let text = varied_text(alloc, table, setting)?;
-    Config::read(alloc, text.as_bytes())
+    let text = varied_text(table, setting)?;
+    Config::read(setting.alloc, text.as_bytes())
 }
 
 /// The value at a place.
@@ -250,15 +222,14 @@ fn value_at<'a>(values: &[&'a str], place: usize) -> &'a str
 
 /// The table with this value at this key; a fault is that of the value at this place.
 fn placed_table(
-    alloc: Global,
     table: &Config,
-    setting: KeyValue<'_>,
+    setting: Setting<'_>,
     place: usize,
 ) -> Result<Config, ComparisonFault>
     ensures { IfOk result (λ made.
         varied table.now setting.entry.key.now setting.entry.value.now ≡ Ok made) }
 {
-    match varied(alloc, table, setting) {
+    match varied(table, setting) {
         Ok(made) => Ok(made),
         Err(fault) => Err(fault_of(place, Reason::Run(RunFault::Config(fault)))),
     }
@@ -278,7 +249,8 @@ pub fn varied_tables(
     let mut tables = Vec::new(alloc);
     for place in 0..values.len() {
         let value = value_at(values, place);
-        let made = placed_table(alloc, table, KeyValue { key, value }, place)?;
+        let setting = Setting { alloc, key, value };
+        let made = placed_table(table, setting, place)?;
         tables.push(made)?;
     }
     Ok(tables)

@@ -6,7 +6,7 @@ use crate::fault::RefusedRuns;
 use crate::jobs::input::JobInput;
 use cal_compared::draw_comparison;
 use cal_input::RunFault;
-use cal_tables::{ComparisonFault, Variation, compare, write_input};
+use cal_tables::{ComparedInput, ComparisonFault, NumberStyle, Variation, compare, write_input};
 use std::io::{BufWriter, Write};
 
 /// Compares the runs of an input, of its tables or, with a key and values, of those that its table
@@ -39,15 +39,17 @@ fn write_comparison<W: Write>(
     form: Form,
     output: &mut W,
 ) -> Result<(), ComparisonFault> {
-    let (alloc, bytes, labels) = (input.alloc, input.bytes(), input.labels);
+    let (alloc, labels) = (input.alloc, input.labels);
+    let reader = input.bytes();
+    let compared = ComparedInput { reader, variation };
     let mut buffer = match BufWriter::new(alloc, output) {
         Ok(buffer) => buffer,
         Err(_) => return Err(ComparisonFault::from(RunFault::Memory)),
     };
     match form {
-        Form::Numbers(form) => compare(alloc, bytes, variation, labels, form, &mut buffer)?,
-        Form::Picture => draw_comparison(alloc, bytes, variation, labels, &mut buffer)?,
-        Form::Input(table) => write_input(alloc, bytes, variation, table, &mut buffer)?,
+        Form::Numbers(form) => compare(alloc, compared, NumberStyle { labels, form }, &mut buffer)?,
+        Form::Picture => draw_comparison(alloc, compared, labels, &mut buffer)?,
+        Form::Input(table) => write_input(alloc, compared, table, &mut buffer)?,
     }
     match buffer.flush() {
         Ok(()) => Ok(()),

@@ -18,7 +18,7 @@ pub fn answer_picture<W: Write, E: Write>(
         Ok(buffer) => buffer,
         Err(_) => return Err(RunFault::Memory),
     };
-    match draw_picture(input.alloc, input.bytes(), shown, input.labels, &mut buffer)? {
+    match draw_picture(input.alloc, input.labelled(), shown, &mut buffer)? {
         Drawn::Done => {}
         Drawn::NoPass { passes } => {
             return Ok(end_without_pass(shown.from.unwrap_or(0), passes, errors));

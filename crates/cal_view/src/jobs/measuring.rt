@@ -3,7 +3,7 @@
 use crate::jobs::input::JobInput;
 use cal_input::RunFault;
 use cal_policy::Verdict;
-use cal_tables::{NumberForm, measure};
+use cal_tables::{NumberForm, NumberStyle, measure};
 use std::io::Write;
 
 /// Writes the numbers of an input, and answers the exit status: of a history that is not legal
@@ -14,7 +14,11 @@ pub fn answer_measure<W: Write, E: Write>(
     output: &mut W,
     errors: &mut E,
 ) -> Result<u8, RunFault> {
-    match measure(input.alloc, input.bytes(), input.labels, form, output)? {
+    let style = NumberStyle {
+        labels: input.labels,
+        form,
+    };
+    match measure(input.alloc, input.bytes(), style, output)? {
         Verdict::Legal => Ok(0),
         Verdict::Illegal { pass } => {
             let _ = writeln!(errors, "caladan_view: illegal pass {pass}");
