@@ -59,14 +59,23 @@ fn offered(guard: &mut Guard, config: &Config, input: &Input, actions: &[Action]
     guard.offer(config, input, actions)
 }
 
-/// Whether, in a pass on this input, each entry's actions are answered so, group after group.
-fn offers(
-    guard: &mut Guard,
-    config: &Config,
-    input: &Input,
-    groups: &[PassEntry],
-    answers: &[Answer],
-) -> bool
+/// Some of the actions of a pass, and what the guard says of them.
+#[derive(Clone, Copy)]
+struct Group<'a> {
+    actions: &'a [Action],
+    answer: Answer,
+}
+
+/// The actions of an entry, and what the guard says of them.
+fn answered<'a>(entry: &'a PassEntry, answer: Answer) -> Group<'a> {
+    Group {
+        actions: entry.actions.as_slice(),
+        answer,
+    }
+}
+
+/// Whether, in a pass on this input, each group's actions are answered so, group after group.
+fn offers(guard: &mut Guard, config: &Config, input: &Input, groups: &[Group<'_>]) -> bool
     requires { IsReady config.now (board_in guard.old) }
     ensures { IsReady config.now (board_in guard.new) }
 {
@@ -74,13 +83,12 @@ fn offers(
         return false;
     }
     begun(guard, config, input);
-    for (k, group) in groups.iter().enumerate() {
-        let answer = offered(guard, config, input, group.actions.as_slice());
-        if answers.get(k) != Some(&answer) {
+    for group in groups {
+        if offered(guard, config, input, group.actions) != group.answer {
             return false;
         }
     }
-    groups.len() == answers.len()
+    true
 }
 
 /// The passes of these rows: what stands before the actions of each, and its actions.
@@ -122,14 +130,22 @@ fn guard_names_the_first_action_and_why(rt: HostRuntime) -> Result<(), Fail> {
 fn guard_takes_a_pass_group_by_group(rt: HostRuntime) -> Result<(), Fail> {
     let alloc = rt.alloc();
     let config = Config::read(alloc, TABLE.as_bytes())?;
-    let groups = entries(alloc, &config, &GROUPS)?;
-    assert_eq!(rt; groups.len(), 6);
+    let made = entries(alloc, &config, &GROUPS)?;
+    assert_eq!(rt; made.len(), 6);
     let mut guard = Guard::open(alloc, &config)?;
-    let first = [Ok(()), refused(0, Why::DoesNotFit), Ok(())];
-    assert!(rt; offers(&mut guard, &config, &groups[0].input, &groups[..3], &first));
+    let first = [
+        answered(&made[0], Ok(())),
+        answered(&made[1], refused(0, Why::DoesNotFit)),
+        answered(&made[2], Ok(())),
+    ];
+    assert!(rt; offers(&mut guard, &config, &made[0].input, &first));
     let held = refused(1, Why::BannedHeld { core: 3 });
-    let second = [held, held, Ok(())];
-    assert!(rt; offers(&mut guard, &config, &groups[3].input, &groups[3..], &second));
+    let second = [
+        answered(&made[3], held),
+        answered(&made[4], held),
+        answered(&made[5], Ok(())),
+    ];
+    assert!(rt; offers(&mut guard, &config, &made[3].input, &second));
     Ok(())
 }
 

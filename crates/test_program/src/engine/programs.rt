@@ -2,27 +2,31 @@
 
 use crate::engine::one_pass::INPUT;
 use cal_engine::run_program;
-use std::alloc::{AllocError, Global};
+use std::alloc::AllocError;
 use std::io;
 use std::io::{Read, Write};
 use std::sync::Wait;
 use std::test::Fail;
 use std::thread::Threads;
 
-/// The exit status of the program on these words, what the reader gives, and two writers.
-fn status<H: Threads + Wait + Sync, R: Read + Drop, W: Write, E: Write>(
+/// The two outputs of the program.
+struct Outputs<'a, W: Write, E: Write> {
+    output: &'a mut W,
+    errors: &'a mut E,
+}
+
+/// The exit status of the program on this word, what the reader gives, and two outputs.
+fn status<H: Threads + Wait + Sync + AllocGlobal, R: Read + Drop, W: Write, E: Write>(
     rt: &H,
-    alloc: Global,
-    words: &[&str],
+    word: &str,
     reader: R,
-    output: &mut W,
-    errors: &mut E,
+    outputs: Outputs<'_, W, E>,
 ) -> Result<u8, AllocError> {
+    let Outputs { output, errors } = outputs;
+    let alloc = rt.alloc();
     let mut named = Vec::new(alloc);
     named.push(String::from_str(alloc, "caladan_sim")?)?;
-    for word in words {
-        named.push(String::from_str(alloc, word)?)?;
-    }
+    named.push(String::from_str(alloc, word)?)?;
     Ok(run_program(rt, alloc, named.as_slice(), reader, output, errors))
 }
 
@@ -54,15 +58,18 @@ const NO_INPUT: &[u8] = b"caladan_sim: input read\n";
 
 /// Whether the program ends on this word with this status, where its input cannot be read, and says
 /// so, or something else.
-fn ends_with<H: Threads + Wait + Sync>(
+fn ends_with<H: Threads + Wait + Sync + AllocGlobal>(
     rt: &H,
-    alloc: Global,
     word: &str,
     code: u8,
     says_so: bool,
 ) -> Result<bool, Fail> {
-    let (mut output, mut errors) = (Vec::new(alloc), Vec::new(alloc));
-    let status = status(rt, alloc, &[word], Failing, &mut output, &mut errors)?;
+    let (mut output, mut errors) = (Vec::new(rt.alloc()), Vec::new(rt.alloc()));
+    let outputs = Outputs {
+        output: &mut output,
+        errors: &mut errors,
+    };
+    let status = status(rt, word, Failing, outputs)?;
     Ok(status == code && (errors.as_slice() == NO_INPUT) == says_so)
 }
 
@@ -70,31 +77,34 @@ fn ends_with<H: Threads + Wait + Sync>(
 // not met.
 #[test]
 fn words_are_read_first(rt: HostRuntime) -> Result<(), Fail> {
-    assert!(rt; ends_with(&rt, rt.alloc(), "frobnicate", 2, false)?);
-    assert!(rt; ends_with(&rt, rt.alloc(), "help", 0, false)?);
+    assert!(rt; ends_with(&rt, "frobnicate", 2, false)?);
+    assert!(rt; ends_with(&rt, "help", 0, false)?);
     Ok(())
 }
 
 #[test]
 fn a_reader_that_fails(rt: HostRuntime) -> Result<(), Fail> {
     for word in ["decide", "lockstep", "sim", "audit"] {
-        assert!(rt; ends_with(&rt, rt.alloc(), word, 2, true)?, "{word}");
+        assert!(rt; ends_with(&rt, word, 2, true)?, "{word}");
     }
     Ok(())
 }
 
 /// Whether the program says that it cannot write, and ends so.
-fn says_write<H: Threads + Wait + Sync>(rt: &H, alloc: Global, word: &str) -> Result<bool, Fail> {
-    let mut errors = Vec::new(alloc);
-    let reader = INPUT.as_bytes();
-    let status = status(rt, alloc, &[word], reader, &mut Failing, &mut errors)?;
+fn says_write<H: Threads + Wait + Sync + AllocGlobal>(rt: &H, word: &str) -> Result<bool, Fail> {
+    let mut errors = Vec::new(rt.alloc());
+    let outputs = Outputs {
+        output: &mut Failing,
+        errors: &mut errors,
+    };
+    let status = status(rt, word, INPUT.as_bytes(), outputs)?;
     Ok(status == 3 && errors.as_slice() == WRITE)
 }
 
 #[test]
 fn an_output_that_fails(rt: HostRuntime) -> Result<(), Fail> {
-    assert!(rt; says_write(&rt, rt.alloc(), "decide")?);
-    assert!(rt; says_write(&rt, rt.alloc(), "help")?);
+    assert!(rt; says_write(&rt, "decide")?);
+    assert!(rt; says_write(&rt, "help")?);
     Ok(())
 }
 
@@ -102,22 +112,16 @@ fn an_output_that_fails(rt: HostRuntime) -> Result<(), Fail> {
 #[test]
 fn errors_that_fail(rt: HostRuntime) -> Result<(), Fail> {
     let mut output = Vec::new(rt.alloc());
-    let refused = status(
-        &rt,
-        rt.alloc(),
-        &["audit"],
-        Failing,
-        &mut output,
-        &mut Failing,
-    )?;
-    let unsaid = status(
-        &rt,
-        rt.alloc(),
-        &["frobnicate"],
-        Failing,
-        &mut output,
-        &mut Failing,
-    )?;
+    let outputs = Outputs {
+        output: &mut output,
+        errors: &mut Failing,
+    };
+    let refused = status(&rt, "audit", Failing, outputs)?;
+    let outputs = Outputs {
+        output: &mut output,
+        errors: &mut Failing,
+    };
+    let unsaid = status(&rt, "frobnicate", Failing, outputs)?;
     assert!(rt; refused == 2 && unsaid == 3 && output.is_empty());
     Ok(())
 }

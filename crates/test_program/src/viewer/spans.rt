@@ -15,15 +15,24 @@ fn spans(alloc: Global, history: &str) -> Result<Vec<Span>, Fail> {
     Ok(spans_of(alloc, 2, history.as_slice())?)
 }
 
-/// A span of a thread on a core by a grant of this class, which was not revoked.
-fn span(core: u8, thread: u8, class: u8, from: usize, to: Option<usize>) -> Span {
+/// The span of a thread on a core from the pass that granted it, by this class; it was not revoked,
+/// and goes on.
+fn granted(core: u8, thread: u8, class: u8, from: usize) -> Span {
     Span {
         core,
         thread,
         class,
         from,
         left: None,
-        to,
+        to: None,
+    }
+}
+
+/// The same up to another pass.
+fn ended(span: Span, to: usize) -> Span {
+    Span {
+        to: Some(to),
+        ..span
     }
 }
 
@@ -35,16 +44,16 @@ fn spans_of_a_worked_history(rt: HostRuntime) -> Result<(), Fail> {
     };
     let preempted = Span {
         left: Some(left),
-        ..span(0, 1, 3, 0, Some(2))
+        ..ended(granted(0, 1, 3, 0), 2)
     };
-    let wanted = [preempted, span(0, 0, 1, 2, None), span(1, 2, 2, 2, None)];
+    let wanted = [preempted, granted(0, 0, 1, 2), granted(1, 2, 2, 2)];
     assert_eq!(rt; spans(rt.alloc(), HISTORY)?.as_slice(), wanted.as_slice());
     Ok(())
 }
 
 #[test]
 fn what_does_not_fit_counts_for_nothing(rt: HostRuntime) -> Result<(), Fail> {
-    let wanted = [span(0, 1, 3, 0, Some(1)), span(0, 2, 2, 1, Some(1))];
+    let wanted = [ended(granted(0, 1, 3, 0), 1), ended(granted(0, 2, 2, 1), 1)];
     assert_eq!(rt;
         spans(rt.alloc(), DISORDERLY)?.as_slice(),
         wanted.as_slice()

@@ -3,8 +3,8 @@ use Rattle.cal_policy.specs.State.{IsReady}
 use Rattle.cal_policy.specs.Board.{HasSizes}
 use Rattle.test_policy.proofs.guard.refusals.offers.Given as goal
 
-abbrev pub invariant-loop-k : goal.invariant-loop-k
-invariant-loop-k l = record {
+abbrev pub invariant-loop-group : goal.invariant-loop-group
+invariant-loop-group l = record {
   of : IsReady l.config (board_in l.guard);
   sizes : HasSizes l.config l.input;
 }
