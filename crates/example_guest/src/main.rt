@@ -59,42 +59,61 @@ fn let_through(
     }
 }
 
-/// Prints what became of a pass: what was let through, which the policy notes, and what was
-/// refused.
-fn tell_pass(
-    rt: &impl Print,
+/// Makes a pass of what the policy chooses on an input that fits, and prints what became of it.
+fn make_pass(
+    rt: &(impl Print + AllocGlobal),
+    config: &Config,
+    guard: &mut Guard,
     policy: &mut FirstCome,
-    through: &[Action],
-    refused: Option<Refused>,
-) -> io::Result<()> {
-    for action in through {
+    input: Input,
+) -> io::Result<PassEntry>
+    requires of { IsReady config.now (board_in guard.old) }
+    requires sizes { HasSizes config.now input }
+    ensures of { IsReady config.now (board_in guard.new) }
+{
+    println!(rt; "pass at {}", input.now)?;
+    let mut actions = policy.choose(rt.alloc(), config, input.seen.as_slice())?;
+    let (taken, refused) = let_through(config, guard, &input, &actions);
+    actions.truncate(taken);
+    for action in &actions {
         policy.note(*action);
         println!(rt; "  {action:?}")?;
     }
     if let Some(refused) = refused {
         println!(rt; "  refused: {refused}")?;
     }
-    Ok(())
+    Ok(PassEntry {
+        input,
+        actions: ActionList::new(actions),
+    })
 }
 
-/// The made looks, pass by pass: where they fit what was shown before, the policy chooses, and the
-/// guard lets through what is permitted.
+/// Makes a pass on these looks; none where they do not fit what was shown before.
+fn show_pass(
+    rt: &(impl Print + AllocGlobal),
+    config: &Config,
+    guard: &mut Guard,
+    policy: &mut FirstCome,
+    made: &Made,
+) -> io::Result<Option<PassEntry>>
+    requires { IsReady config.now (board_in guard.old) }
+    ensures { IsReady config.now (board_in guard.new) }
+{
+    let input = input_of(rt.alloc(), config, guard, made)?;
+    if !guard.board().fits(config, &input) {
+        return Ok(None);
+    }
+    Ok(Some(make_pass(rt, config, guard, policy, input)?))
+}
+
+/// The made looks, pass by pass.
 fn show(rt: &(impl Print + AllocGlobal), config: &Config) -> io::Result<()> {
     let mut guard = Guard::open(rt.alloc(), config)?;
     let mut policy = FirstCome::new();
     let mut history = Vec::new(rt.alloc());
     for made in &PASSES {
-        let input = input_of(rt.alloc(), config, &guard, made)?;
-        if guard.board().fits(config, &input) {
-            println!(rt; "pass at {}", input.now)?;
-            let mut actions = policy.choose(rt.alloc(), config, input.seen.as_slice())?;
-            let (taken, refused) = let_through(config, &mut guard, &input, &actions);
-            actions.truncate(taken);
-            tell_pass(rt, &mut policy, &actions, refused)?;
-            history.push(PassEntry {
-                input,
-                actions: ActionList::new(actions),
-            })?;
+        if let Some(entry) = show_pass(rt, config, &mut guard, &mut policy, made)? {
+            history.push(entry)?;
         }
     }
     let permitted = is_permitted(config, &history);
