@@ -1,6 +1,6 @@
 //! What a run on one thread went through, told so that a picture can be drawn of it.
 
-ghost use Rattle.std.specs.Prelude.{◌≡◌, ◌×◌, ◌<◌, [], IfErr, IfOk, length, map, replicate};
+ghost use Rattle.std.specs.Prelude.{◌≡◌, ◌<◌, [], IfErr, IfOk, length, map, replicate};
 ghost use Rattle.cal_machine.specs.TableTasks.{threads_of_table};
 ghost use Rattle.cal_measure.specs.Clocks.{AreClocksOf};
 ghost use Rattle.cal_measure.specs.Walk.{IsOpenFor};
