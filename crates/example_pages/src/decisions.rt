@@ -2,53 +2,62 @@
 //! and an audit of the same passes.
 
 // begin
-ghost use Rattle.std.specs.Prelude.{OnOk};
-ghost use Rattle.cal_policy.specs.Board.{HasSizes};
+ghost use Rattle.std.specs.Prelude.{◌≡◌, length, OnOk};
+ghost use Rattle.cal_machine.specs.TableTasks.{threads_of_table};
+ghost use Rattle.cal_policy.specs.Auditor.{IsAuditorOf};
 ghost use Rattle.cal_policy.specs.Book.{board_in};
 ghost use Rattle.cal_policy.specs.State.{IsReady};
 
 use cal_machine::Config;
-use cal_policy::{Actions, Auditor, Book, FoundLook, Input, Look, PassEntry, Record};
+use cal_policy::{Actions, Auditor, Book, FoundLook, Look, PassEntry, Record};
 
 /// Two cores and a task of one kernel thread.
 const TABLE: &[u8] = b"cores = 2\nbandwidth_limit = 1000
 [[task]]\nkind = \"lc\"\nguaranteed = 1\nlimit = 1\ndelay = 10\nrequest = 50\n";
 
-/// Decides a pass on an input that fits, and prints each action, and the command that it sends.
+/// Decides a pass on what was found of each thread, and prints each action, and the command that it
+/// sends. None where the looks do not fit those before: then the book is unchanged.
 fn pass(
     rt: &HostRuntime,
     config: &Config,
     book: &mut Book,
-    input: Input,
-) -> anyhow::Result<PassEntry>
+    now: u64,
+    found: &[FoundLook],
+) -> anyhow::Result<Option<PassEntry>>
     requires of { IsReady config.now (board_in book.old) }
-    requires sizes { HasSizes config.now input }
-    ensures { OnOk result (IsReady config.now (board_in book.new)) }
+    requires each { length found.now ≡ threads_of_table config.now }
+    ensures of { OnOk result (IsReady config.now (board_in book.new)) }
 {
     let mut actions = Actions::reserved(rt.alloc())?;
+    let input = book.input(rt.alloc(), config, now, 0, found)?;
+    if !book.fits(config, &input) {
+        return Ok(None);
+    }
     book.step(config, &input, &mut actions);
     for action in actions.as_slice() {
-        println!(rt; "  at {} {action:?}", input.now)?;
+        println!(rt; "  at {now} {action:?}")?;
         if let Some((thread, command)) = book.command_of(*action) {
-            println!(rt; "  at {} send {command:?} to thread {thread}", input.now)?;
+            println!(rt; "  at {now} send {command:?} to thread {thread}")?;
         }
     }
-    Ok(PassEntry {
+    Ok(Some(PassEntry {
         input,
         actions: actions.list(),
-    })
+    }))
 }
 
-/// Decides a pass at this clock, on the record that the thread shows at this place. None where the
-/// look does not fit those before: then the book is unchanged.
+/// Decides a pass at this clock, on the record that the thread shows at this place; and audits it.
 fn pass_on(
     rt: &HostRuntime,
     config: &Config,
     book: &mut Book,
+    auditor: &mut Auditor,
     shown: (u64, u64, Record),
-) -> anyhow::Result<Option<PassEntry>>
-    requires { IsReady config.now (board_in book.old) }
-    ensures { OnOk result (IsReady config.now (board_in book.new)) }
+) -> anyhow::Result<()>
+    requires book { IsReady config.now (board_in book.old) }
+    requires auditor { IsAuditorOf config.now auditor.old }
+    ensures book { OnOk result (IsReady config.now (board_in book.new)) }
+    ensures auditor { OnOk result (IsAuditorOf config.now auditor.new) }
 {
     let (now, number, rec) = shown;
     let found = [FoundLook {
@@ -56,16 +65,15 @@ fn pass_on(
         room: true,
     }];
     if found.len() != config.threads() {
-        return Ok(None);
+        return Ok(());
     }
-    let input = book.input(rt.alloc(), config, now, 0, &found)?;
-    if !book.fits(config, &input) {
-        return Ok(None);
+    if let Some(entry) = pass(rt, config, book, now, &found)? {
+        auditor.next(config, &entry);
     }
-    Ok(Some(pass(rt, config, book, input)?))
+    Ok(())
 }
 
-/// Three passes, and what an audit of them says.
+/// Three passes, and what the audit says of them.
 fn passes(rt: &HostRuntime, config: &Config) -> anyhow::Result<()> {
     let mut book = Book::open(rt.alloc(), config)?;
     let mut auditor = Auditor::open(rt.alloc(), config)?;
@@ -90,9 +98,7 @@ fn passes(rt: &HostRuntime, config: &Config) -> anyhow::Result<()> {
         ..Record::ZERO
     };
     for shown in [(111, 1, waiting), (120, 2, at_work), (130, 3, done)] {
-        if let Some(entry) = pass_on(rt, config, &mut book, shown)? {
-            auditor.next(config, &entry);
-        }
+        pass_on(rt, config, &mut book, &mut auditor, shown)?;
     }
     println!(rt; "  {:?}", auditor.verdict())?;
     Ok(())

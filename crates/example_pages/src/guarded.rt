@@ -15,34 +15,27 @@ use cal_policy::{Action, FoundLook, Look, Record};
 const TABLE: &[u8] = b"cores = 2\nbandwidth_limit = 1000
 [[task]]\nkind = \"lc\"\nguaranteed = 1\nlimit = 1\ndelay = 10\nrequest = 50\n";
 
-/// What a policy chose at a clock, and what was found of each thread.
-#[derive(Clone, Copy)]
-struct Choice<'a> {
-    clock: u64,
-    found: &'a [FoundLook],
-    actions: &'a [Action],
-}
-
-/// Makes a pass of what a policy chose.
+/// Makes a pass of these actions, which a policy chose on what was found of each thread.
 fn pass(
     rt: &HostRuntime,
     config: &Config,
     guard: &mut Guard,
-    choice: &Choice<'_>,
+    now: u64,
+    found: &[FoundLook],
+    chosen: &[Action],
 ) -> anyhow::Result<()>
     requires of { IsReady config.now (board_in guard.old) }
-    requires each { length choice.now.found.now ≡ threads_of_table config.now }
+    requires each { length found.now ≡ threads_of_table config.now }
     ensures of { OnOk result (IsReady config.now (board_in guard.new)) }
 {
-    let (clock, found, chosen) = (choice.clock, choice.found, choice.actions);
-    let input = guard.board().input(rt.alloc(), config, clock, 0, found)?;
+    let input = guard.board().input(rt.alloc(), config, now, 0, found)?;
     if !guard.board().fits(config, &input) {
-        println!(rt; "  at {clock} the looks do not fit those before")?;
+        println!(rt; "  at {now} the looks do not fit those before")?;
         return Ok(());
     }
     match guard.step(config, &input, chosen) {
-        Ok(()) => println!(rt; "  at {clock} let through: {chosen:?}")?,
-        Err(refused) => println!(rt; "  at {clock} refused: {refused}")?,
+        Ok(()) => println!(rt; "  at {now} let through: {chosen:?}")?,
+        Err(refused) => println!(rt; "  at {now} refused: {refused}")?,
     }
     Ok(())
 }
@@ -66,18 +59,15 @@ pub fn show(rt: &HostRuntime) -> anyhow::Result<()> {
         thread: 0,
         class: 3,
     };
-    let granted = Choice {
-        clock: 100,
-        found: &found,
-        actions: &[grant],
-    };
-    pass(rt, &config, &mut guard, &granted)?;
+    pass(rt, &config, &mut guard, 100, &found, &[grant])?;
     // It was not shown to have left core 0, so that core is not free yet.
-    let freed = Choice {
-        clock: 110,
-        found: &found,
-        actions: &[Action::Free { core: 0 }],
-    };
-    pass(rt, &config, &mut guard, &freed)
+    pass(
+        rt,
+        &config,
+        &mut guard,
+        110,
+        &found,
+        &[Action::Free { core: 0 }],
+    )
 }
 // end
