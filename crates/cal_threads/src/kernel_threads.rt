@@ -12,10 +12,10 @@ ghost use Rattle.cal_threads.specs.Promises.{IsPromiseKept, IsOf, MayEnd, MayGiv
 use crate::answers::Answers;
 use crate::faults::{both_or_least_fault, least};
 use crate::gate::Gate;
-use crate::shared::Shared;
 use crate::working::make_turns;
 use cal_run::{CollectingWorker, SimFault, Worker};
 use cal_trace::Arrivals;
+use std::alloc::Global;
 use std::snapshot::Snapshot;
 use std::thread::{Promise, PromisedHandle, Scope, Threads};
 
@@ -45,25 +45,24 @@ pub(crate) type TurningThread<'a, G> = PromisedHandle<
 pub(crate) fn run_workers<'s, R: Threads, E, G: Gate + Sync>(
     rt: &R,
     scope: &Scope<'s, E>,
-    shared: &Shared<'s, G>,
+    alloc: Global,
+    gate: &'s G,
+    arrivals: &'s Arrivals,
     workers: Vec<Worker>,
 ) -> Result<Vec<CollectingWorker>, SimFault>
-    requires fits { FitSomeTable shared.now.arrivals.now }
-    requires none { HaveMade shared.now.arrivals.now 0 workers.items }
-    ensures made { IfOk result (λ v.
-        HaveMade shared.now.arrivals.now (length shared.now.arrivals.now.turns) v.items) }
+    requires fits { FitSomeTable arrivals.now }
+    requires none { HaveMade arrivals.now 0 workers.items }
+    ensures made { IfOk result (λ v. HaveMade arrivals.now (length arrivals.now.turns) v.items) }
     ensures seats { IfOk result (λ v. seats_of v.items ≡ seats_of workers.items) }
     ensures asked { IfOk result (λ _. LetsEachThrough
-        (G.answers_turn shared.now.gate.now) (vec_len workers)
-        (length shared.now.arrivals.now.turns)) }
+        (G.answers_turn gate.now) (vec_len workers) (length arrivals.now.turns)) }
     ensures ended { IfErr result (λ e. e ≡ GateFault → MayRefuseOne
-        (G.answers_turn shared.now.gate.now) (vec_len workers)
-        (length shared.now.arrivals.now.turns)) }
+        (G.answers_turn gate.now) (vec_len workers) (length arrivals.now.turns)) }
 {
     // All room is made before the first thread starts, so that none is given up.
-    let threads = Vec::with_capacity(shared.alloc, workers.len())?;
-    let back = Vec::with_capacity(shared.alloc, workers.len())?;
-    let (threads, started) = start_workers(scope, shared, workers, threads);
+    let threads = Vec::with_capacity(alloc, workers.len())?;
+    let back = Vec::with_capacity(alloc, workers.len())?;
+    let (threads, started) = start_workers(scope, alloc, gate, arrivals, workers, threads);
     let (joined, _) = join_workers(rt, threads, back);
     match both_or_least_fault(started, joined) {
         Ok((_, workers)) => Ok(workers),
@@ -75,25 +74,25 @@ pub(crate) fn run_workers<'s, R: Threads, E, G: Gate + Sync>(
 /// `threads` is empty and has room.
 fn start_workers<'s, E, G: Gate + Sync>(
     scope: &Scope<'s, E>,
-    shared: &Shared<'s, G>,
+    alloc: Global,
+    gate: &'s G,
+    arrivals: &'s Arrivals,
     workers: Vec<Worker>,
     mut threads: Vec<TurningThread<'s, G>>,
 ) -> (Vec<TurningThread<'s, G>>, Result<(), SimFault>)
-    requires fits { FitSomeTable shared.now.arrivals.now }
-    requires none { HaveMade shared.now.arrivals.now 0 workers.items }
+    requires fits { FitSomeTable arrivals.now }
+    requires none { HaveMade arrivals.now 0 workers.items }
     requires empty { threads.items ≡ [] }
     requires room { vec_len workers ≤ vec_capacity threads }
     ensures started { OnOk result.1 (AllZip
-        (λ w t. IsOf (vec_len workers) shared.now.arrivals.now shared.now.gate.now w t.promise)
+        (λ w t. IsOf (vec_len workers) arrivals.now gate.now w t.promise)
         workers.items result.0.items) }
     ensures refused { IfErr result.1 (λ e. e ≡ Spawn) }
     ensures len { vec_len result.0 ≤ vec_len workers }
 {
     for worker in workers {
-        let worker = CollectingWorker::new(shared.alloc, worker);
+        let worker = CollectingWorker::new(alloc, worker);
         let k = threads.len();
-        let arrivals = shared.arrivals;
-        let gate = shared.gate;
         let promise = Turned {
             was: Snapshot::of(&worker),
             k,

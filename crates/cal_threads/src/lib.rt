@@ -12,11 +12,9 @@ mod faults;
 mod gate;
 mod kernel_threads;
 mod running;
-mod shared;
 mod simulation;
 mod working;
 
 pub use gate::{FreeGate, Gate};
 pub use running::run_threads;
-pub use shared::Shared;
 pub use simulation::{simulate, simulation_end};

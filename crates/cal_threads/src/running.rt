@@ -13,7 +13,6 @@ ghost use Rattle.cal_threads.specs.Promises.{AsksEachPass, HasMadePasses, HasMad
 use crate::faults::both_or_least_fault;
 use crate::gate::Gate;
 use crate::kernel_threads::run_workers;
-use crate::shared::Shared;
 use crate::working::{make_passes, make_rounds};
 use cal_run::{
     Collected, CollectingScheduler, CollectingWorker, Parts, SimFault, Worker, split_workers,
@@ -66,43 +65,40 @@ impl Promise<Watch> for Watched {
 /// end before the answer.
 pub fn run_threads<R: Threads + Wait + Sync, G: Gate + Sync>(
     rt: &R,
-    shared: &Shared<'_, G>,
+    alloc: Global,
+    arrivals: &Arrivals,
+    gate: &G,
     parts: Parts,
 ) -> Result<(Parts, Collected), SimFault>
-    requires fits { FitSomeTable shared.now.arrivals.now }
-    requires parts { AreParts parts.scheduler.table shared.now.arrivals.now 0 0 0 parts }
-    ensures ran { IfOk result (λ run. HaveRun parts.scheduler.table shared.now.arrivals.now run.0) }
+    requires fits { FitSomeTable arrivals.now }
+    requires parts { AreParts parts.scheduler.table arrivals.now 0 0 0 parts }
+    ensures ran { IfOk result (λ run. HaveRun parts.scheduler.table arrivals.now run.0) }
     ensures collected { IfOk result (λ run. IsCollectedOf run.0 run.1) }
     ensures passes_asked { IfOk result (λ _.
-        LetsThrough (G.answers_pass shared.now.gate.now)
-        (length shared.now.arrivals.now.passes)) }
+        LetsThrough (G.answers_pass gate.now) (length arrivals.now.passes)) }
     ensures turns_asked { IfOk result (λ _. LetsEachThrough
-        (G.answers_turn shared.now.gate.now) (vec_len parts.workers)
-        (length shared.now.arrivals.now.turns)) }
+        (G.answers_turn gate.now) (vec_len parts.workers) (length arrivals.now.turns)) }
     ensures ended { IfErr result (λ e. e ≡ GateFault → MayRefuseRun
-        (G.answers_pass shared.now.gate.now) (G.answers_turn shared.now.gate.now)
-        (vec_len parts.workers) shared.now.arrivals.now) }
+        (G.answers_pass gate.now) (G.answers_turn gate.now) (vec_len parts.workers) arrivals.now) }
 {
     thread::scope(
         thread::scope_env(),
         rt,
         move |scope| -> Result<(Parts, Collected), SimFault>
-            requires fits { FitSomeTable shared.now.arrivals.now }
-            requires parts { AreParts parts.scheduler.table shared.now.arrivals.now 0 0 0 parts }
+            requires fits { FitSomeTable arrivals.now }
+            requires parts { AreParts parts.scheduler.table arrivals.now 0 0 0 parts }
             ensures ran { IfOk result (λ run.
-                HaveRun parts.scheduler.table shared.entry.now.arrivals.now run.0) }
+                HaveRun parts.scheduler.table arrivals.entry.now run.0) }
             ensures collected { IfOk result (λ run. IsCollectedOf run.0 run.1) }
             ensures passes_asked { IfOk result (λ _.
-                LetsThrough (G.answers_pass shared.entry.now.gate.now)
-                (length shared.entry.now.arrivals.now.passes)) }
+                LetsThrough (G.answers_pass gate.entry.now) (length arrivals.entry.now.passes)) }
             ensures turns_asked { IfOk result (λ _.
-                LetsEachThrough (G.answers_turn shared.entry.now.gate.now) (vec_len parts.workers)
-                (length shared.entry.now.arrivals.now.turns)) }
+                LetsEachThrough (G.answers_turn gate.entry.now) (vec_len parts.workers)
+                (length arrivals.entry.now.turns)) }
             ensures ended { IfErr result (λ e. e ≡ GateFault → MayRefuseRun
-                (G.answers_pass shared.entry.now.gate.now)
-                (G.answers_turn shared.entry.now.gate.now) (vec_len parts.workers)
-                shared.entry.now.arrivals.now) }
-        { run_within(rt, scope, shared, parts) },
+                (G.answers_pass gate.entry.now) (G.answers_turn gate.entry.now)
+                (vec_len parts.workers) arrivals.entry.now) }
+        { run_within(rt, scope, alloc, arrivals, gate, parts) },
     )
 }
 
@@ -110,34 +106,33 @@ pub fn run_threads<R: Threads + Wait + Sync, G: Gate + Sync>(
 fn run_within<'s, R: Threads, E, G: Gate + Sync>(
     rt: &R,
     scope: &Scope<'s, E>,
-    shared: &Shared<'s, G>,
+    alloc: Global,
+    arrivals: &'s Arrivals,
+    gate: &'s G,
     parts: Parts,
 ) -> Result<(Parts, Collected), SimFault>
-    requires fits { FitSomeTable shared.now.arrivals.now }
-    requires parts { AreParts parts.scheduler.table shared.now.arrivals.now 0 0 0 parts }
-    ensures ran { IfOk result (λ run. HaveRun parts.scheduler.table shared.now.arrivals.now run.0) }
+    requires fits { FitSomeTable arrivals.now }
+    requires parts { AreParts parts.scheduler.table arrivals.now 0 0 0 parts }
+    ensures ran { IfOk result (λ run. HaveRun parts.scheduler.table arrivals.now run.0) }
     ensures collected { IfOk result (λ run. IsCollectedOf run.0 run.1) }
     ensures passes_asked { IfOk result (λ _.
-        LetsThrough (G.answers_pass shared.now.gate.now)
-        (length shared.now.arrivals.now.passes)) }
+        LetsThrough (G.answers_pass gate.now) (length arrivals.now.passes)) }
     ensures turns_asked { IfOk result (λ _. LetsEachThrough
-        (G.answers_turn shared.now.gate.now) (vec_len parts.workers)
-        (length shared.now.arrivals.now.turns)) }
+        (G.answers_turn gate.now) (vec_len parts.workers) (length arrivals.now.turns)) }
     ensures ended { IfErr result (λ e. e ≡ GateFault → MayRefuseRun
-        (G.answers_pass shared.now.gate.now) (G.answers_turn shared.now.gate.now)
-        (vec_len parts.workers) shared.now.arrivals.now) }
+        (G.answers_pass gate.now) (G.answers_turn gate.now) (vec_len parts.workers) arrivals.now) }
 {
     let Parts {
         scheduler,
         workers,
         watch,
     } = parts;
-    let passing = start_scheduler(scope, shared, scheduler)?;
-    let others = run_others(rt, scope, shared, Others { workers, watch });
+    let passing = start_scheduler(scope, alloc, arrivals, gate, scheduler)?;
+    let others = run_others(rt, scope, alloc, arrivals, gate, workers, watch);
     let scheduler = passing.join(rt);
     match both_or_least_fault(scheduler, others) {
         Ok((scheduler, (workers, watch))) => {
-            let made = apart(shared.alloc, scheduler, workers, watch)?;
+            let made = apart(alloc, scheduler, workers, watch)?;
             Ok(made)
         }
         Err(fault) => Err(fault),
@@ -167,39 +162,31 @@ fn apart(
     Ok((parts, Collected { history, journals }))
 }
 
-/// The workers of a run but for its scheduler.
-#[derive(Drop)]
-struct Others {
-    workers: Vec<Worker>,
-    watch: Watch,
-}
-
 /// Runs the watch and all kernel threads at the same time, and gives them back once each has come
 /// to its end.
 fn run_others<'s, R: Threads, E, G: Gate + Sync>(
     rt: &R,
     scope: &Scope<'s, E>,
-    shared: &Shared<'s, G>,
-    others: Others,
+    alloc: Global,
+    arrivals: &'s Arrivals,
+    gate: &'s G,
+    workers: Vec<Worker>,
+    watch: Watch,
 ) -> Result<(Vec<CollectingWorker>, Watch), SimFault>
-    requires fits { FitSomeTable shared.now.arrivals.now }
-    requires none { HaveMade shared.now.arrivals.now 0 others.workers.items }
-    requires unwatched { length others.watch.rounds ≡ 0 }
+    requires fits { FitSomeTable arrivals.now }
+    requires none { HaveMade arrivals.now 0 workers.items }
+    requires unwatched { length watch.rounds ≡ 0 }
     ensures turns { IfOk result (λ r.
-        HaveMade shared.now.arrivals.now (length shared.now.arrivals.now.turns) r.0.items) }
-    ensures seats { IfOk result (λ r. seats_of r.0.items ≡ seats_of others.workers.items) }
-    ensures rounds { IfOk result (λ r.
-        HasMadeRounds (length shared.now.arrivals.now.passes) others.watch r.1) }
+        HaveMade arrivals.now (length arrivals.now.turns) r.0.items) }
+    ensures seats { IfOk result (λ r. seats_of r.0.items ≡ seats_of workers.items) }
+    ensures rounds { IfOk result (λ r. HasMadeRounds (length arrivals.now.passes) watch r.1) }
     ensures asked { IfOk result (λ _. LetsEachThrough
-        (G.answers_turn shared.now.gate.now) (vec_len others.workers)
-        (length shared.now.arrivals.now.turns)) }
+        (G.answers_turn gate.now) (vec_len workers) (length arrivals.now.turns)) }
     ensures ended { IfErr result (λ e. e ≡ GateFault → MayRefuseOne
-        (G.answers_turn shared.now.gate.now) (vec_len others.workers)
-        (length shared.now.arrivals.now.turns)) }
+        (G.answers_turn gate.now) (vec_len workers) (length arrivals.now.turns)) }
 {
-    let Others { workers, watch } = others;
-    let watching = start_watch(scope, shared.arrivals.passes.as_slice().len(), watch)?;
-    let workers = run_workers(rt, scope, shared, workers);
+    let watching = start_watch(scope, arrivals.passes.as_slice().len(), watch)?;
+    let workers = run_workers(rt, scope, alloc, gate, arrivals, workers);
     let watch = watching.join(rt);
     match workers {
         Ok(workers) => Ok((workers, watch)),
@@ -210,19 +197,19 @@ fn run_others<'s, R: Threads, E, G: Gate + Sync>(
 /// Starts the scheduler's thread. The error is `Spawn` alone.
 fn start_scheduler<'s, E, G: Gate + Sync>(
     scope: &Scope<'s, E>,
-    shared: &Shared<'s, G>,
+    alloc: Global,
+    arrivals: &'s Arrivals,
+    gate: &'s G,
     scheduler: BareScheduler,
 ) -> Result<PassingThread<'s, G>, SimFault>
-    requires fits { FitSomeTable shared.now.arrivals.now }
-    requires none { HasPassed shared.now.arrivals.now 0 scheduler }
+    requires fits { FitSomeTable arrivals.now }
+    requires none { HasPassed arrivals.now 0 scheduler }
     ensures was { IfOk result (λ t. t.promise.was.value ≡ scheduler) }
-    ensures arrivals { IfOk result (λ t. t.promise.arrivals.now ≡ shared.now.arrivals.now) }
-    ensures gate { IfOk result (λ t. t.promise.gate.now ≡ shared.now.gate.now) }
+    ensures arrivals { IfOk result (λ t. t.promise.arrivals.now ≡ arrivals.now) }
+    ensures gate { IfOk result (λ t. t.promise.gate.now ≡ gate.now) }
     ensures spawn { IfErr result (λ fault. fault ≡ Spawn) }
 {
-    let scheduler = CollectingScheduler::new(shared.alloc, scheduler);
-    let arrivals = shared.arrivals;
-    let gate = shared.gate;
+    let scheduler = CollectingScheduler::new(alloc, scheduler);
     let promise = Passed {
         was: Snapshot::of(&scheduler),
         arrivals,

@@ -12,7 +12,6 @@ ghost use Rattle.cal_trace.specs.Arrivals.FitsTable.{FitsTable};
 
 use crate::gate::Gate;
 use crate::running::run_threads;
-use crate::shared::Shared;
 use cal_machine::Config;
 use cal_run::{Outcome, RunEnd, SimFault, close_parts, end_parts, headline_of_runs, open_parts};
 use cal_trace::Arrivals;
@@ -53,12 +52,7 @@ pub fn simulate<R: Threads + Wait + Sync, G: Gate + Sync>(
     config.limits();
     headline_of_runs();
     let parts = open_parts(alloc, config, arrivals)?;
-    let shared = Shared {
-        alloc,
-        arrivals,
-        gate,
-    };
-    match run_threads(rt, &shared, parts) {
+    match run_threads(rt, alloc, arrivals, gate, parts) {
         Ok((parts, collected)) => close_parts(alloc, config, arrivals, parts, collected),
         Err(fault) => Err(fault),
     }
@@ -87,12 +81,7 @@ pub fn simulation_end<R: Threads + Wait + Sync, G: Gate + Sync>(
     config.limits();
     headline_of_runs();
     let parts = open_parts(alloc, config, arrivals)?;
-    let shared = Shared {
-        alloc,
-        arrivals,
-        gate,
-    };
-    match run_threads(rt, &shared, parts) {
+    match run_threads(rt, alloc, arrivals, gate, parts) {
         Ok((parts, collected)) => end_parts(alloc, config, arrivals, parts, collected),
         Err(fault) => Err(fault),
     }

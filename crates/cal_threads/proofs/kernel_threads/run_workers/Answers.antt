@@ -12,7 +12,7 @@ returns-in-Ok-clause-made g c =
     let both = c.in-Ok.ensures.values in
     let started = rw both.0 at c.start_workers-threads.ensures.started in
     let joined = rw both.1 at c.join_workers-joined.ensures.made in
-    all_made c.args.shared.now.arrivals.now _ _ c.requires.none
+    all_made c.args.arrivals.now _ _ c.requires.none
     (pairs_through _ _ _ (λ was thread is of kept. kept_of _ _ _ _ was thread.promise is of kept) _ _ _ started joined)
 
 pub returns-in-Ok-clause-seats : goal.returns-in-Ok-clause-seats
@@ -20,7 +20,7 @@ returns-in-Ok-clause-seats g c =
     let both = c.in-Ok.ensures.values in
     let started = rw both.0 at c.start_workers-threads.ensures.started in
     let joined = rw both.1 at c.join_workers-joined.ensures.made in
-    all_seated c.args.shared.now.arrivals.now _ _
+    all_seated c.args.arrivals.now _ _
     (pairs_through _ _ _ (λ was thread is of kept. kept_of _ _ _ _ was thread.promise is of kept) _ _ _ started joined)
 
 -- What came back was let through at each turn, and it is of the kernel thread at its place.
@@ -29,12 +29,12 @@ returns-in-Ok-clause-asked g c =
     let both = c.in-Ok.ensures.values in
     let started = rw both.0 at c.start_workers-threads.ensures.started in
     let joined = rw both.1 at c.join_workers-joined.ensures.made in
-    let n = length c.args.shared.now.arrivals.now.turns in
-    let all = pairs_through _ _ (λ (was : Worker) (is : Worker). LetsThrough (g.G.Gate.answers_turn c.args.shared.now.gate.now was.number) n)
+    let n = length c.args.arrivals.now.turns in
+    let all = pairs_through _ _ (λ (was : Worker) (is : Worker). LetsThrough (g.G.Gate.answers_turn c.args.gate.now was.number) n)
     (λ was thread is of kept. asked_of _ _ _ _ was thread.promise is of kept) _ _ _ started joined in
     λ k low.
     let size = c.args.workers.ok.0 in
-    of_each (λ i. LetsThrough (g.G.Gate.answers_turn c.args.shared.now.gate.now i) n) c.args.shared.now.arrivals.now _ _ c.requires.none all k (omega (arith, low, size))
+    of_each (λ i. LetsThrough (g.G.Gate.answers_turn c.args.gate.now i) n) c.args.arrivals.now _ _ c.requires.none all k (omega (arith, low, size))
 
 -- A thread that the gate may have ended is of one of these kernel threads, with these arrivals and this gate.
 pub returns-in-Err-clause-ended : goal.returns-in-Err-clause-ended

@@ -11,7 +11,7 @@ use Rattle.cal_threads.proofs.kernel_threads.start_workers.Goals as goal
 -- No thread is started yet.
 pub loop-worker-init : goal.loop-worker-init
 loop-worker-init g c =
-    let arrivals = c.args.shared.now.arrivals.now in
+    let arrivals = c.args.arrivals.now in
     let all = c.into_iter-worker-iterator.ensures.into_iter_gives.0 in
     let none : vec_len c.args.threads ≡ 0 = c.args.threads.ok.0 ∙ ap (λ l. length l) c.requires.empty in
     let P : List Worker → Type 0 = λ ws. HaveMadeFrom arrivals (vec_len c.args.threads) 0 ws in (
@@ -28,7 +28,7 @@ new-worker-requires g c = (first_of_rest _ _ _ _ _ _ c.in-Some.ensures.steps.0 c
 pub spawn_with-requires-clause-runs : goal.spawn_with-requires-clause-runs
 spawn_with-requires-clause-runs g c =
     let first = first_of_rest _ _ _ _ _ _ c.in-Some.ensures.steps.0 c.loop-worker.invariant.1 in
-    let P : Worker → Type 0 = λ w. HasMade c.args.shared.now.arrivals.now (vec_len c.loop-worker.threads) 0 w in
+    let P : Worker → Type 0 = λ w. HasMade c.args.arrivals.now (vec_len c.loop-worker.threads) 0 w in
     let none = subst P (sym c.new-worker.ensures) first in
     grind serving
 
@@ -40,7 +40,7 @@ loop-worker-preserved g c =
     let more : vec_len c.push.new.self ≡ vec_len c.loop-worker.threads + 1 = search rules in
     let number = (first_of_rest _ _ _ _ _ _ steps was.1).number in
     let items : c.push.new.self.items ≡ c.loop-worker.threads.items ++ c.in-Ok.thread ∷ [] = search rules in
-    let one : IsOf (vec_len c.args.workers) c.args.shared.now.arrivals.now c.args.shared.now.gate.now c.in-Some.worker c.in-Ok.thread.promise = record {
+    let one : IsOf (vec_len c.args.workers) c.args.arrivals.now c.args.gate.now c.in-Some.worker c.in-Ok.thread.promise = record {
       worker_is = search rules;
       number = search rules;
       place = search rules;

@@ -11,7 +11,7 @@ use Rattle.cal_threads.proofs.running.run_within.Goals as goal
 pub returns-in_ok-made-in-Ok-clause-ran : goal.returns-in_ok-made-in-Ok-clause-ran
 returns-in_ok-made-in-Ok-clause-ran g c =
     let both = c.in-Ok.ensures.values in
-    let arrivals = c.args.shared.now.arrivals.now in
+    let arrivals = c.args.arrivals.now in
     let before = c.args.parts in
     let apart = c.in_ok-made-in-Ok.ensures in
     let joined = rw both.0 at c.join-scheduler.ensures in
