@@ -20,7 +20,7 @@ pub numbers_of_run-requires-clause-open : goal.numbers_of_run-requires-clause-op
 numbers_of_run-requires-clause-open c =
     let suits = c.in_ok-left.ensures.suits in
     subst (λ (t : Table). IsOpenFor t c.in_ok-ended.ended.walk) (sym (c.in_ok-ended.ensures.table ∙ suits.0))
-    (subst (λ (w : Walk). IsOpenFor c.args.config.now w) (sym c.in_ok-ended.ensures.walk) suits.1.0)
+    (subst (λ (w : Walk). IsOpenFor c.args.config.now w) (sym c.in_ok-ended.ensures.walk) suits.1)
 
 pub returns-clause-course : goal.returns-clause-course
 returns-clause-course c =
@@ -37,6 +37,6 @@ returns-clause-course c =
       clocks = c.in_ok-clocks.ensures ∙ ap (λ (l : List GivenPass). map (λ (pass : GivenPass). pass.now) l) (c.as_slice.ensures ∙ sym run.run.passes)
           ∙ clocks_given run.outcome.history;
       responses = subst (λ (t : Table). AreResponsesOfEach t arrivals run.outcome c.in_ok-responses.responses.items) table (c.in_ok-responses.ensures run.outcome at_end);
-      tasks = suits.1.1;
+      tasks = suits.2;
       held = subst (λ (t : Table). AreHeldCourses t run.outcome.history course.held.items) suits.0 run.collected.held;
     }

@@ -11,5 +11,5 @@ pub returns-clause-collected : goal.returns-clause-collected
 returns-clause-collected c = λ history journals journal held at few. record {
   walk = subst (λ (t : Table). IsWalkOf t history c.turn.new.self.walk) (sym c.turn.ensures.table)
       (subst (λ (w : Walk). IsWalkOf c.args.self.now.config history w) (sym c.turn.ensures.walk) held.walk);
-  threads = c.in_ok-turn.ensures journals journal held.threads at few;
+  threads = c.in_ok-turn.ensures.threads journals journal held.threads at few;
 }

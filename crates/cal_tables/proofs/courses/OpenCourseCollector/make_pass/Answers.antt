@@ -12,13 +12,13 @@ use Rattle.cal_policy.specs.declared.history.entry.PassEntry.{PassEntry}
 use Rattle.cal_tables.proofs.courses.OpenCourseCollector.make_pass.Goals as goal
 
 pub pass-requires-clause-open : goal.pass-requires-clause-open
-pass-requires-clause-open c = subst (λ (t : Table). IsOpenFor t c.args.self.now.numbers.walk) (sym c.requires.suits.0) c.requires.suits.1.0
+pass-requires-clause-open c = subst (λ (t : Table). IsOpenFor t c.args.self.now.numbers.walk) (sym c.requires.suits.0) c.requires.suits.1
 
 -- there is a course for each task
 pub put_held-requires : goal.put_held-requires
 put_held-requires c =
     let own = ap (λ (l : List (Vec ℕ Global)). length l) c.as_mut_slice.ensures.value in
-    let many = c.requires.suits.1.1 in
+    let many = c.requires.suits.2 in
     let times = c.in_ok-pass.ensures.open.times in
     let tasks = ap (λ (t : Table). length t.tasks) c.requires.suits.0 in
     omega (arith, own, many, times, tasks)
@@ -31,7 +31,7 @@ returns-clause-suits c =
     let is : (with_items held courses).items ≡ courses = with_items_is held courses (omega (arith, many, held.ok.0)) in (
       c.pass.ensures.table ∙ c.requires.suits.0,
       subst (λ (t : Table). IsOpenFor t c.pass.new.self.walk) c.requires.suits.0 c.in_ok-pass.ensures.open,
-      ap (λ (l : List (Vec ℕ Global)). length l) is ∙ many ∙ c.requires.suits.1.1,
+      ap (λ (l : List (Vec ℕ Global)). length l) is ∙ many ∙ c.requires.suits.2,
     )
 
 pub returns-clause-collected : goal.returns-clause-collected
