@@ -9,7 +9,7 @@ use Rattle.cal_engine.proofs.jobs.deciding.decided_report.Goals as goal
 
 pub returns-in_err-config : goal.returns-in_err-config
 returns-in_err-config c =
-    let same : c.from_residual-in_err-config.result ≡ Err c.in_err-config.field-0.0 = search rules in
+    let same : c.from_residual.result ≡ Err c.in_err-config.field-0.0 = search rules in
     rw same (no_run run_report (decided_run_of c.args.input.now) c.in_err-config.field-0.0 c.in_err-config.ensures.fault)
 
 pub returns : goal.returns
