@@ -13,7 +13,7 @@ use Rattle.cal_trace.proofs.RowLemmas.Refusals.{decided}
 use Rattle.cal_input.specs.Recorded.{Run}
 use Rattle.cal_input.specs.declared.fault.RunFault.{RunFault}
 use Rattle.cal_input.specs.declared.fault.RunFault.TheVariants as fault
-use Rattle.cal_engine.specs.Deciding.{decided_after, decided_on, HasDecided, HasDecidedIn, HasDecidedRun}
+use Rattle.cal_engine.specs.Deciding.{decided_on, HasDecided, HasDecidedIn, HasDecidedRun}
 use Rattle.cal_engine.specs.declared.jobs.deciding.decider.Decider.{Decider}
 use Rattle.cal_engine.proofs.Decided.{IsDecided}
 

@@ -10,7 +10,6 @@ use Rattle.cal_trace.specs.Report.{report_text}
 use Rattle.cal_input.specs.Answers.{Failed}
 use Rattle.cal_input.specs.Recorded.{Run}
 use Rattle.cal_input.specs.declared.fault.RunFault.{RunFault}
-use Rattle.cal_input.specs.declared.fault.RunFault.TheVariants as fault
 
 -- the report of a run
 abbrev pub run_report : Run → List ℕ
