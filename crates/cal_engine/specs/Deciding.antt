@@ -22,7 +22,7 @@ use Rattle.cal_input.specs.Recorded.{Run}
 use Rattle.cal_input.specs.declared.fault.RunFault.{RunFault}
 use Rattle.cal_input.specs.declared.fault.RunFault.TheVariants as fault
 use Rattle.cal_engine.specs.declared.jobs.deciding.decider.Decider.{Decider}
-use Rattle.cal_engine.specs.declared.jobs.deciding.history_rows.HistoryRowsText.{HistoryRowsText}
+use Rattle.cal_engine.specs.declared.jobs.deciding.history_text.HistoryText.{HistoryText}
 use Rattle.cal_engine.specs.declared.jobs.deciding.report_lines.ReportLines.{ReportLines}
 
 -- the input of a pass after this history: each look as it is judged, and the rooms
@@ -90,6 +90,6 @@ pub record HasLines (history : List PassEntry) (lines : ReportLines) : Type 0 wh
   pub written : lines.text.items ≡ passes_text history
 
 -- this is the file of this history, all but its last row, and how many passes it has
-pub record HasRows (history : List PassEntry) (rows : HistoryRowsText) : Type 0 where
-  pub written : rows.text.items ≡ begun_text history
-  pub count : rows.passes ≡ length history
+pub record HasRows (history : List PassEntry) (text : HistoryText) : Type 0 where
+  pub written : text.text.items ≡ begun_text history
+  pub count : text.passes ≡ length history

@@ -1,7 +1,7 @@
 //! Deciding the passes of a signal trace.
 
 pub mod decider;
-pub mod history_rows;
+pub mod history_text;
 pub mod keeper;
 pub mod report_lines;
 
@@ -20,7 +20,7 @@ ghost use Rattle.cal_engine.specs.Outcome.{history_of, report_of, Reports};
 
 use crate::jobs::answer::write_answer;
 use crate::jobs::deciding::decider::Decider;
-use crate::jobs::deciding::history_rows::HistoryRowsText;
+use crate::jobs::deciding::history_text::HistoryText;
 use crate::jobs::deciding::keeper::Keeper;
 use crate::jobs::deciding::report_lines::ReportLines;
 use cal_input::{RunFault, read_input, read_parts};
@@ -69,9 +69,9 @@ fn decided_report(alloc: Global, input: &[u8]) -> Result<Vec<u8>, RunFault>
 pub fn decided_history(alloc: Global, input: &[u8]) -> Result<Vec<u8>, RunFault>
     ensures { IsWhatInputSays (λ text. text.items) result (history_of (decided_run_of input.now)) }
 {
-    let mut rows = HistoryRowsText::open(alloc)?;
-    decide_input(alloc, input, &mut rows)?;
-    rows.end()
+    let mut text = HistoryText::open(alloc)?;
+    decide_input(alloc, input, &mut text)?;
+    text.end()
 }
 
 /// The task table of an input, and the history that its signals lead to.

@@ -13,20 +13,20 @@ use std::alloc::Global;
 
 /// The first row of a history and the rows of its passes so far, in memory.
 #[derive(Drop)]
-pub(crate) struct HistoryRowsText {
+pub(crate) struct HistoryText {
     passes: usize,
     text: Vec<u8>,
 }
 
-impl HistoryRowsText {
+impl HistoryText {
     /// The first row. The fault is `Memory`.
-    pub(crate) fn open(alloc: Global) -> Result<HistoryRowsText, RunFault>
+    pub(crate) fn open(alloc: Global) -> Result<HistoryText, RunFault>
         ensures rows { IfOk result (HasRows []) }
         ensures kind { IfErr result (λ fault. fault ≡ RunFault.Memory) }
     {
         let mut text = Vec::new(alloc);
         match write_history_header(&mut text) {
-            Ok(()) => Ok(HistoryRowsText { passes: 0, text }),
+            Ok(()) => Ok(HistoryText { passes: 0, text }),
             // A list in memory refuses nothing but memory.
             Err(_) => Err(RunFault::Memory),
         }
@@ -45,8 +45,8 @@ impl HistoryRowsText {
     }
 }
 
-impl Keeper for HistoryRowsText {
-    ghost keeps = { λ rows h. HasRows h rows };
+impl Keeper for HistoryText {
+    ghost keeps = { λ text h. HasRows h text };
 
     fn take(&mut self, entry: PassEntry) -> Result<(), RunFault> {
         self.passes = self.passes.saturating_add(1);

@@ -2,7 +2,7 @@ use Rattle.std.proofs.Common.{◌++◌, sym, ap, ◌∙◌}
 use Rattle.cal_trace.specs.History.Text.{begun_text, end_fields}
 use Rattle.cal_trace.specs.Rows.Text.{line_of}
 use Rattle.cal_trace.proofs.HistoryLemmas.Lines.{begun_ends}
-use Rattle.cal_engine.proofs.jobs.deciding.history_rows.HistoryRowsText.end.Goals as goal
+use Rattle.cal_engine.proofs.jobs.deciding.history_text.HistoryText.end.Goals as goal
 
 pub returns-in-Ok-clause-text : goal.returns-in-Ok-clause-text
 returns-in-Ok-clause-text c = λ h rows.
