@@ -1,5 +1,6 @@
 pub mod FrontReadBack
 pub mod Decided
+pub mod InTurn
 pub mod WrittenRuns
 pub mod Telling
 pub mod CommandWords

@@ -5,20 +5,28 @@ use Rattle.std.specs.List.{concat}
 use Rattle.cal_policy.specs.Verdict.{IsVerdict}
 use Rattle.cal_policy.specs.declared.verdict.Verdict.{Verdict}
 use Rattle.cal_policy.specs.declared.verdict.Verdict.TheVariants.{Legal, Illegal}
+use Rattle.cal_trace.specs.History.Text.{history_text}
 use Rattle.cal_trace.specs.Report.{report_text}
 use Rattle.cal_input.specs.Answers.{Failed}
 use Rattle.cal_input.specs.Recorded.{Run}
 use Rattle.cal_input.specs.declared.fault.RunFault.{RunFault}
-use Rattle.cal_input.specs.declared.fault.RunFault.TheVariants as fault
 
 -- the report of a run
 abbrev pub run_report : Run → List ℕ
 run_report run = report_text run.table run.history
 
+-- what an outcome asks for, by what is written of a run
+abbrev pub text_of : (Run → List ℕ) → Result Run RunFault → Result (List ℕ) RunFault
+text_of write (Err f) = Err f
+text_of write (Ok run) = Ok (write run)
+
 -- the report that an outcome asks for
 abbrev pub report_of : Result Run RunFault → Result (List ℕ) RunFault
-report_of (Err f) = Err f
-report_of (Ok run) = Ok (run_report run)
+report_of outcome = text_of run_report outcome
+
+-- the history that an outcome asks for, as a file
+abbrev pub history_of : Result Run RunFault → Result (List ℕ) RunFault
+history_of outcome = text_of (λ run. history_text run.history) outcome
 
 -- the line that names the first pass that is not the policy's
 abbrev pub illegal_line : ℕ → List ℕ

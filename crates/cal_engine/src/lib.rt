@@ -22,9 +22,10 @@ pub use cal_input::{
 pub use cal_policy::Verdict;
 pub use command_words::command_line::{Job, VERSION, words};
 pub use command_words::words_given::given_words;
+pub use jobs::answer::write_after_front;
 pub use jobs::auditing::run_audit;
-pub use jobs::deciding::{decide, decided_run};
-pub use jobs::front::{Front, write_front};
+pub use jobs::deciding::{decide, decided_history, decided_run};
+pub use jobs::front::Front;
 pub use jobs::running::{RunAnswer, run_lockstep};
 pub use jobs::simulating::run_sim;
 pub use laws::with_table_is_read_back;

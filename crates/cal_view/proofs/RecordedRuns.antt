@@ -1,34 +1,23 @@
 -- What was written of the run that was read is the input's.
-use Rattle.std.proofs.Common.{◌≡◌, ◌≤◌, ◌++◌, ◌∙◌, nat_lt, ℕ, false, List, length, Option, Some, None, IfSome, IfErr, OnOk, Result, Ok, Err, refl, sym, ap, subst, arith}
-use Rattle.std.proofs.lemmas.List.{append-nil}
-use Rattle.std.specs.Io.KnownBytes.{Appends, Consumes, IsAtEnd}
+use Rattle.std.proofs.Common.{◌≡◌, ◌++◌, ℕ, List, Option, IfErr, OnOk, Result, Ok, Err, sym, subst}
+use Rattle.std.specs.Io.KnownBytes.{Appends}
 use Rattle.cal_input.specs.Answers.{Failed}
-use Rattle.cal_input.specs.Parts.{within_limit}
 use Rattle.cal_input.specs.Recorded.{Run}
 use Rattle.cal_input.specs.declared.fault.RunFault.{RunFault}
 use Rattle.cal_input.specs.declared.fault.RunFault.TheVariants as fault
-use Rattle.cal_input.specs.declared.reading.TheConstants.{INPUT_LIMIT}
-use Rattle.cal_engine.specs.Deciding.{decided_run_of}
+use Rattle.cal_engine.specs.Front.{front_of}
+use Rattle.cal_engine.specs.Outcome.{history_of}
 use Rattle.cal_engine.specs.declared.jobs.front.Front.{Front}
-use Rattle.cal_view.specs.Recording.{recorded_text, Records}
+use Rattle.cal_engine.proofs.Reporting.{has_run, same_text}
+use Rattle.cal_trace.specs.History.Text.{history_text}
+use Rattle.cal_view.specs.Recording.{Records}
 
-within : (text : List ℕ) (outcome : Result Run RunFault) → length text ≤ INPUT_LIMIT → within_limit text outcome ≡ outcome
-within text outcome le = let no : nat_lt INPUT_LIMIT (length text) ≡ false = grind arith in rw no refl
-
--- the run is there, so the one fault is the writer's
-written : {T : Type 0} (result : Result T RunFault) (front : Front) (text : List ℕ) (run : Run) (old new : Option (List ℕ))
-    → OnOk result (Appends old new (recorded_text front text run.history)) → IfErr result (λ f. f ≡ fault.Write) → Records result front text (Ok run) old new
-written (Ok x) front text run old new h k = h
-written (Err f) front text run old new h k = subst (λ (g : RunFault). Failed g (Ok run)) (sym k) refl
-
-pub recorded : {T : Type 0} (had left : Option (List ℕ)) (text : List ℕ) (run : Run) (front : Front) (result : Result T RunFault) (old new : Option (List ℕ))
-    → Consumes had left text → IsAtEnd left → length text ≤ INPUT_LIMIT → decided_run_of text ≡ Ok run
-    → OnOk result (Appends old new (recorded_text front text run.history)) → IfErr result (λ f. f ≡ fault.Write)
-    → IfSome had (λ input. Records result front input (within_limit input (decided_run_of input)) old new)
-recorded None left text run front result old new took ends le is h k = tt
-recorded (Some input) None text run front result old new took ends le is h k = absurd took
-recorded (Some input) (Some rest) text run front result old new took ends le is h k =
-    let same : text ≡ input = sym (took ∙ ap (λ l. text ++ l) ends ∙ append-nil text) in
-    let outcome : within_limit text (decided_run_of text) ≡ Ok run = within text (decided_run_of text) le ∙ is in
-    subst (λ (bytes : List ℕ). Records result front bytes (within_limit bytes (decided_run_of bytes)) old new) same
-    (subst (λ (o : Result Run RunFault). Records result front text o old new) (sym outcome) (written result front text run old new h k))
+-- the history was written, or the writer failed
+pub records : {T : Type 0} (result : Result T RunFault) (front : Front) (input : List ℕ) (outcome : Result Run RunFault) (old new : Option (List ℕ)) (text : List ℕ)
+    → history_of outcome ≡ Ok text → OnOk result (Appends old new (front_of front input ++ text)) → IfErr result (λ f. f ≡ fault.Write)
+    → Records result front input outcome old new
+records (Ok done) front input (Err f) old new text e written kind = absurd (cc)
+records (Ok done) front input (Ok run) old new text e written kind =
+    subst (λ (t : List ℕ). Appends old new (front_of front input ++ t)) (same_text (history_text run.history) text e) written
+records (Err f) front input outcome old new text e written kind =
+    subst (λ (g : RunFault). Failed g outcome) (sym kind) (has_run (λ (run : Run). history_text run.history) outcome text e)

@@ -1,31 +1,33 @@
 //! Deciding the passes of a signal trace.
 
-ghost use Rattle.std.specs.Prelude.{◌≡◌, ◌≢◌, ◌<◌, ◌+◌, ◌^◌, ◌++◌, ◌∷◌, [], ℕ, List, length};
-ghost use Rattle.std.specs.Prelude.{IfOk, OnOk, IfErr, IfSome};
+pub mod decider;
+pub mod history_text;
+pub mod keeper;
+pub mod report_lines;
+
+ghost use Rattle.std.specs.Prelude.{◌≡◌, ◌≢◌, [], ℕ, List, Err, IfOk, IfErr, IfSome};
 ghost use Rattle.cal_machine.specs.Tasks.{threads_in};
 ghost use Rattle.cal_policy.specs.Book.{board_in};
-ghost use Rattle.cal_policy.specs.State.{IsReady, IsStateAfter};
-ghost use Rattle.cal_policy.specs.Judgement.Judging.{IsInput};
+ghost use Rattle.cal_policy.specs.State.{IsReady};
 ghost use Rattle.cal_policy.specs.Pass.{IsLegal};
-ghost use Rattle.cal_machine.specs.TableTasks.{threads_of_table};
-ghost use Rattle.cal_policy.specs.declared.history.entry.PassEntry.{PassEntry};
-ghost use Rattle.cal_trace.specs.Report.{report_text};
 ghost use Rattle.cal_trace.specs.Rows.{rows_of};
 ghost use Rattle.cal_trace.specs.Signals.{signals_of};
-ghost use Rattle.cal_trace.specs.Signals.Fitting.{AreFittingPasses};
 ghost use Rattle.cal_trace.specs.Signals.Reading.{HasGiven, IsOpen};
-ghost use Rattle.cal_input.specs.Answers.{IsWhatInputSays};
+ghost use Rattle.cal_input.specs.Answers.{Decided, IsWhatInputSays};
 ghost use Rattle.cal_input.specs.Parts.{within_limit};
-ghost use Rattle.cal_engine.specs.Deciding.{decided, decided_on, decided_pass, decided_run_of};
-ghost use Rattle.cal_engine.specs.Deciding.{input_of, Tells};
-ghost use Rattle.cal_engine.specs.Outcome.{report_of, Reports};
+ghost use Rattle.cal_engine.specs.Deciding.{decided_on, decided_run_of, Decides, HasDecidedIn};
+ghost use Rattle.cal_engine.specs.Outcome.{history_of, report_of, Reports};
 
 use crate::jobs::answer::write_answer;
+use crate::jobs::deciding::decider::Decider;
+use crate::jobs::deciding::history_text::HistoryText;
+use crate::jobs::deciding::keeper::Keeper;
+use crate::jobs::deciding::report_lines::ReportLines;
 use cal_input::{RunFault, read_input, read_parts};
 use cal_machine::Config;
-use cal_policy::{Actions, Book, PassEntry};
-use cal_trace::{Report, SignalPass, SignalRows, read_signals};
-use std::alloc::{AllocError, Global};
+use cal_policy::PassEntry;
+use cal_trace::SignalRows;
+use std::alloc::Global;
 use std::io::{Read, Write};
 
 /// Reads an input of a task table and a signal trace to its end, decides each of its passes, and
@@ -57,98 +59,19 @@ fn decided_report(alloc: Global, input: &[u8]) -> Result<Vec<u8>, RunFault>
     ensures { IsWhatInputSays (λ report. report.items) result
         (report_of (decided_run_of input.now)) }
 {
-    let (config, trace) = read_parts(alloc, input)?;
-    report_signals(alloc, &config, trace)
+    let mut lines = ReportLines::new(alloc);
+    let (config, decider) = decide_input(alloc, input, &mut lines)?;
+    lines.end(&config, &decider)
 }
 
-/// The report of the history that these signals lead to, in memory.
-fn report_signals(alloc: Global, config: &Config, trace: &[u8]) -> Result<Vec<u8>, RunFault>
-    ensures { IsWhatInputSays (λ report. report.items) result
-        (report_of (decided_on config.now (signals_of (threads_in config.now.tasks)
-        (rows_of trace.now)))) }
+/// The history that an input's signals lead to, as a file in memory. The faults are those of
+/// `decide`, in the same order, but for `Read`, `Length` and `Write`.
+pub fn decided_history(alloc: Global, input: &[u8]) -> Result<Vec<u8>, RunFault>
+    ensures { IsWhatInputSays (λ text. text.items) result (history_of (decided_run_of input.now)) }
 {
-    let mut signals = SignalRows::open(alloc, config, trace)?;
-    report_passes(alloc, config, &mut signals)
-}
-
-/// The report of signals before their first pass. Each pass is decided and its lines are made as
-/// soon as its rows were read, and nothing else is kept of it.
-fn report_passes(
-    alloc: Global,
-    config: &Config,
-    signals: &mut SignalRows<'_>,
-) -> Result<Vec<u8>, RunFault>
-    requires ready { IsOpen signals.old }
-    requires given { (trace : List ℕ) × HasGiven (threads_in config.now.tasks) trace []
-        signals.old }
-    ensures { (trace : List ℕ) → HasGiven (threads_in config.now.tasks) trace [] signals.old →
-        IsWhatInputSays (λ report. report.items) result
-        (report_of (decided_on config.now (signals_of (threads_in config.now.tasks)
-        (rows_of trace)))) }
-{
-    let mut report = OpenReport::open(alloc, config)?;
-    while let Some(pass) = signals.next()? {
-        report.take(alloc, config, &pass)?;
-    }
-    report.end(config)
-}
-
-/// The report of the passes so far, each decided after all before it.
-#[derive(Drop)]
-struct OpenReport {
-    decider: Decider,
-    report: Report,
-    text: Vec<u8>,
-}
-
-impl OpenReport {
-    /// The report before the first pass. Fails only when out of memory.
-    fn open(alloc: Global, config: &Config) -> Result<OpenReport, AllocError>
-        ensures tells { IfOk result (Tells []) }
-        ensures of { IfOk result (λ report. IsReady config.now (board_in report.decider.book)) }
-    {
-        let decider = Decider::open(alloc, config)?;
-        Ok(OpenReport {
-            decider,
-            report: Report::new(),
-            text: Vec::new(alloc),
-        })
-    }
-
-    /// Decides the next pass, and writes its lines. The fault is `Memory`.
-    fn take(&mut self, alloc: Global, config: &Config, pass: &SignalPass) -> Result<(), RunFault>
-        requires of { IsReady config.now (board_in self.old.decider.book) }
-        requires looks { length pass.now.looks ≡ threads_of_table config.now }
-        ensures tells { OnOk result ((h : List PassEntry) → IsLegal config.now h →
-            IsInput config.now h (input_of config.now h pass.entry.now) → length h + 1 < 2 ^ 64 →
-            Tells h self.old →
-            Tells (h ++ decided_pass config.now h pass.entry.now ∷ []) self.new) }
-        ensures of { OnOk result (IsReady config.now (board_in self.new.decider.book)) }
-        ensures kind { IfErr result (λ fault. fault ≡ RunFault.Memory) }
-    {
-        let entry = self.decider.decide(alloc, config, pass)?;
-        match self.report.write_pass(&entry, &mut self.text) {
-            Ok(()) => Ok(()),
-            // A list in memory refuses nothing but memory.
-            Err(_) => Err(RunFault::Memory),
-        }
-    }
-
-    /// The whole report, after the last pass. The fault is `Memory`.
-    fn end(mut self, config: &Config) -> Result<Vec<u8>, RunFault>
-        requires { IsReady config.now (board_in self.decider.book) }
-        ensures text { (h : List PassEntry) → Tells h self →
-            IfOk result (λ text. text.items ≡ report_text config.now h) }
-        ensures kind { IfErr result (λ fault. fault ≡ RunFault.Memory) }
-    {
-        match self
-            .report
-            .write_end(config, self.decider.book.board(), &mut self.text)
-        {
-            Ok(()) => Ok(self.text),
-            Err(_) => Err(RunFault::Memory),
-        }
-    }
+    let mut text = HistoryText::open(alloc)?;
+    decide_input(alloc, input, &mut text)?;
+    text.end()
 }
 
 /// The task table of an input, and the history that its signals lead to.
@@ -157,93 +80,65 @@ pub fn decided_run(alloc: Global, input: &[u8]) -> Result<(Config, Vec<PassEntry
         (decided_run_of input.now) }
     ensures legal { IfOk result (λ r. IsLegal r.0 r.1.items) }
 {
-    let (config, trace) = read_parts(alloc, input)?;
-    let signals = read_signals(alloc, &config, trace)?;
-    let history = decide_passes(alloc, &config, signals.passes.into_items())?;
+    let mut history = Vec::new(alloc);
+    let (config, _decider) = decide_input(alloc, input, &mut history)?;
     Ok((config, history))
 }
 
-/// The history that signals lead to: each pass is decided after all before it, and let go of once
-/// it is decided.
-fn decide_passes(
+/// Decides the passes that an input's signals lead to, for a keeper that keeps something of no pass
+/// so far. Gives the task table, and the decider after the last pass.
+fn decide_input<K: Keeper>(
+    alloc: Global,
+    input: &[u8],
+    keeper: &mut K,
+) -> Result<(Config, Decider), RunFault>
+    requires { K.keeps keeper.old [] }
+    ensures decided { IfOk result (λ r.
+        HasDecidedIn (K.keeps keeper.new) r.0 r.1 (decided_run_of input.now)) }
+    ensures of { IfOk result (λ r. IsReady r.0 (board_in r.1.book)) }
+    ensures fault { IfErr result (λ fault. Decided fault (decided_run_of input.now ≡ Err fault)) }
+{
+    let (config, trace) = read_parts(alloc, input)?;
+    let decider = decide_trace(alloc, &config, trace, keeper)?;
+    Ok((config, decider))
+}
+
+/// The same of the text of these signals.
+fn decide_trace<K: Keeper>(
     alloc: Global,
     config: &Config,
-    passes: Vec<SignalPass>,
-) -> Result<Vec<PassEntry>, AllocError>
-    requires { AreFittingPasses (threads_in config.now.tasks) passes.items }
-    ensures decided { IfOk result (λ history. history.items ≡ decided config.now passes.items) }
-    ensures legal { IfOk result (λ history. IsLegal config.now history.items) }
+    trace: &[u8],
+    keeper: &mut K,
+) -> Result<Decider, RunFault>
+    requires { K.keeps keeper.old [] }
+    ensures decided { Decides (K.keeps keeper.new) config.now result (decided_on config.now
+        (signals_of (threads_in config.now.tasks) (rows_of trace.now))) }
+    ensures of { IfOk result (λ decider. IsReady config.now (board_in decider.book)) }
+{
+    let mut signals = SignalRows::open(alloc, config, trace)?;
+    decide_passes(alloc, config, &mut signals, keeper)
+}
+
+/// The same of signals before their first pass. Each pass is decided and handed to the keeper as
+/// soon as its rows were read, and nothing else is kept of it.
+fn decide_passes<K: Keeper>(
+    alloc: Global,
+    config: &Config,
+    signals: &mut SignalRows<'_>,
+    keeper: &mut K,
+) -> Result<Decider, RunFault>
+    requires ready { IsOpen signals.old }
+    requires given { (trace : List ℕ) × HasGiven (threads_in config.now.tasks) trace []
+        signals.old }
+    requires opened { K.keeps keeper.old [] }
+    ensures decided { (trace : List ℕ) → HasGiven (threads_in config.now.tasks) trace [] signals.old
+        → Decides (K.keeps keeper.new) config.now result (decided_on config.now
+        (signals_of (threads_in config.now.tasks) (rows_of trace))) }
+    ensures of { IfOk result (λ decider. IsReady config.now (board_in decider.book)) }
 {
     let mut decider = Decider::open(alloc, config)?;
-    decide_with(alloc, config, &mut decider, passes)
-}
-
-/// The same by a decider before its first pass.
-fn decide_with(
-    alloc: Global,
-    config: &Config,
-    decider: &mut Decider,
-    passes: Vec<SignalPass>,
-) -> Result<Vec<PassEntry>, AllocError>
-    requires fit { AreFittingPasses (threads_in config.now.tasks) passes.items }
-    requires agrees { IsStateAfter (board_in decider.old.book) [] }
-    requires of { IsReady config.now (board_in decider.old.book) }
-    ensures decided { IfOk result (λ history. history.items ≡ decided config.now passes.items) }
-    ensures legal { IfOk result (λ history. IsLegal config.now history.items) }
-{
-    let mut history = Vec::with_capacity(alloc, passes.len())?;
-    for pass in passes {
-        let entry = decider.decide(alloc, config, &pass)?;
-        history.push(entry)?;
+    while let Some(pass) = signals.next()? {
+        decider.hand_on(alloc, config, &pass, keeper)?;
     }
-    Ok(history)
-}
-
-/// Decides passes one after the other.
-#[derive(Drop)]
-struct Decider {
-    book: Book,
-    /// Room for the actions of a pass.
-    actions: Actions,
-}
-
-impl Decider {
-    /// Before the first pass. Fails only when out of memory.
-    fn open(alloc: Global, config: &Config) -> Result<Decider, AllocError>
-        ensures agrees { IfOk result (λ decider. IsStateAfter (board_in decider.book) []) }
-        ensures of { IfOk result (λ decider. IsReady config.now (board_in decider.book)) }
-    {
-        let book = Book::open(alloc, config)?;
-        let actions = Actions::reserved(alloc)?;
-        Ok(Decider { book, actions })
-    }
-
-    /// The next pass on these signals, which is taken into the book.
-    fn decide(
-        &mut self,
-        alloc: Global,
-        config: &Config,
-        pass: &SignalPass,
-    ) -> Result<PassEntry, AllocError>
-        requires of { IsReady config.now (board_in self.old.book) }
-        requires looks { length pass.now.looks ≡ threads_of_table config.now }
-        ensures decided { IfOk result (λ entry. (h : List PassEntry) → IsLegal config.now h →
-            IsStateAfter (board_in self.old.book) h →
-            IsInput config.now h (input_of config.now h pass.entry.now) →
-            entry ≡ decided_pass config.now h pass.entry.now) }
-        ensures agrees { IfOk result (λ entry. (h : List PassEntry) → IsLegal config.now h →
-            IsStateAfter (board_in self.old.book) h →
-            IsInput config.now h (input_of config.now h pass.entry.now) →
-            IsStateAfter (board_in self.new.book) (h ++ entry ∷ [])) }
-        ensures of { OnOk result (IsReady config.now (board_in self.new.book)) }
-    {
-        let looks = pass.looks.as_slice();
-        let input = self
-            .book
-            .input(alloc, config, pass.now, pass.bandwidth, looks)?;
-        self.actions.clear();
-        self.book.step(config, &input, &mut self.actions);
-        let actions = self.actions.to_list(alloc)?;
-        Ok(PassEntry { input, actions })
-    }
+    Ok(decider)
 }

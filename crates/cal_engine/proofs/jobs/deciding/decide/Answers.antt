@@ -2,9 +2,9 @@ use Rattle.std.proofs.Common.{◌≡◌, ℕ, List, Err, Result, rules}
 use Rattle.cal_input.specs.Recorded.{Run}
 use Rattle.cal_input.specs.declared.fault.RunFault.{RunFault}
 use Rattle.cal_input.proofs.WholeInput.{answered, refused}
-use Rattle.cal_engine.specs.Outcome.{Reports}
+use Rattle.cal_engine.specs.Outcome.{run_report, Reports}
 use Rattle.cal_engine.specs.Deciding.{decided_run_of}
-use Rattle.cal_engine.proofs.Reporting.{not_reported, reports}
+use Rattle.cal_engine.proofs.Reporting.{refused_text, reports}
 use Rattle.cal_engine.proofs.jobs.deciding.decide.Goals as goal
 
 pub returns-in_err-report-clause-exact : goal.returns-in_err-report-clause-exact
@@ -13,7 +13,7 @@ returns-in_err-report-clause-exact g c =
     let fault : c.from_residual-in_err-report.result ≡ Err c.in_err-report.field-0.0 = search rules in
     rw fault (refused (g.R.Read.remaining c.args.reader) (g.R.Read.remaining c.read_input.new.reader) text decided_run_of c.in_err-report.field-0.0
     c.in_ok-input.ensures.all c.in_ok-input.ensures.end c.in_ok-input.ensures.short
-    (not_reported (decided_run_of text) c.in_err-report.field-0.0 (rw c.as_slice.ensures.value at c.in_err-report.ensures)))
+    (refused_text run_report (decided_run_of text) c.in_err-report.field-0.0 (rw c.as_slice.ensures.value at c.in_err-report.ensures)))
 
 pub returns-clause-exact : goal.returns-clause-exact
 returns-clause-exact g c =

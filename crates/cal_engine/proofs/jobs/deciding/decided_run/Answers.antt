@@ -1,8 +1,9 @@
-use Rattle.cal_machine.specs.Tasks.{threads_in}
-use Rattle.cal_trace.specs.Rows.{rows_of}
-use Rattle.cal_trace.proofs.SignalLemmas.Accepted.{accepted_fit}
+use Rattle.cal_engine.specs.Deciding.{decided_run_of}
+use Rattle.cal_engine.proofs.InTurn.{history_kept}
 use Rattle.cal_engine.proofs.jobs.deciding.decided_run.Goals as goal
 
-pub decide_passes-requires : goal.decide_passes-requires
-decide_passes-requires c =
-    rw c.into_items.ensures (accepted_fit (threads_in c.in_ok-config.config.tasks) (rows_of c.in_ok-config.trace.now) c.in_ok-signals.signals.passes c.in_ok-signals.ensures)
+pub returns-clause-exact : goal.returns-clause-exact
+returns-clause-exact c = (history_kept c.decide_input.new.keeper.items c.in_ok-config.config c.in_ok-config._decider (decided_run_of c.args.input.now) c.in_ok-config.ensures.decided).0
+
+pub returns-clause-legal : goal.returns-clause-legal
+returns-clause-legal c = (history_kept c.decide_input.new.keeper.items c.in_ok-config.config c.in_ok-config._decider (decided_run_of c.args.input.now) c.in_ok-config.ensures.decided).1

@@ -1,5 +1,5 @@
-use Rattle.std.proofs.Common.{◌≡◌, ◌++◌, List, [], Option, Err, length, sym, subst, rules}
-use Rattle.std.specs.Prelude.{min, option_to_list}
+use Rattle.std.proofs.Common.{◌≡◌, List, [], Err, sym, subst, rules}
+use Rattle.std.specs.Prelude.{option_to_list}
 use Rattle.std.proofs.KnownBytes.{Appends-nil}
 use Rattle.std.specs.Io.KnownBytes.{Appends}
 use Rattle.std.specs.List.{flat_map}

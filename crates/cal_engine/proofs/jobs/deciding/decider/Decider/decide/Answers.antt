@@ -5,7 +5,7 @@ use Rattle.cal_policy.specs.declared.history.action.Action.{Action}
 use Rattle.cal_policy.specs.declared.history.entry.PassEntry.{PassEntry}
 use Rattle.cal_engine.specs.Deciding.{input_of}
 use Rattle.cal_engine.proofs.Decided.{made_pass}
-use Rattle.cal_engine.proofs.jobs.deciding.Decider.decide.Goals as goal
+use Rattle.cal_engine.proofs.jobs.deciding.decider.Decider.decide.Goals as goal
 
 pub input-requires : goal.input-requires
 input-requires c = ap length c.as_slice-looks.ensures ∙ c.requires.looks

@@ -11,39 +11,39 @@ use Rattle.cal_trace.proofs.GivenSignals.{few_given}
 use Rattle.cal_input.specs.declared.fault.RunFault.TheVariants as fault
 use Rattle.cal_engine.specs.Deciding.{decided_pass, input_of}
 use Rattle.cal_engine.proofs.Decided.{IsDecided-none, IsDecided-append, judged_is_input}
-use Rattle.cal_engine.proofs.Reporting.{refused_signals, whole_report}
-use Rattle.cal_engine.proofs.jobs.deciding.report_passes.Goals as goal
+use Rattle.cal_engine.proofs.InTurn.{all_decided, refused_signals}
+use Rattle.cal_engine.proofs.jobs.deciding.decide_passes.Goals as goal
 
-pub loop-report-init : goal.loop-report-init
-loop-report-init c = record {
+pub loop-decider-init : goal.loop-decider-init
+loop-decider-init g c = record {
   ready = c.requires.ready;
-  of = c.in_ok-report.ensures.of;
-  reporting = λ trace has. record {
+  of = c.in_ok-decider.ensures.of;
+  deciding = λ trace has. record {
     given = [];
     history = [];
     has = has;
     so_far = IsDecided-none c.args.config.now;
-    tells = c.in_ok-report.ensures.tells;
+    decided = record { agrees = c.in_ok-decider.ensures.agrees; kept = c.requires.opened };
     count = refl;
   };
 }
 
-pub take-requires-clause-looks : goal.take-requires-clause-looks
-take-requires-clause-looks c =
+pub hand_on-requires-clause-looks : goal.hand_on-requires-clause-looks
+hand_on-requires-clause-looks g c =
     let some = c.requires.given in
-    let before = c.loop-report.invariant.reporting some.0 some.1 in
+    let before = c.loop-decider.invariant.deciding some.0 some.1 in
     let threads = threads_in c.args.config.now.tasks in
     let has = rw c.in-Some.is at (c.in_ok-pass.ensures.gives threads some.0 before.given before.has) in
     (last_fits threads before.given c.in-Some.pass has.fit.before).looks
 
-pub loop-report-preserved : goal.loop-report-preserved
-loop-report-preserved c = record {
+pub loop-decider-preserved : goal.loop-decider-preserved
+loop-decider-preserved g c = record {
   ready = rw c.in-Some.is at c.in_ok-pass.ensures.ready;
-  of = c.in_ok-take.ensures.of;
-  reporting = λ trace start.
+  of = c.in_ok-hand_on.ensures.of;
+  deciding = λ trace start.
       let table = c.args.config.now in
       let threads = threads_in table.tasks in
-      let before = c.loop-report.invariant.reporting trace start in
+      let before = c.loop-decider.invariant.deciding trace start in
       let given = before.given in
       let h = before.history in
       let pass = c.in-Some.pass in
@@ -56,24 +56,23 @@ loop-report-preserved c = record {
         history = h ++ decided_pass table h pass ∷ [];
         has = has;
         so_far = IsDecided-append table given h pass fits before.so_far;
-        tells = c.in_ok-take.ensures.tells h before.so_far.legal input few before.tells;
+        decided = c.in_ok-hand_on.ensures.decided h before.so_far.legal input few before.decided;
         count = length-append h (decided_pass table h pass ∷ []) ∙ ap (λ n. n + 1) before.count ∙ sym (length-append given (pass ∷ []));
       };
 }
 
-pub returns-in_err-pass : goal.returns-in_err-pass
-returns-in_err-pass c = λ trace start.
+pub returns-in_err-pass-clause-decided : goal.returns-in_err-pass-clause-decided
+returns-in_err-pass-clause-decided g c = λ trace start.
     let table = c.args.config.now in
     let threads = threads_in table.tasks in
-    let before = c.loop-report.invariant.reporting trace start in
+    let before = c.loop-decider.invariant.deciding trace start in
     let same : c.from_residual-in_err-pass.result ≡ Err (fault.Trace c.in_err-pass.field-0.0) = search rules in
     rw same (refused_signals table (signals_of threads (rows_of trace)) c.in_err-pass.field-0.0 (c.in_err-pass.ensures.gives threads trace before.given before.has))
 
-pub returns : goal.returns
-returns c = λ trace start.
+pub returns-clause-decided : goal.returns-clause-decided
+returns-clause-decided g c = λ trace start.
     let table = c.args.config.now in
     let threads = threads_in table.tasks in
-    let before = c.loop-report.invariant.reporting trace start in
+    let before = c.loop-decider.invariant.deciding trace start in
     let gives = rw c.in_default.is at (c.in_ok-pass.ensures.gives threads trace before.given before.has) in
-    whole_report (λ report. report.items) c.end.result table (signals_of threads (rows_of trace)) before.given before.history gives before.so_far
-    (c.end.ensures.text before.history before.tells) c.end.ensures.kind
+    all_decided (g.K.Keeper.keeps c.loop-decider.keeper) table (signals_of threads (rows_of trace)) before.given before.history c.loop-decider.decider gives before.so_far before.decided

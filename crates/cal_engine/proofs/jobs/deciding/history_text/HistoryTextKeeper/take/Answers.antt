@@ -1,0 +1,10 @@
+use Rattle.std.proofs.Common.{◌++◌, ◌∷◌, [], length-append, sym, ap, ◌∙◌, arith}
+use Rattle.cal_trace.specs.History.Text.{entry_rows, lines_of}
+use Rattle.cal_trace.proofs.HistoryLemmas.Lines.{begun_more}
+use Rattle.cal_engine.proofs.jobs.deciding.history_text.HistoryTextKeeper.take.Goals as goal
+
+pub returns-in-Ok-clause-keeps : goal.returns-in-Ok-clause-keeps
+returns-in-Ok-clause-keeps c = λ h few rows. record {
+  written = c.in-Ok.ensures ∙ ap (λ t. t ++ lines_of (entry_rows c.args.entry)) rows.written ∙ sym (begun_more h c.args.entry);
+  count = omega (arith, few, rows.count, length-append h (c.args.entry ∷ []));
+}
