@@ -48,7 +48,7 @@ pub fn run_program<H: Files + Threads + Sync, R: Read + Drop, W: Write, E: Write
         Ok(given) => given,
         Err(_) => return Failure::from(RunFault::Memory).end(errors),
     };
-    let mut output = Noted::new(output);
+    let mut output = Noted::new(&mut *output);
     match words(alloc, given.as_slice()) {
         Ok(request) => {
             let run = ProgramRun {
@@ -253,16 +253,15 @@ impl<'a, H: Files + Threads + Sync> ProgramRun<'a, H> {
             }
             _ => {}
         }
-        let input = read_input(alloc, &mut reader)?;
-        let read = refused_input(request, input.as_slice());
+        let bytes = read_input(alloc, &mut reader)?;
         let input = JobInput {
             alloc,
-            read,
+            read: refused_input(request, bytes.as_slice()),
             labels,
         };
         match answer_read(&request.job, &input, output, errors) {
             Ok(status) => Ok(status),
-            Err(fault) => end_refusal(alloc, read, fault, errors),
+            Err(fault) => end_refusal(alloc, input.read, fault, errors),
         }
     }
 }
