@@ -51,11 +51,7 @@ pub fn run_program<H: Files + Threads + Sync, R: Read + Drop, W: Write, E: Write
     let mut output = Noted::new(&mut *output);
     match words(alloc, given.as_slice()) {
         Ok(request) => {
-            let run = ProgramRun {
-                rt,
-                alloc,
-                request: &request,
-            };
+            let run = ProgramRun { rt, alloc, request };
             run.end(reader, &mut output, errors)
         }
         Err(error) => {
@@ -111,7 +107,7 @@ struct ProgramRun<'a, H> {
     /// What it takes memory from.
     alloc: Global,
     /// What the words ask for.
-    request: &'a Request<'a>,
+    request: Request<'a>,
 }
 
 impl<'a, H: Files + Threads + Sync> ProgramRun<'a, H> {
@@ -140,7 +136,7 @@ impl<'a, H: Files + Threads + Sync> ProgramRun<'a, H> {
         output: &mut Noted<W>,
         errors: &mut E,
     ) -> Result<u8, Failure<'a>> {
-        let request = self.request;
+        let request = &self.request;
         if let Some(status) = refuse_words_of_labels(request.labels, errors) {
             return Ok(status);
         }
@@ -231,7 +227,8 @@ impl<'a, H: Files + Threads + Sync> ProgramRun<'a, H> {
         output: &mut W,
         errors: &mut E,
     ) -> Result<u8, RunFault> {
-        let (alloc, request) = (self.alloc, self.request);
+        let alloc = self.alloc;
+        let request = &self.request;
         let names = names_of(alloc, request.labels)?;
         let labels = Labels {
             names: names.as_slice(),
