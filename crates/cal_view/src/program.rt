@@ -50,15 +50,25 @@ pub fn run_program<H: Files + Threads + Sync, R: Read + Drop, W: Write, E: Write
     };
     let mut output = Noted::new(&mut *output);
     match words(alloc, given.as_slice()) {
-        Ok(request) => {
-            let run = ProgramRun { rt, alloc, request };
-            run.end(reader, &mut output, errors)
-        }
+        Ok(request) => run_asked(rt, alloc, &request, reader, &mut output, errors),
         Err(error) => {
             let answer = refuse_words(&error, &mut output, errors);
             end_answer(answer, &output, errors)
         }
     }
+}
+
+/// Runs the program on what its words ask for and on an input, and answers its exit status.
+fn run_asked<H: Files + Threads + Sync, R: Read + Drop, W: Write, E: Write>(
+    rt: &H,
+    alloc: Global,
+    request: &Request<'_>,
+    reader: R,
+    output: &mut Noted<W>,
+    errors: &mut E,
+) -> u8 {
+    let run = ProgramRun { rt, alloc, request };
+    run.end(reader, output, errors)
 }
 
 /// The exit status after what was written on this writer. Of a fault its line is said, with what the
@@ -101,16 +111,16 @@ pub fn say_help<E: Write>(alloc: Global, errors: &mut E) -> Result<u8, RunFault>
 
 /// A run of the program that words ask for.
 #[derive(Drop)]
-struct ProgramRun<'a, H> {
+struct ProgramRun<'h, 'a, H> {
     /// What opens files and starts threads.
-    rt: &'a H,
+    rt: &'h H,
     /// What it takes memory from.
     alloc: Global,
     /// What the words ask for.
-    request: Request<'a>,
+    request: &'a Request<'a>,
 }
 
-impl<'a, H: Files + Threads + Sync> ProgramRun<'a, H> {
+impl<'h, 'a, H: Files + Threads + Sync> ProgramRun<'h, 'a, H> {
     /// Does what the words ask for, and answers the exit status.
     fn end<R: Read + Drop, W: Write, E: Write>(
         &self,
@@ -136,7 +146,7 @@ impl<'a, H: Files + Threads + Sync> ProgramRun<'a, H> {
         output: &mut Noted<W>,
         errors: &mut E,
     ) -> Result<u8, Failure<'a>> {
-        let request = &self.request;
+        let request = self.request;
         if let Some(status) = refuse_words_of_labels(request.labels, errors) {
             return Ok(status);
         }
@@ -227,8 +237,7 @@ impl<'a, H: Files + Threads + Sync> ProgramRun<'a, H> {
         output: &mut W,
         errors: &mut E,
     ) -> Result<u8, RunFault> {
-        let alloc = self.alloc;
-        let request = &self.request;
+        let (alloc, request) = (self.alloc, self.request);
         let names = names_of(alloc, request.labels)?;
         let labels = Labels {
             names: names.as_slice(),
