@@ -11,7 +11,7 @@ use Rattle.cal_policy.specs.declared.history.entry.PassEntry.{PassEntry}
 use Rattle.cal_policy.specs.declared.judgement.look_fault.LookFault.{LookFault}
 use Rattle.cal_policy.specs.declared.judgement.open_input.FoundLook.{FoundLook}
 use Rattle.cal_policy.specs.Judgement.OneByOne.{fault_of, refused_look, taken_found, taken_looks}
-use Rattle.caladan_c.specs.Found.{found_of, look_in}
+use Rattle.caladan_c.specs.Found.{found_of, look_of_found}
 use Rattle.caladan_c.specs.OneByOne.{said_of, is_unfit, IsFirstUnfit}
 use Rattle.caladan_c.specs.declared.found.Found.{Found}
 
@@ -43,14 +43,14 @@ set_other (x ∷ xs) (suc k) v (suc j) ne = set_other xs k v j (λ e. ne (ap suc
 
 -- what C is told of the first k looks, and of the next one
 pub said_to : (cores : ℕ) (h : List PassEntry) (looks : List Found) (out out2 : List ℕ) (k v : ℕ) (d : Found) → k < length out →
-    out2 ≡ set out k v → v ≡ said_of (fault_of cores h k (look_in (get_or looks k d))) (look_in (get_or looks k d)) → k < length looks →
-    ((j : ℕ) (o : Found) → j < k → slice_get looks j ≡ Some o → slice_get out j ≡ Some (said_of (fault_of cores h j (look_in o)) (look_in o))) →
-    (j : ℕ) (o : Found) → j < k + 1 → slice_get looks j ≡ Some o → slice_get out2 j ≡ Some (said_of (fault_of cores h j (look_in o)) (look_in o))
+    out2 ≡ set out k v → v ≡ said_of (fault_of cores h k (look_of_found (get_or looks k d))) (look_of_found (get_or looks k d)) → k < length looks →
+    ((j : ℕ) (o : Found) → j < k → slice_get looks j ≡ Some o → slice_get out j ≡ Some (said_of (fault_of cores h j (look_of_found o)) (look_of_found o))) →
+    (j : ℕ) (o : Found) → j < k + 1 → slice_get looks j ≡ Some o → slice_get out2 j ≡ Some (said_of (fault_of cores h j (look_of_found o)) (look_of_found o))
 said_to cores h looks out out2 k v d room is said lt before j o low at = elim (eqb_tells j k) [
   | inl e ↦
       let there : get_or looks k d ≡ o = get_or_from_slice_get looks k o d (ap (λ m. slice_get looks m) (sym e.1) ∙ at) in
-      let v_is : v ≡ said_of (fault_of cores h j (look_in o)) (look_in o) =
-      said ∙ ap (λ (f : Found). said_of (fault_of cores h k (look_in f)) (look_in f)) there ∙ ap (λ m. said_of (fault_of cores h m (look_in o)) (look_in o)) (sym e.1) in
+      let v_is : v ≡ said_of (fault_of cores h j (look_of_found o)) (look_of_found o) =
+      said ∙ ap (λ (f : Found). said_of (fault_of cores h k (look_of_found f)) (look_of_found f)) there ∙ ap (λ m. said_of (fault_of cores h m (look_of_found o)) (look_of_found o)) (sym e.1) in
       ap (λ l. slice_get l j) is ∙ ap (λ m. slice_get (set out k v) m) e.1 ∙ set_same out k v room ∙ ap Some v_is
   | inr n ↦
       let below : j < k = omega (arith, low, n.1) in

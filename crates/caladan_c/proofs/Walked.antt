@@ -20,7 +20,7 @@ use Rattle.cal_policy.specs.Judgement.OpenPass.{IsOpenAt, look_in as look_at}
 use Rattle.cal_policy.proofs.JudgementLemmas.OneByOne.{from_0, misfits_do_not_fit}
 use Rattle.cal_policy.proofs.JudgementLemmas.OpenInput.{length-judged_looks}
 use Rattle.cal_policy.proofs.JudgementLemmas.OpenPass.{judged_here}
-use Rattle.caladan_c.specs.Found.{found_of, input_of, look_in}
+use Rattle.caladan_c.specs.Found.{found_of, input_of_found, look_of_found}
 use Rattle.caladan_c.specs.OneByOne.{is_unfit}
 use Rattle.caladan_c.specs.Told.{AreJudgements, judgement_at, judgement_of}
 use Rattle.caladan_c.specs.declared.found.Found.{Found}
@@ -36,13 +36,13 @@ grown_all P xs k le given = subst P (take_all k xs le) given
 
 -- what is taken of one look more is what is taken of all of them
 pub taken_grows : (table : Table) (h : List PassEntry) (looks : List Found) (one : Found) (k : ℕ) (f : FoundLook) (fault : Option LookFault) →
-    length looks ≡ k → fault ≡ fault_of table.cores h k (look_in one) →
-    f.look ≡ (if is_some fault then refused_look else look_in one) → f.room ≡ (found_of one).room →
+    length looks ≡ k → fault ≡ fault_of table.cores h k (look_of_found one) →
+    f.look ≡ (if is_some fault then refused_look else look_of_found one) → f.room ≡ (found_of one).room →
     taken_looks table.cores h (map found_of looks) ++ f ∷ [] ≡ taken_looks table.cores h (map found_of (looks ++ one ∷ []))
 taken_grows table h looks one k f fault count why look room =
     let cores = table.cores in
-    let of_fault : f.look ≡ (if is_some (fault_of cores h k (look_in one)) then refused_look else look_in one) =
-    look ∙ ap (λ (o : Option LookFault). if is_some o then refused_look else look_in one) why in
+    let of_fault : f.look ≡ (if is_some (fault_of cores h k (look_of_found one)) then refused_look else look_of_found one) =
+    look ∙ ap (λ (o : Option LookFault). if is_some o then refused_look else look_of_found one) why in
     let whole : f ≡ taken_found cores h (k, found_of one) = λ i. record { look = of_fault i; room = room i } in
     let place : k ≡ length (map found_of looks) = sym count ∙ sym (length-map looks found_of) in
     ap (λ (g : FoundLook). taken_looks cores h (map found_of looks) ++ g ∷ []) (whole ∙ ap (λ m. taken_found cores h (m, found_of one)) place)
@@ -51,14 +51,14 @@ taken_grows table h looks one k f fault count why look room =
 
 -- a pass may not be given looks of which one does not fit
 pub unfit_is_no_input : (table : Table) (h : List PassEntry) (now bandwidth : ℕ) (looks : List Found) (k : ℕ) (d : Found) (why : LookFault) →
-    k < length looks → is_unfit h k (get_or looks k d) ≡ Some why → IsInput table h (input_of table h now bandwidth looks) → ⊥
+    k < length looks → is_unfit h k (get_or looks k d) ≡ Some why → IsInput table h (input_of_found table h now bandwidth looks) → ⊥
 unfit_is_no_input table h now bandwidth looks k d why lt unfit input =
     let f : ℕ × FoundLook → Seen = λ found. judged table.cores (actions_of h) found.0 found.1.look in
     let there = slice_get_at looks k lt in
     let same : get_or looks k d ≡ there.0 = get_or_from_slice_get looks k there.0 d there.1 in
     let at : slice_get (map found_of looks) k ≡ Some (found_of there.0) = slice_get-map found_of looks k ∙ ap (option_map found_of) there.1 in
-    let fits = input.looks.fit k (judged table.cores (actions_of h) k (look_in there.0)) (from_0 f (map found_of looks) k (found_of there.0) at) in
-    let none : misfit_of (last_shown (looks_of h) k) (look_in there.0) ≡ None = (misfits_do_not_fit (last_shown (looks_of h) k) table.cores (actions_of h) k (look_in there.0)).1 fits in
+    let fits = input.looks.fit k (judged table.cores (actions_of h) k (look_of_found there.0)) (from_0 f (map found_of looks) k (found_of there.0) at) in
+    let none : misfit_of (last_shown (looks_of h) k) (look_of_found there.0) ≡ None = (misfits_do_not_fit (last_shown (looks_of h) k) table.cores (actions_of h) k (look_of_found there.0)).1 fits in
     let some : is_unfit h k there.0 ≡ Some why = ap (λ (o : Found). is_unfit h k o) (sym same) ∙ unfit in
     let bad : None ≡ Some why = sym none ∙ some in cc
 

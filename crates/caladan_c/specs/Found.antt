@@ -11,20 +11,20 @@ use Rattle.caladan_c.specs.declared.found.Found.{Found}
 use Rattle.caladan_c.specs.declared.handed_in.HandedIn.{HandedIn}
 
 -- the look: busy where `busy` is not 0, else of the record
-abbrev pub look_in : Found → Look
-look_in found =
+abbrev pub look_of_found : Found → Look
+look_of_found found =
     if not (found.busy == 0) then Busy found.number found.second else Whole found.number found.rec
 
 -- the look, and whether there is room
 abbrev pub found_of : Found → FoundLook
-found_of found = record { look = look_in found; room = not (found.room == 0) }
+found_of found = record { look = look_of_found found; room = not (found.room == 0) }
 
 -- the input of a pass after this history, of what was found of each thread
-abbrev pub input_of : Table → List PassEntry → ℕ → ℕ → List Found → Input
-input_of table history now bandwidth looks =
+abbrev pub input_of_found : Table → List PassEntry → ℕ → ℕ → List Found → Input
+input_of_found table history now bandwidth looks =
     judged_input table history now bandwidth (map found_of looks)
 
 -- the same of what C handed in as one value
 abbrev pub input_given : Table → List PassEntry → HandedIn → Input
 input_given table history given =
-    input_of table history given.now given.bandwidth given.looks.now
+    input_of_found table history given.now given.bandwidth given.looks.now

@@ -1,4 +1,5 @@
 pub mod Handles
+pub mod Answer
 pub mod Standing
 pub mod Facts
 pub mod Found
@@ -7,5 +8,5 @@ pub mod OneByOne
 pub mod Passing
 pub mod Opening
 pub mod Recorded
-pub mod Audited
+pub mod AuditView
 pub mod GuardView

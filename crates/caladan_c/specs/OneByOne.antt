@@ -16,7 +16,7 @@ use Rattle.cal_policy.specs.History.Looks.{last_shown}
 use Rattle.cal_policy.specs.Judgement.OneByOne.{misfit_of, fault_of, taken_input, taken_looks}
 use Rattle.cal_policy.specs.Judgement.OpenPass.{IsOpenAt}
 use Rattle.cal_policy.specs.declared.judgement.open_pass.OpenPass.{OpenPass}
-use Rattle.caladan_c.specs.Found.{look_in, found_of}
+use Rattle.caladan_c.specs.Found.{look_of_found, found_of}
 use Rattle.caladan_c.specs.declared.found.Found.{Found}
 use Rattle.caladan_c.specs.declared.handed_in.HandedIn.{HandedIn}
 
@@ -36,14 +36,14 @@ IsTakenAt table history looks came =
     IsOpenAt table history (taken_looks table.cores history (map found_of looks)) came
 
 -- why a look was refused, as a number
-abbrev pub fault_number : LookFault → ℕ
-fault_number Ahead = 3
-fault_number Foreign = 4
-fault_number NoPair = 5
-fault_number Misshapen = 6
-fault_number PlaceFell = 7
-fault_number Changed = 8
-fault_number WordFell = 9
+abbrev pub look_fault_number : LookFault → ℕ
+look_fault_number Ahead = 3
+look_fault_number Foreign = 4
+look_fault_number NoPair = 5
+look_fault_number Misshapen = 6
+look_fault_number PlaceFell = 7
+look_fault_number Changed = 8
+look_fault_number WordFell = 9
 
 -- what was judged of a look that was taken as it is, as a number
 abbrev pub look_number : Look → ℕ
@@ -53,16 +53,17 @@ look_number (Busy first second) = 2
 -- what C is told of a look
 abbrev pub said_of : Option LookFault → Look → ℕ
 said_of None look = look_number look
-said_of (Some fault) look = fault_number fault
+said_of (Some fault) look = look_fault_number fault
 
 -- of each look C was told whether it was taken as it is, and else why it was refused
 abbrev pub AreSaid : ℕ → List PassEntry → List Found → List ℕ → Type 0
 AreSaid cores history looks out = (k : ℕ) (one : Found) → slice_get looks k ≡ Some one →
-    slice_get out k ≡ Some (said_of (fault_of cores history k (look_in one)) (look_in one))
+    slice_get out k ≡
+    Some (said_of (fault_of cores history k (look_of_found one)) (look_of_found one))
 
 -- the look at thread k does not fit what the thread showed before
 abbrev pub is_unfit : List PassEntry → ℕ → Found → Option LookFault
-is_unfit history k one = misfit_of (last_shown (looks_of history) k) (look_in one)
+is_unfit history k one = misfit_of (last_shown (looks_of history) k) (look_of_found one)
 
 -- thread k is the first whose look does not fit
 pub record IsFirstUnfit (history : List PassEntry) (looks : List Found) (k : ℕ) : Type 0 where

@@ -34,8 +34,8 @@ pub record MadePass (old : Standing) (history : List PassEntry) (given : Input) 
   pub after : IsStateAfter (board_in new.book) (history ++ passed old.table history given ∷ [])
 
 -- room for a judgement of each look, and for the most actions that a pass has
-abbrev pub HasRoom : ℕ → List ℕ → List Told → Type 0
-HasRoom threads judged actions = (threads ≤ length judged) × (MOST_ACTIONS ≤ length actions)
+abbrev pub HasRoomToTell : ℕ → List ℕ → List Told → Type 0
+HasRoomToTell threads judged actions = (threads ≤ length judged) × (MOST_ACTIONS ≤ length actions)
 
 -- too little room for one of them
 abbrev pub IsShort : ℕ → List ℕ → List Told → Type 0

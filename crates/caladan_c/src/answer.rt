@@ -1,9 +1,8 @@
 //! What a call answers: 0, a fault of the table (1 to 9), a refusal or a finding. 12 is unused.
 
-ghost use Rattle.std.specs.Prelude.{◌≡◌, ◌≢◌};
-ghost use Rattle.caladan_c.specs.declared.answer.Refusal.TheVariants.{Memory, NoAction};
-ghost use Rattle.caladan_c.specs.declared.answer.Refusal.TheVariants.{NoJudgement, NoRoom, Unfit};
-ghost use Rattle.caladan_c.specs.declared.answer.Refusal.TheVariants.{WrongCount};
+ghost use Rattle.std.specs.Prelude.{◌≡◌};
+ghost use Rattle.caladan_c.specs.Answer.{refusal_number};
+ghost use Rattle.caladan_c.specs.declared.answer.Refusal.TheVariants.{Memory, Unfit};
 
 use cal_policy::LookFault;
 use std::alloc::AllocError;
@@ -45,17 +44,7 @@ pub enum Finding {
 impl Refusal {
     /// Its number, never 0: 0 means that the call did what it was asked.
     pub fn number(self) -> u8
-        ensures refused { result ≢ 0 }
-        ensures not_stopped { result ≢ 18 }
-        ensures memory { self ≡ Memory → result ≡ 9 }
-        ensures wrong_count { self ≡ WrongCount → result ≡ 13 }
-        ensures no_room { self ≡ NoRoom → result ≡ 14 }
-        ensures unfit { self ≡ Unfit → result ≡ 15 }
-        ensures no_action { self ≡ NoAction → result ≡ 17 }
-        ensures no_judgement { self ≡ NoJudgement → result ≡ 19 }
-        ensures of_15 { result ≡ 15 → self ≡ Unfit }
-        ensures of_17 { result ≡ 17 → self ≡ NoAction }
-        ensures of_19 { result ≡ 19 → self ≡ NoJudgement }
+        ensures { result ≡ refusal_number self }
     {
         self as u8
     }

@@ -20,16 +20,16 @@ pub struct Audit {
 
 impl Model for Audit {
     ghost use Rattle.cal_policy.specs.Auditor.{IsAuditorOf};
-    ghost use Rattle.caladan_c.specs.Audited.{Audited};
+    ghost use Rattle.caladan_c.specs.AuditView.{AuditView};
 
-    ghost Value = { Audited };
+    ghost Value = { AuditView };
 
     ghost view = { λ a. record { table = a.config; auditor = a.auditor } };
 
     ghost invariant = { λ a. IsAuditorOf a.config a.auditor };
 }
 
-ghost use Rattle.caladan_c.specs.Audited.{HasAudited, TookNext};
+ghost use Rattle.caladan_c.specs.AuditView.{HasAudited, TookNext};
 
 impl Audit {
     /// An audit of this table that was handed no pass, or the table's fault.

@@ -1,24 +1,13 @@
 //! What C calls: of a scheduler, of an audit and of a guard.
 
-/// Asks what a handle keeps, which it keeps on, and goes on with the answer. Of a closed handle it is
-/// what stands first.
+/// Asks what a handle keeps, which it keeps on, and goes on with the answer. Of a closed handle it
+/// is what stands first.
 macro_rules! asked {
-    ($Handle:ident: $handle:ident, $alloc:ident; $closed:expr;
-        mut $kept:ident => $question:expr; $answer:ident => $then:expr) => {
-        match $handle.take($alloc) {
-            None => $closed,
-            Some(mut $kept) => {
-                let $answer = $question;
-                *$handle = $Handle::of($kept);
-                $then
-            }
-        }
-    };
     ($Handle:ident: $handle:ident, $alloc:ident; $closed:expr;
         $kept:ident => $question:expr; $answer:ident => $then:expr) => {
         match $handle.take($alloc) {
             None => $closed,
-            Some($kept) => {
+            Some(mut $kept) => {
                 let $answer = $question;
                 *$handle = $Handle::of($kept);
                 $then
@@ -38,6 +27,21 @@ macro_rules! looked_up {
                     0
                 }
                 None => Refusal::NoSuch as u8,
+            })
+    };
+}
+
+/// Has it do what it may refuse, and tells what came of it: 0.
+macro_rules! did {
+    ($Handle:ident: $handle:ident, $alloc:ident; $kept:ident => $done:expr;
+        $came:ident => $told:expr) => {
+        asked!($Handle: $handle, $alloc; Refusal::Closed as u8; $kept => $done;
+            answer => match answer {
+                Ok($came) => {
+                    $told;
+                    0
+                }
+                Err(refusal) => refusal.number(),
             })
     };
 }

@@ -10,8 +10,8 @@ ghost use Rattle.cal_policy.specs.declared.history.action.Action.TheVariants.{Re
 ghost use Rattle.cal_policy.specs.declared.history.action.Cause.{Cause};
 ghost use Rattle.caladan_c.specs.declared.answer.Refusal.TheVariants.{Memory, NoAction};
 ghost use Rattle.caladan_c.specs.declared.answer.Refusal.TheVariants.{NoJudgement, WrongCount};
-ghost use Rattle.caladan_c.specs.Found.{look_in};
-ghost use Rattle.caladan_c.specs.Recorded.{IsRecorded, AreNoJudgements, AreNoActions, room_in};
+ghost use Rattle.caladan_c.specs.Found.{look_of_found};
+ghost use Rattle.caladan_c.specs.Recorded.{IsToldOf, AreNoJudgements, AreNoActions, room_in};
 ghost use Rattle.caladan_c.specs.Told.{judgement_of, told_of};
 
 use crate::answer::Refusal;
@@ -24,9 +24,9 @@ use std::alloc::{AllocError, Global};
 
 /// The look with what was judged of it, where that number is a judgement of such a look.
 fn seen_of(found: &Found, judged: u8) -> Option<Seen>
-    ensures some { IfSome result (λ seen. (look_of seen ≡ look_in found.now) ×
+    ensures some { IfSome result (λ seen. (look_of seen ≡ look_of_found found.now) ×
         (judgement_of seen ≡ judged)) }
-    ensures none { result ≡ None → (seen : Seen) → look_of seen ≡ look_in found.now →
+    ensures none { result ≡ None → (seen : Seen) → look_of seen ≡ look_of_found found.now →
         judgement_of seen ≡ judged → ⊥ }
 {
     match found_look(found).look {
@@ -46,7 +46,7 @@ fn seen_of(found: &Found, judged: u8) -> Option<Seen>
 /// The judged looks.
 fn seen_in(alloc: Global, looks: &[Found], judged: &[u8]) -> Result<SeenList, Refusal>
     requires { length looks.now ≡ length judged.now }
-    ensures looks { IfOk result (λ seen. map look_of seen ≡ map look_in looks.now) }
+    ensures looks { IfOk result (λ seen. map look_of seen ≡ map look_of_found looks.now) }
     ensures judged { IfOk result (λ seen. map judgement_of seen ≡ judged.now) }
     ensures none { result ≡ Err NoJudgement → AreNoJudgements looks.now judged.now }
     ensures why { IfErr result (λ why. (why ≡ NoJudgement) ⊎ (why ≡ Memory)) }
@@ -184,7 +184,7 @@ pub fn entry_of(
     judged: &[u8],
     told: &[Told],
 ) -> Result<PassEntry, Refusal>
-    ensures recorded { IfOk result (IsRecorded given.entry.now given.entry.bandwidth
+    ensures recorded { IfOk result (IsToldOf given.entry.now given.entry.bandwidth
         given.entry.looks.now judged.now told.now) }
     ensures no_judgement { result ≡ Err NoJudgement →
         AreNoJudgements given.entry.looks.now judged.now }

@@ -1,30 +1,25 @@
 //! A scheduler: its table, and the book of its passes.
 
 mod each;
-mod facts;
+mod gone;
 
-ghost use Rattle.std.specs.Prelude.{◌≡◌, ◌≤◌, Err, IfOk, IfErr, OnErr, [], length};
-ghost use Rattle.std.specs.Prelude.{nat_lt};
+ghost use Rattle.std.specs.Prelude.{◌≡◌, ◌≤◌, Err, IfOk, IfErr, List, OnErr, [], length};
 ghost use Rattle.cal_machine.specs.Outcome.{Gives};
 ghost use Rattle.cal_machine.specs.Reading.{table_in};
 ghost use Rattle.cal_policy.specs.Judgement.Judging.{IsInput};
 ghost use Rattle.cal_machine.specs.TableTasks.{threads_of_table};
-ghost use Rattle.cal_policy.specs.History.{actions_of, holder_of};
-ghost use Rattle.cal_policy.specs.Board.{kept_holder};
+ghost use Rattle.cal_policy.specs.declared.history.entry.PassEntry.{PassEntry};
 ghost use Rattle.caladan_c.specs.Found.{input_given};
-ghost use Rattle.caladan_c.specs.Told.{counts_of};
-ghost use Rattle.std.specs.Option.{is_some, IfSome};
 
 use crate::answer::Refusal;
 use crate::handed_in::HandedIn;
-use crate::told::counts::{Counts, counts_of_task};
-use crate::told::holder::holder_on;
 use crate::told::judgement::tell_looks;
-use crate::walk::take_looks;
+use crate::walk::{Basis, take_looks};
 use cal_machine::{Config, ConfigFault};
+use cal_policy::state::Board;
 use cal_policy::{
-    Action, Actions, Book, Holder, OpenPass, legal_is_short, one_pass_more_is_legal,
-    open_pass_fits, settled_is_no_news,
+    Action, Actions, Book, OpenPass, legal_is_short, one_pass_more_is_legal, open_pass_fits,
+    settled_is_no_news,
 };
 use std::alloc::Global;
 use std::marker::Model;
@@ -53,7 +48,7 @@ impl Model for Scheduler {
 
 ghost use Rattle.cal_policy.specs.Book.{board_in, AfterLegal};
 ghost use Rattle.cal_policy.specs.Pass.{IsLegal};
-ghost use Rattle.cal_policy.specs.State.{IsStateAfter};
+ghost use Rattle.cal_policy.specs.State.{IsReady, IsStateAfter};
 ghost use Rattle.caladan_c.specs.Passing.{MadePass};
 ghost use Rattle.caladan_c.specs.Told.{AreJudgements};
 ghost use Rattle.caladan_c.specs.declared.answer.Refusal.TheVariants.{Unfit};
@@ -78,6 +73,22 @@ impl Scheduler {
         })
     }
 
+    /// Its table.
+    pub fn config(&self) -> &Config
+        ensures { result.now ≡ self.now.table }
+    {
+        &self.config
+    }
+
+    /// The board after its passes.
+    pub fn board(&self) -> &Board
+        ensures agrees { (h : List PassEntry) → IsStateAfter (board_in self.now.book) h →
+            IsStateAfter result.now h }
+        ensures ready { IsReady self.now.table result.now }
+    {
+        self.book.board()
+    }
+
     /// How many kernel threads there are.
     pub fn threads(&self) -> usize
         ensures { result ≡ threads_of_table self.now.table }
@@ -90,31 +101,6 @@ impl Scheduler {
         ensures { result.now ≡ self.now.made }
     {
         self.made.as_slice()
-    }
-
-    /// The bandwidth above which a best-effort task loses a core.
-    pub fn bandwidth_limit(&self) -> u64
-        ensures { result ≡ self.now.table.bandwidth_limit }
-    {
-        self.config.bandwidth_limit()
-    }
-
-    /// Who has a core, where the table has it.
-    pub fn holder(&self, core: u8) -> Option<Holder>
-        ensures there { is_some result ≡ nat_lt core self.now.table.cores }
-        ensures holder { IfSome result (λ holder. AfterLegal self.now.table self.now.book (λ h.
-            holder ≡ kept_holder (holder_of (actions_of h) core))) }
-    {
-        holder_on(&self.config, self.book.board(), core)
-    }
-
-    /// How many cores a task holds, how many it books, and its cap, where the table has it.
-    pub fn counts(&self, task: usize) -> Option<Counts>
-        ensures there { is_some result ≡ nat_lt task (length self.now.table.tasks) }
-        ensures counts { IfSome result (λ counted. AfterLegal self.now.table self.now.book (λ h.
-            counted ≡ counts_of self.now.table (actions_of h) task)) }
-    {
-        counts_of_task(&self.config, self.book.board(), task)
     }
 
     /// Makes the next pass, whose actions are then in `made`, and tells what was judged of each
@@ -133,8 +119,10 @@ impl Scheduler {
     {
         take_looks(
             &mut self.looks,
-            &self.config,
-            self.book.board(),
+            Basis {
+                config: &self.config,
+                board: self.book.board(),
+            },
             given.looks,
         )?;
         self.config.limits();

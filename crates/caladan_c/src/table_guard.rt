@@ -2,31 +2,29 @@
 //! of them is not permitted.
 
 mod each;
-mod facts;
+mod gone;
 
 ghost use Rattle.std.specs.Prelude.{◌≡◌, ◌⊎◌, ◌≤◌, Err, IfOk, IfErr, IfNone, OnErr, []};
-ghost use Rattle.std.specs.Prelude.{length, nat_lt};
+ghost use Rattle.std.specs.Prelude.{List, length};
 ghost use Rattle.cal_machine.specs.Outcome.{Gives};
 ghost use Rattle.cal_machine.specs.Reading.{table_in};
-ghost use Rattle.cal_policy.specs.Board.{kept_holder};
-ghost use Rattle.cal_policy.specs.History.{actions_of, holder_of};
 ghost use Rattle.cal_policy.specs.Judgement.Judging.{IsInput};
 ghost use Rattle.cal_machine.specs.TableTasks.{threads_of_table};
+ghost use Rattle.cal_policy.specs.declared.history.entry.PassEntry.{PassEntry};
 ghost use Rattle.caladan_c.specs.Found.{input_given};
-ghost use Rattle.caladan_c.specs.Told.{AreJudgements, counts_of};
-ghost use Rattle.std.specs.Option.{is_some, IfSome};
+ghost use Rattle.caladan_c.specs.Told.{AreJudgements};
+ghost use Rattle.std.specs.Option.{IfSome};
 
 use crate::answer::Refusal;
 use crate::handed_in::HandedIn;
 use crate::recorded::read_actions;
 use crate::told::Told;
-use crate::told::counts::{Counts, counts_of_task};
-use crate::told::holder::holder_on;
 use crate::told::judgement::tell_looks;
-use crate::walk::take_looks;
+use crate::walk::{Basis, take_looks};
 use cal_guard::{Guard, Refused, permitted_settled_is_no_news};
 use cal_machine::{Config, ConfigFault};
-use cal_policy::{Action, Holder, MOST_ACTIONS, OpenPass, open_pass_fits};
+use cal_policy::state::Board;
+use cal_policy::{Action, MOST_ACTIONS, OpenPass, open_pass_fits};
 use std::alloc::Global;
 use std::marker::Model;
 
@@ -53,7 +51,7 @@ impl Model for TableGuard {
     ghost invariant = { λ g. IsReady g.config (board_in g.guard) };
 }
 
-ghost use Rattle.cal_policy.specs.State.{IsStateAfter};
+ghost use Rattle.cal_policy.specs.State.{IsReady, IsStateAfter};
 ghost use Rattle.cal_guard.specs.Guarded.{board_in, AfterPermitted};
 ghost use Rattle.cal_guard.specs.Permitted.{IsPermittedHistory};
 ghost use Rattle.caladan_c.specs.GuardView.{WentThrough, WasStopped};
@@ -80,30 +78,27 @@ impl TableGuard {
         })
     }
 
+    /// Its table.
+    pub fn config(&self) -> &Config
+        ensures { result.now ≡ self.now.table }
+    {
+        &self.config
+    }
+
+    /// The board after its passes.
+    pub fn board(&self) -> &Board
+        ensures agrees { (h : List PassEntry) → IsStateAfter (board_in self.now.guard) h →
+            IsStateAfter result.now h }
+        ensures ready { IsReady self.now.table result.now }
+    {
+        self.guard.board()
+    }
+
     /// How many kernel threads there are.
     pub fn threads(&self) -> usize
         ensures { result ≡ threads_of_table self.now.table }
     {
         self.config.threads()
-    }
-
-    /// Who has a core, where the table has it.
-    pub fn holder(&self, core: u8) -> Option<Holder>
-        ensures there { is_some result ≡ nat_lt core self.now.table.cores }
-        ensures holder { IfSome result (λ holder. AfterPermitted self.now.table self.now.guard (λ h.
-            holder ≡ kept_holder (holder_of (actions_of h) core))) }
-    {
-        holder_on(&self.config, self.guard.board(), core)
-    }
-
-    /// How many cores a task holds, how many it books, and its cap, where the table has it.
-    pub fn counts(&self, task: usize) -> Option<Counts>
-        ensures there { is_some result ≡ nat_lt task (length self.now.table.tasks) }
-        ensures counts { IfSome result (λ counted.
-            AfterPermitted self.now.table self.now.guard (λ h.
-            counted ≡ counts_of self.now.table (actions_of h) task)) }
-    {
-        counts_of_task(&self.config, self.guard.board(), task)
     }
 
     /// Lets the next pass through with the actions that C chose, where each is permitted at its
@@ -137,8 +132,10 @@ impl TableGuard {
         read_actions(&mut self.chosen, told)?;
         take_looks(
             &mut self.looks,
-            &self.config,
-            self.guard.board(),
+            Basis {
+                config: &self.config,
+                board: self.guard.board(),
+            },
             given.looks,
         )?;
         self.config.limits();

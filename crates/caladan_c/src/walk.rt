@@ -11,7 +11,7 @@ ghost use Rattle.cal_policy.specs.Judgement.Judging.{IsInput};
 ghost use Rattle.cal_policy.specs.Judgement.OneByOne.{fault_of};
 ghost use Rattle.cal_policy.specs.Judgement.OpenPass.{IsOpenAt};
 ghost use Rattle.cal_policy.specs.Judgement.Settled.{SettledAreNoNews};
-ghost use Rattle.caladan_c.specs.Found.{found_of, input_of, look_in};
+ghost use Rattle.caladan_c.specs.Found.{found_of, input_of_found, look_of_found};
 ghost use Rattle.caladan_c.specs.OneByOne.{AreSaid, is_unfit, IsTakenAt, said_of};
 
 use crate::found::{Found, found_look};
@@ -19,6 +19,15 @@ use crate::told::fault::tell_look;
 use cal_machine::Config;
 use cal_policy::state::Board;
 use cal_policy::{LookFault, OpenPass, taken_of};
+
+/// What looks are judged by: the table, and the board after the passes so far.
+#[derive(Clone, Copy)]
+pub struct Basis<'a> {
+    /// The table.
+    pub config: &'a Config,
+    /// The board.
+    pub board: &'a Board,
+}
 
 /// Takes what was found of the next thread, or says why its look does not fit and changes nothing.
 /// It stands apart, so that a look that is passed over is not written down.
@@ -67,25 +76,21 @@ fn take_next(
 }
 
 /// Takes the looks of a pass, or says why the first that does not fit does not.
-pub fn take_looks(
-    came: &mut OpenPass,
-    config: &Config,
-    board: &Board,
-    looks: &[Found],
-) -> Result<(), LookFault>
-    requires count { length looks.now ≡ threads_of_table config.now }
-    requires sets { KeepsSets board.now.keeping }
-    ensures taken { IfOk result (λ _. (h : List PassEntry) → SettledAreNoNews config.now h →
-        IsStateAfter board.now h →
-        IsOpenAt config.now h (map found_of looks.entry.now) came.new) }
+pub fn take_looks(came: &mut OpenPass, on: Basis<'_>, looks: &[Found]) -> Result<(), LookFault>
+    requires count { length looks.now ≡ threads_of_table on.config.now }
+    requires sets { KeepsSets on.board.now.keeping }
+    ensures taken { IfOk result (λ _. (h : List PassEntry) →
+        SettledAreNoNews on.entry.config.now h → IsStateAfter on.entry.board.now h →
+        IsOpenAt on.entry.config.now h (map found_of looks.entry.now) came.new) }
     ensures count { IfOk result (λ _. came.new.count ≡ length looks.entry.now) }
     ensures unfit { IfErr result (λ _. (h : List PassEntry) (now bandwidth : ℕ) →
-        IsStateAfter board.now h →
-        IsInput config.now h (input_of config.now h now bandwidth looks.entry.now) → ⊥) }
+        IsStateAfter on.entry.board.now h →
+        IsInput on.entry.config.now h
+        (input_of_found on.entry.config.now h now bandwidth looks.entry.now) → ⊥) }
 {
     came.begin();
     for one in looks {
-        take_next(came, config, board, one)?;
+        take_next(came, on.config, on.board, one)?;
     }
     Ok(())
 }
@@ -101,8 +106,8 @@ fn take_news_by_itself(came: &mut OpenPass, config: &Config, board: &Board, one:
         IsTakenAt config.now h (looks ++ one.entry.now ∷ []) came.new }
     ensures count { came.new.count ≡ came.old.count + 1 }
     ensures said { (h : List PassEntry) → IsStateAfter board.now h →
-        result ≡ said_of (fault_of config.now.cores h came.old.count (look_in one.entry.now))
-        (look_in one.entry.now) }
+        result ≡ said_of (fault_of config.now.cores h came.old.count (look_of_found one.entry.now))
+        (look_of_found one.entry.now) }
 {
     let found = found_look(one);
     let fault = board.fault_of(config, came.count, found.look);
@@ -122,8 +127,8 @@ fn take_by_itself(came: &mut OpenPass, config: &Config, board: &Board, one: &Fou
     ensures count { came.new.count ≡ came.old.count + 1 }
     ensures said { (h : List PassEntry) → SettledAreNoNews config.now h →
         IsStateAfter board.now h →
-        result ≡ said_of (fault_of config.now.cores h came.old.count (look_in one.entry.now))
-        (look_in one.entry.now) }
+        result ≡ said_of (fault_of config.now.cores h came.old.count (look_of_found one.entry.now))
+        (look_of_found one.entry.now) }
 {
     config.limits();
     if came.pass_over(board, found_look(one)) {
@@ -133,24 +138,20 @@ fn take_by_itself(came: &mut OpenPass, config: &Config, board: &Board, one: &Fou
 }
 
 /// Takes the looks of a pass, each by itself, and tells what was judged of each.
-pub fn take_each(
-    came: &mut OpenPass,
-    config: &Config,
-    board: &Board,
-    looks: &[Found],
-    judged: &mut [u8],
-)
-    requires count { length looks.now ≡ threads_of_table config.now }
-    requires room { threads_of_table config.now ≤ length judged.old }
-    requires sets { KeepsSets board.now.keeping }
-    ensures taken { (h : List PassEntry) → SettledAreNoNews config.now h →
-        IsStateAfter board.now h → IsTakenAt config.now h looks.entry.now came.new }
+pub fn take_each(came: &mut OpenPass, on: Basis<'_>, looks: &[Found], judged: &mut [u8])
+    requires count { length looks.now ≡ threads_of_table on.config.now }
+    requires room { threads_of_table on.config.now ≤ length judged.old }
+    requires sets { KeepsSets on.board.now.keeping }
+    ensures taken { (h : List PassEntry) → SettledAreNoNews on.entry.config.now h →
+        IsStateAfter on.entry.board.now h →
+        IsTakenAt on.entry.config.now h looks.entry.now came.new }
     ensures count { came.new.count ≡ length looks.entry.now }
-    ensures said { (h : List PassEntry) → SettledAreNoNews config.now h →
-        IsStateAfter board.now h → AreSaid config.now.cores h looks.entry.now judged.new }
+    ensures said { (h : List PassEntry) → SettledAreNoNews on.entry.config.now h →
+        IsStateAfter on.entry.board.now h →
+        AreSaid on.entry.config.now.cores h looks.entry.now judged.new }
 {
     came.begin();
     for (k, one) in looks.iter().enumerate() {
-        judged[k] = take_by_itself(came, config, board, one);
+        judged[k] = take_by_itself(came, on.config, on.board, one);
     }
 }

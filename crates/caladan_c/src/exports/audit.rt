@@ -9,10 +9,13 @@ ghost use Rattle.cal_machine.specs.Reading.{table_in};
 ghost use Rattle.cal_policy.specs.Verdict.{IsVerdict};
 ghost use Rattle.cal_policy.specs.declared.history.entry.PassEntry.{PassEntry};
 ghost use Rattle.cal_policy.specs.declared.verdict.Verdict.TheVariants.{Legal, Illegal};
-ghost use Rattle.caladan_c.specs.Audited.{HasAudited, SaysAudit, TookRecorded};
+ghost use Rattle.caladan_c.specs.Answer.{refusal_number, finding_number};
+ghost use Rattle.caladan_c.specs.AuditView.{HasAudited, SaysAudit, TookRecorded};
 ghost use Rattle.caladan_c.specs.Recorded.{AreNoJudgements, AreNoActions};
-ghost use Rattle.caladan_c.specs.declared.answer.Refusal.TheVariants.{Memory, NoAction};
-ghost use Rattle.caladan_c.specs.declared.answer.Refusal.TheVariants.{NoJudgement, WrongCount};
+ghost use Rattle.caladan_c.specs.declared.answer.Refusal.TheVariants.{Closed, Memory, NoAction};
+ghost use Rattle.caladan_c.specs.declared.answer.Refusal.TheVariants.{NoJudgement, Open};
+ghost use Rattle.caladan_c.specs.declared.answer.Refusal.TheVariants.{WrongCount};
+ghost use Rattle.caladan_c.specs.declared.answer.Finding.TheVariants as findings;
 
 use crate::answer::{Finding, Refusal};
 use crate::audit::Audit;
@@ -38,8 +41,8 @@ fn open(alloc: Global, table: &[u8]) -> Result<Box<Audit>, ConfigFault>
 /// to 9.
 #[unsafe(no_mangle)]
 pub extern "C" fn caladan_audit_open(alloc: Global, table: &[u8], handle: &mut AuditHandle) -> u8
-    ensures already { is_some handle.old.pointer.kept ≡ true → result ≡ 11 }
-    ensures opened { is_some handle.old.pointer.kept ≡ false → result ≢ 9 →
+    ensures already { is_some handle.old.pointer.kept ≡ true → result ≡ refusal_number Open }
+    ensures opened { is_some handle.old.pointer.kept ≡ false → result ≢ refusal_number Memory →
         SaysAudit (table_in table.now) result handle.new.pointer.kept }
     ensures refused { result ≢ 0 → handle.new ≡ handle.old }
 {
@@ -97,26 +100,26 @@ pub extern "C" fn caladan_audit_pass(
     judged: &[u8],
     actions: &[Told],
 ) -> u8
-    ensures closed { is_some handle.old.pointer.kept ≡ false → result ≡ 10 }
+    ensures closed { is_some handle.old.pointer.kept ≡ false → result ≡ refusal_number Closed }
     ensures taken { result ≡ 0 → ForSome handle.old.pointer.kept (λ a.
         IsSomeAnd handle.new.pointer.kept (TookRecorded a now bandwidth looks.now judged.now
         actions.now)) }
-    ensures no_judgement { result ≡ 19 → AreNoJudgements looks.now judged.now }
-    ensures no_action { result ≡ 17 → AreNoActions actions.now }
+    ensures no_judgement { result ≡ refusal_number NoJudgement → AreNoJudgements looks.now
+        judged.now }
+    ensures no_action { result ≡ refusal_number NoAction → AreNoActions actions.now }
     ensures wrong_count { ForSome handle.old.pointer.kept (λ _.
-        length looks.now ≢ length judged.now → result ≡ 13) }
+        length looks.now ≢ length judged.now → result ≡ refusal_number WrongCount) }
     ensures answers { ForSome handle.old.pointer.kept (λ _. length looks.now ≡ length judged.now →
-        (result ≡ 0) ⊎ (result ≡ 19) ⊎ (result ≡ 17) ⊎ (result ≡ 9)) }
-    ensures own { (result ≡ 0) ⊎ (result ≡ 9) ⊎ (result ≡ 10) ⊎ (result ≡ 13) ⊎ (result ≡ 17) ⊎
-        (result ≡ 19) }
+        (result ≡ 0) ⊎ (result ≡ refusal_number NoJudgement) ⊎ (result ≡ refusal_number NoAction) ⊎
+        (result ≡ refusal_number Memory)) }
+    ensures own { (result ≡ 0) ⊎ (result ≡ refusal_number Memory) ⊎
+        (result ≡ refusal_number Closed) ⊎ (result ≡ refusal_number WrongCount) ⊎
+        (result ≡ refusal_number NoAction) ⊎ (result ≡ refusal_number NoJudgement) }
     ensures refused { result ≢ 0 → handle.new.pointer.kept ≡ handle.old.pointer.kept }
 {
-    asked!(AuditHandle: handle, alloc; Refusal::Closed as u8;
-        mut kept => kept.next_recorded(alloc, HandedIn { now, bandwidth, looks }, judged, actions);
-        answer => match answer {
-            Ok(()) => 0,
-            Err(refusal) => refusal.number(),
-        })
+    did!(AuditHandle: handle, alloc;
+        kept => kept.next_recorded(alloc, HandedIn { now, bandwidth, looks }, judged, actions);
+        _taken => ())
 }
 
 /// What the audit says of the passes so far: 0 each is legal; 20 one is not, and `pass` is the
@@ -127,13 +130,15 @@ pub extern "C" fn caladan_audit_verdict(
     handle: &mut AuditHandle,
     pass: &mut u64,
 ) -> u8
-    ensures closed { is_some handle.old.pointer.kept ≡ false → result ≡ 10 }
+    ensures closed { is_some handle.old.pointer.kept ≡ false → result ≡ refusal_number Closed }
     ensures legal { result ≡ 0 → ForSome handle.old.pointer.kept (λ a. (h : List PassEntry) →
         HasAudited a h → IsVerdict a.table h Legal) }
-    ensures illegal { result ≡ 20 → ForSome handle.old.pointer.kept (λ a. (h : List PassEntry) →
-        HasAudited a h → IsVerdict a.table h (Illegal pass.new)) }
-    ensures answers { ForSome handle.old.pointer.kept (λ _. (result ≡ 0) ⊎ (result ≡ 20)) }
-    ensures other { result ≢ 20 → pass.new ≡ pass.old }
+    ensures illegal { result ≡ finding_number findings.Illegal →
+        ForSome handle.old.pointer.kept (λ a. (h : List PassEntry) → HasAudited a h →
+        IsVerdict a.table h (Illegal pass.new)) }
+    ensures answers { ForSome handle.old.pointer.kept (λ _. (result ≡ 0) ⊎
+        (result ≡ finding_number findings.Illegal)) }
+    ensures other { result ≢ finding_number findings.Illegal → pass.new ≡ pass.old }
     ensures same { handle.new.pointer.kept ≡ handle.old.pointer.kept }
 {
     asked!(AuditHandle: handle, alloc; Refusal::Closed as u8; kept => kept.verdict();
@@ -149,7 +154,7 @@ pub extern "C" fn caladan_audit_verdict(
 /// Lets go of what the handle keeps: 0; 10 it is closed already.
 #[unsafe(no_mangle)]
 pub extern "C" fn caladan_audit_close(alloc: Global, handle: &mut AuditHandle) -> u8
-    ensures already { is_some handle.old.pointer.kept ≡ false → result ≡ 10 }
+    ensures already { is_some handle.old.pointer.kept ≡ false → result ≡ refusal_number Closed }
     ensures closed { is_some handle.old.pointer.kept ≡ true → result ≡ 0 }
     ensures after { handle.new.pointer.kept ≡ None }
 {

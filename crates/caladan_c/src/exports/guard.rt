@@ -13,7 +13,8 @@ ghost use Rattle.cal_policy.specs.Board.{kept_holder};
 ghost use Rattle.cal_policy.specs.History.{actions_of, holder_of};
 ghost use Rattle.cal_policy.specs.Judgement.Judging.{IsInput};
 ghost use Rattle.cal_machine.specs.TableTasks.{threads_of_table};
-ghost use Rattle.caladan_c.specs.Found.{input_of, input_given};
+ghost use Rattle.caladan_c.specs.Answer.{refusal_number, finding_number};
+ghost use Rattle.caladan_c.specs.Found.{input_of_found, input_given};
 ghost use Rattle.cal_policy.specs.State.{IsStateAfter};
 ghost use Rattle.cal_guard.specs.Guarded.{board_in, AfterPermitted};
 ghost use Rattle.cal_guard.specs.Permitted.{IsPermittedHistory};
@@ -21,8 +22,10 @@ ghost use Rattle.caladan_c.specs.GuardView.{SaysGuard, WentThrough, WasStopped};
 ghost use Rattle.caladan_c.specs.GuardView.{WasStoppedAt};
 ghost use Rattle.caladan_c.specs.Told.{AreJudgements, counts_of, told_holder_of};
 ghost use Rattle.caladan_c.specs.Recorded.{AreNoActions};
-ghost use Rattle.caladan_c.specs.declared.answer.Refusal.TheVariants.{Memory, NoAction, NoRoom};
-ghost use Rattle.caladan_c.specs.declared.answer.Refusal.TheVariants.{Unfit, WrongCount};
+ghost use Rattle.caladan_c.specs.declared.answer.Refusal.TheVariants.{Closed, Memory, NoAction};
+ghost use Rattle.caladan_c.specs.declared.answer.Refusal.TheVariants.{NoRoom, NoSuch, Open, Unfit};
+ghost use Rattle.caladan_c.specs.declared.answer.Refusal.TheVariants.{WrongCount};
+ghost use Rattle.caladan_c.specs.declared.answer.Finding.TheVariants.{Stopped};
 
 use crate::answer::{Finding, Refusal};
 use crate::found::Found;
@@ -30,8 +33,8 @@ use crate::handed_in::HandedIn;
 use crate::handle::guard::GuardHandle;
 use crate::table_guard::TableGuard;
 use crate::told::Told;
-use crate::told::counts::Counts;
-use crate::told::holder::{ToldHolder, tell_holder};
+use crate::told::counts::{Counts, counts_of_task};
+use crate::told::holder::{ToldHolder, holder_on, tell_holder};
 use crate::told::refused::{ToldRefused, tell_refused};
 use cal_guard::Refused;
 use cal_machine::ConfigFault;
@@ -51,8 +54,8 @@ fn open(alloc: Global, table: &[u8]) -> Result<Box<TableGuard>, ConfigFault>
 /// 9.
 #[unsafe(no_mangle)]
 pub extern "C" fn caladan_guard_open(alloc: Global, table: &[u8], handle: &mut GuardHandle) -> u8
-    ensures already { is_some handle.old.pointer.kept ≡ true → result ≡ 11 }
-    ensures opened { is_some handle.old.pointer.kept ≡ false → result ≢ 9 →
+    ensures already { is_some handle.old.pointer.kept ≡ true → result ≡ refusal_number Open }
+    ensures opened { is_some handle.old.pointer.kept ≡ false → result ≢ refusal_number Memory →
         SaysGuard (table_in table.now) result handle.new.pointer.kept }
     ensures refused { result ≢ 0 → handle.new ≡ handle.old }
 {
@@ -132,37 +135,41 @@ pub extern "C" fn caladan_guard_pass(
     actions: &[Told],
     refused: &mut ToldRefused,
 ) -> u8
-    ensures closed { is_some handle.old.pointer.kept ≡ false → result ≡ 10 }
+    ensures closed { is_some handle.old.pointer.kept ≡ false → result ≡ refusal_number Closed }
     ensures through { result ≡ 0 → ForSome handle.old.pointer.kept (λ g.
         AfterPermitted g.table g.guard (λ h.
-        IsSomeAnd handle.new.pointer.kept (WentThrough g h (input_of g.table h now bandwidth
+        IsSomeAnd handle.new.pointer.kept (WentThrough g h (input_of_found g.table h now bandwidth
         looks.now) actions.now))) }
     ensures judged { result ≡ 0 → ForSome handle.old.pointer.kept (λ g.
         AfterPermitted g.table g.guard (λ h.
-        AreJudgements (input_of g.table h now bandwidth looks.now).seen judged.new)) }
-    ensures stopped { result ≡ 18 → ForSome handle.old.pointer.kept (λ g.
+        AreJudgements (input_of_found g.table h now bandwidth looks.now).seen judged.new)) }
+    ensures stopped { result ≡ finding_number Stopped → ForSome handle.old.pointer.kept (λ g.
         AfterPermitted g.table g.guard (λ h.
-        WasStoppedAt g h (input_of g.table h now bandwidth looks.now) actions.now refused.new)) }
-    ensures unfit { result ≡ 15 → ForSome handle.old.pointer.kept (λ g.
+        WasStoppedAt g h (input_of_found g.table h now bandwidth looks.now) actions.now
+        refused.new)) }
+    ensures unfit { result ≡ refusal_number Unfit → ForSome handle.old.pointer.kept (λ g.
         AfterPermitted g.table g.guard (λ h.
-        IsInput g.table h (input_of g.table h now bandwidth looks.now) → ⊥)) }
-    ensures no_action { result ≡ 17 → AreNoActions actions.now }
+        IsInput g.table h (input_of_found g.table h now bandwidth looks.now) → ⊥)) }
+    ensures no_action { result ≡ refusal_number NoAction → AreNoActions actions.now }
     ensures wrong_count { ForSome handle.old.pointer.kept (λ g.
-        length looks.now ≢ threads_of_table g.table → result ≡ 13) }
+        length looks.now ≢ threads_of_table g.table → result ≡ refusal_number WrongCount) }
     ensures no_room { ForSome handle.old.pointer.kept (λ g.
         length looks.now ≡ threads_of_table g.table → length judged.old < threads_of_table g.table →
-        result ≡ 14) }
+        result ≡ refusal_number NoRoom) }
     ensures answers { ForSome handle.old.pointer.kept (λ g.
         length looks.now ≡ threads_of_table g.table → threads_of_table g.table ≤ length judged.old →
-        (result ≡ 0) ⊎ (result ≡ 18) ⊎ (result ≡ 15) ⊎ (result ≡ 17) ⊎ (result ≡ 9)) }
-    ensures own { (result ≡ 0) ⊎ (result ≡ 9) ⊎ (result ≡ 10) ⊎ (result ≡ 13) ⊎ (result ≡ 14) ⊎
-        (result ≡ 15) ⊎ (result ≡ 17) ⊎ (result ≡ 18) }
+        (result ≡ 0) ⊎ (result ≡ finding_number Stopped) ⊎ (result ≡ refusal_number Unfit) ⊎
+        (result ≡ refusal_number NoAction) ⊎ (result ≡ refusal_number Memory)) }
+    ensures own { (result ≡ 0) ⊎ (result ≡ refusal_number Memory) ⊎
+        (result ≡ refusal_number Closed) ⊎ (result ≡ refusal_number WrongCount) ⊎
+        (result ≡ refusal_number NoRoom) ⊎ (result ≡ refusal_number Unfit) ⊎
+        (result ≡ refusal_number NoAction) ⊎ (result ≡ finding_number Stopped) }
     ensures unchanged { result ≢ 0 → (handle.new.pointer.kept ≡ handle.old.pointer.kept) ×
         (judged.new ≡ judged.old) }
-    ensures told { result ≢ 18 → refused.new ≡ refused.old }
+    ensures told { result ≢ finding_number Stopped → refused.new ≡ refused.old }
 {
     asked!(GuardHandle: handle, alloc; Refusal::Closed as u8;
-        mut kept => kept.pass_told(HandedIn { now, bandwidth, looks }, judged, actions);
+        kept => kept.pass_told(HandedIn { now, bandwidth, looks }, judged, actions);
         answer => match answer {
             Ok(None) => 0,
             Ok(Some(first)) => {
@@ -182,18 +189,18 @@ pub extern "C" fn caladan_guard_holder(
     core: u8,
     holder: &mut ToldHolder,
 ) -> u8
-    ensures closed { is_some handle.old.pointer.kept ≡ false → result ≡ 10 }
+    ensures closed { is_some handle.old.pointer.kept ≡ false → result ≡ refusal_number Closed }
     ensures told { result ≡ 0 → ForSome handle.old.pointer.kept (λ g.
         AfterPermitted g.table g.guard (λ h.
         holder.new ≡ told_holder_of (kept_holder (holder_of (actions_of h) core)))) }
     ensures there { ForSome handle.old.pointer.kept (λ g. core < g.table.cores → result ≡ 0) }
-    ensures no_core { ForSome handle.old.pointer.kept (λ g. g.table.cores ≤ core → result ≡ 16) }
+    ensures no_core { ForSome handle.old.pointer.kept (λ g. g.table.cores ≤ core →
+        result ≡ refusal_number NoSuch) }
     ensures refused { result ≢ 0 → holder.new ≡ holder.old }
     ensures same { handle.new.pointer.kept ≡ handle.old.pointer.kept }
 {
-    looked_up!(GuardHandle: handle, alloc; kept => kept.holder(core);
-        found => *holder = tell_holder(found)
-    )
+    looked_up!(GuardHandle: handle, alloc; kept => holder_on(kept.config(), kept.board(), core);
+        found => *holder = tell_holder(found))
 }
 
 /// What a task has after the passes that went through: 0; 10 the handle is closed; 16 the table has
@@ -205,23 +212,24 @@ pub extern "C" fn caladan_guard_task(
     task: usize,
     counts: &mut Counts,
 ) -> u8
-    ensures closed { is_some handle.old.pointer.kept ≡ false → result ≡ 10 }
+    ensures closed { is_some handle.old.pointer.kept ≡ false → result ≡ refusal_number Closed }
     ensures told { result ≡ 0 → ForSome handle.old.pointer.kept (λ g.
         AfterPermitted g.table g.guard (λ h. counts.new ≡ counts_of g.table (actions_of h) task)) }
     ensures there { ForSome handle.old.pointer.kept (λ g. task < length g.table.tasks →
         result ≡ 0) }
     ensures no_task { ForSome handle.old.pointer.kept (λ g. length g.table.tasks ≤ task →
-        result ≡ 16) }
+        result ≡ refusal_number NoSuch) }
     ensures refused { result ≢ 0 → counts.new ≡ counts.old }
     ensures same { handle.new.pointer.kept ≡ handle.old.pointer.kept }
 {
-    looked_up!(GuardHandle: handle, alloc; kept => kept.counts(task); found => *counts = found)
+    looked_up!(GuardHandle: handle, alloc;
+        kept => counts_of_task(kept.config(), kept.board(), task); found => *counts = found)
 }
 
 /// Lets go of what the handle keeps: 0; 10 it is closed already.
 #[unsafe(no_mangle)]
 pub extern "C" fn caladan_guard_close(alloc: Global, handle: &mut GuardHandle) -> u8
-    ensures already { is_some handle.old.pointer.kept ≡ false → result ≡ 10 }
+    ensures already { is_some handle.old.pointer.kept ≡ false → result ≡ refusal_number Closed }
     ensures closed { is_some handle.old.pointer.kept ≡ true → result ≡ 0 }
     ensures after { handle.new.pointer.kept ≡ None }
 {

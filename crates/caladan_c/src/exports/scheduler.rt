@@ -12,23 +12,24 @@ ghost use Rattle.cal_policy.specs.Board.{kept_holder};
 ghost use Rattle.cal_policy.specs.History.{actions_of, holder_of};
 ghost use Rattle.cal_policy.specs.Judgement.Judging.{IsInput};
 ghost use Rattle.cal_machine.specs.TableTasks.{threads_of_table};
-ghost use Rattle.caladan_c.specs.Found.{input_of, input_given};
+ghost use Rattle.caladan_c.specs.Answer.{refusal_number};
+ghost use Rattle.caladan_c.specs.Found.{input_of_found, input_given};
 ghost use Rattle.caladan_c.specs.Opening.{SaysScheduler};
 ghost use Rattle.cal_policy.specs.Book.{board_in, AfterLegal};
 ghost use Rattle.cal_policy.specs.Pass.{IsLegal};
 ghost use Rattle.cal_policy.specs.State.{IsStateAfter};
-ghost use Rattle.caladan_c.specs.Passing.{MadePass, HasRoom, IsShort};
+ghost use Rattle.caladan_c.specs.Passing.{MadePass, HasRoomToTell, IsShort};
 ghost use Rattle.caladan_c.specs.Told.{AreTold, AreJudgements, counts_of, told_holder_of};
-ghost use Rattle.caladan_c.specs.declared.answer.Refusal.TheVariants.{NoRoom, Unfit};
-ghost use Rattle.caladan_c.specs.declared.answer.Refusal.TheVariants.{WrongCount};
+ghost use Rattle.caladan_c.specs.declared.answer.Refusal.TheVariants.{Closed, Memory, NoRoom, Open};
+ghost use Rattle.caladan_c.specs.declared.answer.Refusal.TheVariants.{NoSuch, Unfit, WrongCount};
 
 use crate::answer::Refusal;
 use crate::found::Found;
 use crate::handed_in::HandedIn;
 use crate::handle::scheduler::SchedulerHandle;
 use crate::scheduler::Scheduler;
-use crate::told::counts::Counts;
-use crate::told::holder::{ToldHolder, tell_holder};
+use crate::told::counts::{Counts, counts_of_task};
+use crate::told::holder::{ToldHolder, holder_on, tell_holder};
 use crate::told::{Told, tell_all};
 use cal_machine::ConfigFault;
 use cal_policy::MOST_ACTIONS;
@@ -48,8 +49,8 @@ fn open(alloc: Global, table: &[u8]) -> Result<Box<Scheduler>, ConfigFault>
 /// takes all the memory that the passes need.
 #[unsafe(no_mangle)]
 pub extern "C" fn caladan_open(alloc: Global, table: &[u8], handle: &mut SchedulerHandle) -> u8
-    ensures already { is_some handle.old.pointer.kept ≡ true → result ≡ 11 }
-    ensures opened { is_some handle.old.pointer.kept ≡ false → result ≢ 9 →
+    ensures already { is_some handle.old.pointer.kept ≡ true → result ≡ refusal_number Open }
+    ensures opened { is_some handle.old.pointer.kept ≡ false → result ≢ refusal_number Memory →
         SaysScheduler (table_in table.now) result handle.new.pointer.kept }
     ensures refused { result ≢ 0 → handle.new ≡ handle.old }
 {
@@ -82,7 +83,8 @@ pub extern "C" fn caladan_bandwidth_limit(alloc: Global, handle: &mut SchedulerH
     ensures limit { ForSome handle.old.pointer.kept (λ s. result ≡ s.table.bandwidth_limit) }
     ensures same { handle.new.pointer.kept ≡ handle.old.pointer.kept }
 {
-    asked!(SchedulerHandle: handle, alloc; 0; kept => kept.bandwidth_limit(); limit => limit)
+    asked!(SchedulerHandle: handle, alloc; 0; kept => kept.config().bandwidth_limit();
+        limit => limit)
 }
 
 impl Scheduler {
@@ -106,7 +108,7 @@ impl Scheduler {
             IsShort (threads_of_table self.old.table) judged.old actions.old →
             result ≡ Err NoRoom }
         ensures answers { length given.entry.looks.now ≡ threads_of_table self.old.table →
-            HasRoom (threads_of_table self.old.table) judged.old actions.old →
+            HasRoomToTell (threads_of_table self.old.table) judged.old actions.old →
             IfErr result (λ why. why ≡ Unfit) }
         ensures why { IfErr result (λ why. (why ≡ WrongCount) ⊎ (why ≡ NoRoom) ⊎ (why ≡ Unfit)) }
         ensures refused { OnErr result ((self.new ≡ self.old) × (actions.new ≡ actions.old) ×
@@ -140,40 +142,37 @@ pub extern "C" fn caladan_pass(
     actions: &mut [Told],
     made: &mut usize,
 ) -> u8
-    ensures closed { is_some handle.old.pointer.kept ≡ false → result ≡ 10 }
+    ensures closed { is_some handle.old.pointer.kept ≡ false → result ≡ refusal_number Closed }
     ensures passed { result ≡ 0 → ForSome handle.old.pointer.kept (λ s.
         AfterLegal s.table s.book (λ h. IsSomeAnd handle.new.pointer.kept (λ after.
-        MadePass s h (input_of s.table h now bandwidth looks.now) after × AreTold after.made
+        MadePass s h (input_of_found s.table h now bandwidth looks.now) after × AreTold after.made
         made.new actions.new))) }
     ensures judged { result ≡ 0 → ForSome handle.old.pointer.kept (λ s.
         AfterLegal s.table s.book (λ h.
-        AreJudgements (input_of s.table h now bandwidth looks.now).seen judged.new)) }
-    ensures unfit { result ≡ 15 → ForSome handle.old.pointer.kept (λ s.
+        AreJudgements (input_of_found s.table h now bandwidth looks.now).seen judged.new)) }
+    ensures unfit { result ≡ refusal_number Unfit → ForSome handle.old.pointer.kept (λ s.
         AfterLegal s.table s.book (λ h.
-        IsInput s.table h (input_of s.table h now bandwidth looks.now) → ⊥)) }
+        IsInput s.table h (input_of_found s.table h now bandwidth looks.now) → ⊥)) }
     ensures wrong_count { ForSome handle.old.pointer.kept (λ s.
-        length looks.now ≢ threads_of_table s.table → result ≡ 13) }
+        length looks.now ≢ threads_of_table s.table → result ≡ refusal_number WrongCount) }
     ensures no_room { ForSome handle.old.pointer.kept (λ s.
         length looks.now ≡ threads_of_table s.table →
-        IsShort (threads_of_table s.table) judged.old actions.old → result ≡ 14) }
+        IsShort (threads_of_table s.table) judged.old actions.old →
+        result ≡ refusal_number NoRoom) }
     ensures answers { ForSome handle.old.pointer.kept (λ s.
         length looks.now ≡ threads_of_table s.table →
-        HasRoom (threads_of_table s.table) judged.old actions.old →
-        (result ≡ 0) ⊎ (result ≡ 15)) }
-    ensures own { (result ≡ 0) ⊎ (result ≡ 10) ⊎ (result ≡ 13) ⊎ (result ≡ 14) ⊎ (result ≡ 15) }
+        HasRoomToTell (threads_of_table s.table) judged.old actions.old →
+        (result ≡ 0) ⊎ (result ≡ refusal_number Unfit)) }
+    ensures own { (result ≡ 0) ⊎ (result ≡ refusal_number Closed) ⊎
+        (result ≡ refusal_number WrongCount) ⊎ (result ≡ refusal_number NoRoom) ⊎
+        (result ≡ refusal_number Unfit) }
     ensures refused { result ≢ 0 → (handle.new.pointer.kept ≡ handle.old.pointer.kept)
         × (actions.new ≡ actions.old) × (judged.new ≡ judged.old) × (made.new ≡ 0) }
 {
     *made = 0;
-    asked!(SchedulerHandle: handle, alloc; Refusal::Closed as u8;
-        mut kept => kept.pass_told(HandedIn { now, bandwidth, looks }, judged, actions);
-        answer => match answer {
-            Ok(count) => {
-                *made = count;
-                0
-            }
-            Err(refusal) => refusal.number(),
-        })
+    did!(SchedulerHandle: handle, alloc;
+        kept => kept.pass_told(HandedIn { now, bandwidth, looks }, judged, actions);
+        count => *made = count)
 }
 
 /// Who has a core after the passes so far: 0; 10 the handle is closed; 16 the table has no such
@@ -185,18 +184,18 @@ pub extern "C" fn caladan_holder(
     core: u8,
     holder: &mut ToldHolder,
 ) -> u8
-    ensures closed { is_some handle.old.pointer.kept ≡ false → result ≡ 10 }
+    ensures closed { is_some handle.old.pointer.kept ≡ false → result ≡ refusal_number Closed }
     ensures told { result ≡ 0 → ForSome handle.old.pointer.kept (λ s.
         AfterLegal s.table s.book (λ h.
         holder.new ≡ told_holder_of (kept_holder (holder_of (actions_of h) core)))) }
     ensures there { ForSome handle.old.pointer.kept (λ s. core < s.table.cores → result ≡ 0) }
-    ensures no_core { ForSome handle.old.pointer.kept (λ s. s.table.cores ≤ core → result ≡ 16) }
+    ensures no_core { ForSome handle.old.pointer.kept (λ s. s.table.cores ≤ core →
+        result ≡ refusal_number NoSuch) }
     ensures refused { result ≢ 0 → holder.new ≡ holder.old }
     ensures same { handle.new.pointer.kept ≡ handle.old.pointer.kept }
 {
-    looked_up!(SchedulerHandle: handle, alloc; kept => kept.holder(core);
-        found => *holder = tell_holder(found)
-    )
+    looked_up!(SchedulerHandle: handle, alloc; kept => holder_on(kept.config(), kept.board(), core);
+        found => *holder = tell_holder(found))
 }
 
 /// What a task has after the passes so far: 0; 10 the handle is closed; 16 the table has no such
@@ -208,23 +207,24 @@ pub extern "C" fn caladan_task(
     task: usize,
     counts: &mut Counts,
 ) -> u8
-    ensures closed { is_some handle.old.pointer.kept ≡ false → result ≡ 10 }
+    ensures closed { is_some handle.old.pointer.kept ≡ false → result ≡ refusal_number Closed }
     ensures told { result ≡ 0 → ForSome handle.old.pointer.kept (λ s.
         AfterLegal s.table s.book (λ h. counts.new ≡ counts_of s.table (actions_of h) task)) }
     ensures there { ForSome handle.old.pointer.kept (λ s. task < length s.table.tasks →
         result ≡ 0) }
     ensures no_task { ForSome handle.old.pointer.kept (λ s. length s.table.tasks ≤ task →
-        result ≡ 16) }
+        result ≡ refusal_number NoSuch) }
     ensures refused { result ≢ 0 → counts.new ≡ counts.old }
     ensures same { handle.new.pointer.kept ≡ handle.old.pointer.kept }
 {
-    looked_up!(SchedulerHandle: handle, alloc; kept => kept.counts(task); found => *counts = found)
+    looked_up!(SchedulerHandle: handle, alloc;
+        kept => counts_of_task(kept.config(), kept.board(), task); found => *counts = found)
 }
 
 /// Lets go of what the handle keeps: 0; 10 it is closed already.
 #[unsafe(no_mangle)]
 pub extern "C" fn caladan_close(alloc: Global, handle: &mut SchedulerHandle) -> u8
-    ensures already { is_some handle.old.pointer.kept ≡ false → result ≡ 10 }
+    ensures already { is_some handle.old.pointer.kept ≡ false → result ≡ refusal_number Closed }
     ensures closed { is_some handle.old.pointer.kept ≡ true → result ≡ 0 }
     ensures after { handle.new.pointer.kept ≡ None }
 {

@@ -1,9 +1,11 @@
 //! A pointer that C carries, and that may own an audit.
 
 ghost use Rattle.std.specs.Prelude.{◌≡◌, true, Option, Some, None};
+ghost use Rattle.std.specs.Coded.{coded_option};
 ghost use Rattle.std.specs.Option.{is_some};
-ghost use Rattle.caladan_c.specs.Audited.{Audited};
-ghost use Rattle.caladan_c.specs.Handles.Audit.{maybe_kept_coded};
+ghost use Rattle.caladan_c.specs.AuditView.{AuditView};
+ghost use Rattle.caladan_c.specs.Handles.{pointer_owns};
+ghost use Rattle.caladan_c.specs.contracts.audit.Audit.{the_row as kept_row};
 
 use super::loose::Loose;
 use crate::audit::Audit;
@@ -16,13 +18,11 @@ use std::marker::Model;
 pub struct AuditPointer {
     at: *mut u8,
     alloc: Global,
-    pub ghost kept: { Option Audited } by { maybe_kept_coded },
+    pub ghost kept: { Option AuditView } by { coded_option kept_row.coded },
 }
 
 impl Model for AuditPointer {
-    ghost use Rattle.caladan_c.specs.Handles.Audit.{pointer_owns};
-
-    ghost also_owns = { λ p. pointer_owns p.kept p.alloc p.at };
+    ghost also_owns = { λ p. pointer_owns kept_row p.kept p.alloc p.at };
 }
 
 impl AuditPointer {

@@ -1,9 +1,11 @@
 //! A pointer that C carries, and that may own what it points to.
 
 ghost use Rattle.std.specs.Prelude.{◌≡◌, true, Option, Some, None};
+ghost use Rattle.std.specs.Coded.{coded_option};
 ghost use Rattle.std.specs.Option.{is_some};
 ghost use Rattle.caladan_c.specs.Standing.{Standing};
-ghost use Rattle.caladan_c.specs.Handles.{maybe_kept_coded};
+ghost use Rattle.caladan_c.specs.Handles.{pointer_owns};
+ghost use Rattle.caladan_c.specs.contracts.scheduler.Scheduler.{the_row as kept_row};
 
 use super::loose::Loose;
 use crate::scheduler::Scheduler;
@@ -16,13 +18,11 @@ use std::marker::Model;
 pub struct Pointer {
     at: *mut u8,
     alloc: Global,
-    pub ghost kept: { Option Standing } by { maybe_kept_coded },
+    pub ghost kept: { Option Standing } by { coded_option kept_row.coded },
 }
 
 impl Model for Pointer {
-    ghost use Rattle.caladan_c.specs.Handles.{pointer_owns};
-
-    ghost also_owns = { λ p. pointer_owns p.kept p.alloc p.at };
+    ghost also_owns = { λ p. pointer_owns kept_row p.kept p.alloc p.at };
 }
 
 impl Pointer {

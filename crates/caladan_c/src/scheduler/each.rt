@@ -1,18 +1,14 @@
-//! Passes that take looks one by one, and the first look that does not fit.
+//! Passes that take looks one by one.
 
-ghost use Rattle.std.specs.Prelude.{◌≡◌, ◌<◌, ◌≤◌};
-ghost use Rattle.std.specs.Prelude.{length, IfNone};
-ghost use Rattle.std.specs.Option.{IfSome};
+ghost use Rattle.std.specs.Prelude.{◌≡◌, ◌≤◌, length};
 ghost use Rattle.cal_machine.specs.TableTasks.{threads_of_table};
-ghost use Rattle.caladan_c.specs.OneByOne.{input_given_each, AreSaid, IsFirstUnfit, AllFit};
+ghost use Rattle.caladan_c.specs.OneByOne.{input_given_each, AreSaid};
 ghost use Rattle.caladan_c.specs.Passing.{MadePass};
 ghost use Rattle.cal_policy.specs.Book.{AfterLegal};
 
 use super::Scheduler;
-use crate::found::Found;
 use crate::handed_in::HandedIn;
-use crate::input::first_unfit;
-use crate::walk::take_each;
+use crate::walk::{Basis, take_each};
 use cal_policy::{legal_is_short, one_pass_more_is_legal, open_pass_fits, settled_is_no_news};
 
 impl Scheduler {
@@ -34,8 +30,10 @@ impl Scheduler {
         one_pass_more_is_legal();
         take_each(
             &mut self.looks,
-            &self.config,
-            self.book.board(),
+            Basis {
+                config: &self.config,
+                board: self.book.board(),
+            },
             given.looks,
             judged,
         );
@@ -47,16 +45,5 @@ impl Scheduler {
             &self.looks,
             &mut self.made,
         );
-    }
-
-    /// The first thread whose look does not fit what it showed before, or has not the right shape.
-    pub fn first_unfit(&self, looks: &[Found]) -> Option<usize>
-        requires { length looks.now ≡ threads_of_table self.now.table }
-        ensures first { IfSome result (λ k. AfterLegal self.now.table self.now.book (λ h.
-            IsFirstUnfit h looks.now k)) }
-        ensures none { IfNone result (AfterLegal self.now.table self.now.book (λ h.
-            AllFit h looks.now)) }
-    {
-        first_unfit(&self.config, self.book.board(), looks)
     }
 }

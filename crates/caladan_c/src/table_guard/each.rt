@@ -1,23 +1,21 @@
-//! Passes of a guard that take looks one by one, and the first look that does not fit.
+//! Passes of a guard that take looks one by one.
 
-ghost use Rattle.std.specs.Prelude.{◌≡◌, ◌⊎◌, ◌<◌, ◌≤◌, IfOk, IfErr, IfNone, OnErr, Err};
+ghost use Rattle.std.specs.Prelude.{◌≡◌, ◌⊎◌, ◌≤◌, IfOk, IfErr, IfNone, OnErr, Err};
 ghost use Rattle.std.specs.Prelude.{length};
 ghost use Rattle.std.specs.Option.{IfSome};
 ghost use Rattle.cal_machine.specs.TableTasks.{threads_of_table};
 ghost use Rattle.caladan_c.specs.GuardView.{WentThrough, WasStopped};
-ghost use Rattle.caladan_c.specs.OneByOne.{input_given_each, AreSaid, IsFirstUnfit, AllFit};
+ghost use Rattle.caladan_c.specs.OneByOne.{input_given_each, AreSaid};
 ghost use Rattle.caladan_c.specs.Recorded.{AreNoActions};
 ghost use Rattle.caladan_c.specs.declared.answer.Refusal.TheVariants.{Memory, NoAction};
 ghost use Rattle.cal_guard.specs.Guarded.{AfterPermitted};
 
 use super::TableGuard;
 use crate::answer::Refusal;
-use crate::found::Found;
 use crate::handed_in::HandedIn;
-use crate::input::first_unfit;
 use crate::recorded::read_actions;
 use crate::told::Told;
-use crate::walk::take_each;
+use crate::walk::{Basis, take_each};
 use cal_guard::{Refused, permitted_settled_is_no_news};
 use cal_policy::open_pass_fits;
 
@@ -55,8 +53,10 @@ impl TableGuard {
         open_pass_fits();
         take_each(
             &mut self.looks,
-            &self.config,
-            self.guard.board(),
+            Basis {
+                config: &self.config,
+                board: self.guard.board(),
+            },
             given.looks,
             judged,
         );
@@ -66,16 +66,5 @@ impl TableGuard {
             return Ok(Some(refused));
         }
         Ok(None)
-    }
-
-    /// The first thread whose look does not fit what it showed before, or has not the right shape.
-    pub fn first_unfit(&self, looks: &[Found]) -> Option<usize>
-        requires { length looks.now ≡ threads_of_table self.now.table }
-        ensures first { IfSome result (λ k. AfterPermitted self.now.table self.now.guard (λ h.
-            IsFirstUnfit h looks.now k)) }
-        ensures none { IfNone result (AfterPermitted self.now.table self.now.guard (λ h.
-            AllFit h looks.now)) }
-    {
-        first_unfit(&self.config, self.guard.board(), looks)
     }
 }

@@ -1,14 +1,14 @@
 //! What was judged of a look that was taken by itself, as C is told.
 
 ghost use Rattle.std.specs.Prelude.{◌≡◌};
-ghost use Rattle.caladan_c.specs.OneByOne.{fault_number, said_of};
+ghost use Rattle.caladan_c.specs.OneByOne.{look_fault_number, said_of};
 
 use cal_policy::{Look, LookFault};
 
 /// Why a look was refused, as a number: 3 ahead, 4 foreign, 5 no busy pair, 6 misshapen, 7 its
 /// place fell, 8 changed at its place, 9 a word fell.
 fn tell_fault(fault: LookFault) -> u8
-    ensures { result ≡ fault_number fault }
+    ensures { result ≡ look_fault_number fault }
 {
     match fault {
         LookFault::Ahead => 3,

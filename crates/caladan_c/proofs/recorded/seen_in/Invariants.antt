@@ -1,11 +1,11 @@
 use Rattle.std.proofs.Common.{◌≡◌, take, map}
 use Rattle.cal_policy.specs.History.Looks.{look_of}
-use Rattle.caladan_c.specs.Found.{look_in}
+use Rattle.caladan_c.specs.Found.{look_of_found}
 use Rattle.caladan_c.specs.Told.{judgement_of}
 use Rattle.caladan_c.proofs.recorded.seen_in.Given as goal
 
 abbrev pub invariant-loop-k : goal.invariant-loop-k
 invariant-loop-k l = record {
-  looks : map look_of l.seen.items ≡ map look_in (take l.k l.looks);
+  looks : map look_of l.seen.items ≡ map look_of_found (take l.k l.looks);
   judged : map judgement_of l.seen.items ≡ take l.k l.judged;
 }

@@ -8,9 +8,9 @@ use Rattle.caladan_c.proofs.walk.take_each.Goals as goal
 
 pub loop-k-init : goal.loop-k-init
 loop-k-init c = record {
-  count = (c.begin.ensures c.args.config.now []).count;
+  count = (c.begin.ensures c.args.on.config.now []).count;
   room = refl;
-  taken = λ h quiet agrees. c.begin.ensures c.args.config.now h;
+  taken = λ h quiet agrees. c.begin.ensures c.args.on.config.now h;
   said = λ h quiet agrees j o lt at. absurd (omega (arith, lt));
 }
 
@@ -22,16 +22,16 @@ loop-k-preserved c =
       count = c.take_by_itself.ensures.count ∙ ap (λ k. k + 1) i.count;
       room = search rules;
       taken = λ h quiet agrees.
-          let At : List Found → Type 0 = λ xs. IsTakenAt c.args.config.now h xs c.take_by_itself.new.came in
+          let At : List Found → Type 0 = λ xs. IsTakenAt c.args.on.config.now h xs c.take_by_itself.new.came in
           grown_to At c.args.looks.now c.loop-k.k _ c.loop-k-test.true
           (λ count. c.take_by_itself.ensures.taken h _ quiet agrees (count ∙ sym i.count) (i.taken h quiet agrees));
-      said = λ h quiet agrees. said_to c.args.config.now.cores h c.args.looks.now c.loop-k.judged _ c.loop-k.k c.take_by_itself.result _ room refl
+      said = λ h quiet agrees. said_to c.args.on.config.now.cores h c.args.looks.now c.loop-k.judged _ c.loop-k.k c.take_by_itself.result _ room refl
           (rw i.count at (c.take_by_itself.ensures.said h quiet agrees)) c.loop-k-test.true (i.said h quiet agrees);
     }
 
 pub returns-clause-taken : goal.returns-clause-taken
 returns-clause-taken c = λ h quiet agrees.
-    let At : List Found → Type 0 = λ xs. IsTakenAt c.args.config.now h xs c.loop-k.came in
+    let At : List Found → Type 0 = λ xs. IsTakenAt c.args.on.config.now h xs c.loop-k.came in
     grown_all At c.args.looks.now c.loop-k.k c.loop-k-test.false (c.loop-k.invariant.taken h quiet agrees)
 
 pub returns-clause-said : goal.returns-clause-said

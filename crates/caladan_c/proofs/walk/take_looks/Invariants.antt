@@ -9,6 +9,6 @@ use Rattle.caladan_c.proofs.walk.take_looks.Given as goal
 abbrev pub invariant-loop-one : goal.invariant-loop-one
 invariant-loop-one l = record {
   count : l.came.count ≡ l.one-index;
-  taken : (h : List PassEntry) → SettledAreNoNews l.config h → IsStateAfter l.board h →
-      IsOpenAt l.config h (map found_of (take l.one-index l.looks)) l.came;
+  taken : (h : List PassEntry) → SettledAreNoNews l.on.config.now h → IsStateAfter l.on.board.now h →
+      IsOpenAt l.on.config.now h (map found_of (take l.one-index l.looks)) l.came;
 }

@@ -4,18 +4,21 @@ ghost use Rattle.std.specs.Prelude.{◌≡◌, ◌≢◌, ◌⊎◌, ◌<◌, �
 ghost use Rattle.std.specs.Prelude.{length, false};
 ghost use Rattle.std.specs.Option.{is_some, ForSome, IfSome, IsSomeAnd};
 ghost use Rattle.cal_machine.specs.TableTasks.{threads_of_table};
+ghost use Rattle.caladan_c.specs.Answer.{refusal_number, finding_number};
 ghost use Rattle.caladan_c.specs.GuardView.{WentThrough, WasStopped, WasStoppedAt};
 ghost use Rattle.caladan_c.specs.OneByOne.{input_of_each, input_given_each, AreSaid};
 ghost use Rattle.caladan_c.specs.OneByOne.{IsFirstUnfit, AllFit};
 ghost use Rattle.caladan_c.specs.Recorded.{AreNoActions};
-ghost use Rattle.caladan_c.specs.declared.answer.Refusal.TheVariants.{Memory, NoAction, NoRoom};
-ghost use Rattle.caladan_c.specs.declared.answer.Refusal.TheVariants.{WrongCount};
+ghost use Rattle.caladan_c.specs.declared.answer.Refusal.TheVariants.{Closed, Memory, NoAction};
+ghost use Rattle.caladan_c.specs.declared.answer.Refusal.TheVariants.{NoRoom, Unfit, WrongCount};
+ghost use Rattle.caladan_c.specs.declared.answer.Finding.TheVariants.{Stopped};
 ghost use Rattle.cal_guard.specs.Guarded.{AfterPermitted};
 
 use crate::answer::{Finding, Refusal};
 use crate::found::Found;
 use crate::handed_in::HandedIn;
 use crate::handle::guard::GuardHandle;
+use crate::input::first_unfit;
 use crate::table_guard::TableGuard;
 use crate::told::Told;
 use crate::told::refused::{ToldRefused, tell_refused};
@@ -83,34 +86,38 @@ pub extern "C" fn caladan_guard_pass_each(
     actions: &[Told],
     refused: &mut ToldRefused,
 ) -> u8
-    ensures closed { is_some handle.old.pointer.kept ≡ false → result ≡ 10 }
+    ensures closed { is_some handle.old.pointer.kept ≡ false → result ≡ refusal_number Closed }
     ensures through { result ≡ 0 → ForSome handle.old.pointer.kept (λ g.
         AfterPermitted g.table g.guard (λ h.
         IsSomeAnd handle.new.pointer.kept (WentThrough g h (input_of_each g.table h now bandwidth
         looks.now) actions.now))) }
-    ensures judged { (result ≡ 0) ⊎ (result ≡ 18) → ForSome handle.old.pointer.kept (λ g.
-        AfterPermitted g.table g.guard (λ h. AreSaid g.table.cores h looks.now judged.new)) }
-    ensures stopped { result ≡ 18 → ForSome handle.old.pointer.kept (λ g.
+    ensures judged { (result ≡ 0) ⊎ (result ≡ finding_number Stopped) →
+        ForSome handle.old.pointer.kept (λ g. AfterPermitted g.table g.guard (λ h.
+        AreSaid g.table.cores h looks.now judged.new)) }
+    ensures stopped { result ≡ finding_number Stopped → ForSome handle.old.pointer.kept (λ g.
         AfterPermitted g.table g.guard (λ h.
         WasStoppedAt g h (input_of_each g.table h now bandwidth looks.now) actions.now
         refused.new)) }
-    ensures no_action { result ≡ 17 → AreNoActions actions.now }
+    ensures no_action { result ≡ refusal_number NoAction → AreNoActions actions.now }
     ensures wrong_count { ForSome handle.old.pointer.kept (λ g.
-        length looks.now ≢ threads_of_table g.table → result ≡ 13) }
+        length looks.now ≢ threads_of_table g.table → result ≡ refusal_number WrongCount) }
     ensures no_room { ForSome handle.old.pointer.kept (λ g.
         length looks.now ≡ threads_of_table g.table → length judged.old < threads_of_table g.table →
-        result ≡ 14) }
+        result ≡ refusal_number NoRoom) }
     ensures answers { ForSome handle.old.pointer.kept (λ g.
         length looks.now ≡ threads_of_table g.table → threads_of_table g.table ≤ length judged.old →
-        (result ≡ 0) ⊎ (result ≡ 18) ⊎ (result ≡ 17) ⊎ (result ≡ 9)) }
-    ensures own { (result ≡ 0) ⊎ (result ≡ 9) ⊎ (result ≡ 10) ⊎ (result ≡ 13) ⊎ (result ≡ 14) ⊎
-        (result ≡ 17) ⊎ (result ≡ 18) }
+        (result ≡ 0) ⊎ (result ≡ finding_number Stopped) ⊎ (result ≡ refusal_number NoAction) ⊎
+        (result ≡ refusal_number Memory)) }
+    ensures own { (result ≡ 0) ⊎ (result ≡ refusal_number Memory) ⊎
+        (result ≡ refusal_number Closed) ⊎ (result ≡ refusal_number WrongCount) ⊎
+        (result ≡ refusal_number NoRoom) ⊎ (result ≡ refusal_number NoAction) ⊎
+        (result ≡ finding_number Stopped) }
     ensures unchanged { result ≢ 0 → handle.new.pointer.kept ≡ handle.old.pointer.kept }
-    ensures unjudged { result ≢ 0 → result ≢ 18 → judged.new ≡ judged.old }
-    ensures told { result ≢ 18 → refused.new ≡ refused.old }
+    ensures unjudged { result ≢ 0 → result ≢ finding_number Stopped → judged.new ≡ judged.old }
+    ensures told { result ≢ finding_number Stopped → refused.new ≡ refused.old }
 {
     asked!(GuardHandle: handle, alloc; Refusal::Closed as u8;
-        mut kept => kept.pass_each_told(HandedIn { now, bandwidth, looks }, judged, actions);
+        kept => kept.pass_each_told(HandedIn { now, bandwidth, looks }, judged, actions);
         answer => match answer {
             Ok(None) => 0,
             Ok(Some(first)) => {
@@ -132,34 +139,27 @@ pub extern "C" fn caladan_guard_first_unfit(
     looks: &[Found],
     thread: &mut usize,
 ) -> u8
-    ensures closed { is_some handle.old.pointer.kept ≡ false → result ≡ 10 }
-    ensures first { result ≡ 15 → ForSome handle.old.pointer.kept (λ g.
+    ensures closed { is_some handle.old.pointer.kept ≡ false → result ≡ refusal_number Closed }
+    ensures first { result ≡ refusal_number Unfit → ForSome handle.old.pointer.kept (λ g.
         AfterPermitted g.table g.guard (λ h. IsFirstUnfit h looks.now thread.new)) }
     ensures none { result ≡ 0 → ForSome handle.old.pointer.kept (λ g.
         AfterPermitted g.table g.guard (λ h. AllFit h looks.now)) }
     ensures wrong_count { ForSome handle.old.pointer.kept (λ g.
-        length looks.now ≢ threads_of_table g.table → result ≡ 13) }
+        length looks.now ≢ threads_of_table g.table → result ≡ refusal_number WrongCount) }
     ensures answers { ForSome handle.old.pointer.kept (λ g.
-        length looks.now ≡ threads_of_table g.table → (result ≡ 0) ⊎ (result ≡ 15)) }
-    ensures other { result ≢ 15 → thread.new ≡ thread.old }
+        length looks.now ≡ threads_of_table g.table → (result ≡ 0) ⊎
+        (result ≡ refusal_number Unfit)) }
+    ensures other { result ≢ refusal_number Unfit → thread.new ≡ thread.old }
     ensures same { handle.new.pointer.kept ≡ handle.old.pointer.kept }
 {
-    match handle.take(alloc) {
-        None => Refusal::Closed as u8,
-        Some(kept) => {
-            if looks.len() != kept.threads() {
-                *handle = GuardHandle::of(kept);
-                return Refusal::WrongCount as u8;
+    asked!(GuardHandle: handle, alloc; Refusal::Closed as u8;
+        kept => first_unfit(kept.config(), kept.board(), looks);
+        answer => match answer {
+            Ok(None) => 0,
+            Ok(Some(first)) => {
+                *thread = first;
+                Refusal::Unfit as u8
             }
-            let first = kept.first_unfit(looks);
-            *handle = GuardHandle::of(kept);
-            match first {
-                Some(first) => {
-                    *thread = first;
-                    Refusal::Unfit as u8
-                }
-                None => 0,
-            }
-        }
-    }
+            Err(refusal) => refusal.number(),
+        })
 }

@@ -3,11 +3,12 @@
 ghost use Rattle.std.specs.Prelude.{◌≡◌, ◌≢◌, ◌⊎◌, IsOk, IfOk, IfErr, OnErr, Err, length, false};
 ghost use Rattle.std.specs.Option.{is_some, ForSome, IsSomeAnd};
 ghost use Rattle.cal_machine.specs.TableTasks.{threads_of_table};
+ghost use Rattle.caladan_c.specs.Answer.{refusal_number};
 ghost use Rattle.caladan_c.specs.OneByOne.{input_of_each, input_given_each, AreSaid};
 ghost use Rattle.caladan_c.specs.OneByOne.{IsFirstUnfit, AllFit};
-ghost use Rattle.caladan_c.specs.Passing.{MadePass, HasRoom, IsShort};
+ghost use Rattle.caladan_c.specs.Passing.{MadePass, HasRoomToTell, IsShort};
 ghost use Rattle.caladan_c.specs.Told.{AreTold};
-ghost use Rattle.caladan_c.specs.declared.answer.Refusal.TheVariants.{NoRoom};
+ghost use Rattle.caladan_c.specs.declared.answer.Refusal.TheVariants.{Closed, NoRoom, Unfit};
 ghost use Rattle.caladan_c.specs.declared.answer.Refusal.TheVariants.{WrongCount};
 ghost use Rattle.cal_policy.specs.Book.{AfterLegal};
 
@@ -15,6 +16,7 @@ use crate::answer::Refusal;
 use crate::found::Found;
 use crate::handed_in::HandedIn;
 use crate::handle::scheduler::SchedulerHandle;
+use crate::input::first_unfit;
 use crate::scheduler::Scheduler;
 use crate::told::{Told, tell_all};
 use cal_policy::MOST_ACTIONS;
@@ -40,7 +42,7 @@ impl Scheduler {
             IsShort (threads_of_table self.old.table) judged.old actions.old →
             result ≡ Err NoRoom }
         ensures answers { length given.entry.looks.now ≡ threads_of_table self.old.table →
-            HasRoom (threads_of_table self.old.table) judged.old actions.old → IsOk result }
+            HasRoomToTell (threads_of_table self.old.table) judged.old actions.old → IsOk result }
         ensures why { IfErr result (λ why. (why ≡ WrongCount) ⊎ (why ≡ NoRoom)) }
         ensures refused { OnErr result ((self.new ≡ self.old) × (actions.new ≡ actions.old) ×
             (judged.new ≡ judged.old)) }
@@ -73,7 +75,7 @@ pub extern "C" fn caladan_pass_each(
     actions: &mut [Told],
     made: &mut usize,
 ) -> u8
-    ensures closed { is_some handle.old.pointer.kept ≡ false → result ≡ 10 }
+    ensures closed { is_some handle.old.pointer.kept ≡ false → result ≡ refusal_number Closed }
     ensures passed { result ≡ 0 → ForSome handle.old.pointer.kept (λ s.
         AfterLegal s.table s.book (λ h. IsSomeAnd handle.new.pointer.kept (λ after.
         MadePass s h (input_of_each s.table h now bandwidth looks.now) after × AreTold after.made
@@ -81,27 +83,23 @@ pub extern "C" fn caladan_pass_each(
     ensures judged { result ≡ 0 → ForSome handle.old.pointer.kept (λ s.
         AfterLegal s.table s.book (λ h. AreSaid s.table.cores h looks.now judged.new)) }
     ensures wrong_count { ForSome handle.old.pointer.kept (λ s.
-        length looks.now ≢ threads_of_table s.table → result ≡ 13) }
+        length looks.now ≢ threads_of_table s.table → result ≡ refusal_number WrongCount) }
     ensures no_room { ForSome handle.old.pointer.kept (λ s.
         length looks.now ≡ threads_of_table s.table →
-        IsShort (threads_of_table s.table) judged.old actions.old → result ≡ 14) }
+        IsShort (threads_of_table s.table) judged.old actions.old →
+        result ≡ refusal_number NoRoom) }
     ensures answers { ForSome handle.old.pointer.kept (λ s.
         length looks.now ≡ threads_of_table s.table →
-        HasRoom (threads_of_table s.table) judged.old actions.old → result ≡ 0) }
-    ensures own { (result ≡ 0) ⊎ (result ≡ 10) ⊎ (result ≡ 13) ⊎ (result ≡ 14) }
+        HasRoomToTell (threads_of_table s.table) judged.old actions.old → result ≡ 0) }
+    ensures own { (result ≡ 0) ⊎ (result ≡ refusal_number Closed) ⊎
+        (result ≡ refusal_number WrongCount) ⊎ (result ≡ refusal_number NoRoom) }
     ensures refused { result ≢ 0 → (handle.new.pointer.kept ≡ handle.old.pointer.kept)
         × (actions.new ≡ actions.old) × (judged.new ≡ judged.old) × (made.new ≡ 0) }
 {
     *made = 0;
-    asked!(SchedulerHandle: handle, alloc; Refusal::Closed as u8;
-        mut kept => kept.pass_each_told(HandedIn { now, bandwidth, looks }, judged, actions);
-        answer => match answer {
-            Ok(count) => {
-                *made = count;
-                0
-            }
-            Err(refusal) => refusal.number(),
-        })
+    did!(SchedulerHandle: handle, alloc;
+        kept => kept.pass_each_told(HandedIn { now, bandwidth, looks }, judged, actions);
+        count => *made = count)
 }
 
 /// Which look a plain pass may not be given: 0 each fits; 15 one does not fit what its thread
@@ -115,34 +113,27 @@ pub extern "C" fn caladan_first_unfit(
     looks: &[Found],
     thread: &mut usize,
 ) -> u8
-    ensures closed { is_some handle.old.pointer.kept ≡ false → result ≡ 10 }
-    ensures first { result ≡ 15 → ForSome handle.old.pointer.kept (λ s.
+    ensures closed { is_some handle.old.pointer.kept ≡ false → result ≡ refusal_number Closed }
+    ensures first { result ≡ refusal_number Unfit → ForSome handle.old.pointer.kept (λ s.
         AfterLegal s.table s.book (λ h. IsFirstUnfit h looks.now thread.new)) }
     ensures none { result ≡ 0 → ForSome handle.old.pointer.kept (λ s.
         AfterLegal s.table s.book (λ h. AllFit h looks.now)) }
     ensures wrong_count { ForSome handle.old.pointer.kept (λ s.
-        length looks.now ≢ threads_of_table s.table → result ≡ 13) }
+        length looks.now ≢ threads_of_table s.table → result ≡ refusal_number WrongCount) }
     ensures answers { ForSome handle.old.pointer.kept (λ s.
-        length looks.now ≡ threads_of_table s.table → (result ≡ 0) ⊎ (result ≡ 15)) }
-    ensures other { result ≢ 15 → thread.new ≡ thread.old }
+        length looks.now ≡ threads_of_table s.table → (result ≡ 0) ⊎
+        (result ≡ refusal_number Unfit)) }
+    ensures other { result ≢ refusal_number Unfit → thread.new ≡ thread.old }
     ensures same { handle.new.pointer.kept ≡ handle.old.pointer.kept }
 {
-    match handle.take(alloc) {
-        None => Refusal::Closed as u8,
-        Some(kept) => {
-            if looks.len() != kept.threads() {
-                *handle = SchedulerHandle::of(kept);
-                return Refusal::WrongCount as u8;
+    asked!(SchedulerHandle: handle, alloc; Refusal::Closed as u8;
+        kept => first_unfit(kept.config(), kept.board(), looks);
+        answer => match answer {
+            Ok(None) => 0,
+            Ok(Some(first)) => {
+                *thread = first;
+                Refusal::Unfit as u8
             }
-            let first = kept.first_unfit(looks);
-            *handle = SchedulerHandle::of(kept);
-            match first {
-                Some(first) => {
-                    *thread = first;
-                    Refusal::Unfit as u8
-                }
-                None => 0,
-            }
-        }
-    }
+            Err(refusal) => refusal.number(),
+        })
 }

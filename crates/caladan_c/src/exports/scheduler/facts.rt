@@ -4,13 +4,17 @@ ghost use Rattle.std.specs.Prelude.{◌≡◌, ◌≢◌, ◌⊎◌, ◌<◌, �
 ghost use Rattle.std.specs.Option.{is_some, ForSome};
 ghost use Rattle.cal_policy.specs.Judgement.Gone.{can_be_gone};
 ghost use Rattle.cal_machine.specs.TableTasks.{threads_of_table};
+ghost use Rattle.caladan_c.specs.Answer.{refusal_number};
 ghost use Rattle.caladan_c.specs.Facts.{machine_of, row_of, state_of, IsLookOfGone};
 ghost use Rattle.cal_policy.specs.Book.{AfterLegal};
+ghost use Rattle.caladan_c.specs.declared.answer.Refusal.TheVariants.{Closed, Lost, NoSuch};
 
 use crate::answer::Refusal;
 use crate::found::Found;
 use crate::handle::scheduler::SchedulerHandle;
-use crate::told::facts::{MachineFacts, TaskRow, ThreadState, tell_shown};
+use crate::told::facts::{
+    MachineFacts, TaskRow, ThreadState, row_of_task, state_of_thread, tell_machine,
+};
 use std::alloc::Global;
 
 /// What the table says of the machine: 0; 10 the handle is closed.
@@ -20,13 +24,14 @@ pub extern "C" fn caladan_table(
     handle: &mut SchedulerHandle,
     machine: &mut MachineFacts,
 ) -> u8
-    ensures closed { is_some handle.old.pointer.kept ≡ false → result ≡ 10 }
+    ensures closed { is_some handle.old.pointer.kept ≡ false → result ≡ refusal_number Closed }
     ensures told { ForSome handle.old.pointer.kept (λ s.
         (result ≡ 0) × (machine.new ≡ machine_of s.table)) }
     ensures refused { result ≢ 0 → machine.new ≡ machine.old }
     ensures same { handle.new.pointer.kept ≡ handle.old.pointer.kept }
 {
-    asked!(SchedulerHandle: handle, alloc; Refusal::Closed as u8; kept => kept.machine(); told => {
+    asked!(SchedulerHandle: handle, alloc; Refusal::Closed as u8;
+        kept => tell_machine(kept.config()); told => {
         *machine = told;
         0
     })
@@ -40,17 +45,18 @@ pub extern "C" fn caladan_table_task(
     task: usize,
     row: &mut TaskRow,
 ) -> u8
-    ensures closed { is_some handle.old.pointer.kept ≡ false → result ≡ 10 }
+    ensures closed { is_some handle.old.pointer.kept ≡ false → result ≡ refusal_number Closed }
     ensures told { result ≡ 0 → ForSome handle.old.pointer.kept (λ s.
         row.new ≡ row_of s.table task) }
     ensures there { ForSome handle.old.pointer.kept (λ s. task < length s.table.tasks →
         result ≡ 0) }
     ensures no_task { ForSome handle.old.pointer.kept (λ s. length s.table.tasks ≤ task →
-        result ≡ 16) }
+        result ≡ refusal_number NoSuch) }
     ensures refused { result ≢ 0 → row.new ≡ row.old }
     ensures same { handle.new.pointer.kept ≡ handle.old.pointer.kept }
 {
-    looked_up!(SchedulerHandle: handle, alloc; kept => kept.task(task); found => *row = found)
+    looked_up!(SchedulerHandle: handle, alloc; kept => row_of_task(kept.config(), task);
+        found => *row = found)
 }
 
 /// A thread's task, how many commands were sent to it in the passes so far, and how many of them
@@ -62,17 +68,18 @@ pub extern "C" fn caladan_thread(
     thread: usize,
     state: &mut ThreadState,
 ) -> u8
-    ensures closed { is_some handle.old.pointer.kept ≡ false → result ≡ 10 }
+    ensures closed { is_some handle.old.pointer.kept ≡ false → result ≡ refusal_number Closed }
     ensures told { result ≡ 0 → ForSome handle.old.pointer.kept (λ s.
         AfterLegal s.table s.book (λ h. state.new ≡ state_of s.table h thread)) }
     ensures there { ForSome handle.old.pointer.kept (λ s. thread < threads_of_table s.table →
         result ≡ 0) }
     ensures no_thread { ForSome handle.old.pointer.kept (λ s. threads_of_table s.table ≤ thread →
-        result ≡ 16) }
+        result ≡ refusal_number NoSuch) }
     ensures refused { result ≢ 0 → state.new ≡ state.old }
     ensures same { handle.new.pointer.kept ≡ handle.old.pointer.kept }
 {
-    looked_up!(SchedulerHandle: handle, alloc; kept => kept.thread(thread); found => *state = found)
+    looked_up!(SchedulerHandle: handle, alloc;
+        kept => state_of_thread(kept.config(), kept.board(), thread); found => *state = found)
 }
 
 /// What the page of a thread must show once the thread is gone, as a look: 0; 10 the handle is
@@ -85,34 +92,17 @@ pub extern "C" fn caladan_gone(
     thread: usize,
     look: &mut Found,
 ) -> u8
-    ensures closed { is_some handle.old.pointer.kept ≡ false → result ≡ 10 }
+    ensures closed { is_some handle.old.pointer.kept ≡ false → result ≡ refusal_number Closed }
     ensures told { result ≡ 0 → ForSome handle.old.pointer.kept (λ s.
         AfterLegal s.table s.book (λ h. IsLookOfGone s.table h thread look.new)) }
-    ensures lost { result ≡ 21 → ForSome handle.old.pointer.kept (λ s.
+    ensures lost { result ≡ refusal_number Lost → ForSome handle.old.pointer.kept (λ s.
         AfterLegal s.table s.book (λ h. can_be_gone h thread ≡ false)) }
     ensures there { ForSome handle.old.pointer.kept (λ s. thread < threads_of_table s.table →
-        (result ≡ 0) ⊎ (result ≡ 21)) }
+        (result ≡ 0) ⊎ (result ≡ refusal_number Lost)) }
     ensures no_thread { ForSome handle.old.pointer.kept (λ s. threads_of_table s.table ≤ thread →
-        result ≡ 16) }
+        result ≡ refusal_number NoSuch) }
     ensures refused { result ≢ 0 → look.new ≡ look.old }
     ensures same { handle.new.pointer.kept ≡ handle.old.pointer.kept }
 {
-    match handle.take(alloc) {
-        None => Refusal::Closed as u8,
-        Some(kept) => {
-            if thread >= kept.threads() {
-                *handle = SchedulerHandle::of(kept);
-                return Refusal::NoSuch as u8;
-            }
-            let found = kept.gone_look(thread);
-            *handle = SchedulerHandle::of(kept);
-            match found {
-                Some(found) => {
-                    *look = found;
-                    0
-                }
-                None => Refusal::Lost as u8,
-            }
-        }
-    }
+    did!(SchedulerHandle: handle, alloc; kept => kept.gone_look(thread); found => *look = found)
 }

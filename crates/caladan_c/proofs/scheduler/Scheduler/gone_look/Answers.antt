@@ -8,8 +8,8 @@ use Rattle.cal_policy.specs.State.{IsStateAfter}
 use Rattle.caladan_c.specs.Standing.{Standing}
 use Rattle.caladan_c.proofs.scheduler.Scheduler.gone_look.Goals as goal
 
-pub returns-in-Some-clause-some : goal.returns-in-Some-clause-some
-returns-in-Some-clause-some c =
+pub returns-in-Some-clause-look : goal.returns-in-Some-clause-look
+returns-in-Some-clause-look c =
     let s : Standing = record { table = c.self.inside.config; book = c.self.inside.book; made = c.self.inside.made } in
     let view : s ≡ c.args.self.now = c.self.view_is in
     let whole : (h : List PassEntry) → IsLegal s.table h → IsStateAfter (board_in s.book) h → IsLookOfGone s.table h c.args.thread c.tell_shown.result = λ h legal state. record {

@@ -8,8 +8,8 @@ use Rattle.cal_guard.specs.Permitted.{IsPermittedHistory}
 use Rattle.caladan_c.specs.GuardView.{GuardView}
 use Rattle.caladan_c.proofs.table_guard.TableGuard.gone_look.Goals as goal
 
-pub returns-in-Some-clause-some : goal.returns-in-Some-clause-some
-returns-in-Some-clause-some c =
+pub returns-in-Some-clause-look : goal.returns-in-Some-clause-look
+returns-in-Some-clause-look c =
     let g : GuardView = record { table = c.self.inside.config; guard = c.self.inside.guard } in
     let view : g ≡ c.args.self.now = c.self.view_is in
     let whole : (h : List PassEntry) → IsPermittedHistory g.table h → IsStateAfter (board_in g.guard) h → IsGuardedLookOfGone g.table h c.args.thread c.tell_shown.result = λ h permitted state. record {

@@ -5,7 +5,7 @@ use Rattle.cal_policy.specs.declared.history.action.Action.{Action}
 use Rattle.cal_policy.specs.declared.history.entry.PassEntry.{PassEntry}
 use Rattle.cal_policy.specs.Judgement.Judging.{IsInput}
 use Rattle.cal_policy.specs.Judgement.OpenPass.{IsOpenAt}
-use Rattle.caladan_c.specs.Found.{found_of, input_of}
+use Rattle.caladan_c.specs.Found.{found_of, input_of_found}
 use Rattle.cal_policy.specs.State.{IsStateAfter}
 use Rattle.cal_guard.specs.Guarded.{board_in}
 use Rattle.cal_guard.specs.Permitted.{IsPermittedHistory}
@@ -26,16 +26,16 @@ returns-clause-through c =
     let items : chosen ≡ c.read_actions.new.actions.items = search rules in
     let told : map told_of chosen ≡ c.args.told.now = ap (λ (xs : List Action). map told_of xs) items ∙ c.in_ok-read_actions.ensures.actions in
     let new : GuardView = record { table = g.table; guard = c.pass.new.self } in
-    let whole : (h : List PassEntry) → IsPermittedHistory g.table h → IsStateAfter (board_in g.guard) h → WentThrough g h (input_of g.table h now bandwidth looks) c.args.told.now new = λ h permitted state.
+    let whole : (h : List PassEntry) → IsPermittedHistory g.table h → IsStateAfter (board_in g.guard) h → WentThrough g h (input_of_found g.table h now bandwidth looks) c.args.told.now new = λ h permitted state.
     let quiet = c.permitted_settled_is_no_news.ensures g.table h permitted in
     let came : IsOpenAt g.table h (map found_of looks) c.take_looks.new.came = c.in_ok-take_looks.ensures.taken h quiet (c.board.ensures.agrees h state) in
     let all = length-map looks found_of ∙ c.requires.count ∙ sym (ap (λ (o : GuardView). threads_of_table o.table) view) in
-    let is : IsInput g.table h (input_of g.table h now bandwidth looks) = c.open_pass_fits.ensures g.table h now bandwidth (map found_of looks) c.take_looks.new.came came all in
+    let is : IsInput g.table h (input_of_found g.table h now bandwidth looks) = c.open_pass_fits.ensures g.table h now bandwidth (map found_of looks) c.take_looks.new.came came all in
     let used : IsOpenAt g.table h (map found_of looks) c.deref.result.now = rw c.deref.ensures came in
-    went_through g h (input_of g.table h now bandwidth looks) (input_of g.table h now bandwidth looks) chosen c.args.told.now c.pass.new.self told refl is
+    went_through g h (input_of_found g.table h now bandwidth looks) (input_of_found g.table h now bandwidth looks) chosen c.args.told.now c.pass.new.self told refl is
     ((c.in_default.ensures.exact h (map found_of looks) permitted state used).0 refl)
     (c.in_default.ensures.keeps refl h (map found_of looks) permitted state used) (c.in_default.ensures.permitted refl h (map found_of looks) permitted state used) in
-    subst (λ (old : GuardView). (h : List PassEntry) → IsPermittedHistory old.table h → IsStateAfter (board_in old.guard) h → WentThrough old h (input_of old.table h now bandwidth looks) c.args.told.now new) view whole
+    subst (λ (old : GuardView). (h : List PassEntry) → IsPermittedHistory old.table h → IsStateAfter (board_in old.guard) h → WentThrough old h (input_of_found old.table h now bandwidth looks) c.args.told.now new) view whole
 
 pub returns-clause-judged : goal.returns-clause-judged
 returns-clause-judged c =
@@ -44,11 +44,11 @@ returns-clause-judged c =
     let looks = c.args.given.looks.now in
     let now = c.args.given.now in
     let bandwidth = c.args.given.bandwidth in
-    let whole : (h : List PassEntry) → IsPermittedHistory g.table h → IsStateAfter (board_in g.guard) h → AreJudgements (input_of g.table h now bandwidth looks).seen c.tell_looks.new.out = λ h permitted state.
+    let whole : (h : List PassEntry) → IsPermittedHistory g.table h → IsStateAfter (board_in g.guard) h → AreJudgements (input_of_found g.table h now bandwidth looks).seen c.tell_looks.new.out = λ h permitted state.
     let quiet = c.permitted_settled_is_no_news.ensures g.table h permitted in
     let came : IsOpenAt g.table h (map found_of looks) c.take_looks.new.came = c.in_ok-take_looks.ensures.taken h quiet (c.board.ensures.agrees h state) in
     told_as_judged g.table h (map found_of looks) c.take_looks.new.came c.tell_looks.new.out came (rw c.deref-2.ensures at c.tell_looks.ensures) in
-    subst (λ (old : GuardView). (h : List PassEntry) → IsPermittedHistory old.table h → IsStateAfter (board_in old.guard) h → AreJudgements (input_of old.table h now bandwidth looks).seen c.tell_looks.new.out) view whole
+    subst (λ (old : GuardView). (h : List PassEntry) → IsPermittedHistory old.table h → IsStateAfter (board_in old.guard) h → AreJudgements (input_of_found old.table h now bandwidth looks).seen c.tell_looks.new.out) view whole
 
 pub returns-in-Err-clause-stopped : goal.returns-in-Err-clause-stopped
 returns-in-Err-clause-stopped c =
@@ -60,15 +60,15 @@ returns-in-Err-clause-stopped c =
     let chosen : List Action = c.as_slice-chosen.result.now in
     let items : chosen ≡ c.read_actions.new.actions.items = search rules in
     let told : map told_of chosen ≡ c.args.told.now = ap (λ (xs : List Action). map told_of xs) items ∙ c.in_ok-read_actions.ensures.actions in
-    let whole : (h : List PassEntry) → IsPermittedHistory g.table h → IsStateAfter (board_in g.guard) h → WasStopped g h (input_of g.table h now bandwidth looks) c.args.told.now c.in-Err.refused = λ h permitted state.
+    let whole : (h : List PassEntry) → IsPermittedHistory g.table h → IsStateAfter (board_in g.guard) h → WasStopped g h (input_of_found g.table h now bandwidth looks) c.args.told.now c.in-Err.refused = λ h permitted state.
     let quiet = c.permitted_settled_is_no_news.ensures g.table h permitted in
     let came : IsOpenAt g.table h (map found_of looks) c.take_looks.new.came = c.in_ok-take_looks.ensures.taken h quiet (c.board.ensures.agrees h state) in
     let all = length-map looks found_of ∙ c.requires.count ∙ sym (ap (λ (o : GuardView). threads_of_table o.table) view) in
-    let is : IsInput g.table h (input_of g.table h now bandwidth looks) = c.open_pass_fits.ensures g.table h now bandwidth (map found_of looks) c.take_looks.new.came came all in
+    let is : IsInput g.table h (input_of_found g.table h now bandwidth looks) = c.open_pass_fits.ensures g.table h now bandwidth (map found_of looks) c.take_looks.new.came came all in
     let used : IsOpenAt g.table h (map found_of looks) c.deref.result.now = rw c.deref.ensures came in
-    was_stopped g h (input_of g.table h now bandwidth looks) (input_of g.table h now bandwidth looks) chosen c.args.told.now c.in-Err.refused told refl is
+    was_stopped g h (input_of_found g.table h now bandwidth looks) (input_of_found g.table h now bandwidth looks) chosen c.args.told.now c.in-Err.refused told refl is
     (c.in-Err.ensures.first h (map found_of looks) permitted state used) in
-    subst (λ (old : GuardView). (h : List PassEntry) → IsPermittedHistory old.table h → IsStateAfter (board_in old.guard) h → WasStopped old h (input_of old.table h now bandwidth looks) c.args.told.now c.in-Err.refused) view whole
+    subst (λ (old : GuardView). (h : List PassEntry) → IsPermittedHistory old.table h → IsStateAfter (board_in old.guard) h → WasStopped old h (input_of_found old.table h now bandwidth looks) c.args.told.now c.in-Err.refused) view whole
 
 pub returns-in_err-take_looks-clause-unfit : goal.returns-in_err-take_looks-clause-unfit
 returns-in_err-take_looks-clause-unfit c = λ _.
@@ -77,6 +77,6 @@ returns-in_err-take_looks-clause-unfit c = λ _.
     let looks = c.args.given.looks.now in
     let now = c.args.given.now in
     let bandwidth = c.args.given.bandwidth in
-    let whole : (h : List PassEntry) → IsPermittedHistory g.table h → IsStateAfter (board_in g.guard) h → IsInput g.table h (input_of g.table h now bandwidth looks) → ⊥ = λ h permitted state.
+    let whole : (h : List PassEntry) → IsPermittedHistory g.table h → IsStateAfter (board_in g.guard) h → IsInput g.table h (input_of_found g.table h now bandwidth looks) → ⊥ = λ h permitted state.
     c.in_err-take_looks.ensures.unfit h now bandwidth (c.board.ensures.agrees h state) in
-    subst (λ (old : GuardView). (h : List PassEntry) → IsPermittedHistory old.table h → IsStateAfter (board_in old.guard) h → IsInput old.table h (input_of old.table h now bandwidth looks) → ⊥) view whole
+    subst (λ (old : GuardView). (h : List PassEntry) → IsPermittedHistory old.table h → IsStateAfter (board_in old.guard) h → IsInput old.table h (input_of_found old.table h now bandwidth looks) → ⊥) view whole

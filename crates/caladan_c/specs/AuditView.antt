@@ -8,38 +8,38 @@ use Rattle.cal_policy.specs.Auditor.{IsAuditOf}
 use Rattle.cal_policy.specs.declared.auditor.Auditor.{Auditor}
 use Rattle.cal_policy.specs.declared.history.entry.PassEntry.{PassEntry}
 use Rattle.caladan_c.specs.Opening.{number_of}
-use Rattle.caladan_c.specs.Recorded.{IsRecorded}
+use Rattle.caladan_c.specs.Recorded.{IsToldOf}
 use Rattle.caladan_c.specs.declared.found.Found.{Found}
 use Rattle.caladan_c.specs.declared.told.Told.{Told}
 
 -- its table, and the auditor of the passes so far
-pub record Audited : Type 0 where
+pub record AuditView : Type 0 where
   pub table : Table
   pub auditor : Auditor
 
 -- it was handed these passes, and what it says is true of them
-abbrev pub HasAudited : Audited → List PassEntry → Type 0
+abbrev pub HasAudited : AuditView → List PassEntry → Type 0
 HasAudited audit history = IsAuditOf audit.table history audit.auditor
 
 -- an audit of this table, of no pass
-pub record IsNewAudit (read : Table) (audit : Audited) : Type 0 where
+pub record IsNewAudit (read : Table) (audit : AuditView) : Type 0 where
   pub table : audit.table ≡ read
   pub audits : HasAudited audit []
 
 -- the number follows from the text: 0 and an audit of its table, or its first fault's
-abbrev pub SaysAudit : Result Table ConfigFault → ℕ → Option Audited → Type 0
+abbrev pub SaysAudit : Result Table ConfigFault → ℕ → Option AuditView → Type 0
 SaysAudit (Ok table) number kept = (number ≡ 0) × IsSomeAnd kept (IsNewAudit table)
 SaysAudit (Err fault) number kept = number ≡ number_of fault
 
 -- the audit took this entry as the next pass of its history
-pub record TookNext (old : Audited) (entry : PassEntry) (new : Audited) : Type 0 where
+pub record TookNext (old : AuditView) (entry : PassEntry) (new : AuditView) : Type 0 where
   pub table : new.table ≡ old.table
   pub audits : (h : List PassEntry) → length h < 2 ^ 64 → HasAudited old h →
       HasAudited new (h ++ entry ∷ [])
 
 -- what was recorded is a pass, and the audit took it as the next one of its history
-pub record TookRecorded (old : Audited) (now bandwidth : ℕ) (looks : List Found) (judged : List ℕ)
-    (actions : List Told) (new : Audited) : Type 0 where
+pub record TookRecorded (old : AuditView) (now bandwidth : ℕ) (looks : List Found) (judged : List ℕ)
+    (actions : List Told) (new : AuditView) : Type 0 where
   pub entry : PassEntry
-  pub recorded : IsRecorded now bandwidth looks judged actions entry
+  pub recorded : IsToldOf now bandwidth looks judged actions entry
   pub taken : TookNext old entry new
