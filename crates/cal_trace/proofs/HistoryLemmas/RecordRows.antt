@@ -101,12 +101,16 @@ pub record_read : (form : LookForm) → ((fields : Fields) → look_of form fiel
     → look_row form thread (record_fields name thread room place rec) ≡ Ok (look_found (looks.Whole place rec) room)
 record_read form is_whole name thread room place rec is_thread is_place each shaped =
     let is_p = spelled place is_place in
+    let words = map decimal (words_of rec) in
     let same : record_of (record_fields name thread room place rec) ≡ rec = ap records.record_of (words_read name _ _ _ (words_of rec) each (words-are rec)) in
-    look_read form thread room (looks.Whole place rec) name _ is_thread (first_all place _ _ is_p (all_read (words_of rec) each)) (is_whole _ ∙ ap₂ looks.Whole (fourth place name _ _ _ _ is_p) same) shaped
+    look_read form thread room (looks.Whole place rec) name (decimal place ∷ words) is_thread (first_all place (decimal place) words is_p (all_read (words_of rec) each))
+    (is_whole (record_fields name thread room place rec) ∙ ap₂ looks.Whole (fourth place name (decimal thread) (decimal (room_number room)) (decimal place) words is_p) same) shaped
 
 pub busy_read : (thread : ℕ) (room : Bool) (first second : ℕ) → IsWord thread → IsWord first → IsWord second → is_busy_pair first second ≡ true
     → look_row form.Busy thread (codes "busy" ∷ decimal thread ∷ decimal (room_number room) ∷ decimal first ∷ decimal second ∷ []) ≡ Ok (look_found (looks.Busy first second) room)
 busy_read thread room first second is_thread is_first is_second pair =
     let is_a = spelled first is_first in
     let is_b = spelled second is_second in
-    look_read form.Busy thread room (looks.Busy first second) (codes "busy") _ is_thread (first_all first _ _ is_a (first_all second _ [] is_b refl)) (same_busy first second (codes "busy") _ _ _ _ is_a is_b) pair
+    look_read form.Busy thread room (looks.Busy first second) (codes "busy") (decimal first ∷ decimal second ∷ []) is_thread
+    (first_all first (decimal first) (decimal second ∷ []) is_a (first_all second (decimal second) [] is_b refl))
+    (same_busy first second (codes "busy") (decimal thread) (decimal (room_number room)) (decimal first) (decimal second) is_a is_b) pair

@@ -245,15 +245,12 @@ impl HistoryReading {
 impl PassReading for HistoryReading {
     ghost use Rattle.std.specs.Prelude.{⊤};
     ghost use Rattle.cal_policy.specs.declared.history.entry.PassEntry.{PassEntry};
-    ghost use Rattle.cal_trace.specs.Rows.SoFar.{SoFar, whole};
     ghost use Rattle.cal_trace.specs.History.{take_row};
     ghost use Rattle.cal_trace.specs.History.Reading.{file_of, so_far, KeepsHistory};
     ghost use Rattle.cal_trace.specs.declared.history.action_rows.Extent.{Extent};
     ghost use Rattle.cal_trace.specs.declared.rows.version.Version.{Version};
 
     type Pass = PassEntry;
-
-    ghost SoFar = { SoFar PassEntry };
 
     ghost so_far = { so_far };
 
@@ -262,8 +259,6 @@ impl PassReading for HistoryReading {
     ghost file = { file_of };
 
     ghost take = { λ file. take_row file.0 file.1 };
-
-    ghost whole = { whole };
 
     // Rows can be taken in each state.
     ghost IsReady = { λ reading. ⊤ };

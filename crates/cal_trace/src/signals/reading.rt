@@ -220,15 +220,12 @@ impl SignalReading {
 impl PassReading for SignalReading {
     ghost use Rattle.std.specs.Prelude.{ℕ};
     ghost use Rattle.cal_trace.specs.declared.signals.SignalPass.{SignalPass};
-    ghost use Rattle.cal_trace.specs.Rows.SoFar.{SoFar, whole};
     ghost use Rattle.cal_trace.specs.Signals.{take_row};
     ghost use Rattle.cal_trace.specs.Signals.Reading.{file_of, so_far, HasPlaces};
     ghost use Rattle.cal_trace.specs.Signals.Reading.{KeepsFittingSignals};
     ghost use Rattle.cal_trace.specs.declared.rows.version.Version.{Version};
 
     type Pass = SignalPass;
-
-    ghost SoFar = { SoFar SignalPass };
 
     ghost so_far = { so_far };
 
@@ -237,8 +234,6 @@ impl PassReading for SignalReading {
     ghost file = { file_of };
 
     ghost take = { λ file. take_row file.0 file.1 };
-
-    ghost whole = { whole };
 
     ghost IsReady = { HasPlaces };
 

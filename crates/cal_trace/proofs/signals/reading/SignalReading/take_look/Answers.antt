@@ -13,8 +13,8 @@ use Rattle.cal_trace.proofs.SignalLemmas.NextLook.{takes-look, keeps-look}
 use Rattle.cal_trace.specs.declared.rows.version.Version.{Version}
 use Rattle.cal_trace.proofs.signals.reading.SignalReading.take_look.Goals as goal
 
-pub index-last-requires : goal.index-last-requires
-index-last-requires c = rw c.requires (next_below c.args.self.now.threads c.in_ok-thread.thread (so_far [] c.args.self.now).at_hand (sym c.in_ok-thread.ensures))
+pub index-requires : goal.index-requires
+index-requires c = rw c.requires (next_below c.args.self.now.threads c.in_ok-thread.thread (so_far [] c.args.self.now).at_hand (sym c.in_ok-thread.ensures))
 
 -- what a thread showed last is at its place
 last_at : (given : List SignalPass) (old : SignalReading) (k : ℕ) (last : Shown) → HasPlaces old → KeepsSignals given old → next_thread looks_in old.threads (so_far given old).at_hand ≡ Ok k
@@ -28,16 +28,16 @@ pub returns-then-not-may_follow-clause-takes : goal.returns-then-not-may_follow-
 returns-then-not-may_follow-clause-takes c = λ given kept.
     let old = c.args.self.now in
     let k = c.in_ok-thread.thread in
-    let at = last_at given old k c.index-last.result.now c.requires kept (sym c.in_ok-thread.ensures) c.index-last.ensures in
-    let e = takes-look (so_far given old) old.threads k c.args.look c.in_ok-found.found (fields_of c.args.row.now) c.index-last.result.now (sym c.in_ok-thread.ensures) (sym c.in_ok-found.ensures) at.1 in
+    let at = last_at given old k c.index.result.now c.requires kept (sym c.in_ok-thread.ensures) c.index.ensures in
+    let e = takes-look (so_far given old) old.threads k c.args.look c.in_ok-found.found (fields_of c.args.row.now) c.index.result.now (sym c.in_ok-thread.ensures) (sym c.in_ok-found.ensures) at.1 in
     e ∙ rw (← c.shown_with-shown.ensures, ← c.may_follow.ensures.test, c.if-not-may_follow.true) refl
 
 pub returns-clause-takes : goal.returns-clause-takes
 returns-clause-takes c = λ given kept.
     let old = c.args.self.now in
     let k = c.in_ok-thread.thread in
-    let at = last_at given old k c.index-last.result.now c.requires kept (sym c.in_ok-thread.ensures) c.index-last.ensures in
-    let e = takes-look (so_far given old) old.threads k c.args.look c.in_ok-found.found (fields_of c.args.row.now) c.index-last.result.now (sym c.in_ok-thread.ensures) (sym c.in_ok-found.ensures) at.1 in
+    let at = last_at given old k c.index.result.now c.requires kept (sym c.in_ok-thread.ensures) c.index.ensures in
+    let e = takes-look (so_far given old) old.threads k c.args.look c.in_ok-found.found (fields_of c.args.row.now) c.index.result.now (sym c.in_ok-thread.ensures) (sym c.in_ok-found.ensures) at.1 in
     e ∙ rw (← c.shown_with-shown.ensures, ← c.may_follow.ensures.test, c.if-not-may_follow.false, c.in_ok-add_look.ensures.added given) refl
 
 pub returns-clause-kept : goal.returns-clause-kept
@@ -45,10 +45,10 @@ returns-clause-kept c = λ given kept.
     let old = c.args.self.now in
     let k = c.in_ok-thread.thread in
     let same = ap (λ (f : ℕ × Version). f.0) c.add_look.ensures.file in
-    let at = last_at given old k c.index-last.result.now c.requires kept (sym c.in_ok-thread.ensures) c.index-last.ensures in
+    let at = last_at given old k c.index.result.now c.requires kept (sym c.in_ok-thread.ensures) c.index.ensures in
     record {
       counted = c.in_ok-add_look.ensures.counted given kept.counted;
       shown = λ j lt. rw (c.add_look.ensures.shown, c.shown_with-shown.ensures)
-          (keeps-look (so_far given old) old.threads k j c.in_ok-found.found c.index-last.result.now old.shown.items (sym c.in_ok-thread.ensures) at.1 at.0 (kept.shown j (rw same at lt))
+          (keeps-look (so_far given old) old.threads k j c.in_ok-found.found c.index.result.now old.shown.items (sym c.in_ok-thread.ensures) at.1 at.0 (kept.shown j (rw same at lt))
           ∙ ap (λ (s : SoFar SignalPass). last_shown j (passes_of s)) (sym (c.in_ok-add_look.ensures.added given)));
     }
