@@ -1,5 +1,5 @@
 -- The signals of an accepted file fit: the checks of its rows say so.
-use Rattle.std.proofs.Common.{◌≡◌, ◌<◌, ◌≤◌, nat_lt, ℕ, Bool, true, false, not, List, [], ◌∷◌, ◌++◌, length, Option, Some, None, option_to_list, Result, Ok, Err, slice_get, if◌then◌else◌, inl, inr, subst, refl, ap, ◌∙◌, arith, length-append, codes}
+use Rattle.std.proofs.Common.{◌≡◌, ◌<◌, ◌≤◌, nat_lt, ℕ, Bool, true, false, not, List, [], ◌∷◌, ◌++◌, length, Option, Some, None, option_to_list, Result, Ok, Err, slice_get, if◌then◌else◌, inl, inr, subst, refl, ◌∙◌, arith, length-append, codes}
 use Rattle.std.proofs.lemmas.List.{append-nil, take-append-le, take_all}
 use Rattle.std.specs.Option.{unwrap_or}
 use Rattle.cal_trace.specs.Rows.Header.{header_of}
@@ -11,7 +11,7 @@ use Rattle.cal_signal.specs.declared.look.Look.TheVariants as looks
 use Rattle.cal_signal.proofs.Testing.{shaped_holds, follows_holds, pair_holds}
 use Rattle.cal_machine.proofs.Last.{last_or_before, slice_get-last}
 use Rattle.cal_trace.proofs.SignalLemmas.LastShown.{last_shown-silent}
-use Rattle.cal_trace.specs.Rows.SoFar.{SoFar, at_start, passes_of, add_pass, add_look, add_end, take_look, whole, is_full, next_thread}
+use Rattle.cal_trace.specs.Rows.SoFar.{SoFar, at_start, passes_of, add_pass, add_look, add_end, take_look, whole, is_full}
 use Rattle.cal_trace.specs.Signals.{last_shown, shown_by, with_look, following, next_look, take_form, take_row, form_of, signals_of, looks_in, begun}
 use Rattle.cal_trace.specs.declared.fault.FaultKind.{FaultKind}
 use Rattle.cal_trace.specs.declared.fault.FaultKind.TheVariants as kinds
