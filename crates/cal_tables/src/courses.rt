@@ -104,7 +104,7 @@ fn responses_of(
     let mut times = ended
         .run
         .responses_of(alloc, &ended.config, arrivals, task)?;
-    times.sort()?;
+    times.sort_unstable();
     Ok(times)
 }
 
