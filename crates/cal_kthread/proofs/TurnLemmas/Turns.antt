@@ -100,8 +100,8 @@ noted-all journal a b c d e =
 -- the entries for which a turn's steps stand, put in one after the other
 pub noted-turn : {a b c d : Option Entry} {e : Entry} (journal : List Entry) (entries : TurnEntries) → a ≡ arrival entries → b ≡ taking entries → c ≡ theft entries → d ≡ work entries → e ≡ publication entries
     → noted (noted (noted (noted (noted journal a) b) c) d) (Some e) ≡ journal ++ entries_of entries
-noted-turn journal entries came took stole worked published =
-    (λ i. noted (noted (noted (noted (noted journal (came i)) (took i)) (stole i)) (worked i)) (Some (published i)))
+noted-turn journal entries came took stole did shows =
+    (λ i. noted (noted (noted (noted (noted journal (came i)) (took i)) (stole i)) (did i)) (Some (shows i)))
     ∙ noted-all journal (arrival entries) (taking entries) (theft entries) (work entries) (publication entries)
 
 all-none : {Y : Type 0} (h : Entry → Option Y) (a b c : List Entry) → filter_map h a ≡ [] → filter_map h b ≡ [] → filter_map h c ≡ [] → filter_map h (a ++ b ++ c) ≡ []

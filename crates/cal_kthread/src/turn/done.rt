@@ -1,4 +1,4 @@
-//! What the steps of a turn did, each no larger than that.
+//! What the steps of a turn did, each in a type of its own: none has the room of a whole entry.
 
 use cal_command::Command;
 use cal_signal::Record;
@@ -21,7 +21,7 @@ pub struct Theft {
     pub id: u64,
 }
 
-/// What became of a thread that is on a core.
+/// What came of a turn's work, where an entry tells of it.
 #[derive(Clone, Copy, Debug, PartialEq, Eq)]
 pub enum Worked {
     /// It did the last of this request's work.
