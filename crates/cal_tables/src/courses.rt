@@ -81,7 +81,7 @@ impl Collector for OpenCourse {
         Ok(())
     }
 
-    fn add_turn(&mut self, k: usize, entries: TurnEntries) -> Result<(), AllocError> {
+    fn add_turn(&mut self, k: usize, entries: &TurnEntries) -> Result<(), AllocError> {
         self.numbers.turn(k, entries)?;
         Ok(())
     }
