@@ -49,8 +49,9 @@ impl Model for BareThread {
 
 impl BareThread {
     /// One turn, as of a `KernelThread`: a request arrives, a command is taken, the current request
-    /// is worked on, the front is filled, and a record is published. Gives the entries that this
-    /// adds to its journal. `now` is in clock ticks. Waits for nobody.
+    /// is worked on, the front is filled, and a record is published. Gives what each step did, for
+    /// which the entries stand that this adds to its journal. `now` is in clock ticks. Waits for
+    /// nobody.
     ///
     /// Asks for a place that is left on its page, which has 2^62 - 1. Fails only where room for the
     /// request was refused; then nothing has changed. Beyond that room a turn takes no memory.

@@ -96,11 +96,11 @@ impl KernelThread {
         }
         self.journal.reserve(TURN_ENTRIES)?;
         let entries = self.bare.turn(now, request)?;
-        note(&mut self.journal, entries.arrived);
-        note(&mut self.journal, entries.took);
-        note(&mut self.journal, entries.stole);
-        note(&mut self.journal, entries.worked);
-        note(&mut self.journal, Some(entries.published));
+        note(&mut self.journal, entries.arrival());
+        note(&mut self.journal, entries.taking());
+        note(&mut self.journal, entries.theft());
+        note(&mut self.journal, entries.work());
+        note(&mut self.journal, Some(entries.publication()));
         Ok(())
     }
 

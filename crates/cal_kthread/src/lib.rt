@@ -36,4 +36,5 @@ pub use journal::kept::Kept;
 pub use kernel_thread::{KernelThread, MOST_ENTRIES, TURN_ENTRIES};
 pub use queue::waiting::Waiting;
 pub use team::{BareTeam, Team, open_bare_threads, open_threads};
+pub use turn::done::{Publication, Taken, Theft, Worked};
 pub use turn::entries::TurnEntries;

@@ -213,9 +213,9 @@ pub(crate) fn given_to(config: &Config, requests: &[Arrival], task: usize) -> us
     count
 }
 
-/// What these times come to, all of which are known. Fails only when out of memory.
-fn spread_of_known(alloc: Global, times: Vec<u64>) -> Result<Spread, AllocError>
-    ensures { IfOk result (IsSpread times.items []) }
+/// What these times come to, all of which are known. Takes no memory.
+fn spread_of_known(alloc: Global, times: Vec<u64>) -> Spread
+    ensures { IsSpread times.items [] result }
 {
     spread_of(times, Vec::new(alloc))
 }
@@ -253,12 +253,12 @@ pub(crate) fn requests_of_share(
     let answered = responses(alloc, clocks, served)?;
     let pending = so_far(alloc, clocks, end, left)?;
     let together = total_of(answered.as_slice()) + total_of(pending.as_slice());
-    let response = spread_of(answered, pending)?;
-    let wait = spread_of_known(alloc, waits(alloc, clocks, served)?)?;
-    let service = spread_of_known(alloc, works(alloc, served)?)?;
-    let slowdown = spread_of_known(alloc, slowdowns(alloc, clocks, served)?)?;
+    let response = spread_of(answered, pending);
+    let wait = spread_of_known(alloc, waits(alloc, clocks, served)?);
+    let service = spread_of_known(alloc, works(alloc, served)?);
+    let slowdown = spread_of_known(alloc, slowdowns(alloc, clocks, served)?);
     let oldest = so_far(alloc, clocks, end, left)?;
-    let so_far = spread_of_known(alloc, oldest)?;
+    let so_far = spread_of_known(alloc, oldest);
     Ok(TaskRequests {
         given: share.given,
         served: served.len(),

@@ -46,16 +46,16 @@ impl ThreadWork {
 
     /// Takes what one turn more added to the journal. Fails only when out of memory; what is held
     /// then is of no journal.
-    pub fn take(&mut self, entries: TurnEntries) -> Result<(), AllocError>
+    pub fn take(&mut self, entries: &TurnEntries) -> Result<(), AllocError>
         ensures { (journal : List EntryOf) → IsThreadWorkOf journal self.old →
-            length (journal ++ entries_of entries) ≤ MOST_ENTRIES →
-            OnOk result (IsThreadWorkOf (journal ++ entries_of entries) self.new) }
+            length (journal ++ entries_of entries.now) ≤ MOST_ENTRIES →
+            OnOk result (IsThreadWorkOf (journal ++ entries_of entries.now) self.new) }
     {
-        self.take_step(entries.arrived)?;
-        self.take_step(entries.took)?;
-        self.take_step(entries.stole)?;
-        self.take_step(entries.worked)?;
-        self.take_entry(entries.published)
+        self.take_step(entries.arrival())?;
+        self.take_step(entries.taking())?;
+        self.take_step(entries.theft())?;
+        self.take_step(entries.work())?;
+        self.take_entry(entries.publication())
     }
 
     /// What the whole journal came to, in a run with this last clock: the last turn ends then. Fails

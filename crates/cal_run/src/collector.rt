@@ -55,13 +55,13 @@ pub trait Collector {
             OnOk result (holds self.new scheduler.new.history journals) };
 
     /// Takes what a turn of thread `k` added to its journal.
-    fn add_turn(&mut self, k: usize, entries: TurnEntries) -> Result<(), Self::Fault>
+    fn add_turn(&mut self, k: usize, entries: &TurnEntries) -> Result<(), Self::Fault>
         ensures suits { (table : Table) → suits self.old table →
             IfOk result (λ _. suits self.new table) }
         ensures collected { (history : List EntryOfPass) (journals : List (List Entry))
             (journal : List Entry) → holds self.old history journals →
             slice_get journals k ≡ Some journal →
-            length (journal ++ entries_of entries) ≤ MOST_ENTRIES →
+            length (journal ++ entries_of entries.now) ≤ MOST_ENTRIES →
             OnOk result (holds self.new history
-            (slice_set journals k (journal ++ entries_of entries))) };
+            (slice_set journals k (journal ++ entries_of entries.now))) };
 }

@@ -34,7 +34,7 @@ pub(crate) fn turn_each<C: Collector>(
     turns_add_up();
     for k in 0..workers.len() {
         let entries = workers[k].turn(arrivals, j)?;
-        collector.add_turn(k, entries)?;
+        collector.add_turn(k, &entries)?;
     }
     Ok(())
 }

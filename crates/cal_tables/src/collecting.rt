@@ -95,15 +95,15 @@ impl OpenNumbers {
     }
 
     /// Takes what a turn of thread `k` added to its journal. Fails only when out of memory.
-    pub fn turn(&mut self, k: usize, entries: TurnEntries) -> Result<(), AllocError>
+    pub fn turn(&mut self, k: usize, entries: &TurnEntries) -> Result<(), AllocError>
         ensures table { self.new.config ≡ self.old.config }
         ensures walk { self.new.walk ≡ self.old.walk }
         ensures threads { (journals : List (List Entry)) (journal : List Entry) →
             AllZip IsThreadWorkOf journals self.old.threads.items →
             slice_get journals k ≡ Some journal →
-            length (journal ++ entries_of entries) ≤ MOST_ENTRIES →
+            length (journal ++ entries_of entries.now) ≤ MOST_ENTRIES →
             OnOk result (AllZip IsThreadWorkOf
-            (slice_set journals k (journal ++ entries_of entries)) self.new.threads.items) }
+            (slice_set journals k (journal ++ entries_of entries.now)) self.new.threads.items) }
     {
         if k >= self.threads.len() {
             return Ok(());
@@ -156,7 +156,7 @@ impl Collector for OpenNumbers {
         Ok(())
     }
 
-    fn add_turn(&mut self, k: usize, entries: TurnEntries) -> Result<(), AllocError> {
+    fn add_turn(&mut self, k: usize, entries: &TurnEntries) -> Result<(), AllocError> {
         self.turn(k, entries)?;
         Ok(())
     }

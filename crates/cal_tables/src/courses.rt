@@ -81,7 +81,7 @@ impl Collector for OpenCourse {
         Ok(())
     }
 
-    fn add_turn(&mut self, k: usize, entries: TurnEntries) -> Result<(), AllocError> {
+    fn add_turn(&mut self, k: usize, entries: &TurnEntries) -> Result<(), AllocError> {
         self.numbers.turn(k, entries)?;
         Ok(())
     }
@@ -104,7 +104,7 @@ fn responses_of(
     let mut times = ended
         .run
         .responses_of(alloc, &ended.config, arrivals, task)?;
-    times.sort()?;
+    times.sort_unstable();
     Ok(times)
 }
 

@@ -19,7 +19,6 @@ use Rattle.cal_trace.specs.declared.arrivals.GivenPass.{GivenPass}
 use Rattle.cal_trace.specs.declared.fault.FaultKind.{FaultKind}
 use Rattle.cal_trace.specs.declared.fault.FaultKind.TheVariants as kind
 use Rattle.cal_trace.specs.declared.fault.TraceFault.{TraceFault}
-use Rattle.cal_trace.specs.declared.rows.look_rows.PassRow.{PassRow}
 use Rattle.cal_trace.proofs.RowLemmas.Checks.{same_ok, check_one, check_two, check_three}
 use Rattle.cal_trace.proofs.RowLemmas.Conjunctions.{and_three}
 use Rattle.cal_trace.proofs.ListLemmas.EachLater.{later_none, later_push, each_to_last}
@@ -32,12 +31,11 @@ abbrev given : SoFar → Arrivals
 given so_far = record { passes = so_far.passes; turns = so_far.turns; requests = so_far.requests }
 
 -- one more pass
-pass_fits : (threads : ℕ) (so_far next : SoFar) (row : Result PassRow FaultKind) → ((pass : PassRow) → row ≡ Ok pass → length so_far.passes < MOST_PASSES)
+pass_fits : (threads : ℕ) (so_far next : SoFar) (row : Result GivenPass FaultKind) → ((pass : GivenPass) → row ≡ Ok pass → length so_far.passes < MOST_PASSES)
     → Fits threads (given so_far) → add_pass so_far row ≡ Ok next → Fits threads (given next)
 pass_fits threads so_far next (Err k) room fits e = absurd (cc)
-pass_fits threads so_far next (Ok row) room fits e =
-    let pass : GivenPass = record { now = row.now; bandwidth = row.bandwidth } in
-    let more = room row refl in
+pass_fits threads so_far next (Ok pass) room fits e =
+    let more = room pass refl in
     subst (λ (s : SoFar). Fits threads (given s)) (same_ok _ next e)
     (record {
       few_passes = omega (arith, more, length-append so_far.passes (pass ∷ []));

@@ -11,7 +11,7 @@ use Rattle.cal_trace.specs.Rows.LookRows.{pass_row, end_row}
 use Rattle.cal_trace.specs.Rows.SoFar.{IsCounted, SoFar, at_start, passes_of, whole, is_between, add_pass, add_end, take_pass, take_end}
 use Rattle.cal_trace.specs.Signals.{last_shown, looks_in, begun, take_form, take_row}
 use Rattle.cal_trace.specs.declared.fault.FaultKind.TheVariants as kind
-use Rattle.cal_trace.specs.declared.rows.look_rows.PassRow.{PassRow}
+use Rattle.cal_trace.specs.declared.arrivals.GivenPass.{GivenPass}
 use Rattle.cal_trace.specs.Signals.Fitting.{IsFittingSoFar}
 use Rattle.cal_trace.specs.Signals.Reading.{file_of, pass_at_hand, so_far, HasGiven, KeepsSignals, KeepsFittingSignals}
 use Rattle.cal_trace.specs.declared.signals.file.SignalRows.{SignalRows}
@@ -56,7 +56,7 @@ shown-added threads k so_far next fields e =
     let c = check_one (is_between looks_in threads so_far) kind.Order (add_pass begun so_far row) next e in
     added row c.1
   where
-    added : (row : Result PassRow FaultKind) → add_pass begun so_far row ≡ Ok next → last_shown k (passes_of next) ≡ last_shown k (passes_of so_far)
+    added : (row : Result GivenPass FaultKind) → add_pass begun so_far row ≡ Ok next → last_shown k (passes_of next) ≡ last_shown k (passes_of so_far)
     added (Err fault) e = cc
     added (Ok row) e = ap (λ (s : SoFar SignalPass). last_shown k (passes_of s)) (sym (same_ok _ next e)) ∙ shown-begun k (passes_of so_far) row.now row.bandwidth
 

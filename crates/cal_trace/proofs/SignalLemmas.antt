@@ -1,4 +1,4 @@
 -- Files of signals.
 pub mod Accepted
 pub mod LastShown
-pub mod WholeLooks
+pub mod NextLook

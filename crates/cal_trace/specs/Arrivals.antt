@@ -21,7 +21,6 @@ use Rattle.cal_trace.specs.declared.arrivals.GivenPass.{GivenPass}
 use Rattle.cal_trace.specs.declared.fault.FaultKind.{FaultKind}
 use Rattle.cal_trace.specs.declared.fault.FaultKind.TheVariants as kind
 use Rattle.cal_trace.specs.declared.fault.TraceFault.{TraceFault}
-use Rattle.cal_trace.specs.declared.rows.look_rows.PassRow.{PassRow}
 
 -- what a row is, by its first field and its number of fields
 abbrev pub form_of : Fields → Option Form
@@ -94,13 +93,9 @@ arrival_row threads turns last fields =
     }))))
 
 -- one more pass, one more turn, one more request, the end
-abbrev pub add_pass : SoFar → Result PassRow FaultKind → Result SoFar FaultKind
+abbrev pub add_pass : SoFar → Result GivenPass FaultKind → Result SoFar FaultKind
 add_pass so_far (Err k) = Err k
-add_pass so_far (Ok row) =
-    Ok (record so_far {
-      passes = so_far.passes
-          ++ record { now = row.now; bandwidth = row.bandwidth } ∷ [];
-    })
+add_pass so_far (Ok pass) = Ok (record so_far { passes = so_far.passes ++ pass ∷ [] })
 
 abbrev pub add_turn : SoFar → Result ℕ FaultKind → Result SoFar FaultKind
 add_turn so_far (Err k) = Err k

@@ -6,6 +6,9 @@ pub mod Text
 use Rattle.std.specs.Prelude.{◌==◌, nat_lt, ℕ, List, [], ◌∷◌, ◌++◌, length, codes}
 use Rattle.std.specs.Prelude.{Option, Some, None, Result, Ok, Err, if◌then◌else◌}
 use Rattle.std.specs.Option.{option_map}
+use Rattle.cal_signal.specs.declared.look.Look.{Look}
+use Rattle.cal_signal.specs.declared.look.Look.TheVariants as look
+use Rattle.cal_policy.specs.declared.judgement.open_input.FoundLook.{FoundLook}
 use Rattle.cal_policy.specs.declared.history.look.Seen.{Seen}
 use Rattle.cal_policy.specs.declared.history.look.Seen.TheVariants as seen
 use Rattle.cal_policy.specs.declared.history.action.Action.{Action}
@@ -15,10 +18,10 @@ use Rattle.cal_trace.specs.History.ActionRows.{action_form, action_row}
 use Rattle.cal_trace.specs.Rows.RowFields.{is_row}
 use Rattle.cal_trace.specs.Rows.Version.{record_fields}
 use Rattle.cal_trace.specs.Rows.Header.{header_of}
-use Rattle.cal_trace.specs.Rows.LookRows.{check, whole_row, busy_row}
+use Rattle.cal_trace.specs.Rows.LookRows.{check, look_row}
 use Rattle.cal_trace.specs.Rows.Reading.{read_under}
-use Rattle.cal_trace.specs.Rows.SoFar.{SoFar, at_start, with_more, whole, next_thread}
-use Rattle.cal_trace.specs.Rows.SoFar.{take_pass, take_end}
+use Rattle.cal_trace.specs.Rows.SoFar.{SoFar, at_start, whole, next_thread}
+use Rattle.cal_trace.specs.Rows.SoFar.{take_pass, take_look, take_end}
 use Rattle.cal_trace.specs.Rows.{Fields}
 use Rattle.cal_trace.specs.declared.history.action_rows.ActionForm.{ActionForm}
 use Rattle.cal_trace.specs.declared.history.action_rows.Extent.{Extent}
@@ -27,12 +30,9 @@ use Rattle.cal_trace.specs.declared.fault.FaultKind.TheVariants as kind
 use Rattle.cal_trace.specs.declared.fault.TraceFault.{TraceFault}
 use Rattle.cal_trace.specs.declared.history.reading.Form.{Form}
 use Rattle.cal_trace.specs.declared.history.reading.Form.TheVariants as form
-use Rattle.cal_trace.specs.declared.history.reading.LookForm.{LookForm}
-use Rattle.cal_trace.specs.declared.history.reading.LookForm.TheVariants as looks
-use Rattle.cal_trace.specs.declared.history.reading.SeenRow.{SeenRow}
-use Rattle.cal_trace.specs.declared.rows.look_rows.WholeRow.{WholeRow}
-use Rattle.cal_trace.specs.declared.rows.look_rows.BusyRow.{BusyRow}
-use Rattle.cal_trace.specs.declared.rows.look_rows.PassRow.{PassRow}
+use Rattle.cal_trace.specs.declared.arrivals.GivenPass.{GivenPass}
+use Rattle.cal_trace.specs.declared.rows.look_rows.LookForm.{LookForm}
+use Rattle.cal_trace.specs.declared.rows.look_rows.LookForm.TheVariants as looks
 use Rattle.cal_trace.specs.declared.rows.version.Version.{Version}
 
 -- what a look row is, by its first field and its number of fields
@@ -57,31 +57,19 @@ form_of version fields =
     else if is_row (codes "caladan-history") 2 fields then Some form.Header
     else look_or_action (look_form version fields) (action_form fields)
 
--- a judged look of a whole record
-abbrev pub judged_row : (WholeRow → Seen) → Result WholeRow FaultKind → Result SeenRow FaultKind
-judged_row judge (Err k) = Err k
-judged_row judge (Ok row) = Ok (record { seen = judge row; room = row.room })
-
-abbrev pub busy_look : Result BusyRow FaultKind → Result SeenRow FaultKind
-busy_look (Err k) = Err k
-busy_look (Ok row) = Ok (record { seen = seen.Busy row.first row.second; room = row.room })
-
--- what a look row of this form says, where the next look is this thread's
-abbrev pub seen_row : LookForm → ℕ → Fields → Result SeenRow FaultKind
-seen_row looks.Busy thread fields = busy_look (busy_row thread fields)
-seen_row looks.Whole thread fields =
-    judged_row (λ row. seen.Whole row.shown.number row.shown.rec) (whole_row thread fields)
-seen_row looks.Ahead thread fields =
-    judged_row (λ row. seen.Ahead row.shown.number row.shown.rec) (whole_row thread fields)
-seen_row looks.Foreign thread fields =
-    judged_row (λ row. seen.Foreign row.shown.number row.shown.rec) (whole_row thread fields)
+-- a look of a row of this form, as it was judged
+abbrev pub judged : LookForm → Look → Seen
+judged form (look.Busy first second) = seen.Busy first second
+judged looks.Ahead (look.Whole number rec) = seen.Ahead number rec
+judged looks.Foreign (look.Whole number rec) = seen.Foreign number rec
+judged form (look.Whole number rec) = seen.Whole number rec
 
 -- how many looks a pass has
 abbrev pub looks_in : PassEntry → ℕ
 looks_in entry = length entry.input.seen
 
 -- a pass that has no looks and no actions yet
-abbrev pub begun : PassRow → PassEntry
+abbrev pub begun : GivenPass → PassEntry
 begun row = record {
   input = record {
     now = row.now;
@@ -92,13 +80,14 @@ begun row = record {
   actions = [];
 }
 
-abbrev pub with_look : SeenRow → PassEntry → PassEntry
-with_look row entry = record {
+-- one more look, of a row of this form, and one more action
+abbrev pub with_look : LookForm → FoundLook → PassEntry → PassEntry
+with_look form found entry = record {
   input = record {
     now = entry.input.now;
     bandwidth = entry.input.bandwidth;
-    seen = entry.input.seen ++ row.seen ∷ [];
-    rooms = entry.input.rooms ++ row.room ∷ [];
+    seen = entry.input.seen ++ judged form found.look ∷ [];
+    rooms = entry.input.rooms ++ found.room ∷ [];
   };
   actions = entry.actions;
 }
@@ -106,24 +95,12 @@ with_look row entry = record {
 abbrev pub with_action : Action → PassEntry → PassEntry
 with_action action entry = record { input = entry.input; actions = entry.actions ++ action ∷ [] }
 
--- one more look, one more action
-abbrev pub add_look : SoFar PassEntry → Result SeenRow FaultKind →
-    Result (SoFar PassEntry) FaultKind
-add_look so_far (Err k) = Err k
-add_look so_far (Ok row) = Ok (with_more (with_look row) so_far)
-
 abbrev pub add_action : SoFar PassEntry → PassEntry → Result Action FaultKind →
     Result (SoFar PassEntry) FaultKind
 add_action so_far entry (Err k) = Err k
 add_action so_far entry (Ok action) =
     check (nat_lt (length entry.actions) MOST_ACTIONS) kind.Range
     (Ok (record so_far { at_hand = Some (with_action action entry) }))
-
--- a look row, where the next look is that of this thread, if one may come here
-abbrev pub take_look : SoFar PassEntry → LookForm → Fields → Result ℕ FaultKind →
-    Result (SoFar PassEntry) FaultKind
-take_look so_far look fields (Err k) = Err k
-take_look so_far look fields (Ok thread) = add_look so_far (seen_row look thread fields)
 
 -- an action row, which comes after all looks of its pass
 abbrev pub take_action : Extent → SoFar PassEntry → ActionForm → Fields → Option PassEntry →
@@ -142,7 +119,8 @@ take_form extent so_far (Some form.Pass) fields =
     take_pass looks_in begun extent.threads so_far fields
 take_form extent so_far (Some form.End) fields = take_end looks_in extent.threads so_far fields
 take_form extent so_far (Some (form.Look look)) fields =
-    take_look so_far look fields (next_thread looks_in extent.threads so_far.at_hand)
+    take_look (with_look look) (λ thread. look_row look thread fields) so_far
+    (next_thread looks_in extent.threads so_far.at_hand)
 take_form extent so_far (Some (form.Act action)) fields =
     take_action extent so_far action fields so_far.at_hand
 

@@ -11,10 +11,10 @@ use Rattle.cal_signal.specs.declared.look.Look.TheVariants as look
 use Rattle.cal_trace.specs.Rows.RowFields.{is_row}
 use Rattle.cal_trace.specs.Rows.Version.{record_fields}
 use Rattle.cal_trace.specs.Rows.Header.{header_of}
-use Rattle.cal_trace.specs.Rows.LookRows.{check, whole_row, busy_row}
+use Rattle.cal_trace.specs.Rows.LookRows.{check, look_row}
 use Rattle.cal_trace.specs.Rows.Reading.{read_under}
-use Rattle.cal_trace.specs.Rows.SoFar.{SoFar, at_start, passes_of, with_more, whole, next_thread}
-use Rattle.cal_trace.specs.Rows.SoFar.{take_pass, take_end}
+use Rattle.cal_trace.specs.Rows.SoFar.{SoFar, at_start, passes_of, whole, next_thread}
+use Rattle.cal_trace.specs.Rows.SoFar.{take_pass, take_look, take_end}
 use Rattle.cal_trace.specs.Rows.{Fields}
 use Rattle.cal_signal.specs.Shown.{nothing_shown}
 use Rattle.cal_signal.specs.Tests.{is_shown_after}
@@ -22,9 +22,9 @@ use Rattle.cal_policy.specs.History.Lists.{last_of}
 use Rattle.cal_trace.specs.declared.fault.FaultKind.{FaultKind}
 use Rattle.cal_trace.specs.declared.fault.FaultKind.TheVariants as kind
 use Rattle.cal_trace.specs.declared.fault.TraceFault.{TraceFault}
-use Rattle.cal_trace.specs.declared.rows.look_rows.WholeRow.{WholeRow}
-use Rattle.cal_trace.specs.declared.rows.look_rows.BusyRow.{BusyRow}
-use Rattle.cal_trace.specs.declared.rows.look_rows.PassRow.{PassRow}
+use Rattle.cal_trace.specs.declared.arrivals.GivenPass.{GivenPass}
+use Rattle.cal_trace.specs.declared.rows.look_rows.LookForm.{LookForm}
+use Rattle.cal_trace.specs.declared.rows.look_rows.LookForm.TheVariants as looks
 use Rattle.cal_signal.specs.declared.shown.Shown.{Shown}
 use Rattle.cal_policy.specs.declared.judgement.open_input.FoundLook.{FoundLook}
 use Rattle.cal_trace.specs.declared.signals.SignalPass.{SignalPass}
@@ -36,8 +36,8 @@ use Rattle.cal_trace.specs.declared.rows.version.Version.{Version}
 abbrev pub form_of : Version → Fields → Option Form
 form_of version fields =
     if is_row (codes "pass") 3 fields then Some form.Pass
-    else if is_row (codes "whole") (record_fields version) fields then Some form.Whole
-    else if is_row (codes "busy") 5 fields then Some form.Busy
+    else if is_row (codes "whole") (record_fields version) fields then Some (form.Look looks.Whole)
+    else if is_row (codes "busy") 5 fields then Some (form.Look looks.Busy)
     else if is_row (codes "end") 2 fields then Some form.End
     else if is_row (codes "caladan-signals") 2 fields then Some form.Header
     else None
@@ -47,7 +47,7 @@ abbrev pub looks_in : SignalPass → ℕ
 looks_in pass = length pass.looks
 
 -- a pass that has no looks yet
-abbrev pub begun : PassRow → SignalPass
+abbrev pub begun : GivenPass → SignalPass
 begun row = record { now = row.now; bandwidth = row.bandwidth; looks = [] }
 
 -- what a look showed
@@ -71,43 +71,17 @@ with_look seen pass = record {
   looks = pass.looks ++ seen ∷ [];
 }
 
--- the look of a row
-abbrev pub look_of_whole : WholeRow → FoundLook
-look_of_whole row = record { look = look.Whole row.shown.number row.shown.rec; room = row.room }
-
-abbrev pub look_of_busy : BusyRow → FoundLook
-look_of_busy row = record { look = look.Busy row.first row.second; room = row.room }
-
--- a whole look, where a thread that showed this last may show it
-abbrev pub following : Shown → Result WholeRow FaultKind → Result FoundLook FaultKind
+-- a look, where a thread that showed this last may give it: one that finds no record shows nothing
+-- new
+abbrev pub following : Shown → Result FoundLook FaultKind → Result FoundLook FaultKind
 following last (Err k) = Err k
-following last (Ok row) =
-    check (is_shown_after last row.shown) kind.Backwards (Ok (look_of_whole row))
+following last (Ok found) =
+    check (is_shown_after last (unwrap_or (shown_by found.look) last)) kind.Backwards (Ok found)
 
-abbrev pub as_look : Result BusyRow FaultKind → Result FoundLook FaultKind
-as_look (Err k) = Err k
-as_look (Ok row) = Ok (look_of_busy row)
-
--- the passes with the look of a row
-abbrev pub add_look : SoFar SignalPass → Result FoundLook FaultKind →
-    Result (SoFar SignalPass) FaultKind
-add_look so_far (Err k) = Err k
-add_look so_far (Ok seen) = Ok (with_more (with_look seen) so_far)
-
--- what a look row of this form says, where the next look is thread k's, which showed this last
-abbrev pub look_row : Form → ℕ → Shown → Fields → Result FoundLook FaultKind
-look_row form.Busy k last fields = as_look (busy_row k fields)
-look_row form.Whole k last fields = following last (whole_row k fields)
-look_row form.Header k last fields = Err kind.Order
-look_row form.Pass k last fields = Err kind.Order
-look_row form.End k last fields = Err kind.Order
-
--- a look row, where the next look is that of this thread, if one may come here
-abbrev pub take_look : SoFar SignalPass → Form → Fields → Result ℕ FaultKind →
-    Result (SoFar SignalPass) FaultKind
-take_look so_far form fields (Err k) = Err k
-take_look so_far form fields (Ok thread) =
-    add_look so_far (look_row form thread (last_shown thread (passes_of so_far)) fields)
+-- what a look row of this form says, where the next look is this thread's
+abbrev pub next_look : SoFar SignalPass → LookForm → Fields → ℕ → Result FoundLook FaultKind
+next_look so_far form fields thread =
+    following (last_shown thread (passes_of so_far)) (look_row form thread fields)
 
 -- what the rows say with one more row of this form
 abbrev pub take_form : ℕ → SoFar SignalPass → Option Form → Fields →
@@ -116,10 +90,9 @@ take_form threads so_far None fields = Err kind.Fields
 take_form threads so_far (Some form.Header) fields = Err kind.Order
 take_form threads so_far (Some form.Pass) fields = take_pass looks_in begun threads so_far fields
 take_form threads so_far (Some form.End) fields = take_end looks_in threads so_far fields
-take_form threads so_far (Some form.Whole) fields =
-    take_look so_far form.Whole fields (next_thread looks_in threads so_far.at_hand)
-take_form threads so_far (Some form.Busy) fields =
-    take_look so_far form.Busy fields (next_thread looks_in threads so_far.at_hand)
+take_form threads so_far (Some (form.Look look)) fields =
+    take_look with_look (next_look so_far look fields) so_far
+    (next_thread looks_in threads so_far.at_hand)
 
 -- what the rows say with one more row, or the first of the row's checks that fails
 abbrev pub take_row : ℕ → Version → SoFar SignalPass → Fields → Result (SoFar SignalPass) FaultKind

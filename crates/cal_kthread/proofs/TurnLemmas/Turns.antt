@@ -12,13 +12,14 @@ use Rattle.cal_signal.specs.declared.record.Record.{Record}
 use Rattle.cal_kthread.specs.declared.turn.current.Current.{Current}
 use Rattle.cal_kthread.specs.declared.journal.entry.Entry.{Entry}
 use Rattle.cal_kthread.specs.declared.journal.entry.Entry.TheVariants.{Arrived, Served, Published}
+use Rattle.cal_kthread.specs.declared.turn.entries.TurnEntries.{TurnEntries}
 use Rattle.cal_kthread.specs.declared.turn.sources.Source.{Source}
 use Rattle.cal_kthread.specs.declared.queue.waiting.Waiting.{Waiting}
 use Rattle.cal_kthread.specs.Journal.{arrival_in, arrivals_of, record_in, records_of}
 use Rattle.cal_kthread.specs.Queue.{QueueView}
 use Rattle.cal_kthread.specs.Turn.Thread.{ThreadView, KernelView}
 use Rattle.cal_kthread.specs.Turn.{Answers, arrived, taken, provided, worked, worked_on, served, shown, noted, turned}
-use Rattle.cal_kthread.specs.Turn.Entries.{entries_of}
+use Rattle.cal_kthread.specs.Turn.Entries.{arrival, taking, theft, work, publication, entries_of}
 use Rattle.cal_kthread.specs.Turn.Turns.{IsOneTurn, Given, AreTurns, OneTurnMore, TurnsAddUp}
 use Rattle.cal_kthread.proofs.TeamLemmas.Turns.{Kept, kept, unpublished}
 
@@ -81,9 +82,9 @@ put : (journal : List Entry) (o : Option Entry) → noted journal o ≡ journal 
 put journal None = sym (append-nil journal)
 put journal (Some e) = refl
 
--- the entries of a turn, put in one after the other
-pub noted-all : (journal : List Entry) (a b c d : Option Entry) (e : Entry)
-    → noted (noted (noted (noted (noted journal a) b) c) d) (Some e) ≡ journal ++ entries_of (record { arrived = a; took = b; stole = c; worked = d; published = e })
+-- five entries, put in one after the other
+noted-all : (journal : List Entry) (a b c d : Option Entry) (e : Entry)
+    → noted (noted (noted (noted (noted journal a) b) c) d) (Some e) ≡ journal ++ (option_to_list a ++ option_to_list b ++ option_to_list c ++ option_to_list d ++ e ∷ [])
 noted-all journal a b c d e =
     let x = option_to_list a in
     let y = option_to_list b in
@@ -95,6 +96,13 @@ noted-all journal a b c d e =
     ∙ append_assoc (journal ++ x) y (z ++ (w ++ e ∷ []))
     ∙ append_assoc journal x (y ++ (z ++ (w ++ e ∷ [])))
     ∙ ap (λ l. journal ++ l) (sym (append_assoc x y (z ++ (w ++ e ∷ []))) ∙ sym (append_assoc (x ++ y) z (w ++ e ∷ [])) ∙ sym (append_assoc (x ++ y ++ z) w (e ∷ [])))
+
+-- the entries for which a turn's steps stand, put in one after the other
+pub noted-turn : {a b c d : Option Entry} {e : Entry} (journal : List Entry) (entries : TurnEntries) → a ≡ arrival entries → b ≡ taking entries → c ≡ theft entries → d ≡ work entries → e ≡ publication entries
+    → noted (noted (noted (noted (noted journal a) b) c) d) (Some e) ≡ journal ++ entries_of entries
+noted-turn journal entries came took stole did shows =
+    (λ i. noted (noted (noted (noted (noted journal (came i)) (took i)) (stole i)) (did i)) (Some (shows i)))
+    ∙ noted-all journal (arrival entries) (taking entries) (theft entries) (work entries) (publication entries)
 
 all-none : {Y : Type 0} (h : Entry → Option Y) (a b c : List Entry) → filter_map h a ≡ [] → filter_map h b ≡ [] → filter_map h c ≡ [] → filter_map h (a ++ b ++ c) ≡ []
 all-none h a b c x y z = filter_map-append h (a ++ b) c ∙ ap (λ l. l ++ filter_map h c) (filter_map-append h a b ∙ (λ i. x i ++ y i)) ∙ z

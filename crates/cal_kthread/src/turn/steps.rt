@@ -1,20 +1,23 @@
-//! The five steps of a turn, the third in two parts. Each answers what it puts into the journal, if
-//! it puts anything there.
-ghost use Rattle.std.specs.Prelude.{◌≡◌, ℕ, ◌+◌, ◌<◌, ◌≤◌, min, Option};
+//! The five steps of a turn, the third in two parts. Each answers what it did, if it did anything
+//! for which an entry stands in the journal.
+ghost use Rattle.std.specs.Prelude.{◌≡◌, ℕ, ◌+◌, ◌<◌, ◌≤◌, min, Option, option_map};
 ghost use Rattle.std.specs.Prelude.{Some, None, length, IfSome, MatchResult};
 ghost use Rattle.cal_machine.specs.declared.command.Command.{Command};
 ghost use Rattle.cal_signal.specs.Pages.{last_published};
 ghost use Rattle.cal_signal.specs.Records.{MayFollow};
 ghost use Rattle.cal_signal.specs.declared.publisher.TheConstants.{LAST_PLACE};
 ghost use Rattle.cal_signal.specs.declared.record.TheConstants.{MOST_MISSES};
+ghost use Rattle.cal_kthread.specs.declared.journal.entry.Entry.TheVariants.{Arrived};
 ghost use Rattle.cal_kthread.specs.declared.queue.waiting.Waiting.{Waiting};
 ghost use Rattle.cal_kthread.specs.Journal.{core_after as core_of};
 ghost use Rattle.cal_kthread.specs.Turn as turn;
+ghost use Rattle.cal_kthread.specs.Turn.Entries.{entry_of_taken, entry_of_theft};
+ghost use Rattle.cal_kthread.specs.Turn.Entries.{entry_of_work, entry_of_publication};
 
-use crate::journal::entry::Entry;
 use crate::queue::OwnQueue;
 use crate::queue::waiting::Waiting;
 use crate::turn::current::Current;
+use crate::turn::done::{Publication, Taken, Theft, Worked};
 use crate::turn::sources::steal_first;
 use crate::turn::thread::Thread;
 use cal_command::Command;
@@ -29,9 +32,9 @@ impl Thread {
         &mut self,
         now: u64,
         request: Option<Request>,
-    ) -> Result<Option<Entry>, AllocError>
+    ) -> Result<Option<Request>, AllocError>
         ensures arrived { MatchResult result
-            (λ entry. (self.new, entry) ≡ turn.arrived now request self.old)
+            (λ came. (self.new, option_map Arrived came) ≡ turn.arrived now request self.old)
             (λ _. self.new ≡ self.old) }
         ensures apart { (self.new.publisher ≡ self.old.publisher)
             × (self.new.sources ≡ self.old.sources) }
@@ -43,13 +46,14 @@ impl Thread {
             request,
             arrived: now,
         })?;
-        Ok(Some(Entry::Arrived(request)))
+        Ok(Some(request))
     }
 
     /// 2. At most one command is taken. A Run puts the thread on its core, a Park takes it off.
-    pub(crate) fn take(&mut self, now: u64) -> Option<Entry>
+    pub(crate) fn take(&mut self, now: u64) -> Option<Taken>
         ensures taken { (command : Option Command)
-            × ((self.new, result) ≡ turn.taken now command self.old) }
+            × ((self.new, option_map entry_of_taken result)
+            ≡ turn.taken now command self.old) }
         ensures apart { (self.new.publisher ≡ self.old.publisher)
             × (self.new.sources ≡ self.old.sources) }
     {
@@ -58,15 +62,16 @@ impl Thread {
         self.taken = number;
         self.current = current_after(now, core, self.core, self.current);
         self.core = core;
-        Some(Entry::Took(number, command))
+        Some(Taken { number, command })
     }
 
     /// 3. Work is found: on a core, a thread without a current request takes its front, else the
     ///    first of its own queue, else it tries to steal one.
-    pub(crate) fn provide(&mut self, now: u64) -> Option<Entry>
+    pub(crate) fn provide(&mut self, now: u64) -> Option<Theft>
         ensures provided { (own : Option Waiting) × (theft : Option (ℕ × Waiting))
             × IfSome theft (λ place. place.0 < length self.old.sources)
-            × ((self.new, result) ≡ turn.provided now own theft self.old) }
+            × ((self.new, option_map entry_of_theft result)
+            ≡ turn.provided now own theft self.old) }
         ensures apart { self.new.publisher ≡ self.old.publisher }
     {
         if self.core.is_none() || self.current.is_some() {
@@ -78,7 +83,7 @@ impl Thread {
         }
         let (place, waiting) = steal_first(&mut self.sources)?;
         self.current = Some(begin(now, waiting));
-        Some(Entry::Stole {
+        Some(Theft {
             from: self.sources[place].number,
             id: waiting.request.id,
         })
@@ -86,14 +91,14 @@ impl Thread {
 
     /// And, still step 3, it is done: on a core, the current request loses one of its work; with no
     /// work left it is served. A thread that found none gives up its core.
-    pub(crate) fn work(&mut self) -> Option<Entry>
-        ensures worked { (self.new, result) ≡ turn.worked self.old }
+    pub(crate) fn work(&mut self) -> Option<Worked>
+        ensures worked { (self.new, option_map entry_of_work result) ≡ turn.worked self.old }
         ensures apart { self.new.publisher ≡ self.old.publisher }
     {
         self.core?;
         let Some(current) = self.current else {
             self.core = None;
-            return Some(Entry::Yielded);
+            return Some(Worked::Yielded);
         };
         self.misses = misses_after(self.misses, current.waiting.request.misses);
         self.current = work_on(current);
@@ -127,18 +132,18 @@ impl Thread {
     }
 
     /// 5. The record is published.
-    pub(crate) fn publish(&mut self, now: u64) -> Entry
+    pub(crate) fn publish(&mut self, now: u64) -> Publication
         requires later { (last_published self.old.publisher.published).stamp ≤ now }
         requires room { length self.old.publisher.published < LAST_PLACE }
-        ensures shown { (self.new, result) ≡ turn.published now self.old }
+        ensures shown { (self.new, entry_of_publication result) ≡ turn.published now self.old }
         ensures follows { MayFollow (last_published self.old.publisher.published)
             (turn.shown now self.old) }
     {
-        let record = self.record(now);
-        let Ok(place) = self.publisher.publish(record) else {
+        let shown = self.record(now);
+        let Ok(place) = self.publisher.publish(shown) else {
             unreachable!()
         };
-        Entry::Published(place, record)
+        Publication { place, shown }
     }
 }
 
@@ -216,11 +221,11 @@ fn work_on(current: Current) -> Option<Current>
 }
 
 /// The current request is served where this is its last turn of work.
-fn served(current: Current) -> Option<Entry>
-    ensures { result ≡ turn.served current }
+fn served(current: Current) -> Option<Worked>
+    ensures { option_map entry_of_work result ≡ turn.served current }
 {
     if current.remaining <= 1 {
-        return Some(Entry::Served {
+        return Some(Worked::Served {
             id: current.waiting.request.id,
         });
     }

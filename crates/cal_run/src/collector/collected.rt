@@ -88,7 +88,7 @@ impl Collector for OpenCollection {
         Ok(())
     }
 
-    fn add_turn(&mut self, k: usize, entries: TurnEntries) -> Result<(), AllocError> {
+    fn add_turn(&mut self, k: usize, entries: &TurnEntries) -> Result<(), AllocError> {
         if k >= self.journals.len() {
             return Ok(());
         }

@@ -30,7 +30,7 @@ impl Collector for Nobody {
         Ok(())
     }
 
-    fn add_turn(&mut self, _k: usize, _entries: TurnEntries) -> Result<(), AllocError> {
+    fn add_turn(&mut self, _k: usize, _entries: &TurnEntries) -> Result<(), AllocError> {
         Ok(())
     }
 }

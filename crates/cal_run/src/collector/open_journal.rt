@@ -34,14 +34,14 @@ impl OpenJournal {
     }
 
     /// Adds what a turn handed out.
-    pub fn add_turn(&mut self, entries: TurnEntries) -> Result<(), AllocError>
-        ensures { OnOk result (self.new ≡ self.old ++ entries_of entries) }
+    pub fn add_turn(&mut self, entries: &TurnEntries) -> Result<(), AllocError>
+        ensures { OnOk result (self.new ≡ self.old ++ entries_of entries.now) }
     {
-        self.add_step(entries.arrived)?;
-        self.add_step(entries.took)?;
-        self.add_step(entries.stole)?;
-        self.add_step(entries.worked)?;
-        self.entries.push(entries.published)?;
+        self.add_step(entries.arrival())?;
+        self.add_step(entries.taking())?;
+        self.add_step(entries.theft())?;
+        self.add_step(entries.work())?;
+        self.entries.push(entries.publication())?;
         Ok(())
     }
 

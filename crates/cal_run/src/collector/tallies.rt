@@ -53,7 +53,7 @@ impl Collector for Tallies {
         Ok(())
     }
 
-    fn add_turn(&mut self, k: usize, entries: TurnEntries) -> Result<(), AllocError> {
+    fn add_turn(&mut self, k: usize, entries: &TurnEntries) -> Result<(), AllocError> {
         if k >= self.tallies.len() {
             return Ok(());
         }

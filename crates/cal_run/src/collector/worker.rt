@@ -54,7 +54,7 @@ impl CollectingWorker {
             mut journal,
         } = self;
         let entries = worker.turn(arrivals, j)?;
-        journal.add_turn(entries)?;
+        journal.add_turn(&entries)?;
         Ok(CollectingWorker { worker, journal })
     }
 

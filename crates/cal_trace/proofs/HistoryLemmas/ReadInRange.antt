@@ -13,18 +13,16 @@ use Rattle.cal_policy.specs.declared.history.entry.PassEntry.{PassEntry}
 use Rattle.cal_trace.specs.History.ActionRows.{action_row, made, core_row, ban_row, revoke_row, revoke_for_bandwidth_row, cap_row, grant_row}
 use Rattle.cal_trace.specs.Rows.RowFields.{number_in, number_at, is_number_at, has_numbers}
 use Rattle.cal_trace.specs.Rows.Header.{header_of}
-use Rattle.cal_trace.specs.Rows.SoFar.{SoFar, at_start, passes_of, add_pass, add_end, whole, is_full, is_between, next_thread}
-use Rattle.cal_trace.specs.History.{form_of, take_row, take_form, take_look, take_action, seen_row, judged_row, busy_look, add_look, add_action, begun, with_look, with_action, history_of, looks_in}
+use Rattle.cal_trace.specs.Rows.SoFar.{SoFar, at_start, passes_of, add_pass, add_look, add_end, take_look, whole, is_full, is_between, next_thread}
+use Rattle.cal_trace.specs.History.{form_of, take_row, take_form, take_action, judged, add_action, begun, with_look, with_action, history_of, looks_in}
 use Rattle.cal_policy.specs.declared.history.action_list.TheConstants.{MOST_ACTIONS}
-use Rattle.cal_trace.specs.Rows.LookRows.{pass_row, whole_row, busy_row, end_row}
+use Rattle.cal_trace.specs.Rows.LookRows.{is_possible, look_of, look_row, pass_row, end_row}
 use Rattle.cal_policy.specs.declared.history.entry.TheConstants.{MOST_PASSES}
 use Rattle.cal_trace.specs.Rows.Number.{with_digit, digits_of, spelled_number}
 use Rattle.cal_trace.specs.History.Ranges.{Each, IsWord, AreWords, HasLookWords, HasActionWord, HasWords, IsLookInRange, IsActionInRange, IsEntryInRange, IsInRange}
 use Rattle.cal_trace.specs.Rows.{Fields}
 use Rattle.cal_trace.specs.Rows.Shown.{record_of}
-use Rattle.cal_signal.specs.Looks.{IsBusyPair}
-use Rattle.cal_signal.specs.Records.{IsShaped}
-use Rattle.cal_signal.specs.Tests.{is_shaped, is_busy_pair}
+use Rattle.cal_signal.specs.declared.look.Look.{Look}
 use Rattle.cal_signal.specs.declared.record.TheConstants.{WORDS}
 use Rattle.cal_signal.proofs.Testing.{shaped_holds, pair_holds}
 use Rattle.cal_trace.specs.declared.history.action_rows.ActionForm.{ActionForm}
@@ -34,14 +32,12 @@ use Rattle.cal_trace.specs.declared.fault.FaultKind.{FaultKind}
 use Rattle.cal_trace.specs.declared.fault.FaultKind.TheVariants as kind
 use Rattle.cal_trace.specs.declared.history.reading.Form.{Form}
 use Rattle.cal_trace.specs.declared.history.reading.Form.TheVariants as form
-use Rattle.cal_trace.specs.declared.history.reading.LookForm.{LookForm}
-use Rattle.cal_trace.specs.declared.history.reading.LookForm.TheVariants as looks
-use Rattle.cal_trace.specs.declared.history.reading.SeenRow.{SeenRow}
-use Rattle.cal_trace.specs.declared.rows.look_rows.WholeRow.{WholeRow}
-use Rattle.cal_trace.specs.declared.rows.look_rows.BusyRow.{BusyRow}
-use Rattle.cal_trace.specs.declared.rows.look_rows.PassRow.{PassRow}
+use Rattle.cal_trace.specs.declared.rows.look_rows.LookForm.{LookForm}
+use Rattle.cal_trace.specs.declared.rows.look_rows.LookForm.TheVariants as looks
+use Rattle.cal_policy.specs.declared.judgement.open_input.FoundLook.{FoundLook}
+use Rattle.cal_trace.specs.declared.arrivals.GivenPass.{GivenPass}
 use Rattle.cal_trace.proofs.RowLemmas.Conjunctions.{and_four}
-use Rattle.cal_trace.proofs.RowLemmas.Checks.{same_ok, check_one, check_two, check_three}
+use Rattle.cal_trace.proofs.RowLemmas.Checks.{same_ok, check_one, check_two, row_look}
 use Rattle.cal_trace.proofs.ListLemmas.EachOne.{each_none, each_cons, each_push}
 use Rattle.cal_trace.proofs.RowLemmas.Readings.{kept_under}
 
@@ -85,15 +81,7 @@ field_word (Some field) n h = number_word field n h
 word_at : (fields : Fields) (place : ℕ) → IsWord (number_at fields place)
 word_at fields place = word_or (number_in fields place) (λ n e. field_word (field_at fields place) n e)
 
--- a row of a whole record
-record IsWhole (row : WholeRow) : Type 0 where
-  pub place : IsWord row.shown.number
-  pub words : AreWords row.shown.rec
-  pub shaped : IsShaped row.shown.rec
-
-abbrev whole_of : Fields → WholeRow
-whole_of fields = record { room = number_at fields 2 == 1; shown = record { number = number_at fields 3; rec = record_of fields } }
-
+-- the words of a row's record
 words_from : (f : ℕ → ℕ) (first count : ℕ) → ((k : ℕ) → IsWord (f k)) → Each IsWord (map f (range_with_len first count))
 words_from f first zero h = each_none IsWord
 words_from f first (suc count) h = each_cons IsWord (f first) (map f (range_with_len (first + 1) count)) (h first) (words_from f (first + 1) count h)
@@ -101,48 +89,21 @@ words_from f first (suc count) h = each_cons IsWord (f first) (map f (range_with
 record_words : (fields : Fields) → AreWords (record_of fields)
 record_words fields = words_from (number_at fields) 4 WORDS (word_at fields)
 
-whole_fits : (thread : ℕ) (fields : Fields) (row : WholeRow) → whole_row thread fields ≡ Ok row → IsWhole row
-whole_fits thread fields row h =
-    let c = check_three (has_numbers fields) (number_at fields 1 == thread) (nat_lt (number_at fields 2) 2 && is_shaped (record_of fields)) kind.Number kind.Order kind.Range (whole_of fields) row h in
-    subst IsWhole c.3 (record { place = word_at fields 3; words = record_words fields; shaped = shaped_holds (record_of fields) (and_parts (nat_lt (number_at fields 2) 2) (is_shaped (record_of fields)) c.2).1 })
-
--- a row of a busy look
-record IsBusy (row : BusyRow) : Type 0 where
-  pub first : IsWord row.first
-  pub second : IsWord row.second
-  pub pair : IsBusyPair row.first row.second
-
-abbrev busy_of : Fields → BusyRow
-busy_of fields = record { room = number_at fields 2 == 1; first = number_at fields 3; second = number_at fields 4 }
-
-busy_fits : (thread : ℕ) (fields : Fields) (row : BusyRow) → busy_row thread fields ≡ Ok row → IsBusy row
-busy_fits thread fields row h =
-    let c = check_three (has_numbers fields) (number_at fields 1 == thread) (nat_lt (number_at fields 2) 2 && is_busy_pair (number_at fields 3) (number_at fields 4)) kind.Number kind.Order kind.Range (busy_of fields) row h in
-    subst IsBusy c.3 (record { first = word_at fields 3; second = word_at fields 4; pair = pair_holds (number_at fields 3) (number_at fields 4) (and_parts (nat_lt (number_at fields 2) 2) (is_busy_pair (number_at fields 3) (number_at fields 4)) c.2).1 })
-
 -- a look that was read
 record IsLookRead (look : Seen) : Type 0 where
   pub words : HasLookWords look
   pub range : IsLookInRange look
 
-judged_fits : (judge : WholeRow → Seen) (r : Result WholeRow FaultKind) (row : SeenRow) → ((whole : WholeRow) → r ≡ Ok whole → IsLookRead (judge whole)) → judged_row judge r ≡ Ok row → IsLookRead row.seen
-judged_fits judge (Err k) row h e = cc
-judged_fits judge (Ok whole) row h e = subst (λ (row : SeenRow). IsLookRead row.seen) (same_ok _ row e) (h whole refl)
+look_fits : (form : LookForm) (fields : Fields) → is_possible (look_of form fields) ≡ true → IsLookRead (judged form (look_of form fields))
+look_fits looks.Busy fields possible = record { words = (word_at fields 3, word_at fields 4); range = pair_holds (number_at fields 3) (number_at fields 4) possible }
+look_fits looks.Whole fields possible = record { words = (word_at fields 3, record_words fields); range = shaped_holds (record_of fields) possible }
+look_fits looks.Ahead fields possible = record { words = (word_at fields 3, record_words fields); range = shaped_holds (record_of fields) possible }
+look_fits looks.Foreign fields possible = record { words = (word_at fields 3, record_words fields); range = shaped_holds (record_of fields) possible }
 
-busy_look_fits : (r : Result BusyRow FaultKind) (row : SeenRow) → ((busy : BusyRow) → r ≡ Ok busy → IsBusy busy) → busy_look r ≡ Ok row → IsLookRead row.seen
-busy_look_fits (Err k) row h e = cc
-busy_look_fits (Ok busy) row h e =
-    let b = h busy refl in
-    subst (λ (row : SeenRow). IsLookRead row.seen) (same_ok _ row e) (record { words = (b.first, b.second); range = b.pair })
-
-look_fits : (look : LookForm) (thread : ℕ) (fields : Fields) (row : SeenRow) → seen_row look thread fields ≡ Ok row → IsLookRead row.seen
-look_fits looks.Busy thread fields row h = busy_look_fits (busy_row thread fields) row (λ busy e. busy_fits thread fields busy e) h
-look_fits looks.Whole thread fields row h =
-    judged_fits (λ row. seen.Whole row.shown.number row.shown.rec) (whole_row thread fields) row (λ whole e. let w = whole_fits thread fields whole e in record { words = (w.place, w.words); range = w.shaped }) h
-look_fits looks.Ahead thread fields row h =
-    judged_fits (λ row. seen.Ahead row.shown.number row.shown.rec) (whole_row thread fields) row (λ whole e. let w = whole_fits thread fields whole e in record { words = (w.place, w.words); range = w.shaped }) h
-look_fits looks.Foreign thread fields row h =
-    judged_fits (λ row. seen.Foreign row.shown.number row.shown.rec) (whole_row thread fields) row (λ whole e. let w = whole_fits thread fields whole e in record { words = (w.place, w.words); range = w.shaped }) h
+row_fits_look : (form : LookForm) (thread : ℕ) (fields : Fields) (found : FoundLook) → look_row form thread fields ≡ Ok found → IsLookRead (judged form found.look)
+row_fits_look form thread fields found e =
+    let row = row_look form thread fields found e in
+    subst (λ (look : Look). IsLookRead (judged form look)) row.0 (look_fits form fields (rw (← row.0) at row.1))
 
 -- an action that was read
 record IsActionRead (extent : Extent) (action : Action) : Type 0 where
@@ -244,8 +205,8 @@ begun_fits extent fields = record {
 just : {X : Type 0} (P : X → Type 0) (x : X) → P x → (y : X) → Some x ≡ Some y → P y
 just P x p y e = let same : x ≡ y = cc in subst P same p
 
-pass_added : (extent : Extent) (so_far next : SoFar PassEntry) (r : Result PassRow FaultKind) → Each (IsEntryInRange extent) (passes_of so_far)
-    → ((row : PassRow) → r ≡ Ok row → IsPartRead extent (begun row) × (length (passes_of so_far) < MOST_PASSES)) → add_pass begun so_far r ≡ Ok next → IsSoFarRead extent next
+pass_added : (extent : Extent) (so_far next : SoFar PassEntry) (r : Result GivenPass FaultKind) → Each (IsEntryInRange extent) (passes_of so_far)
+    → ((row : GivenPass) → r ≡ Ok row → IsPartRead extent (begun row) × (length (passes_of so_far) < MOST_PASSES)) → add_pass begun so_far r ≡ Ok next → IsSoFarRead extent next
 pass_added extent so_far next (Err k) fit h e = cc
 pass_added extent so_far next (Ok row) fit h e =
     let p = h row refl in
@@ -261,7 +222,7 @@ pass_fits extent so_far next fields r h =
     let c = check_one (is_between looks_in extent.threads so_far) kind.Order (add_pass begun so_far (pass_row (length (passes_of so_far)) fields)) next h in
     pass_added extent so_far next (pass_row (length (passes_of so_far)) fields) (between_fit extent so_far c.0 r) (λ row e.
     let d = check_two (has_numbers fields) (nat_lt (length (passes_of so_far)) MOST_PASSES) kind.Number kind.Range (record { now = number_at fields 1; bandwidth = number_at fields 2 }) row e in
-    (subst (λ (row : PassRow). IsPartRead extent (begun row)) d.2 (begun_fits extent fields), ltb-true (length (passes_of so_far)) MOST_PASSES d.1)) c.1
+    (subst (λ (row : GivenPass). IsPartRead extent (begun row)) d.2 (begun_fits extent fields), ltb-true (length (passes_of so_far)) MOST_PASSES d.1)) c.1
 
 -- the end row
 end_added : (extent : Extent) (so_far next : SoFar PassEntry) (r : Result ℕ FaultKind) → Each (IsEntryInRange extent) (passes_of so_far) → length (passes_of so_far) ≤ MOST_PASSES
@@ -279,39 +240,41 @@ end_fits extent so_far next fields r h =
     end_added extent so_far next (end_row (length (passes_of so_far)) fields) (between_fit extent so_far c.0 r) r.passes c.1
 
 -- a look row
-look_part : (extent : Extent) (entry : PassEntry) (row : SeenRow) → IsLookRead row.seen → IsPartRead extent entry → IsPartRead extent (with_look row entry)
-look_part extent entry row look part =
+look_part : (extent : Extent) (entry : PassEntry) (form : LookForm) (found : FoundLook) → IsLookRead (judged form found.look) → IsPartRead extent entry → IsPartRead extent (with_look form found entry)
+look_part extent entry form found look part =
     let rooms = part.rooms in
+    let seen = judged form found.look in
     record {
-      rooms = omega (arith, length-append entry.input.rooms (row.room ∷ []), length-append entry.input.seen (row.seen ∷ []));
+      rooms = omega (arith, length-append entry.input.rooms (found.room ∷ []), length-append entry.input.seen (seen ∷ []));
       most = part.most;
-      words = record { now = part.words.now; bandwidth = part.words.bandwidth; looks = each_push HasLookWords entry.input.seen row.seen part.words.looks look.words; starts = part.words.starts };
-      seen = each_push IsLookInRange entry.input.seen row.seen part.seen look.range;
+      words = record { now = part.words.now; bandwidth = part.words.bandwidth; looks = each_push HasLookWords entry.input.seen seen part.words.looks look.words; starts = part.words.starts };
+      seen = each_push IsLookInRange entry.input.seen seen part.seen look.range;
       actions = part.actions;
     }
 
-look_at_hand : (extent : Extent) (at_hand : Option PassEntry) (row : SeenRow) → IsLookRead row.seen → ((entry : PassEntry) → at_hand ≡ Some entry → IsPartRead extent entry)
-    → (entry : PassEntry) → option_map (with_look row) at_hand ≡ Some entry → IsPartRead extent entry
-look_at_hand extent None row look part entry e = cc
-look_at_hand extent (Some own) row look part entry e = just (IsPartRead extent) (with_look row own) (look_part extent own row look (part own refl)) entry e
+look_at_hand : (extent : Extent) (at_hand : Option PassEntry) (form : LookForm) (found : FoundLook) → IsLookRead (judged form found.look)
+    → ((entry : PassEntry) → at_hand ≡ Some entry → IsPartRead extent entry) → (entry : PassEntry) → option_map (with_look form found) at_hand ≡ Some entry → IsPartRead extent entry
+look_at_hand extent None form found look part entry e = cc
+look_at_hand extent (Some own) form found look part entry e = just (IsPartRead extent) (with_look form found own) (look_part extent own form found look (part own refl)) entry e
 
-same_length : (before : List PassEntry) (at_hand : Option PassEntry) (row : SeenRow) → length (before ++ option_to_list (option_map (with_look row) at_hand)) ≡ length (before ++ option_to_list at_hand)
-same_length before None row = refl
-same_length before (Some entry) row = omega (arith, length-append before (with_look row entry ∷ []), length-append before (entry ∷ []))
+same_length : (before : List PassEntry) (at_hand : Option PassEntry) (more : PassEntry → PassEntry) → length (before ++ option_to_list (option_map more at_hand)) ≡ length (before ++ option_to_list at_hand)
+same_length before None more = refl
+same_length before (Some entry) more = omega (arith, length-append before (more entry ∷ []), length-append before (entry ∷ []))
 
-look_added : (extent : Extent) (so_far next : SoFar PassEntry) (r : Result SeenRow FaultKind) → IsSoFarRead extent so_far → ((row : SeenRow) → r ≡ Ok row → IsLookRead row.seen)
-    → add_look so_far r ≡ Ok next → IsSoFarRead extent next
-look_added extent so_far next (Err k) r h e = cc
-look_added extent so_far next (Ok row) r h e = subst (IsSoFarRead extent) (same_ok _ next e) (record {
+look_added : (extent : Extent) (so_far next : SoFar PassEntry) (form : LookForm) (r : Result FoundLook FaultKind) → IsSoFarRead extent so_far
+    → ((found : FoundLook) → r ≡ Ok found → IsLookRead (judged form found.look)) → add_look (with_look form) so_far r ≡ Ok next → IsSoFarRead extent next
+look_added extent so_far next form (Err k) r h e = cc
+look_added extent so_far next form (Ok found) r h e = subst (IsSoFarRead extent) (same_ok _ next e) (record {
   before = r.before;
-  part = look_at_hand extent so_far.at_hand row (h row refl) r.part;
-  passes = let few = r.passes in omega (arith, same_length so_far.before so_far.at_hand row);
+  part = look_at_hand extent so_far.at_hand form found (h found refl) r.part;
+  passes = let few = r.passes in omega (arith, same_length so_far.before so_far.at_hand (with_look form found));
 })
 
-look_taken_fits : (extent : Extent) (so_far next : SoFar PassEntry) (look : LookForm) (fields : Fields) (thread : Result ℕ FaultKind) → IsSoFarRead extent so_far
-    → take_look so_far look fields thread ≡ Ok next → IsSoFarRead extent next
-look_taken_fits extent so_far next look fields (Err k) r e = cc
-look_taken_fits extent so_far next look fields (Ok thread) r e = look_added extent so_far next (seen_row look thread fields) r (λ row e. look_fits look thread fields row e) e
+look_taken_fits : (extent : Extent) (so_far next : SoFar PassEntry) (form : LookForm) (fields : Fields) (thread : Result ℕ FaultKind) → IsSoFarRead extent so_far
+    → take_look (with_look form) (λ k. look_row form k fields) so_far thread ≡ Ok next → IsSoFarRead extent next
+look_taken_fits extent so_far next form fields (Err k) r e = cc
+look_taken_fits extent so_far next form fields (Ok thread) r e =
+    look_added extent so_far next form (look_row form thread fields) r (λ found e. row_fits_look form thread fields found e) e
 
 -- an action row
 action_part : (extent : Extent) (entry : PassEntry) (action : Action) → IsActionRead extent action → length entry.actions < MOST_ACTIONS → IsPartRead extent entry → IsPartRead extent (with_action action entry)

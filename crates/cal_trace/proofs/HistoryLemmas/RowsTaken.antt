@@ -1,5 +1,5 @@
 -- The rows of a history's text, each taken for what it was written of.
-use Rattle.std.proofs.Common.{◌≡◌, ◌<◌, ◌==◌, ◌∙◌, ℕ, List, [], ◌∷◌, length, codes, Bool, true, false, Some, None, Result, Ok, decimal, nat_lt, nat_le, refl, ap, arith}
+use Rattle.std.proofs.Common.{◌≡◌, ◌<◌, ◌==◌, ◌∙◌, ℕ, List, [], ◌∷◌, ◌++◌, length, codes, Bool, true, false, Some, None, Ok, decimal, nat_lt, nat_le, refl, ap, arith}
 use Rattle.std.proofs.lemmas.Bool.{lt-ltb, le-leb, eq-eqb}
 use Rattle.csv.specs.Records.{field_at}
 use Rattle.cal_signal.specs.declared.record.Record.{Record}
@@ -11,31 +11,26 @@ use Rattle.cal_policy.specs.declared.history.action.Cause.{Cause}
 use Rattle.cal_policy.specs.declared.history.action.Cause.TheVariants as causes
 use Rattle.cal_policy.specs.declared.history.entry.PassEntry.{PassEntry}
 use Rattle.cal_trace.specs.History.ActionRows.{action_row, made, core_row, ban_row, revoke_row, revoke_for_bandwidth_row, cap_row, grant_row}
-use Rattle.cal_trace.specs.Rows.SoFar.{SoFar, passes_of, is_between, next_thread}
-use Rattle.cal_trace.specs.History.{form_of, take_row, take_form, take_look, seen_row, judged_row, busy_look, add_look, add_action, begun, with_look, with_action, looks_in}
+use Rattle.cal_trace.specs.Rows.SoFar.{SoFar, passes_of, is_between, next_thread, add_look, take_look}
+use Rattle.cal_trace.specs.History.{form_of, take_row, take_form, add_action, begun, with_look, with_action, looks_in}
 use Rattle.cal_policy.specs.declared.history.action_list.TheConstants.{MOST_ACTIONS}
 use Rattle.cal_trace.specs.History.Text.{room_number, record_fields, look_fields, revocation_fields, action_fields, pass_fields, end_fields}
-use Rattle.cal_trace.specs.Rows.LookRows.{check, busy_row}
+use Rattle.cal_trace.specs.Rows.LookRows.{check, look_row}
 use Rattle.cal_policy.specs.declared.history.entry.TheConstants.{MOST_PASSES}
 use Rattle.cal_trace.specs.History.Ranges.{IsWord, HasLookWords, HasActionWord, IsLookInRange, IsCauseInRange, IsActionInRange}
 use Rattle.cal_trace.specs.Rows.{Fields}
-use Rattle.cal_signal.specs.Tests.{is_busy_pair}
 use Rattle.cal_signal.proofs.Testing.{shaped_test, pair_test}
 use Rattle.cal_trace.specs.declared.history.action_rows.ActionForm.{ActionForm}
 use Rattle.cal_trace.specs.declared.history.action_rows.ActionForm.TheVariants as act
 use Rattle.cal_trace.specs.declared.history.action_rows.Extent.{Extent}
-use Rattle.cal_trace.specs.declared.fault.FaultKind.{FaultKind}
 use Rattle.cal_trace.specs.declared.fault.FaultKind.TheVariants as kind
 use Rattle.cal_trace.specs.declared.history.reading.Form.TheVariants as form
-use Rattle.cal_trace.specs.declared.history.reading.LookForm.{LookForm}
-use Rattle.cal_trace.specs.declared.history.reading.LookForm.TheVariants as looks
-use Rattle.cal_trace.specs.declared.history.reading.SeenRow.{SeenRow}
-use Rattle.cal_trace.specs.declared.rows.look_rows.WholeRow.{WholeRow}
-use Rattle.cal_trace.specs.declared.rows.look_rows.BusyRow.{BusyRow}
+use Rattle.cal_trace.specs.declared.rows.look_rows.LookForm.{LookForm}
+use Rattle.cal_trace.specs.declared.rows.look_rows.LookForm.TheVariants as looks
+use Rattle.cal_policy.specs.declared.judgement.open_input.FoundLook.{FoundLook}
 use Rattle.cal_trace.specs.declared.rows.version.TheConstants.Version.{WRITTEN}
 use Rattle.cal_trace.proofs.HistoryLemmas.Extents.{IsExtent, byte_word}
-use Rattle.cal_trace.proofs.HistoryLemmas.PlainRows.{room_word}
-use Rattle.cal_trace.proofs.HistoryLemmas.RecordRows.{room_small, room_same, record_read}
+use Rattle.cal_trace.proofs.HistoryLemmas.RecordRows.{busy_read, record_read}
 use Rattle.cal_trace.proofs.RowLemmas.Spelled.{IsSpelled, spelled}
 
 -- these passes, and this one at hand
@@ -69,16 +64,6 @@ pub end_taken : (extent : Extent) (so_far : SoFar PassEntry) (count : ℕ) → i
     → take_row extent WRITTEN so_far (end_fields count) ≡ Ok (ended (passes_of so_far))
 end_taken extent so_far count between is_count same = end_read extent so_far _ count between (spelled count is_count) (eq-eqb count (length (passes_of so_far)) same)
 
--- a row of a busy look
-abbrev busy_value : Bool → ℕ → ℕ → Result BusyRow FaultKind
-busy_value room first second = Ok (record { room = room; first = first; second = second })
-
-busy_read : (thread room first second : ℕ) (name t r a b : List ℕ) → IsSpelled thread t → IsSpelled room r → IsSpelled first a → IsSpelled second b
-    → (thread == thread) ≡ true → nat_lt room 2 ≡ true → is_busy_pair first second ≡ true
-    → busy_row thread (name ∷ t ∷ r ∷ a ∷ b ∷ []) ≡ busy_value (room == 1) first second
-unfolding field_at
-busy_read thread room first second name t r a b is_t is_r is_a is_b own small pair = rw (is_t.number, is_r.number, is_a.number, is_b.number, own, small, pair) refl
-
 -- what a look row is, by its first field
 record_form : (thread : ℕ) (room : Bool) (place : ℕ) (rec : Record) → form_of WRITTEN (record_fields (codes "whole") thread room place rec) ≡ Some (form.Look looks.Whole)
 unfolding field_at
@@ -97,31 +82,35 @@ unfolding field_at
 busy_form t r a b = refl
 
 -- a look row, by its form and its value
-look_by : (extent : Extent) (before : List PassEntry) (entry : PassEntry) (look : LookForm) (thread : ℕ) (fields : Fields) (row : SeenRow)
-    → form_of WRITTEN fields ≡ Some (form.Look look) → next_thread looks_in extent.threads (Some entry) ≡ Ok thread → seen_row look thread fields ≡ Ok row
-    → take_row extent WRITTEN (within before entry) fields ≡ Ok (within before (with_look row entry))
-look_by extent before entry look thread fields row is next value =
-    ap (λ f. take_form extent (within before entry) f fields) is ∙ ap (take_look (within before entry) look fields) next ∙ ap (add_look (within before entry)) value
+look_by : (extent : Extent) (before : List PassEntry) (entry : PassEntry) (look : LookForm) (thread : ℕ) (fields : Fields) (found : FoundLook)
+    → form_of WRITTEN fields ≡ Some (form.Look look) → next_thread looks_in extent.threads (Some entry) ≡ Ok thread → look_row look thread fields ≡ Ok found
+    → take_row extent WRITTEN (within before entry) fields ≡ Ok (within before (with_look look found entry))
+look_by extent before entry look thread fields found is next value =
+    ap (λ f. take_form extent (within before entry) f fields) is ∙ ap (take_look (with_look look) (λ k. look_row look k fields) (within before entry)) next
+    ∙ ap (add_look (with_look look) (within before entry)) value
+
+-- one more judged look
+abbrev pub with_seen : Seen → Bool → PassEntry → PassEntry
+with_seen look room entry = record {
+  input = record { now = entry.input.now; bandwidth = entry.input.bandwidth; seen = entry.input.seen ++ look ∷ []; rooms = entry.input.rooms ++ room ∷ [] };
+  actions = entry.actions;
+}
 
 -- the row of a look
 pub look_taken : (extent : Extent) (before : List PassEntry) (entry : PassEntry) (thread : ℕ) (room : Bool) (look : Seen) → next_thread looks_in extent.threads (Some entry) ≡ Ok thread
-    → IsWord thread → HasLookWords look → IsLookInRange look
-    → take_row extent WRITTEN (within before entry) (look_fields thread room look) ≡ Ok (within before (with_look (record { seen = look; room = room }) entry))
+    → IsWord thread → HasLookWords look → IsLookInRange look → take_row extent WRITTEN (within before entry) (look_fields thread room look) ≡ Ok (within before (with_seen look room entry))
 look_taken extent before entry thread room (seen.Whole place rec) next is_thread w shaped =
     look_by extent before entry looks.Whole thread (look_fields thread room (seen.Whole place rec)) _ (record_form thread room place rec) next
-    (ap (judged_row (λ (row : WholeRow). seen.Whole row.shown.number row.shown.rec)) (record_read (codes "whole") thread room place rec is_thread w.0 w.1 (shaped_test rec shaped)))
+    (record_read looks.Whole (λ fields. refl) (codes "whole") thread room place rec is_thread w.0 w.1 (shaped_test rec shaped))
 look_taken extent before entry thread room (seen.Ahead place rec) next is_thread w shaped =
     look_by extent before entry looks.Ahead thread (look_fields thread room (seen.Ahead place rec)) _ (ahead_form thread room place rec) next
-    (ap (judged_row (λ (row : WholeRow). seen.Ahead row.shown.number row.shown.rec)) (record_read (codes "ahead") thread room place rec is_thread w.0 w.1 (shaped_test rec shaped)))
+    (record_read looks.Ahead (λ fields. refl) (codes "ahead") thread room place rec is_thread w.0 w.1 (shaped_test rec shaped))
 look_taken extent before entry thread room (seen.Foreign place rec) next is_thread w shaped =
     look_by extent before entry looks.Foreign thread (look_fields thread room (seen.Foreign place rec)) _ (foreign_form thread room place rec) next
-    (ap (judged_row (λ (row : WholeRow). seen.Foreign row.shown.number row.shown.rec)) (record_read (codes "foreign") thread room place rec is_thread w.0 w.1 (shaped_test rec shaped)))
+    (record_read looks.Foreign (λ fields. refl) (codes "foreign") thread room place rec is_thread w.0 w.1 (shaped_test rec shaped))
 look_taken extent before entry thread room (seen.Busy first second) next is_thread w pair =
     look_by extent before entry looks.Busy thread (look_fields thread room (seen.Busy first second)) _
-    (busy_form (decimal thread) (decimal (room_number room)) (decimal first) (decimal second)) next
-    (ap busy_look (busy_read thread (room_number room) first second (codes "busy") _ _ _ _ (spelled thread is_thread) (spelled (room_number room) (room_word room)) (spelled first w.0) (spelled second w.1)
-    (eq-eqb thread thread refl) (room_small room) (pair_test first second pair)
-    ∙ ap (λ (b : Bool). busy_value b first second) (room_same room)))
+    (busy_form (decimal thread) (decimal (room_number room)) (decimal first) (decimal second)) next (busy_read thread room first second is_thread w.0 w.1 (pair_test first second pair))
 
 -- action rows
 core_read : (extent : Extent) (core : ℕ) (name a : List ℕ) → IsSpelled core a → nat_lt core extent.cores ≡ true → core_row extent (name ∷ a ∷ []) ≡ Ok core

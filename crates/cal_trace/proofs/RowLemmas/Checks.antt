@@ -1,9 +1,16 @@
 -- What checks that passed say.
-use Rattle.std.proofs.Common.{◌≡◌, Bool, true, false, Result, Ok, refl}
-use Rattle.cal_trace.specs.Rows.LookRows.{check}
+use Rattle.std.proofs.Common.{◌≡◌, ◌==◌, ◌&&◌, nat_lt, ℕ, Bool, true, false, Result, Ok, refl, ap, subst}
+use Rattle.std.proofs.lemmas.Bool.{and_parts}
+use Rattle.cal_signal.specs.declared.look.Look.{Look}
+use Rattle.cal_policy.specs.declared.judgement.open_input.FoundLook.{FoundLook}
+use Rattle.cal_trace.specs.Rows.LookRows.{check, is_possible, look_of, look_row}
+use Rattle.cal_trace.specs.Rows.RowFields.{has_numbers, number_at}
+use Rattle.cal_trace.specs.Rows.{Fields}
+use Rattle.cal_trace.specs.declared.rows.look_rows.LookForm.{LookForm}
+use Rattle.cal_trace.specs.declared.fault.FaultKind.TheVariants as kind
 use Rattle.cal_trace.specs.declared.fault.FaultKind.{FaultKind}
 
-abbrev good : {X : Type 0} → X → Result X FaultKind
+abbrev pub good : {X : Type 0} → X → Result X FaultKind
 good x = Ok x
 
 pub same_ok : {X : Type 0} (x y : X) → good x ≡ good y → x ≡ y
@@ -23,3 +30,12 @@ check_three true true true k l m x y h = (refl, refl, refl, same_ok x y h)
 check_three true true false k l m x y h = cc
 check_three true false c k l m x y h = cc
 check_three false b c k l m x y h = cc
+
+-- the look of a row that passed
+pub row_look : (form : LookForm) (thread : ℕ) (fields : Fields) (found : FoundLook) → look_row form thread fields ≡ Ok found → (look_of form fields ≡ found.look) × (is_possible found.look ≡ true)
+row_look form thread fields found e =
+    let look = look_of form fields in
+    let room = nat_lt (number_at fields 2) 2 in
+    let c = check_three (has_numbers fields) (number_at fields 1 == thread) (room && is_possible look) kind.Number kind.Order kind.Range (record { look = look; room = number_at fields 2 == 1 }) found e in
+    let same : look ≡ found.look = ap (λ (f : FoundLook). f.look) c.3 in
+    (same, subst (λ (l : Look). is_possible l ≡ true) same (and_parts room (is_possible look) c.2).1)

@@ -11,7 +11,7 @@ use Rattle.cal_trace.specs.Rows.RowFields.{has_numbers, number_at}
 use Rattle.cal_trace.specs.declared.fault.FaultKind.{FaultKind}
 use Rattle.cal_trace.specs.declared.fault.FaultKind.TheVariants as kinds
 use Rattle.cal_trace.specs.declared.fault.TraceFault.{TraceFault}
-use Rattle.cal_trace.specs.declared.rows.look_rows.PassRow.{PassRow}
+use Rattle.cal_trace.specs.declared.arrivals.GivenPass.{GivenPass}
 use Rattle.cal_policy.specs.declared.history.entry.TheConstants.{MOST_PASSES}
 use Rattle.cal_trace.proofs.RowLemmas.Checks.{check_one}
 use Rattle.cal_trace.proofs.RowLemmas.Refusals.{decided}
@@ -28,10 +28,10 @@ counted-begun {Open} {Pass} hand given closed old new begun counted below is at 
     }
 
 -- a pass row that was taken is not one too many
-pub pass_below : (passes : ℕ) (fields : Fields) (row : PassRow) → pass_row passes fields ≡ Ok row → passes < MOST_PASSES
+pub pass_below : (passes : ℕ) (fields : Fields) (row : GivenPass) → pass_row passes fields ≡ Ok row → passes < MOST_PASSES
 pass_below passes fields row e =
-    let found : PassRow = record { now = number_at fields 1; bandwidth = number_at fields 2 } in
-    let in_range : Result PassRow FaultKind = check (nat_lt passes MOST_PASSES) kinds.Range (Ok found) in
+    let found : GivenPass = record { now = number_at fields 1; bandwidth = number_at fields 2 } in
+    let in_range : Result GivenPass FaultKind = check (nat_lt passes MOST_PASSES) kinds.Range (Ok found) in
     let numbers = check_one (has_numbers fields) kinds.Number in_range row e in
     let range = check_one (nat_lt passes MOST_PASSES) kinds.Range (Ok found) row numbers.1 in
     ltb-true passes MOST_PASSES range.0

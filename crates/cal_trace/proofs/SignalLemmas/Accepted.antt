@@ -1,32 +1,28 @@
 -- The signals of an accepted file fit: the checks of its rows say so.
-use Rattle.std.proofs.Common.{◌≡◌, ◌<◌, ◌≤◌, ◌==◌, ◌&&◌, nat_lt, ℕ, Bool, true, false, not, List, [], ◌∷◌, ◌++◌, length, Option, Some, None, option_to_list, Result, Ok, Err, slice_get, if◌then◌else◌, inl, inr, subst, refl, ap, ◌∙◌, arith, length-append, codes}
+use Rattle.std.proofs.Common.{◌≡◌, ◌<◌, ◌≤◌, nat_lt, ℕ, Bool, true, false, not, List, [], ◌∷◌, ◌++◌, length, Option, Some, None, option_to_list, Result, Ok, Err, slice_get, if◌then◌else◌, inl, inr, subst, refl, ◌∙◌, arith, length-append, codes}
 use Rattle.std.proofs.lemmas.List.{append-nil, take-append-le, take_all}
-use Rattle.std.proofs.lemmas.Option.{slice_get_past}
 use Rattle.std.specs.Option.{unwrap_or}
 use Rattle.cal_trace.specs.Rows.Header.{header_of}
-use Rattle.cal_trace.specs.Rows.LookRows.{check, whole_row, busy_row}
-use Rattle.cal_trace.specs.Rows.RowFields.{has_numbers, number_at}
+use Rattle.cal_trace.specs.Rows.LookRows.{is_possible, look_row}
 use Rattle.cal_trace.specs.Rows.{Fields}
-use Rattle.cal_trace.specs.Rows.Shown.{record_of}
-use Rattle.cal_signal.specs.Looks.{IsBusyPair}
-use Rattle.cal_signal.specs.Records.{IsShaped}
-use Rattle.cal_signal.specs.Tests.{is_shaped, is_busy_pair}
+use Rattle.cal_signal.specs.Tests.{is_shown_after}
+use Rattle.cal_signal.specs.declared.look.Look.{Look}
+use Rattle.cal_signal.specs.declared.look.Look.TheVariants as looks
 use Rattle.cal_signal.proofs.Testing.{shaped_holds, follows_holds, pair_holds}
 use Rattle.cal_machine.proofs.Last.{last_or_before, slice_get-last}
-use Rattle.cal_trace.proofs.SignalLemmas.LastShown.{shown-push}
-use Rattle.cal_trace.specs.Rows.SoFar.{SoFar, at_start, passes_of, add_pass, add_end, whole, is_full, next_thread}
-use Rattle.cal_trace.specs.Signals.{shown_in, last_shown, with_look, add_look, look_row, following, as_look, look_of_whole, look_of_busy, take_look, take_form, take_row, form_of, signals_of, looks_in, begun}
+use Rattle.cal_trace.proofs.SignalLemmas.LastShown.{last_shown-silent}
+use Rattle.cal_trace.specs.Rows.SoFar.{SoFar, at_start, passes_of, add_pass, add_look, add_end, take_look, whole, is_full}
+use Rattle.cal_trace.specs.Signals.{last_shown, shown_by, with_look, following, next_look, take_form, take_row, form_of, signals_of, looks_in, begun}
 use Rattle.cal_trace.specs.declared.fault.FaultKind.{FaultKind}
 use Rattle.cal_trace.specs.declared.fault.FaultKind.TheVariants as kinds
-use Rattle.cal_trace.specs.declared.rows.look_rows.WholeRow.{WholeRow}
-use Rattle.cal_trace.specs.declared.rows.look_rows.BusyRow.{BusyRow}
-use Rattle.cal_trace.specs.declared.rows.look_rows.PassRow.{PassRow}
+use Rattle.cal_trace.specs.declared.arrivals.GivenPass.{GivenPass}
+use Rattle.cal_trace.specs.declared.rows.look_rows.LookForm.{LookForm}
 use Rattle.cal_signal.specs.declared.shown.Shown.{Shown}
 use Rattle.cal_policy.specs.declared.judgement.open_input.FoundLook.{FoundLook}
 use Rattle.cal_trace.specs.declared.signals.SignalPass.{SignalPass}
 use Rattle.cal_trace.specs.declared.signals.reading.Form.{Form}
 use Rattle.cal_trace.specs.declared.signals.reading.Form.TheVariants as form
-use Rattle.cal_trace.proofs.RowLemmas.Checks.{check_one, same_ok}
+use Rattle.cal_trace.proofs.RowLemmas.Checks.{check_one, row_look, same_ok}
 use Rattle.cal_trace.proofs.RowLemmas.Readings.{kept_under}
 use Rattle.cal_trace.specs.Signals.Fitting.{IsFitting, AreFitting, IsFittingPass, AreFittingPasses, IsHand, IsFittingSoFar}
 use Rattle.std.proofs.lemmas.Bool.{and_parts}
@@ -52,13 +48,6 @@ AreFittingPasses-append threads passes pass fit next = record {
 AreFittingPasses-none : (threads : ℕ) → AreFittingPasses threads []
 AreFittingPasses-none threads = record { each = λ p pass e. absurd (cc) }
 
--- a pass without a look at thread k changes nothing of what it showed last
-last_shown-silent : (k : ℕ) (passes : List SignalPass) (pass : SignalPass) → length pass.looks ≤ k → last_shown k (passes ++ pass ∷ []) ≡ last_shown k passes
-last_shown-silent k passes pass le =
-    let none : slice_get pass.looks k ≡ None = slice_get_past pass.looks k le in
-    let silent : shown_in k pass ≡ None = rw none refl in
-    shown-push k passes pass ∙ ap (λ o. unwrap_or o (last_shown k passes)) silent
-
 -- with all its looks the pass at hand is one more
 all_fit : (threads : ℕ) (before : List SignalPass) (at_hand : Option SignalPass) → AreFittingPasses threads before → IsHand threads before at_hand
     → is_full looks_in threads at_hand ≡ true → AreFittingPasses threads (before ++ option_to_list at_hand)
@@ -68,7 +57,7 @@ all_fit threads before (Some pass) fit hand full =
     AreFittingPasses-append threads before pass fit (record { looks = whole; fit = hand.1 })
 
 -- a new pass
-fits_with_pass : (threads : ℕ) (so_far next : SoFar SignalPass) (row : Result PassRow FaultKind) → AreFittingPasses threads (passes_of so_far)
+fits_with_pass : (threads : ℕ) (so_far next : SoFar SignalPass) (row : Result GivenPass FaultKind) → AreFittingPasses threads (passes_of so_far)
     → add_pass begun so_far row ≡ Ok next → IsFittingSoFar threads next
 fits_with_pass threads so_far next (Err k) fit e = absurd (cc)
 fits_with_pass threads so_far next (Ok row) fit e =
@@ -83,59 +72,23 @@ fits_with_end threads so_far next (Ok n) fit e =
     let closed : SoFar SignalPass = record { before = passes_of so_far; at_hand = None; ended = true } in
     subst (IsFittingSoFar threads) (same_ok closed next e) (record { before = fit; at_hand = tt })
 
--- the look of an accepted row is shaped, or has a busy pair
-shaped_row : (thread : ℕ) (fields : Fields) (row : WholeRow) → whole_row thread fields ≡ Ok row → IsShaped row.shown.rec
-shaped_row thread fields row e =
-    let found : WholeRow = record { room = number_at fields 2 == 1; shown = record { number = number_at fields 3; rec = record_of fields } } in
-    let in_range : Bool = nat_lt (number_at fields 2) 2 && is_shaped (record_of fields) in
-    let after_order : Result WholeRow FaultKind = check in_range kinds.Range (Ok found) in
-    let after_numbers : Result WholeRow FaultKind = check (number_at fields 1 == thread) kinds.Order after_order in
-    let numbers = check_one (has_numbers fields) kinds.Number after_numbers row e in
-    let order = check_one (number_at fields 1 == thread) kinds.Order after_order row numbers.1 in
-    let range = check_one in_range kinds.Range (Ok found) row order.1 in
-    let same : found ≡ row = same_ok found row range.1 in
-    subst (λ (r : WholeRow). IsShaped r.shown.rec) same (shaped_holds (record_of fields) (and_parts (nat_lt (number_at fields 2) 2) (is_shaped (record_of fields)) range.0).1)
+-- the look of an accepted row
+fitting_look : (last : Shown) (look : Look) → is_possible look ≡ true → is_shown_after last (unwrap_or (shown_by look) last) ≡ true → IsFitting last look
+fitting_look last (looks.Whole number rec) possible follows = (shaped_holds rec possible, follows_holds last (record { number = number; rec = rec }) follows)
+fitting_look last (looks.Busy first second) possible follows = pair_holds first second possible
 
-busy_pair_row : (thread : ℕ) (fields : Fields) (row : BusyRow) → busy_row thread fields ≡ Ok row → IsBusyPair row.first row.second
-busy_pair_row thread fields row e =
-    let found : BusyRow = record { room = number_at fields 2 == 1; first = number_at fields 3; second = number_at fields 4 } in
-    let in_range : Bool = nat_lt (number_at fields 2) 2 && is_busy_pair (number_at fields 3) (number_at fields 4) in
-    let after_order : Result BusyRow FaultKind = check in_range kinds.Range (Ok found) in
-    let after_numbers : Result BusyRow FaultKind = check (number_at fields 1 == thread) kinds.Order after_order in
-    let numbers = check_one (has_numbers fields) kinds.Number after_numbers row e in
-    let order = check_one (number_at fields 1 == thread) kinds.Order after_order row numbers.1 in
-    let range = check_one in_range kinds.Range (Ok found) row order.1 in
-    let same : found ≡ row = same_ok found row range.1 in
-    subst (λ (r : BusyRow). IsBusyPair r.first r.second) same
-    (pair_holds (number_at fields 3) (number_at fields 4) (and_parts (nat_lt (number_at fields 2) 2) (is_busy_pair (number_at fields 3) (number_at fields 4)) range.0).1)
-
-fitting_whole : (last : Shown) (row : Result WholeRow FaultKind) (seen : FoundLook) → ((r : WholeRow) → row ≡ Ok r → IsShaped r.shown.rec)
+fitting_row : (last : Shown) (row : Result FoundLook FaultKind) (seen : FoundLook) → ((found : FoundLook) → row ≡ Ok found → is_possible found.look ≡ true)
     → following last row ≡ Ok seen → IsFitting last seen.look
-fitting_whole last (Err k) seen shaped e = absurd (cc)
-fitting_whole last (Ok row) seen shaped e =
+fitting_row last (Err k) seen possible e = absurd (cc)
+fitting_row last (Ok found) seen possible e =
     let passed = check_one _ _ _ seen e in
-    let same : look_of_whole row ≡ seen = same_ok (look_of_whole row) seen passed.1 in
-    subst (λ (s : FoundLook). IsFitting last s.look) same (shaped row refl, follows_holds last row.shown passed.0)
-
-fitting_busy : (last : Shown) (row : Result BusyRow FaultKind) (seen : FoundLook) → ((r : BusyRow) → row ≡ Ok r → IsBusyPair r.first r.second)
-    → as_look row ≡ Ok seen → IsFitting last seen.look
-fitting_busy last (Err k) seen pair e = absurd (cc)
-fitting_busy last (Ok row) seen pair e =
-    let same : look_of_busy row ≡ seen = same_ok (look_of_busy row) seen e in
-    subst (λ (s : FoundLook). IsFitting last s.look) same (pair row refl)
-
-fitting_row : (form : Form) (k : ℕ) (last : Shown) (fields : Fields) (seen : FoundLook) → look_row form k last fields ≡ Ok seen → IsFitting last seen.look
-fitting_row form.Busy k last fields seen e = fitting_busy last (busy_row k fields) seen (busy_pair_row k fields) e
-fitting_row form.Whole k last fields seen e = fitting_whole last (whole_row k fields) seen (shaped_row k fields) e
-fitting_row form.Header k last fields seen e = absurd (cc)
-fitting_row form.Pass k last fields seen e = absurd (cc)
-fitting_row form.End k last fields seen e = absurd (cc)
+    subst (λ (s : FoundLook). IsFitting last s.look) (same_ok found seen passed.1) (fitting_look last found.look (possible found refl) passed.0)
 
 -- one look more at hand
 fits_with_look : (threads : ℕ) (before : List SignalPass) (pass : SignalPass) (ended : Bool) (next : SoFar SignalPass) (seen : Result FoundLook FaultKind)
     → AreFittingPasses threads before → IsHand threads before (Some pass) → length pass.looks < threads
     → ((s : FoundLook) → seen ≡ Ok s → IsFitting (last_shown (length pass.looks) before) s.look)
-    → add_look (record { before = before; at_hand = Some pass; ended = ended }) seen ≡ Ok next → IsFittingSoFar threads next
+    → add_look with_look (record { before = before; at_hand = Some pass; ended = ended }) seen ≡ Ok next → IsFittingSoFar threads next
 fits_with_look threads before pass ended next (Err k) fit hand lt fits e = absurd (cc)
 fits_with_look threads before pass ended next (Ok seen) fit hand lt fits e =
     let longer : SoFar SignalPass = record { before = before; at_hand = Some (with_look seen pass); ended = ended } in
@@ -145,25 +98,24 @@ fits_with_look threads before pass ended next (Ok seen) fit hand lt fits e =
     })
 
 -- a look row
-fits_with_row : (threads : ℕ) (before : List SignalPass) (at_hand : Option SignalPass) (ended : Bool) (next : SoFar SignalPass) (form : Form) (fields : Fields)
+fits_with_row : (threads : ℕ) (before : List SignalPass) (at_hand : Option SignalPass) (ended : Bool) (next : SoFar SignalPass) (look : LookForm) (fields : Fields)
     → AreFittingPasses threads before → IsHand threads before at_hand
-    → take_look (record { before = before; at_hand = at_hand; ended = ended }) form fields (next_thread looks_in threads at_hand) ≡ Ok next → IsFittingSoFar threads next
-fits_with_row threads before None ended next form fields fit hand e = absurd (cc)
-fits_with_row threads before (Some pass) ended next form fields fit hand e = go (nat_lt (length pass.looks) threads) refl e
+    → take_form threads (record { before = before; at_hand = at_hand; ended = ended }) (Some (form.Look look)) fields ≡ Ok next → IsFittingSoFar threads next
+fits_with_row threads before None ended next look fields fit hand e = absurd (cc)
+fits_with_row threads before (Some pass) ended next look fields fit hand e = go (nat_lt (length pass.looks) threads) refl e
   where
     so_far : SoFar SignalPass
     so_far = record { before = before; at_hand = Some pass; ended = ended }
 
     go : (b : Bool) → nat_lt (length pass.looks) threads ≡ b
-        → take_look (record { before = before; at_hand = Some pass; ended = ended }) form fields (if b then Ok (length pass.looks) else Err kinds.Order) ≡ Ok next
-        → IsFittingSoFar threads next
+        → take_look with_look (next_look so_far look fields) so_far (if b then Ok (length pass.looks) else Err kinds.Order) ≡ Ok next → IsFittingSoFar threads next
     go false h e = absurd (cc)
     go true h e =
         let lt : length pass.looks < threads = grind arith in
         let same : last_shown (length pass.looks) (before ++ pass ∷ []) ≡ last_shown (length pass.looks) before =
         last_shown-silent (length pass.looks) before pass (omega arith) in
         fits_with_look threads before pass ended next _ fit hand lt
-        (λ s row. rw (← same) (fitting_row form (length pass.looks) (last_shown (length pass.looks) (before ++ pass ∷ [])) fields s row)) e
+        (λ s row. rw (← same) (fitting_row (last_shown (length pass.looks) (before ++ pass ∷ [])) (look_row look (length pass.looks) fields) s (λ found is. (row_look look (length pass.looks) fields found is).1) row)) e
 
 -- a row that was taken
 fits_with_form : (threads : ℕ) (before : List SignalPass) (at_hand : Option SignalPass) (ended : Bool) (next : SoFar SignalPass) (form : Option Form) (fields : Fields)
@@ -171,8 +123,7 @@ fits_with_form : (threads : ℕ) (before : List SignalPass) (at_hand : Option Si
     → take_form threads (record { before = before; at_hand = at_hand; ended = ended }) form fields ≡ Ok next → IsFittingSoFar threads next
 fits_with_form threads before at_hand ended next None fields fit hand e = absurd (cc)
 fits_with_form threads before at_hand ended next (Some form.Header) fields fit hand e = absurd (cc)
-fits_with_form threads before at_hand ended next (Some form.Whole) fields fit hand e = fits_with_row threads before at_hand ended next form.Whole fields fit hand e
-fits_with_form threads before at_hand ended next (Some form.Busy) fields fit hand e = fits_with_row threads before at_hand ended next form.Busy fields fit hand e
+fits_with_form threads before at_hand ended next (Some (form.Look look)) fields fit hand e = fits_with_row threads before at_hand ended next look fields fit hand e
 fits_with_form threads before at_hand ended next (Some form.Pass) fields fit hand e =
     let passed = check_one _ _ _ next e in
     let full = and_parts (not ended) (is_full looks_in threads at_hand) passed.0 in

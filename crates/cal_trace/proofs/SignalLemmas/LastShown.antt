@@ -1,5 +1,5 @@
 -- What threads showed last, with one more pass and with one more look.
-use Rattle.std.proofs.Common.{◌≡◌, ◌≢◌, ◌<◌, inl, inr, ℕ, List, [], ◌∷◌, ◌++◌, length, Option, Some, None, Ok, Err, Bool, true, false, nat_lt, if◌then◌else◌, refl, sym, ap, ◌∙◌, arith}
+use Rattle.std.proofs.Common.{◌≡◌, ◌≢◌, ◌<◌, ◌≤◌, slice_get, ℕ, List, [], ◌∷◌, ◌++◌, length, Option, Some, None, Ok, Err, Bool, true, false, nat_lt, if◌then◌else◌, refl, sym, ap, ◌∙◌, arith}
 use Rattle.std.proofs.lemmas.Option.{slice_get_past}
 use Rattle.std.specs.Option.{option_map, option_to_list, option_and_then, unwrap_or}
 use Rattle.cal_signal.specs.Shown.{nothing_shown}
@@ -7,7 +7,6 @@ use Rattle.cal_signal.specs.declared.shown.Shown.{Shown}
 use Rattle.cal_policy.specs.History.Lists.{last_of}
 use Rattle.cal_policy.proofs.ListLemmas.OneMore.{last_of_push, unwrap_or_or}
 use Rattle.cal_machine.proofs.Last.{slice_get-last, slice_get-other}
-use Rattle.std.proofs.lemmas.Bool.Decides.{eqb_tells}
 use Rattle.std.proofs.lemmas.Bool.{ltb-true}
 use Rattle.cal_trace.specs.Rows.SoFar.{SoFar, passes_of, with_more, next_thread}
 use Rattle.cal_trace.specs.Signals.{last_shown, shown_in, shown_by, with_look, looks_in}
@@ -29,6 +28,13 @@ shown-push k passes pass =
 pub shown-begun : (k : ℕ) (passes : List SignalPass) (now bandwidth : ℕ) → last_shown k (passes ++ record { now = now; bandwidth = bandwidth; looks = [] } ∷ []) ≡ last_shown k passes
 shown-begun k passes now bandwidth = shown-push k passes (record { now = now; bandwidth = bandwidth; looks = [] })
 
+-- a pass without a look at thread k changes nothing of what it showed last
+pub last_shown-silent : (k : ℕ) (passes : List SignalPass) (pass : SignalPass) → length pass.looks ≤ k → last_shown k (passes ++ pass ∷ []) ≡ last_shown k passes
+last_shown-silent k passes pass le =
+    let none : slice_get pass.looks k ≡ None = slice_get_past pass.looks k le in
+    let silent : shown_in k pass ≡ None = rw none refl in
+    shown-push k passes pass ∙ ap (λ o. unwrap_or o (last_shown k passes)) silent
+
 -- another thread's look
 pub shown-other : (k : ℕ) (before : List SignalPass) (pass : SignalPass) (seen : FoundLook) → k ≢ length pass.looks
     → last_shown k (before ++ with_look seen pass ∷ []) ≡ last_shown k (before ++ pass ∷ [])
@@ -39,25 +45,12 @@ shown-other k before pass seen ne =
 
 -- the thread's own look
 own_look : (before : List SignalPass) (pass : SignalPass) (seen : FoundLook)
-    → last_shown (length pass.looks) (before ++ with_look seen pass ∷ []) ≡ unwrap_or (shown_by seen.look) (last_shown (length pass.looks) before)
+    → last_shown (length pass.looks) (before ++ with_look seen pass ∷ []) ≡ unwrap_or (shown_by seen.look) (last_shown (length pass.looks) (before ++ pass ∷ []))
 own_look before pass seen =
     let k = length pass.looks in
-    shown-push k before (with_look seen pass) ∙ ap (λ s. unwrap_or (shown_by_look s) (last_shown k before)) (slice_get-last pass.looks seen)
-
--- where it showed something
-pub shown-own : (before : List SignalPass) (pass : SignalPass) (seen : FoundLook) (s : Shown) → shown_by seen.look ≡ Some s
-    → last_shown (length pass.looks) (before ++ with_look seen pass ∷ []) ≡ s
-shown-own before pass seen s is = own_look before pass seen ∙ ap (λ o. unwrap_or o (last_shown (length pass.looks) before)) is
-
--- and where it showed nothing
-pub shown-busy : (before : List SignalPass) (pass : SignalPass) (seen : FoundLook) → shown_by seen.look ≡ None
-    → last_shown (length pass.looks) (before ++ with_look seen pass ∷ []) ≡ last_shown (length pass.looks) (before ++ pass ∷ [])
-shown-busy before pass seen is =
-    let k = length pass.looks in
-    own_look before pass seen
-    ∙ ap (λ o. unwrap_or o (last_shown k before)) is
-    ∙ ap (λ s. unwrap_or (shown_by_look s) (last_shown k before)) (sym (slice_get_past pass.looks k (omega arith)))
-    ∙ sym (shown-push k before pass)
+    shown-push k before (with_look seen pass)
+    ∙ ap (λ s. unwrap_or (shown_by_look s) (last_shown k before)) (slice_get-last pass.looks seen)
+    ∙ ap (unwrap_or (shown_by seen.look)) (sym (last_shown-silent k before pass (omega arith)))
 
 -- where a look can stand
 record CanStand (threads thread : ℕ) (at_hand : Option SignalPass) : Type 0 where
@@ -77,32 +70,21 @@ stands threads thread (Some pass) h = by (nat_lt (length pass.looks) threads) re
 pub next_below : (threads thread : ℕ) (at_hand : Option SignalPass) → next_thread looks_in threads at_hand ≡ Ok thread → thread < threads
 next_below threads thread at_hand h = let s = stands threads thread at_hand h in rw s.next s.below
 
--- a busy look changes nothing of what was shown last
-pub kept-busy : (so_far : SoFar SignalPass) (threads thread k : ℕ) (seen : FoundLook) → next_thread looks_in threads so_far.at_hand ≡ Ok thread → shown_by seen.look ≡ None
-    → last_shown k (passes_of (with_more (with_look seen) so_far)) ≡ last_shown k (passes_of so_far)
-kept-busy so_far threads thread k seen h none =
-    let s = stands threads thread so_far.at_hand h in
-    rw s.is (elim (eqb_tells k (length s.pass.looks)) [
-      | inl same ↦ rw same.1 (shown-busy so_far.before s.pass seen none)
-      | inr other ↦ shown-other k so_far.before s.pass seen other.1
-    ])
-
-own : (before : List SignalPass) (at_hand : Option SignalPass) (thread : ℕ) (pass : SignalPass) (seen : FoundLook) (shown : Shown)
-    → at_hand ≡ Some pass → thread ≡ length pass.looks → shown_by seen.look ≡ Some shown
-    → last_shown thread (before ++ option_to_list (option_map (with_look seen) at_hand)) ≡ shown
-own before at_hand thread pass seen shown is next some = rw (is, next) (shown-own before pass seen shown some)
+own : (before : List SignalPass) (at_hand : Option SignalPass) (thread : ℕ) (pass : SignalPass) (seen : FoundLook) → at_hand ≡ Some pass → thread ≡ length pass.looks
+    → last_shown thread (before ++ option_to_list (option_map (with_look seen) at_hand)) ≡ unwrap_or (shown_by seen.look) (last_shown thread (before ++ option_to_list at_hand))
+own before at_hand thread pass seen is next = rw (is, next) (own_look before pass seen)
 
 other : (before : List SignalPass) (at_hand : Option SignalPass) (thread k : ℕ) (pass : SignalPass) (seen : FoundLook)
     → at_hand ≡ Some pass → thread ≡ length pass.looks → k ≢ thread
     → last_shown k (before ++ option_to_list (option_map (with_look seen) at_hand)) ≡ last_shown k (before ++ option_to_list at_hand)
 other before at_hand thread k pass seen is next ne = rw is (shown-other k before pass seen (λ e. ne (e ∙ sym next)))
 
--- a whole look is what its thread showed last
-pub kept-own : (so_far : SoFar SignalPass) (threads thread : ℕ) (seen : FoundLook) (shown : Shown) → next_thread looks_in threads so_far.at_hand ≡ Ok thread → shown_by seen.look ≡ Some shown
-    → last_shown thread (passes_of (with_more (with_look seen) so_far)) ≡ shown
-kept-own so_far threads thread seen shown h some =
+-- what a look shows is what its thread showed last
+pub kept-own : (so_far : SoFar SignalPass) (threads thread : ℕ) (seen : FoundLook) → next_thread looks_in threads so_far.at_hand ≡ Ok thread
+    → last_shown thread (passes_of (with_more (with_look seen) so_far)) ≡ unwrap_or (shown_by seen.look) (last_shown thread (passes_of so_far))
+kept-own so_far threads thread seen h =
     let s = stands threads thread so_far.at_hand h in
-    own so_far.before so_far.at_hand thread s.pass seen shown s.is s.next some
+    own so_far.before so_far.at_hand thread s.pass seen s.is s.next
 
 -- and leaves what the others showed
 pub kept-other : (so_far : SoFar SignalPass) (threads thread k : ℕ) (seen : FoundLook) → next_thread looks_in threads so_far.at_hand ≡ Ok thread → k ≢ thread

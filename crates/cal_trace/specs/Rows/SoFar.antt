@@ -6,8 +6,9 @@ use Rattle.cal_trace.specs.Rows.{Fields}
 use Rattle.cal_trace.specs.Rows.LookRows.{check, pass_row, end_row}
 use Rattle.cal_trace.specs.declared.fault.FaultKind.{FaultKind}
 use Rattle.cal_trace.specs.declared.fault.FaultKind.TheVariants as kind
-use Rattle.cal_trace.specs.declared.rows.look_rows.PassRow.{PassRow}
 use Rattle.cal_policy.specs.declared.history.entry.TheConstants.{MOST_PASSES}
+use Rattle.cal_policy.specs.declared.judgement.open_input.FoundLook.{FoundLook}
+use Rattle.cal_trace.specs.declared.arrivals.GivenPass.{GivenPass}
 use Rattle.cal_trace.specs.declared.rows.so_far.PassesSoFar.{PassesSoFar}
 
 -- the passes before the one at hand, the pass at hand, whose looks and actions may still be
@@ -31,11 +32,24 @@ module _ {Pass : Type 0} where
   with_more more so_far = record so_far { at_hand = option_map more so_far.at_hand }
 
   -- a new pass at hand, which begins so
-  abbrev pub add_pass : (PassRow → Pass) → SoFar Pass → Result PassRow FaultKind →
+  abbrev pub add_pass : (GivenPass → Pass) → SoFar Pass → Result GivenPass FaultKind →
       Result (SoFar Pass) FaultKind
   add_pass begun so_far (Err k) = Err k
   add_pass begun so_far (Ok row) =
       Ok (record { before = passes_of so_far; at_hand = Some (begun row); ended = false })
+
+  -- one more look of the pass at hand, which then is so
+  abbrev pub add_look : (FoundLook → Pass → Pass) → SoFar Pass → Result FoundLook FaultKind →
+      Result (SoFar Pass) FaultKind
+  add_look with_look so_far (Err k) = Err k
+  add_look with_look so_far (Ok found) = Ok (with_more (with_look found) so_far)
+
+  -- the same where the next look is that of this thread, if one may come here, and its row says so
+  -- of it
+  abbrev pub take_look : (FoundLook → Pass → Pass) → (ℕ → Result FoundLook FaultKind) →
+      SoFar Pass → Result ℕ FaultKind → Result (SoFar Pass) FaultKind
+  take_look with_look says so_far (Err k) = Err k
+  take_look with_look says so_far (Ok thread) = add_look with_look so_far (says thread)
 
   -- the end
   abbrev pub add_end : SoFar Pass → Result ℕ FaultKind → Result (SoFar Pass) FaultKind
@@ -65,7 +79,8 @@ module _ {Pass : Type 0} (looks_in : Pass → ℕ) where
       if nat_lt (looks_in pass) threads then Ok (looks_in pass) else Err kind.Order
 
   -- what the rows say with one more pass row, where a pass begins so
-  abbrev pub take_pass : (PassRow → Pass) → ℕ → SoFar Pass → Fields → Result (SoFar Pass) FaultKind
+  abbrev pub take_pass : (GivenPass → Pass) → ℕ → SoFar Pass → Fields →
+      Result (SoFar Pass) FaultKind
   take_pass begun threads so_far fields =
       check (is_between threads so_far) kind.Order
       (add_pass begun so_far (pass_row (length (passes_of so_far)) fields))

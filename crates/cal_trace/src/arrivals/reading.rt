@@ -182,10 +182,7 @@ impl ArrivalReading {
             return Err(FaultKind::Order);
         }
         let pass = pass_row(row, self.passes.len())?;
-        self.passes.push(GivenPass {
-            now: pass.now,
-            bandwidth: pass.bandwidth,
-        })?;
+        self.passes.push(pass)?;
         Ok(())
     }
 

@@ -1,32 +1,23 @@
 //! Reading a history, row by row.
 
 ghost use Rattle.std.specs.Prelude.{◌≡◌};
-ghost use Rattle.cal_trace.specs.History.{form_of, look_form, seen_row};
+ghost use Rattle.cal_trace.specs.History.{form_of, judged, look_form};
 ghost use Rattle.csv.specs.Records.{fields_of};
 
+use crate::arrivals::GivenPass;
 use crate::fault::FaultKind;
 use crate::history::action_rows::{ActionForm, Extent, action_form, action_row};
 use crate::rows::fields::is_row;
-use crate::rows::look_rows::{PassRow, busy_row, whole_row};
+use crate::rows::look_rows::{LookForm, look_row};
 use crate::rows::passes::PassReading;
 use crate::rows::so_far::{PassAtHand, PassesSoFar};
 use crate::rows::version::Version;
-use cal_policy::{Action, ActionList, Input, MOST_ACTIONS, PassEntry, Rooms, Seen, SeenList};
+use cal_policy::{
+    Action, ActionList, FoundLook, Input, MOST_ACTIONS, PassEntry, Rooms, Seen, SeenList,
+};
+use cal_signal::Look;
 use csv::ByteRecord;
 use std::alloc::Global;
-
-/// What a look row is, by its first field and its number of fields.
-#[derive(Clone, Copy)]
-pub(crate) enum LookForm {
-    /// A record that was kept.
-    Whole,
-    /// No record: a busy pair.
-    Busy,
-    /// A record that acknowledges more than was sent.
-    Ahead,
-    /// A record that shows a core which its thread has not.
-    Foreign,
-}
 
 /// What a row of a history is, by its first field and its number of fields.
 #[derive(Clone, Copy)]
@@ -41,15 +32,6 @@ pub(crate) enum Form {
     Act(ActionForm),
     /// The file ends.
     End,
-}
-
-/// A look row: the look as it was judged, and whether the thread's ring had room.
-#[derive(Clone, Copy)]
-pub(crate) struct SeenRow {
-    /// The look.
-    pub seen: Seen,
-    /// Whether the ring had room.
-    pub room: bool,
 }
 
 fn look_form(row: &ByteRecord, version: Version) -> Option<LookForm>
@@ -89,32 +71,18 @@ fn form_of(row: &ByteRecord, version: Version) -> Option<Form>
     }
 }
 
-/// Reads a look row of this form, where the next look is this thread's.
-fn seen_row(row: &ByteRecord, form: LookForm, thread: usize) -> Result<SeenRow, FaultKind>
-    ensures { result ≡ seen_row form thread (fields_of row.now) }
+/// The look of a row of this form, as it was judged.
+fn judged(form: LookForm, look: Look) -> Seen
+    ensures { result ≡ judged form look }
 {
-    if let LookForm::Busy = form {
-        let busy = busy_row(row, thread)?;
-        return Ok(SeenRow {
-            seen: Seen::Busy {
-                first: busy.first,
-                second: busy.second,
-            },
-            room: busy.room,
-        });
+    match look {
+        Look::Busy { first, second } => Seen::Busy { first, second },
+        Look::Whole { number, rec } => match form {
+            LookForm::Ahead => Seen::Ahead { number, rec },
+            LookForm::Foreign => Seen::Foreign { number, rec },
+            LookForm::Whole | LookForm::Busy => Seen::Whole { number, rec },
+        },
     }
-    let whole = whole_row(row, thread)?;
-    let number = whole.shown.number;
-    let rec = whole.shown.rec;
-    let seen = match form {
-        LookForm::Ahead => Seen::Ahead { number, rec },
-        LookForm::Foreign => Seen::Foreign { number, rec },
-        _ => Seen::Whole { number, rec },
-    };
-    Ok(SeenRow {
-        seen,
-        room: whole.room,
-    })
 }
 
 /// A pass whose looks and actions are still being read.
@@ -135,14 +103,14 @@ impl OpenEntry {
     ghost use Rattle.cal_trace.specs.Rows.LookRows.{check};
     ghost use Rattle.cal_trace.specs.declared.fault.FaultKind.TheVariants as kind;
 
-    // One more look. Fails only when out of memory.
-    fn add_look(&mut self, looked: SeenRow) -> Result<(), FaultKind>
+    // One more look of a row of this form. Fails only when out of memory.
+    fn add_look(&mut self, form: LookForm, found: FoundLook) -> Result<(), FaultKind>
         ensures added { OnOk result
-            (entry_at_hand self.new ≡ with_look looked (entry_at_hand self.old)) }
+            (entry_at_hand self.new ≡ with_look form found (entry_at_hand self.old)) }
         ensures memory { IfErr result (λ k. k ≡ kind.Memory) }
     {
-        self.seen.push(looked.seen)?;
-        self.rooms.push(looked.room)?;
+        self.seen.push(judged(form, found.look))?;
+        self.rooms.push(found.room)?;
         Ok(())
     }
 
@@ -172,7 +140,7 @@ impl PassAtHand for OpenEntry {
 
     ghost begun = { begun };
 
-    fn begin(alloc: Global, threads: usize, row: PassRow) -> Result<OpenEntry, FaultKind> {
+    fn begin(alloc: Global, threads: usize, row: GivenPass) -> Result<OpenEntry, FaultKind> {
         let seen = Vec::with_capacity(alloc, threads)?;
         let rooms = Vec::with_capacity(alloc, threads)?;
         Ok(OpenEntry {
@@ -249,9 +217,9 @@ impl HistoryReading {
         ensures file { file_of self.new ≡ file_of self.old }
     {
         let thread = self.passes.next_thread(self.extent.threads as usize)?;
-        let looked = seen_row(row, look, thread)?;
+        let found = look_row(row, look, thread)?;
         match &mut self.passes.at_hand {
-            Some(entry) => entry.add_look(looked),
+            Some(entry) => entry.add_look(look, found),
             None => Ok(()),
         }
     }
@@ -277,15 +245,12 @@ impl HistoryReading {
 impl PassReading for HistoryReading {
     ghost use Rattle.std.specs.Prelude.{⊤};
     ghost use Rattle.cal_policy.specs.declared.history.entry.PassEntry.{PassEntry};
-    ghost use Rattle.cal_trace.specs.Rows.SoFar.{SoFar, whole};
     ghost use Rattle.cal_trace.specs.History.{take_row};
     ghost use Rattle.cal_trace.specs.History.Reading.{file_of, so_far, KeepsHistory};
     ghost use Rattle.cal_trace.specs.declared.history.action_rows.Extent.{Extent};
     ghost use Rattle.cal_trace.specs.declared.rows.version.Version.{Version};
 
     type Pass = PassEntry;
-
-    ghost SoFar = { SoFar PassEntry };
 
     ghost so_far = { so_far };
 
@@ -294,8 +259,6 @@ impl PassReading for HistoryReading {
     ghost file = { file_of };
 
     ghost take = { λ file. take_row file.0 file.1 };
-
-    ghost whole = { whole };
 
     // Rows can be taken in each state.
     ghost IsReady = { λ reading. ⊤ };

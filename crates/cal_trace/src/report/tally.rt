@@ -40,15 +40,15 @@ impl Tally {
     }
 
     /// Counts what one turn more did, as the turn handed it out.
-    pub fn add_turn(&mut self, entries: TurnEntries)
+    pub fn add_turn(&mut self, entries: &TurnEntries)
         ensures { (journal : List EntryOf) → length journal + 5 < 2 ^ 64 →
-            IsTallyOf journal self.old → IsTallyOf (journal ++ entries_of entries) self.new }
+            IsTallyOf journal self.old → IsTallyOf (journal ++ entries_of entries.now) self.new }
     {
-        self.note_step(entries.arrived);
-        self.note_step(entries.took);
-        self.note_step(entries.stole);
-        self.note_step(entries.worked);
-        self.note(entries.published);
+        self.note_step(entries.arrival());
+        self.note_step(entries.taking());
+        self.note_step(entries.theft());
+        self.note_step(entries.work());
+        self.note(entries.publication());
     }
 
     /// Counts what a step did, if it did something.

@@ -7,6 +7,7 @@ ghost use Rattle.csv.specs.Records.{fields_of};
 ghost use Rattle.cal_trace.specs.Rows.Answers.{IsWhatRowsSay, Takes};
 ghost use Rattle.cal_trace.specs.Rows.Passes.{GivesNext, with_closed};
 ghost use Rattle.cal_trace.specs.Rows.Reading.{read_on};
+ghost use Rattle.cal_trace.specs.Rows.SoFar.{SoFar, whole};
 ghost use Rattle.cal_trace.specs.Rows.{Fields, IsReading, rest_of};
 ghost use Rattle.cal_trace.specs.declared.fault.FaultKind.{FaultKind};
 
@@ -20,11 +21,8 @@ pub(crate) trait PassReading: Sized + Drop {
     /// A pass of the file.
     type Pass: Drop;
 
-    // What the rows so far have given, as the file's definition has it.
-    ghost SoFar: { Type 0 };
-
-    // The same, where these passes were handed out.
-    ghost so_far: { List Self.Pass → Self → SoFar };
+    // What the rows so far have given, where these passes were handed out.
+    ghost so_far: { List Self.Pass → Self → SoFar Self.Pass };
 
     // What the rows are read by, which stays the same.
     ghost File: { Type 0 };
@@ -32,10 +30,7 @@ pub(crate) trait PassReading: Sized + Drop {
     ghost file: { Self → File };
 
     // One more row.
-    ghost take: { File → SoFar → Fields → Result SoFar FaultKind };
-
-    // What the file gives after its last row: nothing without its end row.
-    ghost whole: { SoFar → Option (List Self.Pass) };
+    ghost take: { File → SoFar Self.Pass → Fields → Result (SoFar Self.Pass) FaultKind };
 
     // More rows can be taken.
     ghost IsReady: { Self → Type 0 };
@@ -56,8 +51,8 @@ pub(crate) trait PassReading: Sized + Drop {
 
     /// Whether the end row came.
     fn has_ended(&self) -> bool
-        ensures { (given : List Self.Pass) → whole (so_far given self.now) ≡ if result
-            then Some given else None };
+        ensures { (given : List Self.Pass) →
+            whole (so_far given self.now) ≡ if result then Some given else None };
 }
 
 /// The next pass, or `None` where the file ended as it must. The error is the first check that
@@ -71,10 +66,10 @@ pub(crate) fn next_pass<R: PassReading>(
     // The passes handed out so far and those still to come are those of the rows, or their fault is
     // the one.
     ensures gives { (given : List R.Pass) → R.KeepsPasses given reading.old →
-        let file = read_on (R.take (R.file reading.old)) R.whole
+        let file = read_on (R.take (R.file reading.old)) whole
         (R.so_far given reading.old) rows.old in
         GivesNext (λ all. R.KeepsPasses all reading.new ×
-        (read_on (R.take (R.file reading.new)) R.whole (R.so_far all reading.new) rows.new ≡
+        (read_on (R.take (R.file reading.new)) whole (R.so_far all reading.new) rows.new ≡
         file)) file given result }
     ensures file { R.file reading.new ≡ R.file reading.old }
     ensures rows { IfOk result (λ pass. IfSome pass (λ _. IsReading rows.new)) }
@@ -115,7 +110,7 @@ pub(crate) fn all_passes<R: PassReading>(
     requires ready { R.IsReady reading.old }
     requires kept { R.KeepsPasses [] reading.old }
     ensures { IsWhatRowsSay (λ all. all.items) result
-        (read_on (R.take (R.file reading.old)) R.whole (R.so_far [] reading.old) rows.old) }
+        (read_on (R.take (R.file reading.old)) whole (R.so_far [] reading.old) rows.old) }
 {
     let mut passes = Vec::new(alloc);
     while let Some(pass) = next_pass(rows, reading)? {

@@ -7,10 +7,11 @@ ghost use Rattle.cal_trace.specs.Rows.Passes.{with_closed};
 ghost use Rattle.cal_trace.specs.Rows.SoFar.{at_start, is_between, next_thread};
 ghost use Rattle.cal_trace.specs.Rows.SoFar.{take_pass, take_end, so_far, IsCounted};
 ghost use Rattle.cal_trace.specs.declared.fault.FaultKind.TheVariants as kind;
-ghost use Rattle.cal_trace.specs.declared.rows.look_rows.PassRow.{PassRow};
+ghost use Rattle.cal_trace.specs.declared.arrivals.GivenPass.{GivenPass};
 
+use crate::arrivals::GivenPass;
 use crate::fault::FaultKind;
-use crate::rows::look_rows::{PassRow, end_row, pass_row};
+use crate::rows::look_rows::{end_row, pass_row};
 use csv::ByteRecord;
 use std::alloc::Global;
 
@@ -26,10 +27,10 @@ pub(crate) trait PassAtHand: Sized + Drop {
     ghost looks_in: { Self.Pass → ℕ };
 
     // What a pass is after its pass row.
-    ghost begun: { PassRow → Self.Pass };
+    ghost begun: { GivenPass → Self.Pass };
 
     /// A pass with room for the looks of so many threads. Fails only when out of memory.
-    fn begin(alloc: Global, threads: usize, row: PassRow) -> Result<Self, FaultKind>
+    fn begin(alloc: Global, threads: usize, row: GivenPass) -> Result<Self, FaultKind>
         ensures begun { IfOk result (λ hand. pass hand ≡ begun row) }
         ensures memory { IfErr result (λ k. k ≡ kind.Memory) };
 

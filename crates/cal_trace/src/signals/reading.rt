@@ -1,12 +1,14 @@
 //! Reading signals, row by row.
 
 ghost use Rattle.std.specs.Prelude.{◌≡◌};
-ghost use Rattle.cal_trace.specs.Signals.{form_of};
+ghost use Rattle.std.specs.Option.{unwrap_or};
+ghost use Rattle.cal_trace.specs.Signals.{form_of, shown_by};
 ghost use Rattle.csv.specs.Records.{fields_of};
 
+use crate::arrivals::GivenPass;
 use crate::fault::FaultKind;
 use crate::rows::fields::is_row;
-use crate::rows::look_rows::{PassRow, busy_row, whole_row};
+use crate::rows::look_rows::{LookForm, look_row};
 use crate::rows::passes::PassReading;
 use crate::rows::so_far::{PassAtHand, PassesSoFar};
 use crate::rows::version::Version;
@@ -23,10 +25,8 @@ pub(crate) enum Form {
     Header,
     /// A pass begins.
     Pass,
-    /// A look that found a record.
-    Whole,
-    /// A look that found none.
-    Busy,
+    /// A look of the pass at hand.
+    Look(LookForm),
     /// The file ends.
     End,
 }
@@ -37,15 +37,29 @@ fn form_of(row: &ByteRecord, version: Version) -> Option<Form>
     if is_row(row, b"pass".as_slice(), 3) {
         Some(Form::Pass)
     } else if is_row(row, b"whole".as_slice(), version.record_fields()) {
-        Some(Form::Whole)
+        Some(Form::Look(LookForm::Whole))
     } else if is_row(row, b"busy".as_slice(), 5) {
-        Some(Form::Busy)
+        Some(Form::Look(LookForm::Busy))
     } else if is_row(row, b"end".as_slice(), 2) {
         Some(Form::End)
     } else if is_row(row, b"caladan-signals".as_slice(), 2) {
         Some(Form::Header)
     } else {
         None
+    }
+}
+
+/// What a thread that showed this last has shown after one more look: the same after one that
+/// found no record.
+fn shown_with(last: Shown, look: &Look) -> Shown
+    ensures { result ≡ unwrap_or (shown_by look.now) last }
+{
+    match look {
+        Look::Whole { number, rec } => Shown {
+            number: *number,
+            rec: *rec,
+        },
+        Look::Busy { .. } => last,
     }
 }
 
@@ -69,7 +83,7 @@ impl PassAtHand for OpenPass {
 
     ghost begun = { begun };
 
-    fn begin(alloc: Global, threads: usize, row: PassRow) -> Result<OpenPass, FaultKind> {
+    fn begin(alloc: Global, threads: usize, row: GivenPass) -> Result<OpenPass, FaultKind> {
         let looks = Vec::with_capacity(alloc, threads)?;
         Ok(OpenPass {
             now: row.now,
@@ -140,11 +154,11 @@ impl SignalReading {
         })
     }
 
-    fn take_whole(&mut self, row: &ByteRecord) -> Result<(), FaultKind>
+    fn take_look(&mut self, row: &ByteRecord, look: LookForm) -> Result<(), FaultKind>
         requires { HasPlaces self.old }
         ensures takes { (given : List SignalPass) → KeepsSignals given self.old →
             Takes (λ _. so_far given self.new) result
-            (take_form self.old.threads (so_far given self.old) (Some form.Whole)
+            (take_form self.old.threads (so_far given self.old) (Some (form.Look look))
             (fields_of row.now)) }
         ensures kept { (given : List SignalPass) → KeepsSignals given self.old →
             OnOk result (KeepsSignals given self.new) }
@@ -152,41 +166,14 @@ impl SignalReading {
         ensures file { file_of self.new ≡ file_of self.old }
     {
         let thread = self.passes.next_thread(self.threads)?;
-        let whole = whole_row(row, thread)?;
-        if !may_follow(&self.shown[thread], &whole.shown) {
+        let found = look_row(row, look, thread)?;
+        let last = self.shown[thread];
+        let shown = shown_with(last, &found.look);
+        if !may_follow(&last, &shown) {
             return Err(FaultKind::Backwards);
         }
-        self.add_look(FoundLook {
-            look: Look::Whole {
-                number: whole.shown.number,
-                rec: whole.shown.rec,
-            },
-            room: whole.room,
-        })?;
-        self.shown[thread] = whole.shown;
-        Ok(())
-    }
-
-    fn take_busy(&mut self, row: &ByteRecord) -> Result<(), FaultKind>
-        requires { HasPlaces self.old }
-        ensures takes { (given : List SignalPass) → KeepsSignals given self.old →
-            Takes (λ _. so_far given self.new) result
-            (take_form self.old.threads (so_far given self.old) (Some form.Busy)
-            (fields_of row.now)) }
-        ensures kept { (given : List SignalPass) → KeepsSignals given self.old →
-            OnOk result (KeepsSignals given self.new) }
-        ensures places { OnOk result (HasPlaces self.new) }
-        ensures file { file_of self.new ≡ file_of self.old }
-    {
-        let thread = self.passes.next_thread(self.threads)?;
-        let busy = busy_row(row, thread)?;
-        self.add_look(FoundLook {
-            look: Look::Busy {
-                first: busy.first,
-                second: busy.second,
-            },
-            room: busy.room,
-        })?;
+        self.add_look(found)?;
+        self.shown[thread] = shown;
         Ok(())
     }
 
@@ -222,12 +209,8 @@ impl SignalReading {
             Form::Header => Err(FaultKind::Order),
             Form::Pass => self.passes.take_pass(row, self.threads),
             Form::End => self.passes.take_end(row, self.threads),
-            Form::Whole => {
-                self.take_whole(row)?;
-                Ok(None)
-            }
-            Form::Busy => {
-                self.take_busy(row)?;
+            Form::Look(look) => {
+                self.take_look(row, look)?;
                 Ok(None)
             }
         }
@@ -237,15 +220,12 @@ impl SignalReading {
 impl PassReading for SignalReading {
     ghost use Rattle.std.specs.Prelude.{ℕ};
     ghost use Rattle.cal_trace.specs.declared.signals.SignalPass.{SignalPass};
-    ghost use Rattle.cal_trace.specs.Rows.SoFar.{SoFar, whole};
     ghost use Rattle.cal_trace.specs.Signals.{take_row};
     ghost use Rattle.cal_trace.specs.Signals.Reading.{file_of, so_far, HasPlaces};
     ghost use Rattle.cal_trace.specs.Signals.Reading.{KeepsFittingSignals};
     ghost use Rattle.cal_trace.specs.declared.rows.version.Version.{Version};
 
     type Pass = SignalPass;
-
-    ghost SoFar = { SoFar SignalPass };
 
     ghost so_far = { so_far };
 
@@ -254,8 +234,6 @@ impl PassReading for SignalReading {
     ghost file = { file_of };
 
     ghost take = { λ file. take_row file.0 file.1 };
-
-    ghost whole = { whole };
 
     ghost IsReady = { HasPlaces };
 

@@ -26,13 +26,13 @@ returns-clause-are c =
     record {
       served = let h = ap (λ (l : List Service). length l) same in search (rules, h);
       left = let h = ap (λ (l : List Request). length l) same_left in search (rules, h);
-      response = same_spread _ _ _ _ _ answered pending c.in_ok-response.ensures;
+      response = same_spread _ _ _ _ _ answered pending c.spread_of-response.ensures;
       together = ap (λ n. n + c.total_of-2.result) (c.total_of.ensures.total ∙ ap (λ (l : List ℕ). sum l) (c.as_slice.ensures.value ∙ answered))
           ∙ ap (λ n. sum (map (response_of turns requests) services) + n) (c.total_of-2.ensures.total ∙ ap (λ (l : List ℕ). sum l) (c.as_slice-2.ensures.value ∙ pending));
-      wait = subst (λ (times : List ℕ). IsSpread times [] c.in_ok-wait.wait)
-          (c.in_ok-waits.ensures turns requests c.requires ∙ ap (λ (l : List Service). map (wait_of turns requests) l) same) c.in_ok-wait.ensures;
-      service = subst (λ (times : List ℕ). IsSpread times [] c.in_ok-service.service) (c.in_ok-works.ensures ∙ ap (λ (l : List Service). map worked_of l) same) c.in_ok-service.ensures;
-      slowdown = subst (λ (times : List ℕ). IsSpread times [] c.in_ok-slowdown.slowdown)
-          (c.in_ok-slowdowns.ensures turns requests c.requires ∙ ap (λ (l : List Service). slowdowns_of turns requests l) same) c.in_ok-slowdown.ensures;
-      so_far = subst (λ (times : List ℕ). IsSpread times [] c.in_ok-so_far.so_far) old c.in_ok-so_far.ensures;
+      wait = subst (λ (times : List ℕ). IsSpread times [] c.spread_of_known-wait.result)
+          (c.in_ok-waits.ensures turns requests c.requires ∙ ap (λ (l : List Service). map (wait_of turns requests) l) same) c.spread_of_known-wait.ensures;
+      service = subst (λ (times : List ℕ). IsSpread times [] c.spread_of_known-service.result) (c.in_ok-works.ensures ∙ ap (λ (l : List Service). map worked_of l) same) c.spread_of_known-service.ensures;
+      slowdown = subst (λ (times : List ℕ). IsSpread times [] c.spread_of_known-slowdown.result)
+          (c.in_ok-slowdowns.ensures turns requests c.requires ∙ ap (λ (l : List Service). slowdowns_of turns requests l) same) c.spread_of_known-slowdown.ensures;
+      so_far = subst (λ (times : List ℕ). IsSpread times [] c.spread_of_known-so_far.result) old c.spread_of_known-so_far.ensures;
     }

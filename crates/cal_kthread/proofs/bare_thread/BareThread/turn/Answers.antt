@@ -1,4 +1,4 @@
-use Rattle.std.proofs.Common.{◌≡◌, ◌<◌, ◌∙◌, ◌++◌, subst, sym, ap, length, IfSome, Some, arith}
+use Rattle.std.proofs.Common.{◌≡◌, ◌<◌, ◌∙◌, ◌++◌, subst, sym, ap, length, Option, IfSome, Some, refl, arith}
 use Rattle.cal_signal.specs.declared.record.Record.{Record}
 use Rattle.cal_signal.specs.Ends.{PublisherView}
 use Rattle.cal_signal.specs.Pages.{last_published}
@@ -13,8 +13,8 @@ use Rattle.cal_kthread.specs.Turn.{Answers, AreAnswers, noted, shown, turned}
 use Rattle.cal_kthread.proofs.TurnLemmas.Publishing.{last_snoc}
 use Rattle.cal_kthread.proofs.TeamLemmas.Turns.{keeps-page, keeps-place, keeps-ring}
 use Rattle.cal_kthread.proofs.TurnLemmas.Steps.{turns, agrees}
-use Rattle.cal_kthread.proofs.TurnLemmas.Turns.{noted-all, one-turn}
-use Rattle.cal_kthread.specs.Turn.Entries.{entries_of}
+use Rattle.cal_kthread.proofs.TurnLemmas.Turns.{noted-turn, one-turn}
+use Rattle.cal_kthread.specs.Turn.Entries.{arrival, taking, theft, work, publication, entries_of}
 use Rattle.cal_kthread.specs.Turn.Turns.{IsOneTurn}
 use Rattle.cal_kthread.specs.declared.turn.entries.TurnEntries.{TurnEntries}
 use Rattle.cal_kthread.proofs.bare_thread.BareThread.turn.Goals as goal
@@ -48,14 +48,31 @@ entries c = record {
   published = c.publish-published.result;
 }
 
-noting : (c : goal.After-note_turn)
-    → c.note_turn.new.past
-    ≡ noted (noted (noted (noted (noted c.self.inside.past c.in_ok-arrived.arrived) c.take-took.result) c.provide-stole.result) c.work-worked.result) (Some c.publish-published.result)
+-- what each of the first four steps made of the thread, with the entry for which what it did stands
+abbrev Stepped : Type 0
+Stepped = ThreadView × Option Entry
+
+abbrev one : goal.After-note_turn → Stepped
+one c = (c.arrive.new.self, arrival (entries c))
+
+abbrev two : goal.After-note_turn → Stepped
+two c = (c.take-took.new.self, taking (entries c))
+
+abbrev three : goal.After-note_turn → Stepped
+three c = (c.provide-stole.new.self, theft (entries c))
+
+abbrev four : goal.After-note_turn → Stepped
+four c = (c.work-worked.new.self, work (entries c))
+
+-- the same of the last
+abbrev last : goal.After-note_turn → ThreadView × Entry
+last c = (c.publish-published.new.self, publication (entries c))
+
+noting : (c : goal.After-note_turn) → c.note_turn.new.past ≡ noted (noted (noted (noted (noted c.self.inside.past (one c).1) (two c).1) (three c).1) (four c).1) (Some (last c).1)
 noting c = c.note_turn.ensures
 
 agreeing : (c : goal.After-note_turn) → IsJournalOf c.note_turn.new.past c.publish-published.new.self
-agreeing c = agrees c.args.now c.args.request (answers_of c) (the_view c.self.inside) (c.arrive.new.self, c.in_ok-arrived.arrived) (c.take-took.new.self, c.take-took.result)
-    (c.provide-stole.new.self, c.provide-stole.result) (c.work-worked.new.self, c.work-worked.result) c.fill_front.new.self (c.publish-published.new.self, c.publish-published.result) c.note_turn.new.past
+agreeing c = agrees c.args.now c.args.request (answers_of c) (the_view c.self.inside) (one c) (two c) (three c) (four c) c.fill_front.new.self (last c) c.note_turn.new.past
     c.in_ok-arrived.ensures.arrived c.take-took.ensures.taken.1 c.provide-stole.ensures.provided.3 c.work-worked.ensures.worked c.fill_front.ensures.fronted.1 c.publish-published.ensures.shown (noting c)
     c.self.invariant c.provide-stole.ensures.provided.2 c.publish-published.ensures.follows
 
@@ -69,8 +86,7 @@ returns-clause-turned c =
     let are : AreAnswers (answers_of c) (the_view c.self.inside) = subst (λ vs. IfSome (answers_of c).theft (λ theft. theft.0 < length vs)) same c.provide-stole.ensures.provided.2 in (
       answers_of c,
       subst (AreAnswers (answers_of c)) c.self.view_is are,
-      turns c.args.now c.args.request (answers_of c) (the_view c.self.inside) (c.arrive.new.self, c.in_ok-arrived.arrived) (c.take-took.new.self, c.take-took.result)
-          (c.provide-stole.new.self, c.provide-stole.result) (c.work-worked.new.self, c.work-worked.result) c.fill_front.new.self (c.publish-published.new.self, c.publish-published.result) c.note_turn.new.past
+      turns c.args.now c.args.request (answers_of c) (the_view c.self.inside) (one c) (two c) (three c) (four c) c.fill_front.new.self (last c) c.note_turn.new.past
           c.in_ok-arrived.ensures.arrived c.take-took.ensures.taken.1 c.provide-stole.ensures.provided.3 c.work-worked.ensures.worked c.fill_front.ensures.fronted.1 c.publish-published.ensures.shown (noting c)
           ∙ ap (turned c.args.now c.args.request (answers_of c)) c.self.view_is,
     )
@@ -109,5 +125,5 @@ returns-clause-stamped c = ap (λ (z : ThreadView × Entry). (last_published z.0
 
 pub returns-clause-handed : goal.returns-clause-handed
 returns-clause-handed c =
-    noting c ∙ noted-all c.self.inside.past c.in_ok-arrived.arrived c.take-took.result c.provide-stole.result c.work-worked.result c.publish-published.result
+    noting c ∙ noted-turn c.self.inside.past (entries c) refl refl refl refl refl
     ∙ ap (λ (k : KernelView). k.journal ++ entries_of (entries c)) c.self.view_is

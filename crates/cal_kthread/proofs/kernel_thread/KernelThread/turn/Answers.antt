@@ -4,7 +4,7 @@ use Rattle.cal_kthread.specs.Journal.{record_in, records_of}
 use Rattle.cal_kthread.specs.Turn.{noted}
 use Rattle.cal_kthread.specs.Turn.Entries.{entries_of}
 use Rattle.cal_kthread.proofs.JournalLemmas.OneEntryMore.{length-filter_map}
-use Rattle.cal_kthread.proofs.TurnLemmas.Turns.{noted-all}
+use Rattle.cal_kthread.proofs.TurnLemmas.Turns.{noted-turn}
 use Rattle.cal_kthread.proofs.kernel_thread.KernelThread.turn.Goals as goal
 
 pub turn-requires-clause-room : goal.turn-requires-clause-room
@@ -16,14 +16,14 @@ turn-requires-clause-room c =
 -- what was handed out is what went into the journal
 noting : (c : goal.After-note-5) → c.note-5.new.journal.items ≡ c.self.inside.journal.items ++ entries_of c.in_ok-entries.entries
 noting c =
-    let e = c.in_ok-entries.entries in
     let before : c.reserve.new.self.items ≡ c.self.inside.journal.items = c.in_ok-reserve.ensures.items in
-    let first = c.note.ensures.items ∙ ap (λ l. noted l e.arrived) before in
-    let second = c.note-2.ensures.items ∙ ap (λ l. noted l e.took) first in
-    let third = c.note-3.ensures.items ∙ ap (λ l. noted l e.stole) second in
-    let fourth = c.note-4.ensures.items ∙ ap (λ l. noted l e.worked) third in
-    c.note-5.ensures.items ∙ ap (λ l. noted l (Some e.published)) fourth
-    ∙ noted-all c.self.inside.journal.items e.arrived e.took e.stole e.worked e.published
+    let first = c.note.ensures.items ∙ ap (λ l. noted l c.arrival.result) before in
+    let second = c.note-2.ensures.items ∙ ap (λ l. noted l c.taking.result) first in
+    let third = c.note-3.ensures.items ∙ ap (λ l. noted l c.theft.result) second in
+    let fourth = c.note-4.ensures.items ∙ ap (λ l. noted l c.work.result) third in
+    c.note-5.ensures.items ∙ ap (λ l. noted l (Some c.publication.result)) fourth
+    ∙ noted-turn c.self.inside.journal.items c.in_ok-entries.entries
+    c.arrival.ensures c.taking.ensures c.theft.ensures c.work.ensures c.publication.ensures
 
 pub invariant_of-self-2 : goal.invariant_of-self-2
 invariant_of-self-2 c =

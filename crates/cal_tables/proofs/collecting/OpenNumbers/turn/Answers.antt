@@ -25,4 +25,4 @@ returns-clause-threads c = λ journals journal held at few.
     let value : was ≡ get_or threads k was = c.index_mut.ensures.value in
     let P : ThreadWork → Type 0 = λ work. IsThreadWorkOf journal work in
     let its : IsThreadWorkOf journal was = subst P (sym value) (held_at IsThreadWorkOf journals threads k journal was held at) in
-    held_after IsThreadWorkOf journals threads k (journal ++ entries_of c.args.entries) c.take.new.self held (c.in_ok-take.ensures journal its few)
+    held_after IsThreadWorkOf journals threads k (journal ++ entries_of c.args.entries.now) c.take.new.self held (c.in_ok-take.ensures journal its few)

@@ -1,5 +1,6 @@
 use Rattle.std.proofs.Common.{◌≡◌, [], length}
 use Rattle.cal_trace.specs.Rows.Reading.{read_on}
+use Rattle.cal_trace.specs.Rows.SoFar.{whole}
 use Rattle.cal_trace.specs.Rows.{IsReading, rest_of}
 use Rattle.cal_trace.proofs.rows.passes.all_passes.Given as goal
 
@@ -9,8 +10,8 @@ invariant-loop-passes g l = record {
   rows : IsReading l.rows;
   ready : g.R.PassReading.IsReady l.reading;
   kept : g.R.PassReading.KeepsPasses l.passes.items l.reading;
-  same : read_on (g.R.PassReading.take (g.R.PassReading.file l.reading)) g.R.PassReading.whole (g.R.PassReading.so_far l.passes.items l.reading) l.rows
-      ≡ read_on (g.R.PassReading.take (g.R.PassReading.file l.initial.reading)) g.R.PassReading.whole (g.R.PassReading.so_far [] l.initial.reading) l.initial.rows;
+  same : read_on (g.R.PassReading.take (g.R.PassReading.file l.reading)) whole (g.R.PassReading.so_far l.passes.items l.reading) l.rows
+      ≡ read_on (g.R.PassReading.take (g.R.PassReading.file l.initial.reading)) whole (g.R.PassReading.so_far [] l.initial.reading) l.initial.rows;
 }
 
 abbrev pub decreases-loop-passes : goal.decreases-loop-passes

@@ -1,5 +1,6 @@
 use Rattle.std.proofs.Common.{◌≡◌, ◌≤◌, List, length}
 use Rattle.cal_trace.specs.Rows.Reading.{read_on}
+use Rattle.cal_trace.specs.Rows.SoFar.{whole}
 use Rattle.cal_trace.specs.Rows.{IsReading, rest_of}
 use Rattle.cal_trace.proofs.rows.passes.next_pass.Given as goal
 
@@ -10,8 +11,8 @@ invariant-loop-reading g l = record {
   ready : g.R.PassReading.IsReady l.reading;
   file : g.R.PassReading.file l.reading ≡ g.R.PassReading.file l.initial.reading;
   given : (given : List _) → g.R.PassReading.KeepsPasses given l.initial.reading → g.R.PassReading.KeepsPasses given l.reading
-      × (read_on (g.R.PassReading.take (g.R.PassReading.file l.reading)) g.R.PassReading.whole (g.R.PassReading.so_far given l.reading) l.rows
-      ≡ read_on (g.R.PassReading.take (g.R.PassReading.file l.initial.reading)) g.R.PassReading.whole (g.R.PassReading.so_far given l.initial.reading) l.initial.rows);
+      × (read_on (g.R.PassReading.take (g.R.PassReading.file l.reading)) whole (g.R.PassReading.so_far given l.reading) l.rows
+      ≡ read_on (g.R.PassReading.take (g.R.PassReading.file l.initial.reading)) whole (g.R.PassReading.so_far given l.initial.reading) l.initial.rows);
   fewer : length (rest_of l.rows) ≤ length (rest_of l.initial.rows);
 }
 

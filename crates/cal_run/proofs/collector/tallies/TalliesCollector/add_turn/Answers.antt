@@ -25,6 +25,6 @@ returns-clause-collected c = λ history journals journal held at few.
     let value : was ≡ get_or tallies k was = c.index_mut.ensures.value in
     let P : Tally → Type 0 = λ t. IsTallyOf journal t in
     let its : IsTallyOf journal was = subst P (sym value) (held_at IsTallyOf journals tallies k journal was held at) in
-    let more = length-append journal (entries_of c.args.entries) in
+    let more = length-append journal (entries_of c.args.entries.now) in
     let short : length journal + 5 < 2 ^ 64 = omega (arith, few, more) in
-    held_after IsTallyOf journals tallies k (journal ++ entries_of c.args.entries) c.add_turn.new.self held (c.add_turn.ensures journal short its)
+    held_after IsTallyOf journals tallies k (journal ++ entries_of c.args.entries.now) c.add_turn.new.self held (c.add_turn.ensures journal short its)
