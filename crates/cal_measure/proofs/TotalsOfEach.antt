@@ -64,14 +64,6 @@ none_more last journal times stolen stamps work none are =
     let P : List Entry → Type 0 = λ j. IsWorkOf (times ++ each_of time_worked (timed_of last (turns_of j))) (stolen ++ each_of stolen_by j) (stamps ++ suspensions_in (turns_of j)) work in
     subst P (sym none) (rw (append-nil times, append-nil stolen, append-nil stamps) are)
 
-pub none_within : (n : ℕ) (work : TaskWork) → IsWithin n work → IsWithin (n + 1) work
-none_within n work fits =
-    record {
-      worked = let a = fits.worked in omega (arith, a);
-      thefts = let a = fits.thefts in omega (arith, a);
-      suspensions = let a = fits.suspensions in omega (arith, a);
-    }
-
 pub same_work : (times stolen stamps times' stolen' stamps' : List ℕ) (work : TaskWork) → times ≡ times' → stolen ≡ stolen' → stamps ≡ stamps' →
     IsWorkOf times stolen stamps work → IsWorkOf times' stolen' stamps' work
 same_work times stolen stamps times' stolen' stamps' work t s u are =

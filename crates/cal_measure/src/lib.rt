@@ -31,7 +31,7 @@ pub use course::{no_courses, put_held};
 pub use ended_run::EndedRun;
 pub use ends::{TimedTurn, timed_of};
 pub use requests::TaskRequests;
-pub use services::{Service, services_of};
+pub use services::Service;
 pub use shares::thousandths;
 pub use spans::bans::{BanSpan, BanTracker};
 pub use spans::laws::{

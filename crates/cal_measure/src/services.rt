@@ -1,13 +1,13 @@
 //! The requests that a kernel thread served, and when.
 
-ghost use Rattle.std.specs.Prelude.{◌≡◌, ◌++◌, ◌∷◌, [], List, OnOk, Some, None, if◌then◌else◌};
-ghost use Rattle.cal_measure.specs.Services.{begun_since, clocked, service_by, services_of};
+ghost use Rattle.std.specs.Prelude.{◌≡◌, ◌++◌, ◌∷◌, [], List, OnOk, Some, None};
+ghost use Rattle.cal_measure.specs.Services.{begun_since, clocked, service_by};
 ghost use Rattle.cal_measure.specs.Services.{worked_since};
 ghost use Rattle.cal_measure.specs.Turns.{one_of};
 ghost use Rattle.cal_measure.specs.declared.ends.TimedTurn.{TimedTurn};
 
 use crate::ends::{TimedTurn, ticks_of};
-use std::alloc::{AllocError, Global};
+use std::alloc::AllocError;
 
 /// A request that was served.
 #[derive(Clone, Copy, Debug, PartialEq, Eq)]
@@ -89,19 +89,4 @@ pub(crate) fn put_one(
             Ok(())
         }
     }
-}
-
-/// Puts the requests that were served in these turns, in order, at the end of a list. Fails only
-/// when out of memory.
-pub fn services_of(turns: &[TimedTurn], services: &mut Vec<Service>) -> Result<(), AllocError>
-    ensures { OnOk result (services.new.items ≡ services.old.items ++ services_of turns.now) }
-{
-    let mut begun = None;
-    let mut worked: u64 = 0;
-    for turn in turns {
-        put_one(services, service_by(begun, worked, *turn))?;
-        begun = begun_after(begun, *turn);
-        worked = worked_after(worked, *turn);
-    }
-    Ok(())
 }

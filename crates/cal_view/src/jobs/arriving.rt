@@ -65,6 +65,7 @@ struct Answer {
 pub struct Arriving<'a> {
     /// What they take memory from.
     pub alloc: Global,
+    /// The words that ask for them.
     pub asked: &'a ArrivalWords<'a>,
 }
 

@@ -16,6 +16,7 @@ use std::thread::Threads;
 pub struct Sweeping<'a> {
     /// What it takes memory from.
     pub alloc: Global,
+    /// The words that ask for it.
     pub words: &'a SweepWords<'a>,
     /// What tasks and clock ticks are called.
     pub labels: Labels<'a>,
