@@ -7,7 +7,7 @@ use Rattle.cal_signal.specs.declared.record.Record.{Record}
 use Rattle.cal_signal.specs.Records.{words_of, record_of, zero_record, MayFollow}
 use Rattle.cal_signal.specs.Pages.{last_published}
 use Rattle.cal_signal.specs.Rule.{sees, parts_of, Kept}
-use Rattle.cal_signal.specs.Steps.{opening_view, no_part, publisher_part, observer_part, without_watcher, watcher_part, both_parts, both_looking, both_reading, learned, opened, wrote, closed, started, peeked, ended}
+use Rattle.cal_signal.specs.Steps.{opening_view, no_part, publisher_part, observer_part, without_watcher, watcher_part, both_parts, both_looking, both_reading, learned, opened, wrote, spared, closed, started, peeked, ended}
 use Rattle.cal_signal.proofs.Looking as looking
 use Rattle.cal_signal.proofs.Publishing as publishing
 use Rattle.cal_signal.proofs.Cutting as cutting
@@ -66,6 +66,10 @@ opens = publishing.opens words_of record_of 9 MayFollow zero_record
 pub writes : (slots id : ℕ) (me : M) (i b : ℕ) → me.0.publishes ≡ true → me.0.version % 2 ≡ 1 → i ≡ length me.0.stored → i < 9
     → Allows Law slots id me (i + 1) (λ _. b) (λ _. wrote (step slots (i + 1) b 0 none) me b)
 writes = publishing.writes words_of record_of 9 MayFollow zero_record
+
+pub spares : (slots id : ℕ) (me : M) (i : ℕ) → me.0.publishes ≡ true → me.0.version % 2 ≡ 1 → i ≡ length me.0.stored → i < 9
+    → Allows Law slots id me (i + 1) (λ x. x) (spared words_of zero_record (step slots (i + 1) 0 0 none) me)
+spares = publishing.spares words_of record_of 9 MayFollow zero_record
 
 pub closes : (slots id : ℕ) (me : M) (even : ℕ) → me.0.publishes ≡ true → me.0.version % 2 ≡ 1 → even ≡ me.0.version + 1 → length me.0.stored ≡ 9
     → MayFollow (last_published me.0.published) (record_of me.0.stored) → Allows Law slots id me 0 (λ _. even) (λ _. closed record_of (step slots 0 even 0 none) me even)

@@ -9,7 +9,7 @@ use Rattle.atomic_table.specs.Table.{State, Me, step, keeps, Allows}
 use Rattle.cal_signal.specs.declared.view.View.{View}
 use Rattle.cal_signal.specs.Pages.{last_from, FitsFrom}
 use Rattle.cal_signal.specs.Rule.{Knows, Kept}
-use Rattle.cal_signal.specs.Steps.{opened, wrote, closed}
+use Rattle.cal_signal.specs.Steps.{opened, wrote, spared, closed}
 use Rattle.cal_signal.proofs.PageLists.{last_snoc, chain_snoc, fits_more}
 use Rattle.cal_signal.proofs.Parting.{sole_set}
 use Rattle.cal_signal.proofs.Keeping as keeping
@@ -95,6 +95,18 @@ module _ {T : Type 0} (words : T → List ℕ) (of : List ℕ → T) (n : ℕ) (
               (λ j d other e. let q = r.each_seat j d e in record { as_publisher = λ h. absurd (others s r id me.0 at publishes j d other e h); as_observer = q.as_observer }));
         },
         refl,
+      )
+
+  -- a load in place of a store
+  pub spares : (slots id : ℕ) (me : M) (i : ℕ) → me.0.publishes ≡ true → me.0.version % 2 ≡ 1 → i ≡ length me.0.stored → i < n
+      → Allows Rule slots id me (i + 1) (λ x. x) (spared words first (step slots (i + 1) 0 0 none) me)
+  spares slots id me i publishes odd is inside s r homes at fits = let x : ℕ = get_or s.words (i + 1) 0 in let p = (r.each_seat id me.0 at).as_publisher publishes in
+      let count : i ≡ length r.stored = is ∙ ap length p.2 in let stored = writes slots id me i x publishes odd is inside s r homes at fits in (
+        stored.0,
+        stored.1,
+        stored.2,
+        stored.3,
+        (r.unwritten i (omega arith) inside ∙ ap (λ (z : List T × ℕ). get_or (words (last_from first z.0)) z.1 0) (λ j. (sym p.1 j, is j)), stored.4),
       )
 
   -- the closing store

@@ -1,5 +1,5 @@
 -- What each kind of atomic step does to the view of the seat that takes it.
-use Rattle.std.specs.Prelude.{◌≡◌, ◌≢◌, ℕ, ◌/◌, ◌≤◌, true, false, List, [], ◌∷◌, ◌++◌, length}
+use Rattle.std.specs.Prelude.{◌≡◌, ◌≢◌, ℕ, ◌/◌, ◌≤◌, true, false, List, [], ◌∷◌, ◌++◌, length, slice_index}
 use Rattle.atomic_table.specs.Table.{Me, Step}
 use Rattle.cal_signal.specs.declared.view.View.{View}
 use Rattle.cal_signal.specs.Pages.{last_from, IsPageOf, FitsFrom, FitsSomeOf, floor_from}
@@ -100,6 +100,13 @@ module _ {T : Type 0} where
   -- a word store
   abbrev pub wrote : Step (Unit {0}) → SeatView T → ℕ → SeatView T → Type 0
   wrote st m r m' = m' ≡ (record m.0 { stored = m.0.stored ++ r ∷ [] }, m.1)
+
+  -- the publisher's load of a word that stays as it is, in place of a store: it finds that word of
+  -- the last record
+  abbrev pub spared : (T → List ℕ) → T → Step (Unit {0}) → SeatView T → ℕ → SeatView T → Type 0
+  spared words zero st m r m' =
+      (r ≡ slice_index (words (last_from zero m.0.published)) (length m.0.stored))
+      × (m' ≡ (record m.0 { stored = m.0.stored ++ r ∷ [] }, m.1))
 
   -- the closing store, from 2i + 1 to 2i + 2: the record that the stored words make is published
   abbrev pub closed : (List ℕ → T) → Step (Unit {0}) → SeatView T → ℕ → SeatView T → Type 0

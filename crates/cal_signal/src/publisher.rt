@@ -96,7 +96,7 @@ impl Publisher {
         self.table
             .shared
             .store::<OpenStore>(&mut self.seat, 0, version + 1);
-        store_words(&self.table, &mut self.seat, rec.words());
+        store_words(&self.table, &mut self.seat, rec.words(), self.last.words());
         self.table
             .shared
             .store::<ClosingStore>(&mut self.seat, 0, version + 2);

@@ -4,7 +4,7 @@ ghost use Rattle.cal_signal.specs.Rule.{Kept};
 ghost use Rattle.cal_signal.specs.Steps.{opening_view, no_part, publisher_part};
 ghost use Rattle.cal_signal.specs.Steps.{observer_part, without_watcher, watcher_part};
 ghost use Rattle.cal_signal.specs.Steps.{both_parts, both_looking, both_reading, learned};
-ghost use Rattle.cal_signal.specs.Steps.{opened, wrote, closed, started, peeked, ended};
+ghost use Rattle.cal_signal.specs.Steps.{opened, wrote, spared, closed, started, peeked, ended};
 
 use crate::record::Record;
 use crate::view::View;
@@ -40,6 +40,13 @@ pub struct WordStore;
 
 impl Play<(), View<Record>> for WordStore {
     ghost then = { wrote };
+}
+
+/// The publisher's load of a word that stays as it is, in place of a store of it.
+pub struct SparedWord;
+
+impl Play<(), View<Record>> for SparedWord {
+    ghost then = { spared words_of zero_record };
 }
 
 /// The publisher's store of the even version, which publishes the record.
