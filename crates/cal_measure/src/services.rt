@@ -1,6 +1,6 @@
 //! The requests that a kernel thread served, and when.
 
-ghost use Rattle.std.specs.Prelude.{◌≡◌, ◌++◌, ◌∷◌, [], List, OnOk, Some, None};
+ghost use Rattle.std.specs.Prelude.{◌≡◌, ◌++◌, ◌∷◌, [], List, OnOk, Some, None, if◌then◌else◌};
 ghost use Rattle.cal_measure.specs.Services.{begun_since, clocked, service_by};
 ghost use Rattle.cal_measure.specs.Services.{worked_since};
 ghost use Rattle.cal_measure.specs.Turns.{one_of};
