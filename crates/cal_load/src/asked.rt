@@ -1,5 +1,9 @@
 //! What comes to tasks, as the words of a command line say it.
 
+ghost use Rattle.std.specs.Prelude.{◌<◌, All, IfErr, IfOk, length};
+ghost use Rattle.std.specs.Prelude.{ℕ, List};
+ghost use Rattle.cal_load.specs.Refused.{IsRefusedFor};
+
 use crate::fault::{LoadFault, Why, refused};
 use crate::loads::{FLAG, loads_of};
 use crate::making::{TaskLoad, Timing, pattern_of};
@@ -165,7 +169,13 @@ pub fn are_known<'a>(
     config: &Config,
     loads: &[TaskLoad],
     words: &[&'a str],
-) -> Result<(), LoadFault<'a>> {
+) -> Result<(), LoadFault<'a>>
+    ensures known { IfOk result (λ _. All (λ load. load.task < length config.now.tasks) loads.now) }
+    ensures unknown { IfErr result (λ _.
+        ¬ All (λ load. load.task < length config.now.tasks) loads.now) }
+    ensures fault { IfErr result (λ fault. (word : List ℕ) ×
+        IsRefusedFor TASK.now word (Why.NotATask (length config.now.tasks)) fault) }
+{
     let tasks = config.tasks();
     let mut place = 0usize;
     for load in loads {

@@ -1,5 +1,7 @@
 //! Why no arrivals were made.
 
+ghost use Rattle.std.specs.Prelude.{◌≡◌};
+
 use std::alloc::{AllocError, AllocFailed};
 use std::fmt;
 
@@ -106,18 +108,29 @@ pub enum LoadFault<'a> {
 }
 
 impl<'a> From<AllocError> for LoadFault<'a> {
+    ghost use Rattle.cal_load.specs.declared.fault.LoadFault.TheVariants.{Memory};
+
+    ghost from_gives = { λ _ e. e ≡ Memory };
+
     fn from(_e: AllocError) -> LoadFault<'a> {
         LoadFault::Memory
     }
 }
 
 impl<'a, T: Drop> From<AllocFailed<T>> for LoadFault<'a> {
+    ghost use Rattle.cal_load.specs.declared.fault.LoadFault.TheVariants.{Memory};
+
+    ghost from_gives = { λ _ e. e ≡ Memory };
+
     fn from(_e: AllocFailed<T>) -> LoadFault<'a> {
         LoadFault::Memory
     }
 }
 
 /// The fault of a word.
-pub fn refused<'a>(flag: &'a str, word: &'a str, why: Why) -> LoadFault<'a> {
+pub fn refused<'a>(flag: &'a str, word: &'a str, why: Why) -> LoadFault<'a>
+    ensures { result ≡ LoadFault.Word
+        (record { flag = flag.entry; word = word.entry; why = why }) }
+{
     LoadFault::Word(WordFault { flag, word, why })
 }

@@ -1,5 +1,8 @@
 //! The requests that come to the threads of a task.
 
+ghost use Rattle.std.specs.Prelude.{◌≤◌, codes, IfErr, IfOk, IfSome};
+ghost use Rattle.cal_load.specs.Refused.{IsRefusedFor};
+
 use crate::decimal::number_of;
 use crate::fault::{LoadFault, Why, refused};
 use crate::service::{ServicePart, next_turns, turns_by_share};
@@ -21,7 +24,10 @@ pub enum Pattern {
 }
 
 /// The way that a word names: `poisson`, `even` or `bursts:N`.
-pub fn pattern_of<'a>(word: &'a str) -> Result<Pattern, LoadFault<'a>> {
+pub fn pattern_of<'a>(word: &'a str) -> Result<Pattern, LoadFault<'a>>
+    ensures { IfErr result
+        (IsRefusedFor (codes "--pattern") word.now Why.NotAPattern) }
+{
     let pattern = match word.split_once(':') {
         None => match word {
             "poisson" => Some(Pattern::Poisson),
@@ -212,18 +218,21 @@ impl TaskLoad {
         rng: &mut R,
         threads: usize,
         turns: u64,
-    ) -> Result<Option<Coming>, AllocError> {
+    ) -> Result<Option<Coming>, AllocError>
+        ensures { IfOk result (λ answer. IfSome answer (λ coming. coming.came ≤ MOST_REQUESTS)) }
+    {
         let mut coming = Coming::new(alloc, threads, turns)?;
         let gap = Gap::of(self, threads);
         let mut time = 0u128;
-        for _ in 0..MOST_REQUESTS {
+        // One more than the most that come, one at a time: the last one finds the end.
+        for _ in 0..=MOST_REQUESTS {
+            if coming.came > MOST_REQUESTS {
+                return Ok(None);
+            }
             time = time.saturating_add(gap.next(rng));
             let turn = (time >> 32).min(u128::from(turns)) as u64;
             if turn >= turns {
                 return Ok(Some(coming));
-            }
-            if coming.came >= MOST_REQUESTS {
-                return Ok(None);
             }
             coming.give_all(rng, self, turn)?;
         }

@@ -1,5 +1,8 @@
 //! How many turns requests take, as words say it.
 
+ghost use Rattle.std.specs.Prelude.{IfOk, IfSome};
+ghost use Rattle.cal_load.specs.Services.{IsService, IsWork};
+
 use crate::decimal::{number_of, thousandths_of};
 use crate::fault::{LoadFault, Why, refused};
 use rand::RngExt;
@@ -24,7 +27,9 @@ pub struct ServicePart {
 }
 
 /// The turns that some requests take, where it is such a number.
-fn turns_of(word: &str) -> Option<u64> {
+fn turns_of(word: &str) -> Option<u64>
+    ensures { IfSome result IsWork }
+{
     let turns = number_of(word)?;
     if turns >= 1 && turns <= MOST_WORK {
         Some(turns)
@@ -34,7 +39,9 @@ fn turns_of(word: &str) -> Option<u64> {
 }
 
 /// A part, as `90%:1`; without a share all requests.
-fn part_of(piece: &str) -> Option<ServicePart> {
+fn part_of(piece: &str) -> Option<ServicePart>
+    ensures { IfSome result (λ part. IsWork part.turns) }
+{
     let Some((share, turns)) = piece.split_once(':') else {
         let turns = turns_of(piece)?;
         return Some(ServicePart {
@@ -49,7 +56,9 @@ fn part_of(piece: &str) -> Option<ServicePart> {
 
 /// The parts of a word, by commas, as in `90%:1,10%:20`, or one number of turns. The shares make
 /// 100%.
-pub fn service_of<'a>(alloc: Global, word: &'a str) -> Result<Vec<ServicePart>, LoadFault<'a>> {
+pub fn service_of<'a>(alloc: Global, word: &'a str) -> Result<Vec<ServicePart>, LoadFault<'a>>
+    ensures { IfOk result (λ parts. IsService parts.items) }
+{
     let mut parts = Vec::new(alloc);
     let mut sum = 0u64;
     for piece in word.split(',') {

@@ -1,5 +1,9 @@
 //! Arrivals as a file.
 
+ghost use Rattle.std.specs.Prelude.{◌≡◌, ◌≤◌, IfErr, IfOk, IfSome};
+ghost use Rattle.cal_load.specs.Counts.{came_in, coming_in};
+ghost use Rattle.cal_load.specs.Refused.{IsRefusedFor};
+
 use crate::fault::{LoadFault, Why, refused};
 use crate::loads::FLAG;
 use crate::making::{Coming, Queue, TaskLoad, Timing};
@@ -83,7 +87,10 @@ fn all_that_come(
     alloc: Global,
     config: &Config,
     plan: &ArrivalPlan<'_>,
-) -> Result<Option<Vec<OfTask>>, AllocError> {
+) -> Result<Option<Vec<OfTask>>, AllocError>
+    ensures { IfOk result (λ answer. IfSome answer
+        (λ all. coming_in all.items ≤ MOST_REQUESTS)) }
+{
     let mut all = Vec::new(alloc);
     let mut came = 0u64;
     for task in 0..config.tasks() {
@@ -181,7 +188,15 @@ impl Rows {
 }
 
 /// What came to a task.
-fn count_of(of_task: &OfTask) -> Count {
+fn count_of(of_task: &OfTask) -> Count
+    ensures { result ≡ record {
+      task = of_task.now.task;
+      came = of_task.now.coming.came;
+      later = of_task.now.coming.later;
+      left_out = of_task.now.coming.left_out;
+      work = of_task.now.coming.work;
+    } }
+{
     Count {
         task: of_task.task,
         came: of_task.coming.came,
@@ -200,7 +215,11 @@ pub fn made_arrivals<'a>(
     config: &Config,
     plan: &ArrivalPlan<'_>,
     word: &'a str,
-) -> Result<Made, LoadFault<'a>> {
+) -> Result<Made, LoadFault<'a>>
+    ensures few { IfOk result (λ made. came_in made.counts.items ≤ MOST_REQUESTS) }
+    ensures fault { IfErr result
+        (IsRefusedFor FLAG.now word.now (Why.TooMany MOST_REQUESTS)) }
+{
     let Some(all) = all_that_come(alloc, config, plan)? else {
         return Err(refused(FLAG, word, Why::TooMany(MOST_REQUESTS)));
     };
