@@ -1,5 +1,9 @@
 //! A pass of a history explained, or the first that is not the policy's.
 
+ghost use Rattle.std.specs.Prelude.{◌≡◌, ◌≢◌, IfErr, IfOk};
+ghost use Rattle.cal_policy.specs.Verdict.{IsVerdict};
+ghost use Rattle.cal_explain.specs.Comes.{ComesOf};
+
 use crate::difference::tell_illegal;
 use crate::explaining::tell_pass;
 use crate::fault::ExplainFault;
@@ -40,11 +44,21 @@ pub struct Explainer<'a> {
 impl Explainer<'_> {
     /// Writes the explanation of a pass, from 0: what the policy does on its looks after the passes
     /// before it, whatever the history says that the pass did.
+    #[tactic(auto, using(crate::proofs::FoundLooks::has_input, crate::proofs::FoundLooks::lacks_input))]
     pub fn explain_pass<W: Write>(
         &self,
         pass: usize,
         writer: &mut W,
-    ) -> Result<Explained, ExplainFault> {
+    ) -> Result<Explained, ExplainFault>
+        // What came of it is by the history alone.
+        ensures came { IfOk result (ComesOf self.now.config.now self.now.history.now pass) }
+        // Nothing is written of a pass that is not explained.
+        ensures untouched { IfOk result (λ came. came ≢ Explained.Done →
+            writer.new ≡ writer.old) }
+        // A fault comes only of a pass that can be explained.
+        ensures fault { IfErr result (λ _.
+            ComesOf self.now.config.now self.now.history.now pass Explained.Done) }
+    {
         if pass >= self.history.len() {
             return Ok(Explained::NoPass);
         }
@@ -66,7 +80,9 @@ impl Explainer<'_> {
 
     /// Writes whether the history is legal, and of one that is not why its first illegal pass is
     /// none of the policy's; answers the verdict.
-    pub fn explain_verdict<W: Write>(&self, writer: &mut W) -> Result<Verdict, ExplainFault> {
+    pub fn explain_verdict<W: Write>(&self, writer: &mut W) -> Result<Verdict, ExplainFault>
+        ensures { IfOk result (IsVerdict self.now.config.now self.now.history.now) }
+    {
         let verdict = audited(self.alloc, self.config, self.history)?;
         match verdict {
             Verdict::Legal => writeln!(writer, "legal")?,
@@ -80,7 +96,9 @@ impl Explainer<'_> {
 }
 
 /// The verdict on a history.
-fn audited(alloc: Global, config: &Config, history: &[PassEntry]) -> Result<Verdict, AllocError> {
+fn audited(alloc: Global, config: &Config, history: &[PassEntry]) -> Result<Verdict, AllocError>
+    ensures { IfOk result (IsVerdict config.now history.now) }
+{
     let mut auditor = Auditor::open(alloc, config)?;
     for entry in history {
         auditor.next(config, entry);

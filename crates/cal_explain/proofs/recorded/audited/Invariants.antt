@@ -1,5 +1,9 @@
-use Rattle.cal_policy.specs.Auditor.{IsAuditorOf}
+use Rattle.std.proofs.Common.{take}
+use Rattle.cal_policy.specs.Auditor.{IsAuditOf, IsAuditorOf}
 use Rattle.cal_explain.proofs.recorded.audited.Given as goal
 
 abbrev pub invariant-loop-entry : goal.invariant-loop-entry
-invariant-loop-entry l = IsAuditorOf l.config l.auditor
+invariant-loop-entry l = record {
+  audits : IsAuditOf l.config (take l.entry-index l.history) l.auditor;
+  of : IsAuditorOf l.config l.auditor;
+}
