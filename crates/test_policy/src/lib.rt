@@ -13,6 +13,8 @@ mod guard;
 #[cfg(test)]
 mod lists;
 #[cfg(test)]
+mod looks;
+#[cfg(test)]
 mod machine;
 #[cfg(test)]
 mod policy;

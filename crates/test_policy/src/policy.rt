@@ -1,4 +1,6 @@
-//! The policy: worked passes that begin in a state, and made histories.
+//! The policy: worked passes that begin in a state, made histories, and inputs that are made look by
+//! look.
 
 mod beside;
+mod inputs;
 mod states;

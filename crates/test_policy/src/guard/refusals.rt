@@ -1,12 +1,15 @@
 //! What the guard lets through, what it refuses and why, and that it goes on after a refusal.
 
+ghost use Rattle.std.specs.Prelude.{◌≡◌, length};
+ghost use Rattle.cal_machine.specs.TableTasks.{threads_of_table};
 ghost use Rattle.cal_guard.specs.Guarded.{board_in};
 ghost use Rattle.cal_policy.specs.State.{IsReady};
 ghost use Rattle.cal_policy.specs.Board.{HasSizes};
 
+use crate::looks::take_in_all;
 use cal_guard::{Guard, Refused, Why};
 use cal_machine::Config;
-use cal_policy::{Action, Input, PassEntry};
+use cal_policy::{Action, FoundLook, Input, Look, OpenPass, PassEntry, Record};
 use cal_trace::read_history;
 use std::alloc::Global;
 use std::test::Fail;
@@ -74,6 +77,21 @@ fn answered<'a>(entry: &'a PassEntry, answer: Answer) -> Group<'a> {
     }
 }
 
+/// The groups of the two passes of `GROUPS`, and what the guard says of each.
+fn all_answered(made: &[PassEntry]) -> [Group<'_>; 6]
+    requires { length made.now ≡ 6 }
+{
+    let held = refused(1, Why::BannedHeld { core: 3 });
+    [
+        answered(&made[0], Ok(())),
+        answered(&made[1], refused(0, Why::DoesNotFit)),
+        answered(&made[2], Ok(())),
+        answered(&made[3], held),
+        answered(&made[4], held),
+        answered(&made[5], Ok(())),
+    ]
+}
+
 /// Whether, in a pass on this input, each group's actions are answered so, group after group.
 fn offers(guard: &mut Guard, config: &Config, input: &Input, groups: &[Group<'_>]) -> bool
     requires { IsReady config.now (board_in guard.old) }
@@ -85,6 +103,51 @@ fn offers(guard: &mut Guard, config: &Config, input: &Input, groups: &[Group<'_>
     begun(guard, config, input);
     for group in groups {
         if offered(guard, config, input, group.actions) != group.answer {
+            return false;
+        }
+    }
+    true
+}
+
+fn begun_noted(guard: &mut Guard, config: &Config, came: &OpenPass)
+    requires { IsReady config.now (board_in guard.old) }
+    ensures { IsReady config.now (board_in guard.new) }
+{
+    guard.begin_noted(config, came);
+}
+
+fn offered_noted(
+    guard: &mut Guard,
+    config: &Config,
+    clock: u64,
+    came: &OpenPass,
+    actions: &[Action],
+) -> Answer
+    requires of { IsReady config.now (board_in guard.old) }
+    requires all { came.now.count ≡ threads_of_table config.now }
+    ensures { IsReady config.now (board_in guard.new) }
+{
+    guard.offer_noted(config, clock, 0, came, actions)
+}
+
+/// `offers` in a pass at this clock on these looks, which come in one by one.
+fn offers_noted(
+    guard: &mut Guard,
+    config: &Config,
+    clock: u64,
+    looks: &[FoundLook],
+    groups: &[Group<'_>],
+) -> bool
+    requires { IsReady config.now (board_in guard.old) }
+    ensures { IsReady config.now (board_in guard.new) }
+{
+    let mut came = OpenPass::new();
+    if !take_in_all(&mut came, config, guard.board(), looks) || came.count != config.threads() {
+        return false;
+    }
+    begun_noted(guard, config, &came);
+    for group in groups {
+        if offered_noted(guard, config, clock, &came, group.actions) != group.answer {
             return false;
         }
     }
@@ -133,19 +196,29 @@ fn guard_takes_a_pass_group_by_group(rt: HostRuntime) -> Result<(), Fail> {
     let made = entries(alloc, &config, &GROUPS)?;
     assert_eq!(rt; made.len(), 6);
     let mut guard = Guard::open(alloc, &config)?;
-    let first = [
-        answered(&made[0], Ok(())),
-        answered(&made[1], refused(0, Why::DoesNotFit)),
-        answered(&made[2], Ok(())),
-    ];
-    assert!(rt; offers(&mut guard, &config, &made[0].input, &first));
-    let held = refused(1, Why::BannedHeld { core: 3 });
-    let second = [
-        answered(&made[3], held),
-        answered(&made[4], held),
-        answered(&made[5], Ok(())),
-    ];
-    assert!(rt; offers(&mut guard, &config, &made[3].input, &second));
+    let groups = all_answered(made.as_slice());
+    assert!(rt; offers(&mut guard, &config, &made[0].input, &groups[..3]));
+    assert!(rt; offers(&mut guard, &config, &made[3].input, &groups[3..]));
+    Ok(())
+}
+
+/// The same on looks that come in one by one. In a third pass thread 0 shows once more what is kept
+/// of it, of which nothing is noted: it has not left its core.
+#[test]
+fn guard_takes_a_noted_pass_group_by_group(rt: HostRuntime) -> Result<(), Fail> {
+    let alloc = rt.alloc();
+    let config = Config::read(alloc, TABLE.as_bytes())?;
+    let made = entries(alloc, &config, &GROUPS)?;
+    assert_eq!(rt; made.len(), 6);
+    let mut guard = Guard::open(alloc, &config)?;
+    let groups = all_answered(made.as_slice());
+    assert!(rt; offers_noted(&mut guard, &config, 111, &ROOM_LOOKS, &groups[..3]));
+    assert!(rt; offers_noted(&mut guard, &config, 120, &SHOWN_LOOKS, &groups[3..]));
+    let third = [Group {
+        actions: &[Action::Free { core: 3 }],
+        answer: refused(0, Why::NotLeft),
+    }];
+    assert!(rt; offers_noted(&mut guard, &config, 130, &SHOWN_LOOKS, &third));
     Ok(())
 }
 
@@ -168,6 +241,34 @@ const ROOM: &str = "pass,111,0\nbusy,0,1,1,1\nbusy,1,1,1,1\nbusy,2,1,1,1\nbusy,3
 
 const SHOWN: &str = "pass,120,0\nwhole,0,1,2,1,4,0,0,0,0,101,0,0\nbusy,1,1,1,1\nbusy,2,1,1,1\n\
     busy,3,1,1,1\n";
+
+/// A busy page, and a ring with room.
+const BUSY: FoundLook = FoundLook {
+    look: Look::Busy {
+        first: 1,
+        second: 1,
+    },
+    room: true,
+};
+
+/// Thread 0 on core 3, after its first command.
+const ON_CORE: FoundLook = FoundLook {
+    look: Look::Whole {
+        number: 2,
+        rec: Record {
+            taken: 1,
+            running: 4,
+            stamp: 101,
+            ..Record::ZERO
+        },
+    },
+    room: true,
+};
+
+/// The looks of `ROOM`, and those of `SHOWN`.
+const ROOM_LOOKS: [FoundLook; 4] = [BUSY, BUSY, BUSY, BUSY];
+
+const SHOWN_LOOKS: [FoundLook; 4] = [ON_CORE, BUSY, BUSY, BUSY];
 
 /// First passes, each in the place of those before it: where a ring is full; a core granted twice;
 /// a pair banned at once; a core freed that nobody left; two commands to one thread; a banned core

@@ -4,13 +4,13 @@
 //! commands sent or by what was shown; and clocks fall.
 
 ghost use Rattle.std.specs.Prelude.{◌≡◌, ◌<◌, IfOk};
-ghost use Rattle.cal_policy.specs.Board.KeepingSets.{KeepsSets};
 ghost use Rattle.cal_machine.specs.declared.numbering.TheConstants.{MOST_THREADS};
 ghost use Rattle.cal_policy.specs.Board.{HasSizes};
 ghost use Rattle.cal_policy.specs.Book.{board_in};
 ghost use Rattle.cal_policy.specs.State.{IsReady};
 ghost use Rattle.cal_guard.specs.Guarded as guards;
 
+use crate::looks::take_in_all;
 use cal_guard::Guard;
 use cal_machine::{Config, MOST_THREADS};
 use cal_policy::state::Board;
@@ -132,29 +132,6 @@ fn draw_pass(alloc: Global, config: &Config, book: &Book, draw: &mut Draw) -> Re
         bandwidth: draw.below(2000),
         looks,
     })
-}
-
-/// Takes in one look, and says whether it fits.
-fn take_in(came: &mut OpenPass, config: &Config, board: &Board, found: FoundLook) -> bool
-    requires { KeepsSets board.now.keeping }
-{
-    if came.count >= config.threads() || came.count >= MOST_THREADS {
-        return false;
-    }
-    came.pass_over(board, found) || came.look(config, board, found).is_ok()
-}
-
-/// Takes in the looks one by one, and says whether each of them fits.
-fn take_in_all(came: &mut OpenPass, config: &Config, board: &Board, looks: &[FoundLook]) -> bool
-    requires { KeepsSets board.now.keeping }
-{
-    came.begin();
-    for found in looks {
-        if !take_in(came, config, board, *found) {
-            return false;
-        }
-    }
-    true
 }
 
 /// A book whose looks come in one by one.
