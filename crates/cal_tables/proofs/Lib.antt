@@ -8,3 +8,5 @@ pub mod Variations
 pub mod Lines
 pub mod ReadBack
 pub mod OwnValue
+pub mod Unvaried
+pub mod Verdicts
