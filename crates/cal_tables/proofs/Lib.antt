@@ -9,4 +9,5 @@ pub mod Lines
 pub mod ReadBack
 pub mod OwnValue
 pub mod Unvaried
+pub mod OneTable
 pub mod Verdicts
