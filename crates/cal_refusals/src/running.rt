@@ -1,6 +1,7 @@
 //! The words of caladan_sim with `--explain`.
 
-ghost use Rattle.std.specs.Prelude.{◌≡◌, ◌≢◌, IfErr, IfOk};
+ghost use Rattle.std.specs.Prelude.{◌≡◌, ◌≢◌, IfErr, IfOk, drop, map, string_bytes};
+ghost use Rattle.cal_refusals.specs.Explaining.{asks_why, is_option};
 
 use crate::ending::{RefusedInput, end_explained};
 use cal_engine::{Job, do_job, end_with, refuse_words, words};
@@ -11,14 +12,31 @@ use std::io::{Read, Write};
 use std::sync::Wait;
 use std::thread::Threads;
 
-/// The option.
-const EXPLAIN: &str = "--explain";
+/// Whether a word is the option.
+fn is_option(word: &str) -> bool
+    ensures { result ≡ is_option word.now }
+{
+    word == "--explain"
+}
+
+/// The words behind the name of the program and the word after it.
+fn words_behind(named: &[String]) -> &[String]
+    ensures { result.now ≡ drop 2 named.now }
+{
+    match named.get(2..) {
+        Some(words) => words,
+        None => &[],
+    }
+}
 
 /// Whether the option stands after a named word, among the name of the program and the words after
 /// it.
-pub fn asks_why(named: &[String]) -> bool {
-    for (place, word) in named.iter().enumerate() {
-        if 2 <= place && word.as_str() == EXPLAIN {
+pub fn asks_why(named: &[String]) -> bool
+    ensures { result ≡ asks_why (map string_bytes named.now) }
+{
+    let behind = words_behind(named);
+    for word in behind {
+        if is_option(word.as_str()) {
             return true;
         }
     }
@@ -29,8 +47,8 @@ pub fn asks_why(named: &[String]) -> bool {
 fn words_without<'a>(alloc: Global, named: &'a [String]) -> Result<Vec<&'a str>, AllocError> {
     let mut given = Vec::new(alloc);
     for (place, word) in named.iter().enumerate() {
-        let is_option = 2 <= place && word.as_str() == EXPLAIN;
-        if 1 <= place && !is_option {
+        let is_left_out = 2 <= place && is_option(word.as_str());
+        if 1 <= place && !is_left_out {
             given.push(word.as_str())?;
         }
     }
