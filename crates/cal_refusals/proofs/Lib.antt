@@ -1,1 +1,2 @@
+pub mod ReadBefore
 pub mod GivenWords

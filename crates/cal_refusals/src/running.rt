@@ -1,7 +1,11 @@
 //! The words of caladan_sim with `--explain`.
 
-ghost use Rattle.std.specs.Prelude.{◌≡◌, ◌≢◌, IfErr, IfOk, drop, map, string_bytes};
-ghost use Rattle.cal_refusals.specs.Explaining.{asks_why, is_option};
+ghost use Rattle.std.specs.Prelude.{◌≡◌, ◌≢◌, IfErr, IfOk, IfSome, drop, map, string_bytes};
+ghost use Rattle.std.specs.Prelude.{take};
+ghost use Rattle.cal_engine.specs.CommandWords.{Asks};
+ghost use Rattle.cal_engine.specs.Program.{exit_status, EndsJob};
+ghost use Rattle.cal_engine.specs.declared.command_words.command_line.Job.{Job as JobOf};
+ghost use Rattle.cal_refusals.specs.Explaining.{asks_why, is_option, words_without};
 
 use crate::ending::{RefusedInput, end_explained};
 use cal_engine::{Job, do_job, end_with, refuse_words, words};
@@ -43,14 +47,30 @@ pub fn asks_why(named: &[String]) -> bool
     false
 }
 
-/// The words after the program's name without the option.
-fn words_without<'a>(alloc: Global, named: &'a [String]) -> Result<Vec<&'a str>, AllocError> {
+/// The word after the program's name, if there is one.
+fn named_word<'a>(alloc: Global, named: &'a [String]) -> Result<Vec<&'a str>, AllocError>
+    ensures { IfOk result (λ given.
+        map (λ word. word.now) given.items ≡ take 1 (drop 1 (map string_bytes named.now))) }
+{
     let mut given = Vec::new(alloc);
-    for (place, word) in named.iter().enumerate() {
-        let is_left_out = 2 <= place && is_option(word.as_str());
-        if 1 <= place && !is_left_out {
-            given.push(word.as_str())?;
+    if let [_, word, ..] = named {
+        given.push(word.as_str())?;
+    }
+    Ok(given)
+}
+
+/// The words after the program's name without the option.
+fn words_without<'a>(alloc: Global, named: &'a [String]) -> Result<Vec<&'a str>, AllocError>
+    ensures { IfOk result (λ given.
+        map (λ word. word.now) given.items ≡ words_without (map string_bytes named.now)) }
+{
+    let mut given = named_word(alloc, named)?;
+    let behind = words_behind(named);
+    for word in behind {
+        if is_option(word.as_str()) {
+            continue;
         }
+        given.push(word.as_str())?;
     }
     Ok(given)
 }
@@ -66,6 +86,11 @@ pub fn run_explained<H: Threads + Wait + Sync, R: Read + Drop, W: Write, E: Writ
     output: &mut W,
     errors: &mut E,
 ) -> u8
+    // What the words ask for without the option was done on the input, and the status is that of
+    // the answer.
+    ensures job { IfSome (R.remaining reader) (λ input. (job : JobOf) →
+        Asks (words_without (map string_bytes named.now)) job →
+        EndsJob job result input (W.contents output.old) (W.contents output.new)) }
     // Where the words or the input are refused nothing is written on the output.
     ensures refused { result ≡ 2 → output.new ≡ output.old }
 {
@@ -75,7 +100,7 @@ pub fn run_explained<H: Threads + Wait + Sync, R: Read + Drop, W: Write, E: Writ
     }
 }
 
-/// Does what the words ask for. The faults are those of the words and of reading.
+/// Does what the words ask for without the option. The faults are those of the words and of reading.
 fn answer_words<H: Threads + Wait + Sync, R: Read + Drop, W: Write, E: Write>(
     rt: &H,
     alloc: Global,
@@ -84,6 +109,9 @@ fn answer_words<H: Threads + Wait + Sync, R: Read + Drop, W: Write, E: Write>(
     output: &mut W,
     errors: &mut E,
 ) -> Result<u8, RunFault>
+    ensures job { IfSome (R.remaining reader) (λ input. (job : JobOf) →
+        Asks (words_without (map string_bytes named.now)) job →
+        EndsJob job (exit_status result) input (W.contents output.old) (W.contents output.new)) }
     ensures refused { IfOk result (λ status. status ≡ 2 → output.new ≡ output.old) }
     ensures untouched { IfErr result (λ fault. fault ≢ RunFault.Write →
         fault ≢ RunFault.Memory → output.new ≡ output.old) }

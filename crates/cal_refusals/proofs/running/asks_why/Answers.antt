@@ -9,7 +9,7 @@ loop-word-preserved c =
     let i = c.loop-word.word-index in
     let d = c.word-item.result in
     let here : is_option (string_bytes (get_or xs i d)) ≡ false =
-    ap (λ s. is_option (string_bytes s)) (sym c.word-item.is) ∙ ap is_option (sym c.as_str.ensures.value) ∙ sym c.is_option.ensures ∙ c.if-is_option.false in
+        ap (λ s. is_option (string_bytes s)) (sym c.word-item.is) ∙ ap is_option (sym c.as_str.ensures.value) ∙ sym c.is_option.ensures ∙ c.if-is_option.false in
     none_more string_bytes xs i d c.loop-word-test.true c.loop-word.invariant here
 
 pub returns-then-is_option : goal.returns-then-is_option
@@ -18,7 +18,7 @@ returns-then-is_option c =
     let i = c.loop-word.word-index in
     let d = c.word-item.result in
     let here : is_option (string_bytes (get_or xs i d)) ≡ true =
-    ap (λ s. is_option (string_bytes s)) (sym c.word-item.is) ∙ ap is_option (sym c.as_str.ensures.value) ∙ sym c.is_option.ensures ∙ c.if-is_option.true in
+        ap (λ s. is_option (string_bytes s)) (sym c.word-item.is) ∙ ap is_option (sym c.as_str.ensures.value) ∙ sym c.is_option.ensures ∙ c.if-is_option.true in
     sym (one_is string_bytes c.args.named.now xs i d c.words_behind-behind.ensures c.loop-word-test.true here)
 
 pub returns : goal.returns
