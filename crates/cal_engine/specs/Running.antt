@@ -82,7 +82,8 @@ is_told History = true
 is_told WithTable = true
 is_told _ = false
 
--- these are the first passes of a run on this, as far as it was made: a legal history
+-- a legal history whose passes have the clocks and the bandwidth figures of the first passes that
+-- are given; that its looks are those of a run is not said
 pub record AreFirstPasses (input : RunInput) (history : List PassEntry) : Type 0 where
   pub legal : IsLegal input.table history
   pub given : map figures_of history ≡ take (length history) input.arrivals.passes

@@ -27,6 +27,9 @@ const FIRST_ROOM: usize = 4;
 #[derive(Drop)]
 pub struct OwnQueue {
     worker: Worker<Waiting, Global, Knowledge, Balance>,
+    // Whether something was pushed since it was last found empty: thieves only take, so until then
+    // there is nothing to pop.
+    filled: bool,
 }
 
 impl Model for OwnQueue {
@@ -49,7 +52,10 @@ impl OwnQueue {
         ensures empty { IfOk result (λ q. (q.pushed ≡ []) × (q.had ≡ []) × (q.handed ≡ [])) }
     {
         let worker = Worker::fifo_as(alloc, FIRST_ROOM)?;
-        Ok(OwnQueue { worker })
+        Ok(OwnQueue {
+            worker,
+            filled: false,
+        })
     }
 
     /// A thief for this queue, who gets one share. Fails only when out of memory, and then nothing
@@ -74,7 +80,10 @@ impl OwnQueue {
             (λ _. self.new ≡ self.old) }
     {
         match self.worker.push_as::<Pushing>(waiting) {
-            Ok(()) => Ok(()),
+            Ok(()) => {
+                self.filled = true;
+                Ok(())
+            }
             Err(_) => Err(AllocError),
         }
     }
@@ -85,7 +94,12 @@ impl OwnQueue {
         ensures { MatchOption result (self.new ≡ self.old)
             (λ waiting. self.new ≡ record self.old { had = self.old.had ++ waiting ∷ [] }) }
     {
-        self.worker.pop_as::<Taking>()
+        if !self.filled {
+            return None;
+        }
+        let found = self.worker.pop_as::<Taking>();
+        self.filled = found.is_some();
+        found
     }
 
     /// The same end, when its thread's turns are over.

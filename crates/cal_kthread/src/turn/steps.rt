@@ -110,7 +110,9 @@ impl Thread {
         ensures fronted { (answer : Option Waiting) × (self.new ≡ turn.fronted answer self.old) }
         ensures apart { self.new.publisher ≡ self.old.publisher }
     {
-        self.front = next(&mut self.front, &mut self.queue);
+        if self.front.is_none() {
+            self.front = self.queue.pop();
+        }
     }
 
     /// The record that shows the thread now, which step 5 publishes.

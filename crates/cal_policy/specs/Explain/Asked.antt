@@ -1,5 +1,6 @@
 -- What a walk answers at a turn: each number is the one that the policy's rules speak of.
 use Rattle.std.specs.Prelude.{◌≡◌, ℕ, ◌==◌, Bool, true, false, not, List, Option, Some, None}
+use Rattle.std.specs.Prelude.{IsSome}
 use Rattle.cal_machine.specs.Table.{Table}
 use Rattle.cal_machine.specs.Machine.{sibling_of}
 use Rattle.cal_machine.specs.TableTasks.{is_latency_critical, owner_of}
@@ -56,6 +57,37 @@ is_held_critical table (holders.Held placement) =
     is_latency_critical table (owner_of table placement.thread)
 is_held_critical table (holders.Leaving placement cause) = false
 
+-- a best-effort task's thread holds the core
+abbrev pub is_held_best_effort : Table → Holder → Bool
+is_held_best_effort table holders.Free = false
+is_held_best_effort table (holders.Held placement) =
+    not (is_latency_critical table (owner_of table placement.thread))
+is_held_best_effort table (holders.Leaving placement cause) = false
+
+-- a latency-critical task's thread holds core c, and its kept record shows no request on it that runs
+-- too long
+pub record HasNoLongRequest (s : Setting) (x : List Action) (c : ℕ) : Type 0 where
+  pub held : is_held_critical s.table (holder_of x c) ≡ true
+  pub none : too_long_on s c (holder_of x c) ≡ None
+
+-- a request on core c runs too long, and the core is banned
+pub record IsItselfBanned (s : Setting) (x : List Action) (c : ℕ) : Type 0 where
+  pub long : IsSome (too_long_on s c (holder_of x c))
+  pub banned : is_banned x c ≡ true
+
+-- a request on core c, which is not banned, runs too long, and its sibling is banned already
+pub record IsSiblingBanned (s : Setting) (x : List Action) (c : ℕ) : Type 0 where
+  pub long : IsSome (too_long_on s c (holder_of x c))
+  pub unbanned : is_banned x c ≡ false
+  pub banned : is_banned x (sibling_of c) ≡ true
+
+-- a request on core c runs too long, neither core is banned, and the sibling may not be emptied
+pub record SiblingStays (s : Setting) (x : List Action) (c : ℕ) : Type 0 where
+  pub long : IsSome (too_long_on s c (holder_of x c))
+  pub unbanned : is_banned x c ≡ false
+  pub beside : is_banned x (sibling_of c) ≡ false
+  pub stays : may_be_emptied s x (holder_of x (sibling_of c)) ≡ false
+
 -- the thread for whose request a ban is due by this answer
 abbrev pub due_by : BanReason → Option ℕ
 due_by (reasons.Due thread) = Some thread
@@ -70,14 +102,14 @@ due_by reasons.SiblingStays = None
 abbrev pub HoldsBy : Setting → List Action → ℕ → BanReason → Type 0
 HoldsBy s x c (reasons.Due thread) = too_long_on s c (holder_of x c) ≡ Some thread
 HoldsBy s x c reasons.NotHeld = is_held (holder_of x c) ≡ false
-HoldsBy s x c reasons.BestEffort = is_held_critical s.table (holder_of x c) ≡ false
-HoldsBy s x c reasons.NotTooLong = too_long_on s c (holder_of x c) ≡ None
-HoldsBy s x c reasons.Banned = is_banned x c ≡ true
-HoldsBy s x c reasons.SiblingBanned = is_banned x (sibling_of c) ≡ true
-HoldsBy s x c reasons.SiblingStays =
-    may_be_emptied s x (holder_of x (sibling_of c)) ≡ false
+HoldsBy s x c reasons.BestEffort = is_held_best_effort s.table (holder_of x c) ≡ true
+HoldsBy s x c reasons.NotTooLong = HasNoLongRequest s x c
+HoldsBy s x c reasons.Banned = IsItselfBanned s x c
+HoldsBy s x c reasons.SiblingBanned = IsSiblingBanned s x c
+HoldsBy s x c reasons.SiblingStays = SiblingStays s x c
 
--- the answer says for which thread a ban of the sibling of core c is due, or by what it is not
+-- the answer says for which thread a ban of the sibling of core c is due, or by what it is not: of
+-- several reasons the first, so that no other answer is right
 pub record IsBanReason (s : Setting) (x : List Action) (c : ℕ) (reason : BanReason) : Type 0 where
   pub due : ban_due s x c ≡ due_by reason
   pub fact : HoldsBy s x c reason

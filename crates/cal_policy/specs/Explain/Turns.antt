@@ -1,5 +1,5 @@
 -- The turns of a pass, and what each makes.
-use Rattle.std.specs.Prelude.{ℕ, ◌<◌, Bool, List, [], ◌++◌, length}
+use Rattle.std.specs.Prelude.{ℕ, ◌+◌, ◌<◌, nat_lt, if◌then◌else◌, Bool, List, [], ◌++◌, length}
 use Rattle.cal_machine.specs.Table.{Table}
 use Rattle.cal_machine.specs.declared.task.Kind.TheVariants as kinds
 use Rattle.cal_policy.specs.declared.history.action.Action.{Action}
@@ -56,6 +56,28 @@ IsTurn table Bandwidth = Unit {0}
 IsTurn table (LatencyCritical task) = task < length table.tasks
 IsTurn table (BestEffort task) = task < length table.tasks
 IsTurn table End = Unit {0}
+
+-- the first turn of each pass
+abbrev pub first_turn : Turn
+first_turn = Free 0
+
+-- what comes after turn k of a part that has so many: its next turn upwards, and after its last one
+-- what follows the part
+abbrev pub next_in_part : ℕ → (ℕ → Turn) → ℕ → Turn → Turn
+next_in_part many turn k following = if nat_lt (k + 1) many then turn (k + 1) else following
+
+-- the turn that comes next: a turn of each core whether it becomes free, then one of each whether its
+-- ban ends, one of each whether its sibling is banned, the turn of the bandwidth figure, a turn of each
+-- task for the latency-critical ones, one of each for the best-effort ones, and the end, which stays
+abbrev pub next_turn : Table → Turn → Turn
+next_turn table (Free core) = next_in_part table.cores Free core (Unban 0)
+next_turn table (Unban core) = next_in_part table.cores Unban core (Ban 0)
+next_turn table (Ban core) = next_in_part table.cores Ban core Bandwidth
+next_turn table Bandwidth = LatencyCritical 0
+next_turn table (LatencyCritical task) =
+    next_in_part (length table.tasks) LatencyCritical task (BestEffort 0)
+next_turn table (BestEffort task) = next_in_part (length table.tasks) BestEffort task End
+next_turn table End = End
 
 -- the actions of the pass that come before a turn; at the end all of them
 abbrev pub made_before : Setting → Turn → List Action

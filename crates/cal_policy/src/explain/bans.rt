@@ -18,7 +18,8 @@ use crate::board::holders::Holder;
 use crate::explain::walk::PassWalk;
 use crate::pass::Pass;
 
-/// Why a ban of a core's sibling is due, or by what it is not.
+/// Why a ban of a core's sibling is due, or by what it is not: by the first of these that is so. What
+/// the last three say is asked of a core only where a request on it runs too long.
 #[derive(Clone, Copy, Debug, PartialEq, Eq)]
 pub enum BanReason {
     /// It is due: the request of this thread, which holds the core, runs too long.
@@ -27,7 +28,8 @@ pub enum BanReason {
     NotHeld,
     /// A best-effort task holds it.
     BestEffort,
-    /// The kept record of its thread shows no request on it that runs too long.
+    /// A latency-critical one holds it, and the kept record of its thread shows no request on it that
+    /// runs too long.
     NotTooLong,
     /// The core itself is banned.
     Banned,

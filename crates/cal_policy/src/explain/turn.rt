@@ -3,7 +3,7 @@
 ghost use Rattle.std.specs.Prelude.{◌≡◌, ◌++◌, List};
 ghost use Rattle.cal_machine.specs.Table.{IsTable};
 ghost use Rattle.cal_policy.specs.Explain.Turns as turns;
-ghost use Rattle.cal_policy.specs.Explain.Turns.{IsTurn, made_before, made_in};
+ghost use Rattle.cal_policy.specs.Explain.Turns.{IsTurn, made_before, made_in, next_turn};
 ghost use Rattle.cal_policy.specs.Setting.{Setting};
 
 use crate::history::action::{Action, Cause};
@@ -66,6 +66,7 @@ pub enum Turn {
 pub fn turn_after(config: &Config, turn: Turn) -> Turn
     requires table { IsTable config.now }
     requires turn { IsTurn config.now turn }
+    ensures next { result ≡ next_turn config.now turn }
     ensures follows { (s : Setting) → s.table ≡ config.now →
         made_before s result ≡ made_before s turn ++ made_in s (made_before s turn) turn }
     ensures turn { IsTurn config.now result }

@@ -7,7 +7,7 @@ ghost use Rattle.cal_machine.specs.declared.task.Kind.TheVariants as kinds;
 ghost use Rattle.cal_policy.specs.declared.history.action.Action.{Action};
 ghost use Rattle.cal_policy.specs.Board.{NamesTable};
 ghost use Rattle.cal_policy.specs.State.{IsReady, IsOfTable, Stands};
-ghost use Rattle.cal_policy.specs.Explain.Turns.{IsTurn, made_in};
+ghost use Rattle.cal_policy.specs.Explain.Turns.{IsTurn, made_in, first_turn, next_turn};
 ghost use Rattle.cal_policy.specs.Explain.Walks.{IsWalk, Walks, begun_on, setting_of};
 ghost use Rattle.cal_policy.specs.Judgement.Judging.{IsInput};
 ghost use Rattle.cal_policy.specs.Judgement.Orderly.{IsOrderly};
@@ -161,6 +161,7 @@ impl<'a> PassWalk<'a> {
         requires orderly { IsOrderly config.now history.now }
         requires input { IsInput config.now history.now input.now }
         ensures walk { IfOk result IsWalk }
+        ensures first { IfOk result (λ walk. walk.turn ≡ first_turn) }
         ensures begun { IfOk result (λ walk. Walks walk (begun_on history.now input.entry.now)) }
         // The pass that it goes over is the one on that input after those passes.
         ensures setting { IfOk result (λ walk. setting_of walk (begun_on history.now
@@ -234,6 +235,7 @@ impl<'a> PassWalk<'a> {
     pub fn take(&mut self) -> Result<(), AllocError>
         requires walk { IsWalk self.old }
         ensures walk { IsWalk self.new }
+        ensures next { OnOk result (self.new.turn ≡ next_turn self.old.config.now self.old.turn) }
         ensures table { self.new.config.now ≡ self.old.config.now }
         ensures goes_on { OnOk result ((h : Begun) → Walks self.old h → Walks self.new h) }
         ensures setting { (h : Begun) → setting_of self.new h ≡ setting_of self.old h }
