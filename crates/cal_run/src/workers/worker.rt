@@ -43,7 +43,9 @@ impl Worker {
 
     /// Its turn `j`, with the clock that is given for it and the request that comes to the thread
     /// before it, if one does. Gives what the turn adds to the thread's journal. Asks that the turns
-    /// before were made. Fails only when out of memory.
+    /// before were made. Fails only when out of memory. (Inlined, so that who reads little of what a
+    /// turn hands out has the rest of it not even made.)
+    #[inline(always)]
     pub fn turn(&mut self, arrivals: &Arrivals, j: usize) -> Result<TurnEntries, AllocError>
         requires fits { FitSomeTable arrivals.now }
         requires given { j < length arrivals.now.turns }
