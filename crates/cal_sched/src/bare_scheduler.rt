@@ -19,6 +19,7 @@ use crate::sending::send_commands;
 use cal_command::Sender;
 use cal_laws::{holders_are_of_their_last_run, threads_are_sent_one_command};
 use cal_machine::{Config, Past};
+use cal_policy::state::Board;
 use cal_policy::{
     Actions, Book, Holder, MOST_PASSES, OpenInput, OpenPass, PassEntry, settled_is_no_news,
 };
@@ -249,6 +250,14 @@ impl BareScheduler {
         self.past.note(&pass);
         self.passes += 1;
         Ok(())
+    }
+
+    /// The state that its passes so far leave, for who counts what they did.
+    pub fn board(&self) -> &Board
+        ensures agrees { IsStateAfter result.now self.now.history }
+        ensures ready { IsReady self.now.table result.now }
+    {
+        self.book.board()
     }
 
     /// How many passes it has made.
