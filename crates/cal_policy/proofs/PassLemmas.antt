@@ -5,7 +5,7 @@ pub mod Bandwidth
 pub mod Best
 pub mod Branches
 pub mod Commands
-pub mod Early
+pub mod IdleCores
 pub mod Fits
 pub mod FromParts
 pub mod LegalOrderly

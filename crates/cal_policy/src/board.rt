@@ -155,6 +155,7 @@ impl Board {
             open_cores: OpenCores {
                 idle: self.open_cores.idle,
                 alone: self.open_cores.alone,
+                beside_held: self.open_cores.beside_held,
             },
             bans: Bans {
                 bans: self.bans.bans,

@@ -1,6 +1,6 @@
 -- How counts and choices among the numbers below n go with their tests.
-use Rattle.std.proofs.Common.{◌≡◌, ℕ, ◌+◌, ◌<◌, ◌≤◌, ◌⊎◌, Bool, true, false, cond, Option, Some, None, refl, arith, inl, inr, zero, suc}
-use Rattle.std.proofs.lemmas.Bool.{cases_eq}
+use Rattle.std.proofs.Common.{◌≡◌, ℕ, ◌+◌, ◌<◌, ◌≤◌, ◌⊎◌, Bool, true, false, cond, Option, Some, None, refl, subst, arith, inl, inr, ⊎_elim, zero, suc}
+use Rattle.std.proofs.lemmas.Bool.{cases_eq, cases_lt}
 use Rattle.cal_policy.specs.Pass.Choice.{count_below, best_below, better, highest_below, lowest_below, first_or}
 use Rattle.cal_policy.specs.declared.pass.choice.Candidate.{Candidate}
 use Rattle.cal_policy.proofs.ListLemmas.OneNumberMore.{one_at_most}
@@ -53,6 +53,37 @@ lowest_step p n k None h false i f = cc
 pub lowest_passes : (p : ℕ → Bool) (n k : ℕ) → lowest_below p n ≡ Some k → Passes p n k
 lowest_passes p zero k e = cc
 lowest_passes p (suc n) k e = lowest_step p n k (lowest_below p n) (lowest_passes p n k) (p n) refl e
+
+missing_step : (p : ℕ → Bool) (n j : ℕ) → (o : Option ℕ) → (o ≡ None → j < n → p j ≡ false) → (b : Bool) → p n ≡ b → first_or o b n ≡ None → (j < n) ⊎ (j ≡ n) → p j ≡ false
+missing_step p n j (Some k) h b i f at = cc
+missing_step p n j None h true i f at = cc
+missing_step p n j None h false i f (inl l) = h refl l
+missing_step p n j None h false i f (inr same) = rw same i
+
+-- where there is no lowest, none passes
+pub lowest_missing : (p : ℕ → Bool) (n j : ℕ) → lowest_below p n ≡ None → j < n → p j ≡ false
+lowest_missing p zero j e lt = absurd (omega arith)
+lowest_missing p (suc n) j e lt = missing_step p n j (lowest_below p n) (lowest_missing p n j) (p n) refl e
+    (⊎_elim (λ l. inl l) (λ g. inr (omega arith)) (cases_lt j n))
+
+first_step : (p : ℕ → Bool) (n k j : ℕ) → (o : Option ℕ) → lowest_below p n ≡ o → (o ≡ Some k → p j ≡ false) → j < k → (b : Bool) → first_or o b n ≡ Some k → p j ≡ false
+first_step p n k j (Some i) e h lt b f = h f
+first_step p n k j None e h lt true f = let same : n ≡ k = cc in lowest_missing p n j e (omega (arith, lt, same))
+first_step p n k j None e h lt false f = cc
+
+-- and none below the lowest passes
+pub lowest_first : (p : ℕ → Bool) (n k j : ℕ) → lowest_below p n ≡ Some k → j < k → p j ≡ false
+lowest_first p zero k j e lt = cc
+lowest_first p (suc n) k j e lt = first_step p n k j (lowest_below p n) refl (λ f. lowest_first p n k j f lt) lt (p n) e
+
+-- numbers that do not pass leave it that there is none
+pub lowest_past : (p : ℕ → Bool) (m n : ℕ) → m ≤ n → lowest_below p m ≡ None → ((k : ℕ) → m ≤ k → k < n → p k ≡ false) → lowest_below p n ≡ None
+lowest_past p m zero le e none = refl
+lowest_past p m (suc n) le e none = ⊎_elim
+    (λ l. let before = lowest_past p m n (omega (arith, l)) e (λ k a b. none k a (omega (arith, b))) in
+    rw (before, none n (omega (arith, l)) (omega arith)) refl)
+    (λ g. let same : m ≡ suc n = omega (arith, g, le) in subst (λ k. lowest_below p k ≡ None) same e)
+    (cases_lt m (suc n))
 
 -- a number below n with its rank
 abbrev pub IsRanked : {R : Type 0} → (ℕ → Option R) → ℕ → Candidate R → Type 0

@@ -1,5 +1,5 @@
 -- That what is chosen is the best.
-use Rattle.std.proofs.Common.{◌≡◌, ℕ, ◌<◌, ◌⊎◌, Bool, true, false, cond, Option, Some, None, refl, arith, inl, inr, ⊎_elim, zero, suc}
+use Rattle.std.proofs.Common.{◌≡◌, ℕ, ◌<◌, ◌⊎◌, Bool, true, false, cond, Option, Some, None, refl, ap, sym, ◌∙◌, arith, inl, inr, ⊎_elim, zero, suc}
 use Rattle.std.specs.Cmp.{IsStrictWeakOrder}
 use Rattle.std.specs.Option.{MatchOption}
 use Rattle.std.proofs.lemmas.Bool.{cases_lt, cases_Bool}
@@ -55,3 +55,30 @@ best_step beats rank o n (Some best) (Some s) e h = challenge beats rank o n bes
 pub best_is_best : {R : Type 0} (beats : R → R → Bool) (rank : ℕ → Option R) → IsStrictWeakOrder beats → (n : ℕ) → BestOrNone beats rank n (best_below beats rank n)
 best_is_best beats rank o zero = λ k lt. absurd (omega arith)
 best_is_best beats rank o (suc n) = best_step beats rank o n (best_below beats rank n) (rank n) refl (best_is_best beats rank o n)
+
+same_number : {R : Type 0} (beats : R → R → Bool) (rank : ℕ → Option R) (n : ℕ) (a b : Candidate R) → IsBest beats rank n a → IsBest beats rank n b → a.number < b.number → ⊥
+same_number beats rank n a b f g lt =
+    let won = g.first a.number a.rank lt f.ranked in
+    let lost = f.unbeaten b.number b.rank g.below g.ranked in cc
+
+same_best : {R : Type 0} (beats : R → R → Bool) (rank : ℕ → Option R) (n : ℕ) (a b : Candidate R) → IsBest beats rank n a → IsBest beats rank n b → a ≡ b
+same_best beats rank n a b f g = ⊎_elim
+    (λ l. absurd (same_number beats rank n a b f g l))
+    (λ ge. ⊎_elim
+    (λ l. absurd (same_number beats rank n b a g f l))
+    (λ le. let number : a.number ≡ b.number = omega (arith, ge, le) in
+    let ranked : Some a.rank ≡ Some b.rank = sym f.ranked ∙ ap rank number ∙ g.ranked in
+    let class : a.rank ≡ b.rank = cc in
+    ap (λ k. record { rank = a.rank; number = k }) number ∙ ap (λ r. record { rank = r; number = b.number }) class)
+    (cases_lt b.number a.number))
+    (cases_lt a.number b.number)
+
+only_best : {R : Type 0} (beats : R → R → Bool) (rank : ℕ → Option R) (n : ℕ) (best : Candidate R) (found : Option (Candidate R)) →
+    IsBest beats rank n best → BestOrNone beats rank n found → Some best ≡ found
+only_best beats rank n best None e none = let no = none best.number e.below in let yes = e.ranked in cc
+only_best beats rank n best (Some found) e f = ap (λ b. Some b) (same_best beats rank n best found e f)
+
+-- and what is the best is best_below
+pub best_is : {R : Type 0} (beats : R → R → Bool) (rank : ℕ → Option R) → IsStrictWeakOrder beats → (n : ℕ) (best : Candidate R) → IsBest beats rank n best →
+    Some best ≡ best_below beats rank n
+best_is beats rank o n best e = only_best beats rank n best (best_below beats rank n) e (best_is_best beats rank o n)

@@ -10,7 +10,7 @@ ghost use Rattle.cal_machine.specs.declared.machine.TheConstants.{MOST_CORES};
 ghost use Rattle.cal_policy.specs.declared.board.holders.Holder.{Holder};
 ghost use Rattle.cal_policy.specs.Board.{NamesCores, NamesTable, holder_in};
 ghost use Rattle.cal_policy.specs.Board.OpenCores.{Opens, IsSameElsewhere, core_named};
-ghost use Rattle.cal_policy.specs.Board.OpenCores.{is_idle_by, is_alone_by};
+ghost use Rattle.cal_policy.specs.Board.OpenCores.{is_idle_by, is_alone_by, is_beside_by};
 
 use crate::board::core_sets::all_cores;
 use crate::board::holders::Holding;
@@ -25,6 +25,8 @@ pub struct OpenCores {
     pub idle: CoreSet,
     /// The cores that are held, each beside one that is not held, where neither is banned.
     pub alone: CoreSet,
+    /// The idle cores that are each beside one that is held.
+    pub beside_held: CoreSet,
 }
 
 /// The core that an action names.
@@ -75,15 +77,27 @@ fn is_alone(holding: &Holding, banned: &CoreSet, core: u8, beside: u8) -> bool
     is_held && !is_held_beside && !banned.has(core) && !banned.has(beside)
 }
 
+/// Whether the core is idle and the one beside it is held.
+fn is_beside_held(holding: &Holding, banned: &CoreSet, core: u8, beside: u8) -> bool
+    requires core { core < MOST_CORES }
+    requires beside { beside < MOST_CORES }
+    requires pair { beside ≡ sibling_of core }
+    ensures { result ≡ is_beside_by (holder_in holding.now) banned.now core }
+{
+    is_idle(holding, banned, core) && holding.holder_at(Some(beside)).is_held()
+}
+
 impl OpenCores {
     /// The sets where every core is free and none is banned.
     pub fn new() -> OpenCores
         ensures idle { (c : ℕ) → c < MOST_CORES → has result.idle c ≡ true }
         ensures alone { (c : ℕ) → has result.alone c ≡ false }
+        ensures beside { (c : ℕ) → has result.beside_held c ≡ false }
     {
         OpenCores {
             idle: all_cores(),
             alone: CoreSet::empty(),
+            beside_held: CoreSet::empty(),
         }
     }
 
@@ -99,6 +113,10 @@ impl OpenCores {
             then is_alone_by (holder_in holding.now) banned.now beside
             else if c == core then is_alone_by (holder_in holding.now) banned.now core
             else has self.old.alone c) }
+        ensures beside { (c : ℕ) → has self.new.beside_held c ≡ (if c == beside
+            then is_beside_by (holder_in holding.now) banned.now beside
+            else if c == core then is_beside_by (holder_in holding.now) banned.now core
+            else has self.old.beside_held c) }
     {
         put(&mut self.idle, core, is_idle(holding, banned, core));
         put(
@@ -110,6 +128,16 @@ impl OpenCores {
             &mut self.alone,
             beside,
             is_alone(holding, banned, beside, core),
+        );
+        put(
+            &mut self.beside_held,
+            core,
+            is_beside_held(holding, banned, core, beside),
+        );
+        put(
+            &mut self.beside_held,
+            beside,
+            is_beside_held(holding, banned, beside, core),
         );
     }
 

@@ -11,12 +11,13 @@ ghost use Rattle.cal_policy.specs.History.CoreClasses.{comes_before};
 ghost use Rattle.cal_policy.specs.Setting.{Begun, so_far, has_room};
 ghost use Rattle.cal_policy.specs.History.{holder_of, last_thread, is_banned};
 ghost use Rattle.cal_policy.specs.Pass.Grants as grants;
-ghost use Rattle.cal_policy.specs.Pass.Grants.{class_by, is_granted_in, none_leaves_for};
+ghost use Rattle.cal_policy.specs.Pass.Grants.{class_by, is_granted_in, is_thread_for};
+ghost use Rattle.cal_policy.specs.Pass.Grants.{none_leaves_for};
 ghost use Rattle.cal_policy.specs.Board.{placement_of};
 ghost use Rattle.cal_policy.specs.State.{IsOfTable, Stands, Agrees};
-ghost use Rattle.cal_policy.specs.Board.Counts.{held_by};
-ghost use Rattle.cal_policy.specs.Pass.Choice.{best_below};
-ghost use Rattle.cal_policy.specs.Pass.Among.{class_among};
+ghost use Rattle.cal_policy.specs.Board.Counts.{held_by, is_held_for};
+ghost use Rattle.cal_policy.specs.Pass.Choice.{best_below, lowest_below};
+ghost use Rattle.cal_policy.specs.Pass.Among.{class_among, is_beside_own, was_own};
 ghost use Rattle.cal_policy.specs.Pass.AtHand.{setting_in};
 
 use crate::board::Board;
@@ -28,6 +29,18 @@ use crate::history::core_class::CoreClass;
 use crate::pass::Pass;
 use crate::pass::choice::{Candidate, first_class};
 use cal_machine::{Config, CoreSet};
+
+/// Whether a core that was last granted by `last`, if at all, was granted to a thread of the task.
+fn was_for(config: &Config, task: usize, last: Option<Placement>) -> bool
+    requires { IfSome last (λ placement. placement.thread < threads_of_table config.now) }
+    ensures { result ≡ is_thread_for config.now task
+        (option_map (λ placement. placement.thread) last) }
+{
+    match last {
+        Some(placement) => config.task_of(placement.thread as usize) == task,
+        None => false,
+    }
+}
 
 /// The class of a core that is free and not banned: `Sibling` beside a core that the task holds,
 /// `RecentlyUsed` where it was last granted to the task, else `OtherIdle`.
@@ -41,11 +54,10 @@ fn idle_class(config: &Config, task: usize, beside: Holder, last: Option<Placeme
     if holds_for(config, task, beside) {
         return CoreClass::Sibling;
     }
-    match last {
-        Some(placement) if config.task_of(placement.thread as usize) == task => {
-            CoreClass::RecentlyUsed
-        }
-        _ => CoreClass::OtherIdle,
+    if was_for(config, task, last) {
+        CoreClass::RecentlyUsed
+    } else {
+        CoreClass::OtherIdle
     }
 }
 
@@ -194,8 +206,66 @@ impl Pass<'_> {
         best
     }
 
+    /// Whether a thread of the task holds the core beside this one.
+    fn holds_beside(&self, board: &Board, task: usize, core: u8) -> bool
+        requires at_hand { IsOfTable self.now.config.now board.now }
+        requires core { core < self.now.config.now.cores }
+        ensures { (x : List Action) → Agrees board.now x →
+            result ≡ is_held_for self.now.config.now task (holder_of x (sibling_of core)) }
+    {
+        let sibling = self.config.machine().sibling(core);
+        holds_for(self.config, task, board.holding.holders[sibling as usize])
+    }
+
+    /// Whether the core was last granted to a thread of the task.
+    fn had_last(&self, board: &Board, task: usize, core: u8) -> bool
+        requires at_hand { IsOfTable self.now.config.now board.now }
+        requires core { core < self.now.config.now.cores }
+        ensures { (x : List Action) → Agrees board.now x →
+            result ≡ is_thread_for self.now.config.now task (last_thread x core) }
+    {
+        was_for(self.config, task, board.holding.granted[core as usize])
+    }
+
+    /// The lowest idle core beside one that the task holds.
+    fn idle_beside(&self, board: &Board, task: usize) -> Option<u8>
+        requires at_hand { IsOfTable self.now.config.now board.now }
+        ensures lowest { (x : List Action) → Agrees board.now x → result ≡ lowest_below
+            (is_beside_own board.now.open_cores.idle self.now.config.now x task)
+            self.now.config.now.cores }
+        ensures below { IfSome result (λ core. core < self.now.config.now.cores) }
+    {
+        let mut from = 0;
+        while let Some(core) = next_core(self.config, &board.open_cores.beside_held, from) {
+            if self.holds_beside(board, task, core) {
+                return Some(core);
+            }
+            from = core + 1;
+        }
+        None
+    }
+
+    /// The lowest idle core that was last granted to a thread of the task.
+    fn idle_again(&self, board: &Board, task: usize) -> Option<u8>
+        requires at_hand { IsOfTable self.now.config.now board.now }
+        ensures lowest { (x : List Action) → Agrees board.now x → result ≡ lowest_below
+            (was_own board.now.open_cores.idle self.now.config.now x task)
+            self.now.config.now.cores }
+        ensures below { IfSome result (λ core. core < self.now.config.now.cores) }
+    {
+        let mut first = 0;
+        while let Some(core) = next_core(self.config, &board.open_cores.idle, first) {
+            if self.had_last(board, task, core) {
+                return Some(core);
+            }
+            first = core + 1;
+        }
+        None
+    }
+
     /// The core of the least class for the task among the idle ones, of those with that class the
-    /// lowest. The first one beside a core that the task holds ends it: no class comes before its.
+    /// lowest. Each class is looked for by itself, the least first: one beside a core that the task
+    /// holds, then one that the task had last, then any.
     fn choose_idle(&self, board: &Board, task: usize) -> Option<Candidate<CoreClass>>
         requires at_hand { IsOfTable self.now.config.now board.now }
         requires task { task < length self.now.config.now.tasks }
@@ -206,17 +276,25 @@ impl Pass<'_> {
             self.now.config.now.cores }
         ensures below { IfSome result (λ best. best.number < self.now.config.now.cores) }
     {
-        let mut best: Option<Candidate<CoreClass>> = None;
-        let mut first = 0;
-        while let Some(core) = next_core(self.config, &board.open_cores.idle, first) {
-            let class = self.class_if_idle(board, task, core);
-            best = first_class(best, Some(class), core);
-            if let CoreClass::Sibling = class {
-                return best;
-            }
-            first = core + 1;
+        if let Some(beside) = self.idle_beside(board, task) {
+            return Some(Candidate {
+                rank: CoreClass::Sibling,
+                number: beside,
+            });
         }
-        best
+        if let Some(again) = self.idle_again(board, task) {
+            return Some(Candidate {
+                rank: CoreClass::RecentlyUsed,
+                number: again,
+            });
+        }
+        match next_core(self.config, &board.open_cores.idle, 0) {
+            Some(other) => Some(Candidate {
+                rank: CoreClass::OtherIdle,
+                number: other,
+            }),
+            None => None,
+        }
     }
 
     /// Whether the other task may be preempted for this one: it holds a core, and what it holds has

@@ -18,7 +18,7 @@ returns-clause-ready c = λ table. record {
   sets = λ k lt. let At : Holder → Type 0 = λ a. IsSorted k a c.new-3.result in
       subst At (sym (c.new.ensures.free k)) (c.new-3.ensures.sorted k lt);
   opens = opens_free (holder_in c.new.result) c.new-3.result.banned c.new-4.result c.new.ensures.free
-      (λ k lt. c.new-3.ensures.banned.banned k lt) c.new-4.ensures.idle c.new-4.ensures.alone;
+      (λ k lt. c.new-3.ensures.banned.banned k lt) c.new-4.ensures.idle c.new-4.ensures.alone c.new-4.ensures.beside;
   keeping = c.new-7.ensures.sets;
   shows = shows_free (holder_in c.new.result) _ _ c.new.ensures.free;
 }
