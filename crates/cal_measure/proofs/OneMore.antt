@@ -1,6 +1,6 @@
 -- A history with one pass more: what was so after each pass before is so still.
 use Rattle.std.specs.Prelude.{nat_lt}
-use Rattle.std.proofs.Common.{◌≡◌, ◌∙◌, ◌+◌, ◌-◌, ◌*◌, ◌<◌, ◌≤◌, ◌++◌, ◌∷◌, [], ℕ, zero, suc, max, Bool, true, false, cond, List, Option, Some, None, length, length-append, take, take_all, slice_get, ap, refl, sym, subst, arith}
+use Rattle.std.proofs.Common.{◌≡◌, ◌∙◌, ◌+◌, ◌-◌, ◌*◌, ◌<◌, ◌≤◌, ◌++◌, ◌∷◌, [], ℕ, zero, suc, max, Bool, true, false, cond, List, Option, Some, None, length, length-append, take, take_all, slice_get, ap, refl, sym, arith}
 use Rattle.cal_machine.specs.Table.{Table}
 use Rattle.cal_policy.specs.History.{actions_of}
 use Rattle.cal_policy.specs.Board.Counts.{booked_by, held_by}

@@ -1,5 +1,5 @@
 -- What is so after each pass of a history, until the next one.
-use Rattle.std.specs.Prelude.{ℕ, ◌+◌, ◌-◌, ◌&&◌, Bool, true, false, not, List}
+use Rattle.std.specs.Prelude.{◌≡◌, ℕ, ◌+◌, ◌-◌, ◌≤◌, ◌&&◌, Bool, true, false, not, List}
 use Rattle.std.specs.Prelude.{Option, Some, None, slice_get, take}
 use Rattle.cal_machine.specs.Table.{Table}
 use Rattle.cal_policy.specs.Board.Counts.{is_free, is_held}
@@ -15,6 +15,7 @@ use Rattle.cal_policy.specs.declared.history.action.Action.{Action}
 use Rattle.cal_policy.specs.declared.history.entry.PassEntry.{PassEntry}
 use Rattle.cal_policy.specs.declared.history.look.Seen.{Seen}
 use Rattle.cal_measure.specs.declared.states.CoreState.{CoreState}
+use Rattle.cal_measure.specs.declared.states.StateCounts.{StateCounts}
 use Rattle.cal_measure.specs.declared.states.CoreState.TheVariants as states
 
 -- the clock of pass p, 0 where there is none
@@ -47,6 +48,24 @@ is_in_state states.Free holder banned = is_free holder && not banned
 abbrev pub count_in_state : Table → List Action → CoreState → ℕ
 count_in_state table x state =
     count_below (λ c. is_in_state state (holder_of x c) (is_banned x c)) table.cores
+
+-- so many of the first n cores are in each state after these actions
+pub record AreStateCounts (x : List Action) (n : ℕ) (counts : StateCounts) : Type 0 where
+  pub held : counts.held ≡
+      count_below (λ c. is_in_state states.Held (holder_of x c) (is_banned x c)) n
+  pub leaving : counts.leaving ≡
+      count_below (λ c. is_in_state states.Leaving (holder_of x c) (is_banned x c)) n
+  pub banned : counts.banned ≡
+      count_below (λ c. is_in_state states.Banned (holder_of x c) (is_banned x c)) n
+  pub free : counts.free ≡
+      count_below (λ c. is_in_state states.Free (holder_of x c) (is_banned x c)) n
+
+-- no more than so many cores are in each state
+pub record AreAtMost (most : ℕ) (counts : StateCounts) : Type 0 where
+  pub held : counts.held ≤ most
+  pub leaving : counts.leaving ≤ most
+  pub banned : counts.banned ≤ most
+  pub free : counts.free ≤ most
 
 -- the delay of task t by this clock, after these looks
 abbrev pub delay_after : Table → List (List Seen) → ℕ → ℕ → ℕ

@@ -6,7 +6,7 @@ use Rattle.std.specs.declared.vec.Vec.{Vec}
 use Rattle.cal_machine.specs.Table.{Table}
 use Rattle.cal_policy.specs.History.{actions_of}
 use Rattle.cal_policy.specs.Pass.Choice.{greatest_below}
-use Rattle.cal_policy.specs.State.{IsReady, IsStateAfter}
+use Rattle.cal_policy.specs.State.{Agrees, IsReady}
 use Rattle.cal_policy.specs.declared.history.action_list.TheConstants.{MOST_ACTIONS}
 use Rattle.cal_policy.specs.declared.history.entry.PassEntry.{PassEntry}
 use Rattle.cal_measure.specs.Actions.{AreActionsOf}
@@ -94,10 +94,10 @@ pub record IsOpenFor (table : Table) (walk : Walk) : Type 0 where
   pub actions : length walk.actions.items ≡ length table.tasks
   pub times : length walk.times.items ≡ length table.tasks
 
--- what a walk holds after these passes: the state that they leave, the clock of the last one, and
--- the numbers of each task and of the machine
+-- what a walk holds after these passes: cores, bans and caps as their actions leave them, the clock
+-- of the last one, and the numbers of each task and of the machine
 pub record IsWalkOf (table : Table) (history : List PassEntry) (walk : Walk) : Type 0 where
-  pub state : IsStateAfter walk.board history
+  pub state : Agrees walk.board (actions_of history)
   pub clock : walk.clock ≡ last_clock history
   pub actions : EachTask (λ t of_task. AreActionsOf table t (actions_of history) of_task)
       walk.actions.items

@@ -1,17 +1,17 @@
 //! What is so after the passes so far: the states of the cores, and which tasks are congested.
 
-ghost use Rattle.std.specs.Prelude.{◌≡◌, ◌<◌, List, length};
-ghost use Rattle.std.specs.Prelude.{nat_lt};
+ghost use Rattle.std.specs.Prelude.{◌≡◌, ◌+◌, ◌<◌, List, length};
+ghost use Rattle.std.specs.Prelude.{if◌then◌else◌, nat_lt};
 ghost use Rattle.cal_machine.specs.declared.machine.TheConstants.{MOST_CORES};
 ghost use Rattle.cal_machine.specs.declared.numbering.TheConstants.{MOST_THREADS};
 ghost use Rattle.cal_policy.specs.State.{Agrees, KeepingAgrees};
 ghost use Rattle.cal_policy.specs.History.Looks.{kept_by};
-ghost use Rattle.cal_policy.specs.History.{holder_of, is_banned};
 ghost use Rattle.cal_machine.specs.TableTasks.{delay_of};
 ghost use Rattle.cal_policy.specs.Pass.Grants as grants;
 ghost use Rattle.cal_policy.specs.declared.history.action.Action.{Action};
 ghost use Rattle.cal_policy.specs.declared.history.look.Seen.{Seen};
-ghost use Rattle.cal_measure.specs.States.{count_in_state, delay_after, is_in_state};
+ghost use Rattle.cal_measure.specs.States.{AreAtMost, AreStateCounts, delay_after, is_in_state};
+ghost use Rattle.cal_measure.specs.declared.states.CoreState.TheVariants as states;
 
 use cal_machine::Config;
 use cal_policy::state::{Board, is_banned, record_delay};
@@ -30,55 +30,73 @@ pub enum CoreState {
     Free,
 }
 
-/// Whether a core is in this state.
-fn is_in_state(state: CoreState, holder: Holder, banned: bool) -> bool
-    ensures { result ≡ is_in_state state holder banned }
-{
-    match holder {
-        Holder::Held(_) => match state {
-            CoreState::Held => true,
-            CoreState::Leaving => false,
-            CoreState::Banned => false,
-            CoreState::Free => false,
-        },
-        Holder::Leaving(..) => match state {
-            CoreState::Held => false,
-            CoreState::Leaving => true,
-            CoreState::Banned => false,
-            CoreState::Free => false,
-        },
-        Holder::Free => match state {
-            CoreState::Held => false,
-            CoreState::Leaving => false,
-            CoreState::Banned => banned,
-            CoreState::Free => !banned,
-        },
-    }
+/// How many cores are in each state.
+#[derive(Clone, Copy, Debug, PartialEq, Eq)]
+pub struct StateCounts {
+    /// How many are held.
+    pub held: u8,
+    /// How many are being left.
+    pub leaving: u8,
+    /// How many are banned, with nobody on the core.
+    pub banned: u8,
+    /// How many are free to be granted.
+    pub free: u8,
 }
 
-/// Whether this core is in this state.
-fn core_is(board: &Board, state: CoreState, core: u8) -> bool
-    requires { core < MOST_CORES }
-    ensures { (x : List Action) → Agrees board.now x →
-        result ≡ is_in_state state (holder_of x core) (is_banned x core) }
-{
-    let holder = board.holding.holders[core as usize];
-    is_in_state(state, holder, is_banned(board, core))
-}
-
-/// How many cores are in this state.
-pub fn count_in_state(config: &Config, board: &Board, state: CoreState) -> u8
-    ensures { (x : List Action) → Agrees board.now x →
-        result ≡ count_in_state config.now x state }
-{
-    config.limits();
-    let mut count: u8 = 0;
-    for core in 0..config.machine().cores() {
-        if core_is(board, state, core) {
-            count += 1;
+impl StateCounts {
+    /// Of no core.
+    fn none() -> StateCounts
+        ensures none { (x : List Action) → AreStateCounts x 0 result }
+        ensures few { AreAtMost 0 result }
+    {
+        StateCounts {
+            held: 0,
+            leaving: 0,
+            banned: 0,
+            free: 0,
         }
     }
-    count
+
+    /// With one core more, which has this holder, banned or not.
+    fn with_core(self, holder: Holder, banned: bool) -> StateCounts
+        requires few { AreAtMost 254 self }
+        ensures held { result.held ≡ self.held
+            + (if is_in_state states.Held holder banned then 1 else 0) }
+        ensures leaving { result.leaving ≡ self.leaving
+            + (if is_in_state states.Leaving holder banned then 1 else 0) }
+        ensures banned { result.banned ≡ self.banned
+            + (if is_in_state states.Banned holder banned then 1 else 0) }
+        ensures free { result.free ≡ self.free
+            + (if is_in_state states.Free holder banned then 1 else 0) }
+    {
+        let mut counts = self;
+        match holder {
+            Holder::Held(_) => counts.held += 1,
+            Holder::Leaving(..) => counts.leaving += 1,
+            Holder::Free => {
+                if banned {
+                    counts.banned += 1;
+                } else {
+                    counts.free += 1;
+                }
+            }
+        }
+        counts
+    }
+}
+
+/// How many cores are in each state, by one look at each.
+pub fn count_states(config: &Config, board: &Board) -> StateCounts
+    ensures { (x : List Action) → Agrees board.now x →
+        AreStateCounts x config.now.cores result }
+{
+    config.limits();
+    let mut counts = StateCounts::none();
+    for core in 0..config.machine().cores() {
+        let holder = board.holding.holders[core as usize];
+        counts = counts.with_core(holder, is_banned(board, core));
+    }
+    counts
 }
 
 /// The delay of a thread by its kept record.

@@ -2,11 +2,11 @@
 
 pub mod each_task;
 pub mod machine_time;
+pub mod state_after;
 pub mod task_time;
 
 ghost use Rattle.std.specs.Prelude.{◌≡◌, ◌<◌, ◌≤◌, ◌+◌, ◌++◌, ◌∷◌, [], ℕ, List, IfOk, length};
 ghost use Rattle.std.specs.List.{All};
-ghost use Rattle.cal_machine.specs.declared.numbering.TheConstants.{MOST_THREADS};
 ghost use Rattle.cal_measure.specs.Actions.{AreActionsOf};
 ghost use Rattle.cal_machine.specs.Table.{Table};
 ghost use Rattle.cal_measure.specs.Cores.{AreCoresOfTasks, AreMachineCores, MakeTheWhole};
@@ -14,8 +14,8 @@ ghost use Rattle.cal_measure.specs.Cores.{held_after};
 ghost use Rattle.cal_measure.specs.Walk.{EachTask, IsOpenFor, IsTimeOf, IsWalkOf};
 ghost use Rattle.cal_measure.specs.Walk.{since};
 ghost use Rattle.cal_policy.specs.Board.{NamesTable};
-ghost use Rattle.cal_policy.specs.Judgement.Orderly.{IsOrderlyEntry};
 ghost use Rattle.cal_policy.specs.Pass.{IsLegal};
+ghost use Rattle.cal_policy.specs.State.{IsReady, IsStateAfter};
 ghost use Rattle.cal_policy.specs.declared.history.action_list.TheConstants.{MOST_ACTIONS};
 ghost use Rattle.cal_policy.specs.declared.history.entry.PassEntry.{PassEntry};
 ghost use Rattle.cal_policy.specs.declared.history.entry.TheConstants.{MOST_PASSES};
@@ -23,20 +23,23 @@ ghost use Rattle.cal_policy.specs.declared.history.entry.TheConstants.{MOST_PASS
 use crate::cores::{MachineCores, TaskActions, TaskCores};
 use crate::walk::each_task::{count_actions_of_each, time_each};
 use crate::walk::machine_time::MachineTime;
+use crate::walk::state_after::bring_up;
 use crate::walk::task_time::{PassTiming, TaskTime};
 use cal_machine::Config;
 use cal_policy::state::Board;
-use cal_policy::{PassEntry, legal_is_orderly, legal_is_short};
+use cal_policy::{Action, PassEntry, legal_is_orderly, legal_is_short};
+use cal_trace::GivenPass;
 use std::alloc::{AllocError, Global};
 
 /// The walk over the passes of a history, one after the other, whoever gives them. Its numbers are
 /// at any time those of the passes so far, and each pass costs the work of that pass alone: there is
-/// one board, and for each task a row of numbers. No pass takes memory.
+/// one board, and for each task a row of numbers. No pass takes memory. The state that a pass leaves
+/// it is told: whoever makes passes has it.
 ///
 /// Every call is to be given the table that it was opened for.
 #[derive(Drop)]
 pub struct Walk {
-    /// The state that the passes so far leave.
+    /// The cores, bans and caps as the actions so far leave them.
     board: Board,
     /// The clock of the last pass.
     clock: Option<u64>,
@@ -100,47 +103,32 @@ impl Walk {
         })
     }
 
-    /// Takes the next pass of the history.
-    pub fn pass(&mut self, config: &Config, entry: &PassEntry)
+    /// Takes the next pass of the history: the state that it leaves, its clock and bandwidth figure,
+    /// and its actions.
+    pub fn pass(&mut self, config: &Config, after: &Board, given: GivenPass, actions: &[Action])
         requires open { IsOpenFor config.now self.old }
-        requires looks { length entry.now.input.seen ≤ MOST_THREADS }
-        requires names { All (NamesTable config.now) entry.now.actions }
-        requires few { length entry.now.actions ≤ MOST_ACTIONS }
+        requires ready { IsReady config.now after.now }
+        requires names { All (NamesTable config.now) actions.now }
+        requires few { length actions.now ≤ MOST_ACTIONS }
         ensures open { IsOpenFor config.now self.new }
-        ensures walk { (h : List PassEntry) → length h < MOST_PASSES →
-            IsOrderlyEntry config.now h entry.now → IsWalkOf config.now h self.old →
-            IsWalkOf config.now (h ++ entry.now ∷ []) self.new }
+        ensures walk { (h : List PassEntry) (entry : PassEntry) → length h < MOST_PASSES →
+            IsStateAfter after.now (h ++ entry ∷ []) → given.now ≡ entry.input.now →
+            given.bandwidth ≡ entry.input.bandwidth → actions.now ≡ entry.actions →
+            IsWalkOf config.now h self.old → IsWalkOf config.now (h ++ entry ∷ []) self.new }
     {
-        let now = entry.input.now;
-        let lasts = ticks_since(self.clock, now);
-        self.board.begin_fit(entry.input.seen.as_slice());
-        count_actions_of_each(
-            config,
-            &mut self.board,
-            self.actions.as_mut_slice(),
-            entry.actions.as_slice(),
-        );
+        let lasts = ticks_since(self.clock, given.now);
+        let numbers = self.actions.as_mut_slice();
+        count_actions_of_each(config, &mut self.board, numbers, actions);
         let times = self.times.as_mut_slice();
-        let timing = PassTiming { clock: now, lasts };
-        time_each(config, &self.board, times, timing);
-        let figure = entry.input.bandwidth;
-        self.machine = self.machine.with_pass(config, &self.board, figure, lasts);
-        self.clock = Some(now);
-    }
-
-    /// Takes the pass with which a legal history goes on.
-    pub fn next_pass(&mut self, config: &Config, entry: &PassEntry)
-        requires open { IsOpenFor config.now self.old }
-        requires legal { (h : List PassEntry) × IsLegal config.now (h ++ entry.now ∷ []) }
-        ensures open { IsOpenFor config.now self.new }
-        ensures walk { (h : List PassEntry) → length h < MOST_PASSES →
-            IsLegal config.now (h ++ entry.now ∷ []) → IsWalkOf config.now h self.old →
-            IsWalkOf config.now (h ++ entry.now ∷ []) self.new }
-    {
-        legal_is_orderly();
-        legal_is_short();
-        config.limits();
-        self.pass(config, entry);
+        let timing = PassTiming {
+            clock: given.now,
+            lasts,
+        };
+        time_each(config, after, times, timing);
+        self.machine = self
+            .machine
+            .with_pass(config, after, given.bandwidth, lasts);
+        self.clock = Some(given.now);
     }
 
     /// How many cores the threads of a task hold since the last pass.
@@ -184,6 +172,17 @@ impl Walk {
     }
 }
 
+/// The clock and the bandwidth figure of a pass.
+fn given_of(entry: &PassEntry) -> GivenPass
+    ensures now { result.now ≡ entry.now.input.now }
+    ensures bandwidth { result.bandwidth ≡ entry.now.input.bandwidth }
+{
+    GivenPass {
+        now: entry.input.now,
+        bandwidth: entry.input.bandwidth,
+    }
+}
+
 /// The walk over all passes of a legal history. Fails only when out of memory.
 pub fn walked(alloc: Global, config: &Config, history: &[PassEntry]) -> Result<Walk, AllocError>
     requires legal { IsLegal config.now history.now }
@@ -195,8 +194,12 @@ pub fn walked(alloc: Global, config: &Config, history: &[PassEntry]) -> Result<W
     legal_is_short();
     config.limits();
     let mut walk = Walk::open(alloc, config)?;
+    let mut state = Board::new();
     for pass in 0..history.len() {
-        walk.pass(config, &history[pass]);
+        let entry = &history[pass];
+        bring_up(config, &mut state, entry);
+        let given = given_of(entry);
+        walk.pass(config, &state, given, entry.actions.as_slice());
     }
     Ok(walk)
 }

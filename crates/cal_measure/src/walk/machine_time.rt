@@ -8,7 +8,7 @@ ghost use Rattle.cal_policy.specs.declared.history.entry.PassEntry.{PassEntry};
 ghost use Rattle.cal_policy.specs.declared.history.entry.TheConstants.{MOST_PASSES};
 
 use crate::cores::{MachineCores, core_time, ticks_if};
-use crate::states::{CoreState, count_in_state};
+use crate::states::count_states;
 use cal_machine::Config;
 use cal_policy::state::Board;
 
@@ -89,17 +89,14 @@ impl MachineTime {
             IsMachineTimeOf config.now (h ++ entry ∷ []) result }
     {
         let numbers = self.lasted(lasts);
-        let held = count_in_state(config, board, CoreState::Held);
-        let leaving = count_in_state(config, board, CoreState::Leaving);
-        let banned = count_in_state(config, board, CoreState::Banned);
-        let free = count_in_state(config, board, CoreState::Free);
+        let counts = count_states(config, board);
         let is_over = is_above(config, figure);
         MachineTime {
             numbers,
-            held,
-            leaving,
-            banned,
-            free,
+            held: counts.held,
+            leaving: counts.leaving,
+            banned: counts.banned,
+            free: counts.free,
             is_over,
         }
     }

@@ -1,20 +1,42 @@
-use Rattle.std.proofs.Common.{◌≡◌, ◌+◌, ◌<◌, ◌≤◌, ◌++◌, ◌∷◌, [], ℕ, List, Some, slice_get, length, length-take-le, take, take_all, refl, subst, arith}
+use Rattle.std.proofs.Common.{◌<◌, ◌≤◌, ◌++◌, ◌∷◌, [], List, length, length-take-le, take, take_all, ap, refl, subst, sym, arith}
 use Rattle.std.proofs.lemmas.Option.{slice_get_read}
+use Rattle.std.specs.List.{All}
+use Rattle.cal_policy.specs.Board.{NamesTable}
 use Rattle.cal_policy.specs.History.{actions_of}
+use Rattle.cal_policy.specs.State.{IsStateAfter}
+use Rattle.cal_policy.specs.declared.history.action.Action.{Action}
 use Rattle.cal_policy.specs.declared.history.entry.PassEntry.{PassEntry}
 use Rattle.cal_policy.proofs.BoardLemmas.StateKept.{names_of_fitting}
 use Rattle.cal_policy.proofs.ListLemmas.Each.{take_item}
 use Rattle.cal_measure.specs.Walk.{IsWalkOf}
 use Rattle.cal_measure.proofs.walk.walked.Goals as goal
 
-pub pass-requires-clause-looks : goal.pass-requires-clause-looks
-pass-requires-clause-looks c =
+pub loop-pass-init : goal.loop-pass-init
+loop-pass-init c = record {
+  ready = c.new-state.ensures.ready c.args.config.now;
+  state = record { actions = c.new-state.ensures.agrees; looks = c.new-state.ensures.keeping };
+  is_open = c.in_ok-walk.ensures.open;
+  walk = c.in_ok-walk.ensures.walk;
+}
+
+pub bring_up-requires-clause-looks : goal.bring_up-requires-clause-looks
+bring_up-requires-clause-looks c =
     let h = c.args.history.now in
     let p = c.loop-pass.pass in
     let entry = c.index-history-pass.result in
     let orderly = c.legal_is_orderly.ensures c.args.config.now h c.limits.ensures c.requires.legal in
     let fits = orderly.entries p entry (slice_get_read h (length h) p entry refl c.loop-pass-test.true c.index-history-pass.is) in
     omega (arith, fits.looks.looks, c.limits.ensures.threads)
+
+pub bring_up-requires-clause-names : goal.bring_up-requires-clause-names
+bring_up-requires-clause-names c =
+    let table = c.args.config.now in
+    let h = c.args.history.now in
+    let p = c.loop-pass.pass in
+    let entry = c.index-history-pass.result in
+    let orderly = c.legal_is_orderly.ensures table h c.limits.ensures c.requires.legal in
+    let fits = orderly.entries p entry (slice_get_read h (length h) p entry refl c.loop-pass-test.true c.index-history-pass.is) in
+    names_of_fitting table (actions_of (take p h)) entry.actions c.limits.ensures fits.actions
 
 pub pass-requires-clause-names : goal.pass-requires-clause-names
 pass-requires-clause-names c =
@@ -24,15 +46,18 @@ pass-requires-clause-names c =
     let entry = c.index-history-pass.result in
     let orderly = c.legal_is_orderly.ensures table h c.limits.ensures c.requires.legal in
     let fits = orderly.entries p entry (slice_get_read h (length h) p entry refl c.loop-pass-test.true c.index-history-pass.is) in
-    names_of_fitting table (actions_of (take p h)) entry.actions c.limits.ensures fits.actions
+    subst (λ (l : List Action). All (NamesTable table) l) (sym c.as_slice.ensures)
+    (names_of_fitting table (actions_of (take p h)) entry.actions c.limits.ensures fits.actions)
 
 pub pass-requires-clause-few : goal.pass-requires-clause-few
 pass-requires-clause-few c =
     let h = c.args.history.now in
     let p = c.loop-pass.pass in
     let entry = c.index-history-pass.result in
-    c.legal_is_short.ensures c.args.config.now h c.limits.ensures c.requires.legal p entry
-    (slice_get_read h (length h) p entry refl c.loop-pass-test.true c.index-history-pass.is)
+    let same = ap (λ (l : List Action). length l) c.as_slice.ensures in
+    let few = c.legal_is_short.ensures c.args.config.now h c.limits.ensures c.requires.legal p entry
+    (slice_get_read h (length h) p entry refl c.loop-pass-test.true c.index-history-pass.is) in
+    omega (arith, same, few)
 
 pub loop-pass-preserved : goal.loop-pass-preserved
 loop-pass-preserved c =
@@ -45,10 +70,14 @@ loop-pass-preserved c =
     let here = orderly.entries p entry (slice_get_read h (length h) p entry refl lt c.index-history-pass.is) in
     let few : length h ≤ 1048576 = c.requires.few in
     let low : length (take p h) < 1048576 = omega (arith, few, lt, length-take-le p h (omega (arith, lt))) in
+    let longer = take_item h p entry lt c.index-history-pass.is in
+    let state : IsStateAfter c.bring_up.new.state (take p h ++ entry ∷ []) = c.bring_up.ensures.state (take p h) here c.loop-pass.invariant.state in
     record {
+      ready = c.bring_up.ensures.ready;
+      state = subst (λ (l : List PassEntry). IsStateAfter c.bring_up.new.state l) longer state;
       is_open = c.pass.ensures.open;
-      walk = subst (λ (l : List PassEntry). IsWalkOf table l c.pass.new.self) (take_item h p entry lt c.index-history-pass.is)
-          (c.pass.ensures.walk (take p h) low here c.loop-pass.invariant.walk);
+      walk = subst (λ (l : List PassEntry). IsWalkOf table l c.pass.new.self) longer
+          (c.pass.ensures.walk (take p h) entry low state c.given_of-given.ensures.now c.given_of-given.ensures.bandwidth c.as_slice.ensures c.loop-pass.invariant.walk);
     }
 
 pub returns-clause-open : goal.returns-clause-open

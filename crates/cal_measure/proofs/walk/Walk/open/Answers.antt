@@ -10,7 +10,7 @@ returns-clause-open c = record {
 
 pub returns-clause-walk : goal.returns-clause-walk
 returns-clause-walk c = record {
-  state = record { actions = c.new.ensures.agrees; looks = c.new.ensures.keeping };
+  state = c.new.ensures.agrees;
   clock = refl;
   actions = c.in_ok-actions.ensures.each;
   times = c.in_ok-times.ensures.each;

@@ -1,4 +1,4 @@
-use Rattle.std.proofs.Common.{◌≡◌, ◌∙◌, ◌++◌, List, take, take_all, subst}
+use Rattle.std.proofs.Common.{◌∙◌, ◌++◌, List, take, take_all, subst}
 use Rattle.cal_policy.specs.State.{Agrees}
 use Rattle.cal_policy.specs.declared.history.action.Action.{Action}
 use Rattle.cal_policy.proofs.ListLemmas.Each.{after_more}

@@ -1,5 +1,5 @@
 use Rattle.std.specs.Prelude.{nat_lt}
-use Rattle.std.proofs.Common.{◌≡◌, ◌∙◌, ◌+◌, ◌++◌, ◌∷◌, [], ℕ, List, Option, Some, length, length-append, take, ap, sym, subst, arith}
+use Rattle.std.proofs.Common.{◌≡◌, ◌∙◌, ◌+◌, ◌++◌, ◌∷◌, [], ℕ, List, Option, length, length-append, take, ap, sym, subst, arith}
 use Rattle.cal_policy.specs.State.{Agrees}
 use Rattle.cal_policy.specs.History.{actions_of}
 use Rattle.cal_policy.specs.declared.history.entry.PassEntry.{PassEntry}
@@ -15,10 +15,11 @@ returns c = λ h e few state figure lasting was.
     let long = length-append h (e ∷ []) in
     let y = actions_of (take (length h + 1) h2) in
     let agrees : Agrees c.args.board.now y = subst (λ (l : List PassEntry). Agrees c.args.board.now (actions_of l)) (sym (take_here h e)) state.actions in
-    let held : c.count_in_state-held.result ≡ in_state_after table h2 states.Held (length h) = c.count_in_state-held.ensures y agrees in
-    let leaving : c.count_in_state-leaving.result ≡ in_state_after table h2 states.Leaving (length h) = c.count_in_state-leaving.ensures y agrees in
-    let banned : c.count_in_state-banned.result ≡ in_state_after table h2 states.Banned (length h) = c.count_in_state-banned.ensures y agrees in
-    let free : c.count_in_state-free.result ≡ in_state_after table h2 states.Free (length h) = c.count_in_state-free.ensures y agrees in
+    let counts = c.count_states-counts.ensures y agrees in
+    let held : c.count_states-counts.result.held ≡ in_state_after table h2 states.Held (length h) = counts.held in
+    let leaving : c.count_states-counts.result.leaving ≡ in_state_after table h2 states.Leaving (length h) = counts.leaving in
+    let banned : c.count_states-counts.result.banned ≡ in_state_after table h2 states.Banned (length h) = counts.banned in
+    let free : c.count_states-counts.result.free ≡ in_state_after table h2 states.Free (length h) = counts.free in
     let is_over : c.is_above-is_over.result ≡ is_over_limit table h2 (length h) =
     c.is_above-is_over.ensures ∙ ap (λ n. nat_lt table.bandwidth_limit n) figure ∙ sym (ap (λ (o : Option PassEntry). nat_lt table.bandwidth_limit (bandwidth_in o)) (slice_here h e)) in
     let at_end : (p : ℕ) → length h2 ≡ p + 1 → length h ≡ p = λ p is. omega (arith, is, long) in
