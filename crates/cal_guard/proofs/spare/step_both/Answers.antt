@@ -14,6 +14,9 @@ follow-requires-clause-follow c =
     let other = c.begin.ensures.made in
     λ i a at. (let may = c.in-Ok.ensures.follow refl i a at in let few = may.1 in (may.0, omega (arith, few, one, other)))
 
+pub follow-requires-clause-ready : goal.follow-requires-clause-ready
+follow-requires-clause-ready c = c.begin-in-Ok.ensures.ready c.args.config.now c.requires.ready
+
 -- both were given the same looks and actions
 after : (c : goal.After-twins_are_spare) → AreTwins c.follow.new.self c.take_each.new.self
 after c =
