@@ -29,7 +29,7 @@ pub use outcome::headline::headline_of_runs;
 pub use outcome::{Outcome, RunEnd, TalliedEnd};
 pub use parts::Parts;
 pub use parts::opening::{MOST_ROUNDS, open_parts};
-pub use rounds::passes::pass_given;
+pub use rounds::passes::{pass_given, step_given};
 pub use rounds::watch::watch_of_round;
 pub use rounds::{rounds_to_make, told_round};
 pub use workers::worker::Worker;

@@ -1,6 +1,9 @@
 //! The passes that a run is given.
 
 ghost use Rattle.std.specs.Prelude.{◌≡◌, ◌+◌, ◌<◌, ◌++◌, ◌∷◌, [], length, IfOk, IfErr};
+ghost use Rattle.std.specs.Prelude.{Some, slice_get};
+ghost use Rattle.cal_policy.specs.declared.history.entry.PassEntry.{PassEntry as EntryOf};
+ghost use Rattle.cal_run.specs.Outcome.{figures_of};
 ghost use Rattle.cal_run.specs.Parts.{HasPassed, scheduler_seat_of};
 ghost use Rattle.cal_run.specs.Workers.{FitSomeTable};
 ghost use Rattle.cal_sched.specs.Scheduler.{IsKept};
@@ -36,19 +39,18 @@ pub fn pass_given(
     }
 }
 
-/// Pass `p` of those given, as `pass_given` makes it, but with no entry: its actions come into `out`.
-/// Takes no memory.
-pub(crate) fn step_given(
-    scheduler: &mut BareScheduler,
-    arrivals: &Arrivals,
-    p: usize,
-    out: &mut Actions,
-)
+/// Pass `p` of those given, as `pass_given` makes it, but with no entry: its actions, and no others,
+/// come into `out`. Takes no memory, and waits for nobody.
+pub fn step_given(scheduler: &mut BareScheduler, arrivals: &Arrivals, p: usize, out: &mut Actions)
     requires fits { FitSomeTable arrivals.now }
     requires given { p < length arrivals.now.passes }
     requires passed { HasPassed arrivals.now p scheduler.old }
     ensures passed { HasPassed arrivals.now (p + 1) scheduler.new }
+    ensures acted { (entry : EntryOf)
+        × (scheduler.new.history ≡ scheduler.old.history ++ entry ∷ [])
+        × (slice_get arrivals.now.passes p ≡ Some (figures_of entry)) × (out.new ≡ entry.actions) }
     ensures seat { scheduler_seat_of scheduler.new ≡ scheduler_seat_of scheduler.old }
+    ensures kept { IsKept scheduler.new }
 {
     let given = arrivals.passes.as_slice()[p];
     let Ok(()) = scheduler.step(given.now, given.bandwidth, out) else {
