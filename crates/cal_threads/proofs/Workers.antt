@@ -4,7 +4,7 @@ use Rattle.std.specs.List.{AllZip, slice_get}
 use Rattle.cal_trace.specs.declared.arrivals.Arrivals.{Arrivals}
 use Rattle.cal_run.specs.Workers.{HasMade, HaveMade, seat_of, seats_of}
 use Rattle.cal_run.specs.declared.workers.worker.Worker.{Worker}
-use Rattle.cal_threads.specs.Gates.{LetsThrough}
+use Rattle.cal_threads.specs.Gates.{LetsTurns}
 use Rattle.cal_threads.specs.Promises.{HasMadeTurns, IsPromiseKept, IsOf}
 use Rattle.cal_threads.specs.declared.kernel_threads.Turned.{Turned}
 use Rattle.cal_threads.proofs.Pairs.{pairs_at, pairs_map, pairs_place}
@@ -61,11 +61,11 @@ module _ {G : Type 0} (answers : G → ℕ → ℕ → Bool → Type 0) (threads
       subst R of.arrivals_are (subst Q (sym of.number) (subst P of.worker_is kept.turns))
 
   -- and the gate may have let each of them through
-  pub asked_of : LetsThrough (answers gate was.number) (length arrivals.turns)
+  pub asked_of : LetsTurns (answers gate was.number) arrivals
   asked_of =
-      let P : ℕ → Type 0 = λ k. LetsThrough (answers promise.gate.now k) (length promise.arrivals.now.turns) in
-      let Q : G → Type 0 = λ h. LetsThrough (answers h was.number) (length promise.arrivals.now.turns) in
-      let R : Arrivals → Type 0 = λ a. LetsThrough (answers gate was.number) (length a.turns) in
+      let P : ℕ → Type 0 = λ k. LetsTurns (answers promise.gate.now k) promise.arrivals.now in
+      let Q : G → Type 0 = λ h. LetsTurns (answers h was.number) promise.arrivals.now in
+      let R : Arrivals → Type 0 = λ a. LetsTurns (answers gate was.number) a in
       subst R of.arrivals_are (subst Q of.gate_is (subst P (sym of.number) kept.asked))
 
 -- where something holds of the number of each worker, it does of each number below the count

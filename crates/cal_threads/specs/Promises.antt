@@ -1,22 +1,37 @@
 -- What the threads of a run promise.
-use Rattle.std.specs.Prelude.{◌≡◌, ℕ, ◌<◌, Bool, Result, MatchResult, length, min}
+use Rattle.std.specs.Prelude.{◌≡◌, ℕ, ◌<◌, Bool, Result, MatchResult, length, min, vec_len}
 use Rattle.cal_sched.specs.Scheduler.{SchedulerView}
 use Rattle.cal_sched.specs.Watching.{WatchView}
 use Rattle.cal_trace.specs.declared.arrivals.Arrivals.{Arrivals}
 use Rattle.cal_machine.specs.Table.{Table}
+use Rattle.cal_run.specs.Collecting.{IsCollectedOf}
 use Rattle.cal_run.specs.Parts.{AreParts, HasPassed, rounds_of, scheduler_seat_of, watch_seat_of}
+use Rattle.cal_run.specs.declared.collector.collected.Collected.{Collected}
 use Rattle.cal_run.specs.declared.parts.Parts.{Parts}
 use Rattle.cal_run.specs.Workers.{HasMade, seat_of}
 use Rattle.cal_run.specs.declared.workers.worker.Worker.{Worker}
 use Rattle.cal_run.specs.declared.fault.SimFault.{SimFault}
-use Rattle.cal_threads.specs.Gates.{EndedBy, LetsThrough, MayRefuse}
+use Rattle.cal_threads.specs.Gates.{EndedBy, LetsAllTurns, LetsPasses, LetsTurns, MayRefuseTurn}
 use Rattle.cal_threads.specs.declared.kernel_threads.Turned.{Turned}
+
+-- the parts of a run on these arrivals that has not begun: no pass, turn or round is made
+abbrev pub HaveNotRun : Arrivals → Parts → Type 0
+HaveNotRun arrivals parts = AreParts parts.scheduler.table arrivals 0 0 0 parts
 
 -- the parts of a run on these arrivals that has come to its end: all passes, turns and rounds are
 -- made
 abbrev pub HaveRun : Table → Arrivals → Parts → Type 0
 HaveRun table arrivals =
     AreParts table arrivals (length arrivals.passes) (length arrivals.turns) (rounds_of arrivals)
+
+-- what a run of these parts comes back with where it ends well: they have run, what was collected
+-- is theirs, and before each pass and each turn the gate may have answered yes
+pub record EndsWell (passes : ℕ → Bool → Type 0) (turns : ℕ → ℕ → Bool → Type 0)
+    (arrivals : Arrivals) (parts : Parts) (run : Parts × Collected) : Type 0 where
+  pub ran : HaveRun parts.scheduler.table arrivals run.0
+  pub collected : IsCollectedOf run.0 run.1
+  pub passes_asked : LetsPasses passes arrivals
+  pub turns_asked : LetsAllTurns turns (vec_len parts.workers) arrivals
 
 -- the scheduler is in its seat, and has made all its passes
 pub record HasMadePasses (arrivals : Arrivals) (before after : SchedulerView) : Type 0 where
@@ -27,7 +42,7 @@ pub record HasMadePasses (arrivals : Arrivals) (before after : SchedulerView) : 
 pub record AsksEachPass (answers : ℕ → Bool → Type 0) (arrivals : Arrivals)
     (before after : SchedulerView) : Type 0 where
   pub made : HasMadePasses arrivals before after
-  pub asked : LetsThrough answers (length arrivals.passes)
+  pub asked : LetsPasses answers arrivals
 
 -- the watch is in its seat, and has made as many rounds as passes, up to the last one that it was
 -- made for
@@ -53,7 +68,7 @@ module _ {G : Type 0} where
   -- the gate may have let each turn of the thread that made this promise through
   abbrev pub MayGoOn : (G → ℕ → ℕ → Bool → Type 0) → Turned G → Type 0
   MayGoOn answers promise =
-      LetsThrough (answers promise.gate.now promise.k) (length promise.arrivals.now.turns)
+      LetsTurns (answers promise.gate.now promise.k) promise.arrivals.now
 
   -- the promise is kept by this kernel thread
   pub record IsPromiseKept (answers : G → ℕ → ℕ → Bool → Type 0) (promise : Turned G)
@@ -64,7 +79,7 @@ module _ {G : Type 0} where
   -- the gate may end the thread that made this promise
   abbrev pub MayEnd : (G → ℕ → ℕ → Bool → Type 0) → Turned G → Type 0
   MayEnd answers promise =
-      MayRefuse (answers promise.gate.now promise.k) (length promise.arrivals.now.turns)
+      MayRefuseTurn (answers promise.gate.now promise.k) promise.arrivals.now
 
   -- what the thread that made this promise may come back with
   abbrev pub MayGive : (G → ℕ → ℕ → Bool → Type 0) → Turned G → Result Worker SimFault → Type 0

@@ -6,7 +6,7 @@ ghost use Rattle.std.specs.List.{AllZip, Contains};
 ghost use Rattle.cal_run.specs.Workers.{FitSomeTable, HaveMade, seats_of};
 ghost use Rattle.cal_run.specs.declared.fault.SimFault.TheVariants.{Gate as GateFault, Spawn};
 ghost use Rattle.cal_threads.specs.Faults.{IsLeastOfAll};
-ghost use Rattle.cal_threads.specs.Gates.{LetsEachThrough, MayRefuseOne};
+ghost use Rattle.cal_threads.specs.Gates.{LetsAllTurns, MayFailTurns};
 ghost use Rattle.cal_threads.specs.Promises.{IsPromiseKept, IsOf, MayEnd, MayGive};
 
 use crate::answers::Answers;
@@ -54,10 +54,10 @@ pub(crate) fn run_workers<'s, R: Threads, E, G: Gate + Sync>(
     requires none { HaveMade arrivals.now 0 workers.items }
     ensures made { IfOk result (λ v. HaveMade arrivals.now (length arrivals.now.turns) v.items) }
     ensures seats { IfOk result (λ v. seats_of v.items ≡ seats_of workers.items) }
-    ensures asked { IfOk result (λ _. LetsEachThrough
-        (G.answers_turn gate.now) (vec_len workers) (length arrivals.now.turns)) }
-    ensures ended { IfErr result (λ e. e ≡ GateFault → MayRefuseOne
-        (G.answers_turn gate.now) (vec_len workers) (length arrivals.now.turns)) }
+    ensures asked { IfOk result (λ _.
+        LetsAllTurns (G.answers_turn gate.now) (vec_len workers) arrivals.now) }
+    ensures ended { IfErr result
+        (MayFailTurns (G.answers_turn gate.now) (vec_len workers) arrivals.now) }
 {
     // All room is made before the first thread starts, so that none is given up.
     let threads = Vec::with_capacity(alloc, workers.len())?;

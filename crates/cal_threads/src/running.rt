@@ -2,13 +2,13 @@
 
 ghost use Rattle.std.specs.Prelude.{◌≡◌, IfOk, IfErr, MatchResult, length, vec_len};
 ghost use Rattle.cal_run.specs.Collecting.{IsCollectedOf};
-ghost use Rattle.cal_run.specs.Parts.{AreParts, HasPassed};
+ghost use Rattle.cal_run.specs.Parts.{HasPassed};
 ghost use Rattle.cal_run.specs.Workers.{FitSomeTable, HaveMade, seats_of};
-ghost use Rattle.cal_run.specs.declared.fault.SimFault.TheVariants.{Gate as GateFault, Memory};
-ghost use Rattle.cal_run.specs.declared.fault.SimFault.TheVariants.{Spawn};
-ghost use Rattle.cal_threads.specs.Gates.{EndedBy, LetsEachThrough, LetsThrough};
-ghost use Rattle.cal_threads.specs.Gates.{MayRefuse, MayRefuseOne, MayRefuseRun};
-ghost use Rattle.cal_threads.specs.Promises.{AsksEachPass, HasMadePasses, HasMadeRounds, HaveRun};
+ghost use Rattle.cal_run.specs.declared.fault.SimFault.TheVariants.{Memory, Spawn};
+ghost use Rattle.cal_threads.specs.Gates.{EndedBy, LetsAllTurns, LetsPasses};
+ghost use Rattle.cal_threads.specs.Gates.{MayFailRun, MayFailTurns, MayRefusePass};
+ghost use Rattle.cal_threads.specs.Promises.{AsksEachPass, EndsWell, HasMadeRounds};
+ghost use Rattle.cal_threads.specs.Promises.{HaveNotRun, HaveRun};
 
 use crate::faults::both_or_least_fault;
 use crate::gate::Gate;
@@ -37,7 +37,7 @@ struct Passed<'a, G: Gate> {
 impl<'a, G: Gate> Promise<Result<CollectingScheduler, SimFault>> for Passed<'a, G> {
     ghost kept_by = { λ p r. MatchResult r
         (AsksEachPass (G.answers_pass p.gate.now) p.arrivals.now p.was.value)
-        (EndedBy (MayRefuse (G.answers_pass p.gate.now) (length p.arrivals.now.passes))) };
+        (EndedBy (MayRefusePass (G.answers_pass p.gate.now) p.arrivals.now)) };
 }
 
 /// The thread of the scheduler.
@@ -71,33 +71,21 @@ pub fn run_threads<R: Threads + Wait + Sync, G: Gate + Sync>(
     parts: Parts,
 ) -> Result<(Parts, Collected), SimFault>
     requires fits { FitSomeTable arrivals.now }
-    requires parts { AreParts parts.scheduler.table arrivals.now 0 0 0 parts }
+    requires parts { HaveNotRun arrivals.now parts }
     ensures ran { IfOk result (λ run. HaveRun parts.scheduler.table arrivals.now run.0) }
     ensures collected { IfOk result (λ run. IsCollectedOf run.0 run.1) }
-    ensures passes_asked { IfOk result (λ _.
-        LetsThrough (G.answers_pass gate.now) (length arrivals.now.passes)) }
-    ensures turns_asked { IfOk result (λ _. LetsEachThrough
-        (G.answers_turn gate.now) (vec_len parts.workers) (length arrivals.now.turns)) }
-    ensures ended { IfErr result (λ e. e ≡ GateFault → MayRefuseRun
-        (G.answers_pass gate.now) (G.answers_turn gate.now) (vec_len parts.workers) arrivals.now) }
+    ensures passes_asked { IfOk result (λ _. LetsPasses (G.answers_pass gate.now) arrivals.now) }
+    ensures turns_asked { IfOk result (λ _.
+        LetsAllTurns (G.answers_turn gate.now) (vec_len parts.workers) arrivals.now) }
+    ensures ended { IfErr result (MayFailRun (G.answers_pass gate.now)
+        (G.answers_turn gate.now) (vec_len parts.workers) arrivals.now) }
 {
     thread::scope(
         thread::scope_env(),
         rt,
-        move |scope| -> Result<(Parts, Collected), SimFault>
+        move |scope|
             requires fits { FitSomeTable arrivals.now }
-            requires parts { AreParts parts.scheduler.table arrivals.now 0 0 0 parts }
-            ensures ran { IfOk result (λ run.
-                HaveRun parts.scheduler.table arrivals.entry.now run.0) }
-            ensures collected { IfOk result (λ run. IsCollectedOf run.0 run.1) }
-            ensures passes_asked { IfOk result (λ _.
-                LetsThrough (G.answers_pass gate.entry.now) (length arrivals.entry.now.passes)) }
-            ensures turns_asked { IfOk result (λ _.
-                LetsEachThrough (G.answers_turn gate.entry.now) (vec_len parts.workers)
-                (length arrivals.entry.now.turns)) }
-            ensures ended { IfErr result (λ e. e ≡ GateFault → MayRefuseRun
-                (G.answers_pass gate.entry.now) (G.answers_turn gate.entry.now)
-                (vec_len parts.workers) arrivals.entry.now) }
+            requires parts { HaveNotRun arrivals.now parts }
         { run_within(rt, scope, alloc, arrivals, gate, parts) },
     )
 }
@@ -112,15 +100,11 @@ fn run_within<'s, R: Threads, E, G: Gate + Sync>(
     parts: Parts,
 ) -> Result<(Parts, Collected), SimFault>
     requires fits { FitSomeTable arrivals.now }
-    requires parts { AreParts parts.scheduler.table arrivals.now 0 0 0 parts }
-    ensures ran { IfOk result (λ run. HaveRun parts.scheduler.table arrivals.now run.0) }
-    ensures collected { IfOk result (λ run. IsCollectedOf run.0 run.1) }
-    ensures passes_asked { IfOk result (λ _.
-        LetsThrough (G.answers_pass gate.now) (length arrivals.now.passes)) }
-    ensures turns_asked { IfOk result (λ _. LetsEachThrough
-        (G.answers_turn gate.now) (vec_len parts.workers) (length arrivals.now.turns)) }
-    ensures ended { IfErr result (λ e. e ≡ GateFault → MayRefuseRun
-        (G.answers_pass gate.now) (G.answers_turn gate.now) (vec_len parts.workers) arrivals.now) }
+    requires parts { HaveNotRun arrivals.now parts }
+    ensures ran { IfOk result
+        (EndsWell (G.answers_pass gate.now) (G.answers_turn gate.now) arrivals.now parts) }
+    ensures ended { IfErr result (MayFailRun (G.answers_pass gate.now)
+        (G.answers_turn gate.now) (vec_len parts.workers) arrivals.now) }
 {
     let Parts {
         scheduler,
@@ -180,10 +164,10 @@ fn run_others<'s, R: Threads, E, G: Gate + Sync>(
         HaveMade arrivals.now (length arrivals.now.turns) r.0.items) }
     ensures seats { IfOk result (λ r. seats_of r.0.items ≡ seats_of workers.items) }
     ensures rounds { IfOk result (λ r. HasMadeRounds (length arrivals.now.passes) watch r.1) }
-    ensures asked { IfOk result (λ _. LetsEachThrough
-        (G.answers_turn gate.now) (vec_len workers) (length arrivals.now.turns)) }
-    ensures ended { IfErr result (λ e. e ≡ GateFault → MayRefuseOne
-        (G.answers_turn gate.now) (vec_len workers) (length arrivals.now.turns)) }
+    ensures asked { IfOk result (λ _.
+        LetsAllTurns (G.answers_turn gate.now) (vec_len workers) arrivals.now) }
+    ensures ended { IfErr result
+        (MayFailTurns (G.answers_turn gate.now) (vec_len workers) arrivals.now) }
 {
     let watching = start_watch(scope, arrivals.passes.as_slice().len(), watch)?;
     let workers = run_workers(rt, scope, alloc, gate, arrivals, workers);

@@ -1,13 +1,11 @@
 //! A run in threads, from a table and arrivals to its outcome.
 
-ghost use Rattle.std.specs.Prelude.{◌≡◌, IfOk, IfErr, length};
+ghost use Rattle.std.specs.Prelude.{IfOk, IfErr};
 ghost use Rattle.cal_machine.specs.TableTasks.{threads_of_table};
 ghost use Rattle.cal_run.specs.Outcome.Headline.{Headline};
 ghost use Rattle.cal_run.specs.Outcome.{EachStandsOnce, IsRun, IsRunEnd};
 ghost use Rattle.cal_run.specs.Outcome.{outcome_of};
-ghost use Rattle.cal_run.specs.declared.fault.SimFault.TheVariants.{Gate as GateFault};
-ghost use Rattle.cal_threads.specs.Gates.{LetsEachThrough, LetsThrough};
-ghost use Rattle.cal_threads.specs.Gates.{MayRefuseRun};
+ghost use Rattle.cal_threads.specs.Gates.{LetsAllTurns, LetsPasses, MayFailRun};
 ghost use Rattle.cal_trace.specs.Arrivals.FitsTable.{FitsTable};
 
 use crate::gate::Gate;
@@ -41,13 +39,11 @@ pub fn simulate<R: Threads + Wait + Sync, G: Gate + Sync>(
     ensures run { IfOk result (IsRun config.now arrivals.now) }
     ensures once { IfOk result (λ outcome. EachStandsOnce arrivals.now outcome) }
     ensures headline { IfOk result (Headline config.now) }
-    ensures passes_asked { IfOk result (λ _.
-        LetsThrough (G.answers_pass gate.now) (length arrivals.now.passes)) }
-    ensures turns_asked { IfOk result (λ _. LetsEachThrough
-        (G.answers_turn gate.now) (threads_of_table config.now) (length arrivals.now.turns)) }
-    ensures gate { IfErr result (λ fault. fault ≡ GateFault →
-        MayRefuseRun (G.answers_pass gate.now) (G.answers_turn gate.now)
-        (threads_of_table config.now) arrivals.now) }
+    ensures passes_asked { IfOk result (λ _. LetsPasses (G.answers_pass gate.now) arrivals.now) }
+    ensures turns_asked { IfOk result (λ _.
+        LetsAllTurns (G.answers_turn gate.now) (threads_of_table config.now) arrivals.now) }
+    ensures gate { IfErr result (MayFailRun (G.answers_pass gate.now)
+        (G.answers_turn gate.now) (threads_of_table config.now) arrivals.now) }
 {
     config.limits();
     headline_of_runs();
@@ -70,13 +66,11 @@ pub fn simulation_end<R: Threads + Wait + Sync, G: Gate + Sync>(
     requires fits { FitsTable config.now arrivals.now }
     ensures run { IfOk result (IsRunEnd config.now arrivals.now) }
     ensures headline { IfOk result (λ end. Headline config.now (outcome_of end)) }
-    ensures passes_asked { IfOk result (λ _.
-        LetsThrough (G.answers_pass gate.now) (length arrivals.now.passes)) }
-    ensures turns_asked { IfOk result (λ _. LetsEachThrough
-        (G.answers_turn gate.now) (threads_of_table config.now) (length arrivals.now.turns)) }
-    ensures gate { IfErr result (λ fault. fault ≡ GateFault →
-        MayRefuseRun (G.answers_pass gate.now) (G.answers_turn gate.now)
-        (threads_of_table config.now) arrivals.now) }
+    ensures passes_asked { IfOk result (λ _. LetsPasses (G.answers_pass gate.now) arrivals.now) }
+    ensures turns_asked { IfOk result (λ _.
+        LetsAllTurns (G.answers_turn gate.now) (threads_of_table config.now) arrivals.now) }
+    ensures gate { IfErr result (MayFailRun (G.answers_pass gate.now)
+        (G.answers_turn gate.now) (threads_of_table config.now) arrivals.now) }
 {
     config.limits();
     headline_of_runs();

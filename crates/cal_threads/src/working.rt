@@ -4,7 +4,8 @@
 ghost use Rattle.std.specs.Prelude.{◌≡◌, IfOk, IfErr, length, min};
 ghost use Rattle.cal_run.specs.Parts.{HasPassed, scheduler_seat_of, watch_seat_of};
 ghost use Rattle.cal_run.specs.Workers.{FitSomeTable, HasMade, seat_of};
-ghost use Rattle.cal_threads.specs.Gates.{EndedBy, LetsThrough, MayRefuse};
+ghost use Rattle.cal_threads.specs.Gates.{EndedBy, LetsPasses, LetsTurns};
+ghost use Rattle.cal_threads.specs.Gates.{MayRefusePass, MayRefuseTurn};
 
 use crate::gate::Gate;
 use cal_run::{CollectingScheduler, CollectingWorker, SimFault, watch_of_round};
@@ -22,10 +23,9 @@ pub(crate) fn make_passes<G: Gate>(
     requires none { HasPassed arrivals.now 0 scheduler }
     ensures passed { IfOk result (HasPassed arrivals.now (length arrivals.now.passes)) }
     ensures seat { IfOk result (λ s. scheduler_seat_of s ≡ scheduler_seat_of scheduler) }
-    ensures asked { IfOk result (λ _.
-        LetsThrough (G.answers_pass gate.now) (length arrivals.now.passes)) }
+    ensures asked { IfOk result (λ _. LetsPasses (G.answers_pass gate.now) arrivals.now) }
     ensures ended { IfErr result (EndedBy
-        (MayRefuse (G.answers_pass gate.now) (length arrivals.now.passes))) }
+        (MayRefusePass (G.answers_pass gate.now) arrivals.now)) }
 {
     for p in 0..arrivals.passes.as_slice().len() {
         if !gate.before_pass(p as u64) {
@@ -48,10 +48,9 @@ pub(crate) fn make_turns<G: Gate>(
     requires none { HasMade arrivals.now k 0 worker }
     ensures made { IfOk result (HasMade arrivals.now k (length arrivals.now.turns)) }
     ensures seat { IfOk result (λ w. seat_of w.thread ≡ seat_of worker.thread) }
-    ensures asked { IfOk result (λ _.
-        LetsThrough (G.answers_turn gate.now k) (length arrivals.now.turns)) }
+    ensures asked { IfOk result (λ _. LetsTurns (G.answers_turn gate.now k) arrivals.now) }
     ensures ended { IfErr result (EndedBy
-        (MayRefuse (G.answers_turn gate.now k) (length arrivals.now.turns))) }
+        (MayRefuseTurn (G.answers_turn gate.now k) arrivals.now)) }
 {
     for j in 0..arrivals.turns.as_slice().len() {
         if !gate.before_turn(k, j as u64) {

@@ -1,6 +1,6 @@
-use Rattle.std.proofs.Common.{length, arith, refl}
+use Rattle.std.proofs.Common.{arith, refl}
 use Rattle.cal_run.specs.declared.workers.worker.Worker.{Worker}
-use Rattle.cal_threads.specs.Gates.{LetsThrough}
+use Rattle.cal_threads.specs.Gates.{LetsTurns}
 use Rattle.cal_threads.proofs.Pairs.{pairs_through, pairs_second}
 use Rattle.cal_threads.proofs.Ends.{both_is_gate}
 use Rattle.cal_threads.proofs.Workers.{all_made, all_seated, asked_of, kept_of, of_each}
@@ -29,12 +29,12 @@ returns-in-Ok-clause-asked g c =
     let both = c.in-Ok.ensures.values in
     let started = rw both.0 at c.start_workers-threads.ensures.started in
     let joined = rw both.1 at c.join_workers-joined.ensures.made in
-    let n = length c.args.arrivals.now.turns in
-    let all = pairs_through _ _ (λ (was : Worker) (is : Worker). LetsThrough (g.G.Gate.answers_turn c.args.gate.now was.number) n)
+    let arrivals = c.args.arrivals.now in
+    let all = pairs_through _ _ (λ (was : Worker) (is : Worker). LetsTurns (g.G.Gate.answers_turn c.args.gate.now was.number) arrivals)
     (λ was thread is of kept. asked_of _ _ _ _ was thread.promise is of kept) _ _ _ started joined in
     λ k low.
     let size = c.args.workers.ok.0 in
-    of_each (λ i. LetsThrough (g.G.Gate.answers_turn c.args.gate.now i) n) c.args.arrivals.now _ _ c.requires.none all k (omega (arith, low, size))
+    of_each (λ i. LetsTurns (g.G.Gate.answers_turn c.args.gate.now i) arrivals) arrivals _ _ c.requires.none all k (omega (arith, low, size))
 
 -- A thread that the gate may have ended is of one of these kernel threads, with these arrivals and this gate.
 pub returns-in-Err-clause-ended : goal.returns-in-Err-clause-ended

@@ -7,7 +7,8 @@ use Rattle.cal_threads.specs.Promises.{HasMadePasses, HasMadeRounds}
 use Rattle.cal_threads.proofs.Together.{kept_passes, ran}
 use Rattle.cal_threads.proofs.running.run_within.Goals as goal
 
--- The scheduler and the others came back, each as was promised.
+-- The scheduler and the others came back, each as was promised; the gate that let the scheduler's passes through is the one
+-- that was handed in.
 pub returns-in_ok-made-in-Ok-clause-ran : goal.returns-in_ok-made-in-Ok-clause-ran
 returns-in_ok-made-in-Ok-clause-ran g c =
     let both = c.in-Ok.ensures.values in
@@ -22,11 +23,10 @@ returns-in_ok-made-in-Ok-clause-ran g c =
     let P : SchedulerView → Type 0 = λ s. HasMadePasses arrivals before.scheduler s in
     let Q : List Worker → Type 0 = λ l. HaveMade arrivals (length arrivals.turns) l in
     let R : WatchView → Type 0 = λ w. HasMadeRounds (length arrivals.passes) before.watch w in
-    ran _ _ before c.in_ok-made-in-Ok.made.0 c.requires.parts (subst P (sym apart.scheduler) passes) (subst Q (sym apart.workers) turns)
-    (ap seats_of apart.workers ∙ seats) (subst R (sym apart.watch) rounds)
-
--- The gate that let the scheduler's passes through is the one that was handed in.
-pub returns-in_ok-made-in-Ok-clause-passes_asked : goal.returns-in_ok-made-in-Ok-clause-passes_asked
-returns-in_ok-made-in-Ok-clause-passes_asked g c =
-    let joined = rw c.in-Ok.ensures.values.0 at c.join-scheduler.ensures in
-    rw (← c.in_ok-passing.ensures.gate, ← c.in_ok-passing.ensures.arrivals) joined.asked
+    record {
+      ran = ran _ _ before c.in_ok-made-in-Ok.made.0 c.requires.parts (subst P (sym apart.scheduler) passes) (subst Q (sym apart.workers) turns)
+          (ap seats_of apart.workers ∙ seats) (subst R (sym apart.watch) rounds);
+      collected = apart.collected;
+      passes_asked = rw (← c.in_ok-passing.ensures.gate, ← c.in_ok-passing.ensures.arrivals) joined.asked;
+      turns_asked = rw both.1 at c.run_others-others.ensures.asked;
+    }
