@@ -109,6 +109,40 @@ fn false_records(rt: HostRuntime) -> Result<(), Fail> {
     assert_meant(&rt, scheduler.history())
 }
 
+/// Copies of these passes.
+fn copies_of(alloc: Global, history: &[PassEntry]) -> Result<Vec<PassEntry>, AllocError> {
+    let mut copies = Vec::new(alloc);
+    for entry in history {
+        copies.push(entry.copy(alloc)?)?;
+    }
+    Ok(copies)
+}
+
+/// A scheduler that lets go of the list of its passes goes on where it was: it has made six, and
+/// its next two are the worked ones. The Runs of passes 1 to 4 and of pass 7 are on its ring.
+#[test]
+fn goes_on_without_its_history(rt: HostRuntime) -> Result<(), Fail> {
+    let (mut scheduler, mut publisher, mut taker) = bare(&rt)?;
+    assert!(rt; all_shown(&mut scheduler, &mut publisher));
+    assert_same(&rt, taker.take(), Some((1, Command::Run(0))));
+    let mut history = copies_of(rt.alloc(), scheduler.history())?;
+    let mut scheduler = scheduler.bare();
+    assert_same(&rt, scheduler.passes(), 6);
+    for now in [123, 125] {
+        let Ok(entry) = scheduler.pass(now, 0) else {
+            return Err(Fail::new("a pass was refused"));
+        };
+        history.push(entry)?;
+    }
+    assert_same(&rt, scheduler.passes(), 8);
+    assert_meant(&rt, history.as_slice())?;
+    for number in 2..6 {
+        assert_same(&rt, taker.take(), Some((number, Command::Run(0))));
+    }
+    assert_same(&rt, taker.take(), None);
+    Ok(())
+}
+
 /// So many passes, with clocks from 0. False where one is refused.
 fn pass_often(scheduler: &mut Scheduler, passes: u64) -> bool {
     for now in 0..passes {
