@@ -10,6 +10,7 @@ ghost use Rattle.cal_machine.specs.TableTasks.{threads_of_table};
 ghost use Rattle.cal_measure.specs.Clocks.{AreClocksOf};
 ghost use Rattle.cal_measure.specs.ThreadWork.{IsThreadWorkOf};
 ghost use Rattle.cal_measure.specs.Walk.{IsOpenFor, IsWalkOf};
+ghost use Rattle.cal_policy.specs.declared.history.entry.PassEntry.{PassEntry};
 ghost use Rattle.cal_run.specs.Parts.{HasPassed, scheduler_seat_of};
 ghost use Rattle.cal_run.specs.Workers.{FitSomeTable};
 ghost use Rattle.cal_run.specs.declared.outcome.Outcome.{Outcome};
@@ -18,14 +19,15 @@ ghost use Rattle.cal_tables.specs.Measured.{AreNumbersAtEnd, AreNumbersSoFar};
 use cal_kthread::{RequestList, TurnEntries};
 use cal_machine::{Config, Listed};
 use cal_measure::{EndedRun, ThreadWork, Walk, open_works};
-use cal_policy::PassEntry;
-use cal_run::{Collector, pass_given};
+use cal_policy::{Actions, legal_is_orderly, legal_is_short};
+use cal_run::{Collector, step_given};
 use cal_sched::BareScheduler;
 use cal_trace::Arrivals;
 use std::alloc::{AllocError, Global};
 
 /// What is measured of a run while it is made. Nothing of it grows with the passes, and of the turns
-/// it keeps one value for each request that was served.
+/// it keeps one value for each request that was served. A pass has no entry, and its state is the
+/// scheduler's.
 #[derive(Drop)]
 pub struct OpenNumbers {
     /// The table of the run.
@@ -34,6 +36,8 @@ pub struct OpenNumbers {
     pub walk: Walk,
     /// What the turns of each kernel thread so far came to, in thread order.
     pub threads: Vec<ThreadWork>,
+    /// Room for the actions of a pass.
+    pub actions: Actions,
 }
 
 /// What was measured of a run that has ended.
@@ -57,22 +61,19 @@ impl OpenNumbers {
     {
         let walk = Walk::open(alloc, config)?;
         let threads = open_works(alloc, config.threads())?;
+        let actions = Actions::reserved(alloc)?;
         let config = config.copy(alloc)?;
         Ok(OpenNumbers {
             config,
             walk,
             threads,
+            actions,
         })
     }
 
-    /// Makes pass `p` of those given, the next one, takes it, and hands its entry on. Fails only
-    /// when out of memory.
-    pub fn pass(
-        &mut self,
-        scheduler: &mut BareScheduler,
-        arrivals: &Arrivals,
-        p: usize,
-    ) -> Result<PassEntry, AllocError>
+    /// Makes pass `p` of those given, the next one, and takes it: its actions and the state that it
+    /// leaves, of the scheduler itself. Takes no memory.
+    pub fn pass(&mut self, scheduler: &mut BareScheduler, arrivals: &Arrivals, p: usize)
         requires table { self.old.config ≡ scheduler.old.table }
         requires open { IsOpenFor self.old.config self.old.walk }
         requires fits { FitSomeTable arrivals.now }
@@ -80,18 +81,22 @@ impl OpenNumbers {
         requires passed { HasPassed arrivals.now p scheduler.old }
         ensures table { self.new.config ≡ self.old.config }
         ensures threads { self.new.threads ≡ self.old.threads }
-        ensures open { IfOk result (λ _. IsOpenFor self.old.config self.new.walk) }
-        ensures passed { IfOk result (λ _. HasPassed arrivals.now (p + 1) scheduler.new) }
+        ensures open { IsOpenFor self.old.config self.new.walk }
+        ensures passed { HasPassed arrivals.now (p + 1) scheduler.new }
         ensures seat { scheduler_seat_of scheduler.new ≡ scheduler_seat_of scheduler.old }
-        ensures entered { IfOk result (λ entry.
-            scheduler.new.history ≡ scheduler.old.history ++ entry ∷ []) }
-        ensures walk { IfOk result (λ entry.
-            IsWalkOf self.old.config scheduler.old.history self.old.walk →
-            IsWalkOf self.old.config (scheduler.old.history ++ entry ∷ []) self.new.walk) }
+        ensures entered { (entry : PassEntry)
+            × (scheduler.new.history ≡ scheduler.old.history ++ entry ∷ []) }
+        ensures walk { IsWalkOf self.old.config scheduler.old.history self.old.walk →
+            IsWalkOf self.old.config scheduler.new.history self.new.walk }
     {
-        let entry = pass_given(scheduler, arrivals, p)?;
-        self.walk.next_pass(&self.config, &entry);
-        Ok(entry)
+        legal_is_orderly();
+        legal_is_short();
+        self.config.limits();
+        step_given(scheduler, arrivals, p, &mut self.actions);
+        let given = arrivals.passes.as_slice()[p];
+        let after = scheduler.board();
+        let actions = self.actions.as_slice();
+        self.walk.pass(&self.config, after, given, actions);
     }
 
     /// Takes what a turn of thread `k` added to its journal. Fails only when out of memory.
@@ -132,6 +137,7 @@ impl OpenNumbers {
             config,
             walk,
             threads,
+            ..
         } = self;
         let run = EndedRun::of(alloc, arrivals, threads, left)?;
         Ok(EndedNumbers { config, walk, run })
@@ -152,7 +158,7 @@ impl Collector for OpenNumbers {
         arrivals: &Arrivals,
         p: usize,
     ) -> Result<(), AllocError> {
-        self.pass(scheduler, arrivals, p)?;
+        self.pass(scheduler, arrivals, p);
         Ok(())
     }
 

@@ -76,7 +76,7 @@ impl Collector for OpenCourse {
         arrivals: &Arrivals,
         p: usize,
     ) -> Result<(), AllocError> {
-        self.numbers.pass(scheduler, arrivals, p)?;
+        self.numbers.pass(scheduler, arrivals, p);
         put_held(&self.numbers.walk, self.held.as_mut_slice())?;
         Ok(())
     }

@@ -1,4 +1,4 @@
-use Rattle.std.proofs.Common.{◌≡◌, ◌∙◌, List, subst, sym}
+use Rattle.std.proofs.Common.{◌≡◌, ◌∙◌, subst, sym}
 use Rattle.std.specs.List.{AllZip}
 use Rattle.std.specs.declared.alloc.Global.{Global}
 use Rattle.std.specs.declared.vec.Vec.{Vec}
@@ -6,7 +6,6 @@ use Rattle.cal_machine.specs.Table.{Table}
 use Rattle.cal_measure.specs.ThreadWork.{IsThreadWorkOf}
 use Rattle.cal_measure.specs.Walk.{IsOpenFor, IsWalkOf}
 use Rattle.cal_measure.specs.declared.thread_work.ThreadWork.{ThreadWork}
-use Rattle.cal_policy.specs.declared.history.entry.PassEntry.{PassEntry}
 use Rattle.cal_tables.proofs.collecting.OpenNumbersCollector.make_pass.Goals as goal
 
 pub pass-requires-clause-open : goal.pass-requires-clause-open
@@ -15,15 +14,14 @@ pass-requires-clause-open c = subst (λ (t : Table). IsOpenFor t c.args.self.now
 pub returns-clause-suits : goal.returns-clause-suits
 returns-clause-suits c = (
   c.pass.ensures.table ∙ c.requires.suits.0,
-  subst (λ (t : Table). IsOpenFor t c.pass.new.self.walk) c.requires.suits.0 c.in_ok-pass.ensures.open,
+  subst (λ (t : Table). IsOpenFor t c.pass.new.self.walk) c.requires.suits.0 c.pass.ensures.open,
 )
 
 pub returns-clause-collected : goal.returns-clause-collected
 returns-clause-collected c = λ journals held.
     let walk = c.pass.new.self.walk in
-    let P : List PassEntry → Type 0 = λ h. IsWalkOf c.args.self.now.config h walk in
     record {
       walk = subst (λ (t : Table). IsWalkOf t c.pass.new.scheduler.history walk) (sym c.pass.ensures.table)
-          (subst P (sym c.in_ok-pass.ensures.entered) (c.in_ok-pass.ensures.walk held.walk));
+          (c.pass.ensures.walk held.walk);
       threads = subst (λ (v : Vec ThreadWork Global). AllZip IsThreadWorkOf journals v.items) (sym c.pass.ensures.threads) held.threads;
     }
