@@ -7,7 +7,7 @@ use cal_explain::{ExplainFault, Explained, Explainer, Scope};
 use cal_input::{RunFault, read_parts};
 use cal_machine::Config;
 use cal_policy::{PassEntry, Verdict};
-use cal_trace::read_history;
+use cal_trace::{FaultKind, read_history};
 use std::alloc::Global;
 use std::io::{BufWriter, Write};
 
@@ -125,12 +125,21 @@ fn explain_read<W: Write>(
     }
 }
 
-/// The task table of an input and its passes: those of a history, or those that signals lead to.
+/// The task table of an input and its passes: those that its signals lead to or, where what follows
+/// the table has not their header, those of a history.
 fn passes_of(alloc: Global, input: &[u8]) -> Result<(Config, Vec<PassEntry>), RunFault> {
-    let (config, trace) = read_parts(alloc, input)?;
-    if trace.starts_with(b"caladan-signals") {
-        return decided_run(alloc, input);
+    match decided_run(alloc, input) {
+        Ok(run) => Ok(run),
+        Err(RunFault::Trace(fault)) if fault.kind == FaultKind::Header => {
+            recorded_run(alloc, input)
+        }
+        Err(fault) => Err(fault),
     }
+}
+
+/// The task table of an input, and the passes of the history after it.
+fn recorded_run(alloc: Global, input: &[u8]) -> Result<(Config, Vec<PassEntry>), RunFault> {
+    let (config, trace) = read_parts(alloc, input)?;
     let history = read_history(alloc, &config, trace)?;
     Ok((config, history))
 }
