@@ -6,3 +6,4 @@ pub mod Telling
 pub mod CommandWords
 pub mod Reporting
 pub mod Audited
+pub mod BegunJobs

@@ -9,7 +9,8 @@ use Rattle.cal_input.specs.Recorded.{Run, recorded_run_of}
 use Rattle.cal_input.specs.declared.fault.RunFault.{RunFault}
 use Rattle.cal_engine.specs.Outcome.{IsAudit, Reports}
 use Rattle.cal_engine.specs.Deciding.{decided_run_of}
-use Rattle.cal_engine.specs.Running.{is_told, Runs, RunsInThreads}
+use Rattle.cal_engine.specs.Front.{front_of}
+use Rattle.cal_engine.specs.Running.{is_told, run_front, Begins, Runs, RunsInThreads}
 use Rattle.cal_engine.specs.declared.command_words.command_line.Job.{Job}
 use Rattle.cal_engine.specs.declared.command_words.command_line.Job.TheVariants as job
 
@@ -48,6 +49,12 @@ DoesJob job.Audit answer input old new =
 abbrev pub is_told_job : Job → Bool
 is_told_job (job.Lockstep asked) = is_told asked
 is_told_job _ = false
+
+-- the job is one that is told, and this much of it was written where memory was refused in its midst
+abbrev pub BeginsJob : Job → List ℕ → Option (List ℕ) → Option (List ℕ) → Type 0
+BeginsJob (job.Lockstep asked) input old new =
+    Begins (front_of (run_front asked) input) (within_limit input (run_input_of input)) old new
+BeginsJob _ input old new = ⊥
 
 -- the status with which the program ends after an answer, or after a fault
 abbrev pub exit_status : Result ℕ RunFault → ℕ

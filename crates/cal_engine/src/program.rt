@@ -1,9 +1,11 @@
 //! A whole run of the program: words and an input in; an answer, an error line and an exit status
 //! out.
 
-ghost use Rattle.std.specs.Prelude.{◌≡◌, ◌≢◌, IfErr, IfOk, IfSome, drop, false, map, string_bytes};
+ghost use Rattle.std.specs.Prelude.{◌≡◌, ◌≢◌, ◌⊎◌, IfErr, IfOk, IfSome, drop, false, map};
+ghost use Rattle.std.specs.Prelude.{string_bytes};
 ghost use Rattle.cal_engine.specs.CommandWords.{Asks};
-ghost use Rattle.cal_engine.specs.Program.{is_told_job, verdict_status, DoesJob, EndsJob};
+ghost use Rattle.cal_engine.specs.Program.{is_told_job, verdict_status, BeginsJob, DoesJob};
+ghost use Rattle.cal_engine.specs.Program.{EndsJob};
 ghost use Rattle.cal_engine.specs.declared.command_words.command_line.Job.{Job as JobOf};
 
 use crate::command_words::command_line::{Job, words};
@@ -76,6 +78,7 @@ fn answer_words<H: Threads + Wait + Sync, R: Read + Drop, W: Write, E: Write>(
 /// 1 after the audit of an illegal history, and else 0. The answer goes to `output`, and the faults
 /// are those of the job: of `decide`, `run_lockstep`, `run_sim` or `run_audit`.
 /// Only a run in threads uses `rt`, and waits, at its joins.
+#[tactic(auto, using(crate::proofs::BegunJobs::unbegun))]
 pub fn do_job<H: Threads + Wait + Sync, R: Read + Drop, W: Write>(
     rt: &H,
     alloc: Global,
@@ -93,6 +96,11 @@ pub fn do_job<H: Threads + Wait + Sync, R: Read + Drop, W: Write>(
     // memory was refused in its midst.
     ensures untouched { IfErr result (λ fault. fault ≢ RunFault.Write →
         (fault ≡ RunFault.Memory → is_told_job job ≡ false) → output.new ≡ output.old) }
+    // Where memory was refused in the midst of a run that is told, whole passes of its history were
+    // written.
+    ensures begun { IfErr result (λ fault. fault ≡ RunFault.Memory →
+        (output.new ≡ output.old) ⊎ IfSome (R.remaining reader) (λ input.
+        BeginsJob job input (W.contents output.old) (W.contents output.new))) }
 {
     match job {
         Job::Decide => {
