@@ -1,6 +1,8 @@
 //! The words of caladan_sim with `--explain`.
 
-ghost use Rattle.std.specs.Prelude.{◌≡◌, ◌≢◌, IfErr, IfOk};
+ghost use Rattle.std.specs.Prelude.{◌≡◌, ◌≢◌, IfErr, IfOk, drop, map, string_bytes};
+ghost use Rattle.std.specs.Prelude.{take};
+ghost use Rattle.cal_refusals.specs.Explaining.{asks_why, is_option, words_without};
 
 use crate::ending::{RefusedInput, end_explained};
 use cal_engine::{Job, do_job, end_with, refuse_words, words};
@@ -11,28 +13,61 @@ use std::io::{Read, Write};
 use std::sync::Wait;
 use std::thread::Threads;
 
-/// The option.
-const EXPLAIN: &str = "--explain";
+/// Whether a word is the option.
+fn is_option(word: &str) -> bool
+    ensures { result ≡ is_option word.now }
+{
+    word == "--explain"
+}
+
+/// The words behind the name of the program and the word after it.
+fn words_behind(named: &[String]) -> &[String]
+    ensures { result.now ≡ drop 2 named.now }
+{
+    match named.get(2..) {
+        Some(words) => words,
+        None => &[],
+    }
+}
 
 /// Whether the option stands after a named word, among the name of the program and the words after
 /// it.
-pub fn asks_why(named: &[String]) -> bool {
-    for (place, word) in named.iter().enumerate() {
-        if 2 <= place && word.as_str() == EXPLAIN {
+pub fn asks_why(named: &[String]) -> bool
+    ensures { result ≡ asks_why (map string_bytes named.now) }
+{
+    let behind = words_behind(named);
+    for word in behind {
+        if is_option(word.as_str()) {
             return true;
         }
     }
     false
 }
 
-/// The words after the program's name without the option.
-fn words_without<'a>(alloc: Global, named: &'a [String]) -> Result<Vec<&'a str>, AllocError> {
+/// The word after the program's name, if there is one.
+fn named_word<'a>(alloc: Global, named: &'a [String]) -> Result<Vec<&'a str>, AllocError>
+    ensures { IfOk result (λ given.
+        map (λ word. word.now) given.items ≡ take 1 (drop 1 (map string_bytes named.now))) }
+{
     let mut given = Vec::new(alloc);
-    for (place, word) in named.iter().enumerate() {
-        let is_option = 2 <= place && word.as_str() == EXPLAIN;
-        if 1 <= place && !is_option {
-            given.push(word.as_str())?;
+    if let [_, word, ..] = named {
+        given.push(word.as_str())?;
+    }
+    Ok(given)
+}
+
+/// The words after the program's name without the option.
+fn words_without<'a>(alloc: Global, named: &'a [String]) -> Result<Vec<&'a str>, AllocError>
+    ensures { IfOk result (λ given.
+        map (λ word. word.now) given.items ≡ words_without (map string_bytes named.now)) }
+{
+    let mut given = named_word(alloc, named)?;
+    let behind = words_behind(named);
+    for word in behind {
+        if is_option(word.as_str()) {
+            continue;
         }
+        given.push(word.as_str())?;
     }
     Ok(given)
 }
@@ -57,7 +92,7 @@ pub fn run_explained<H: Threads + Wait + Sync, R: Read + Drop, W: Write, E: Writ
     }
 }
 
-/// Does what the words ask for. The faults are those of the words and of reading.
+/// Does what the words ask for without the option. The faults are those of the words and of reading.
 fn answer_words<H: Threads + Wait + Sync, R: Read + Drop, W: Write, E: Write>(
     rt: &H,
     alloc: Global,
