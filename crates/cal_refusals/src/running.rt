@@ -1,7 +1,10 @@
 //! The words of caladan_sim with `--explain`.
 
-ghost use Rattle.std.specs.Prelude.{◌≡◌, ◌≢◌, IfErr, IfOk, drop, map, string_bytes};
+ghost use Rattle.std.specs.Prelude.{◌≡◌, ◌≢◌, IfErr, IfOk, IfSome, drop, map, string_bytes};
 ghost use Rattle.std.specs.Prelude.{take};
+ghost use Rattle.cal_engine.specs.CommandWords.{Asks};
+ghost use Rattle.cal_engine.specs.Program.{exit_status, EndsJob};
+ghost use Rattle.cal_engine.specs.declared.command_words.command_line.Job.{Job as JobOf};
 ghost use Rattle.cal_refusals.specs.Explaining.{asks_why, is_option, words_without};
 
 use crate::ending::{RefusedInput, end_explained};
@@ -83,6 +86,11 @@ pub fn run_explained<H: Threads + Wait + Sync, R: Read + Drop, W: Write, E: Writ
     output: &mut W,
     errors: &mut E,
 ) -> u8
+    // What the words ask for without the option was done on the input, and the status is that of
+    // the answer.
+    ensures job { IfSome (R.remaining reader) (λ input. (job : JobOf) →
+        Asks (words_without (map string_bytes named.now)) job →
+        EndsJob job result input (W.contents output.old) (W.contents output.new)) }
     // Where the words or the input are refused nothing is written on the output.
     ensures refused { result ≡ 2 → output.new ≡ output.old }
 {
@@ -101,6 +109,9 @@ fn answer_words<H: Threads + Wait + Sync, R: Read + Drop, W: Write, E: Write>(
     output: &mut W,
     errors: &mut E,
 ) -> Result<u8, RunFault>
+    ensures job { IfSome (R.remaining reader) (λ input. (job : JobOf) →
+        Asks (words_without (map string_bytes named.now)) job →
+        EndsJob job (exit_status result) input (W.contents output.old) (W.contents output.new)) }
     ensures refused { IfOk result (λ status. status ≡ 2 → output.new ≡ output.old) }
     ensures untouched { IfErr result (λ fault. fault ≢ RunFault.Write →
         fault ≢ RunFault.Memory → output.new ≡ output.old) }
