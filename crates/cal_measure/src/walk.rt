@@ -33,8 +33,8 @@ use std::alloc::{AllocError, Global};
 
 /// The walk over the passes of a history, one after the other, whoever gives them. Its numbers are
 /// at any time those of the passes so far, and each pass costs the work of that pass alone: there is
-/// one board, and for each task a row of numbers. No pass takes memory. The state that a pass leaves
-/// it is told: whoever makes passes has it.
+/// for each task a row of numbers, and one board, which is brought up by actions alone. No pass takes
+/// memory. The state that a pass leaves it is told: whoever makes passes has it.
 ///
 /// Every call is to be given the table that it was opened for.
 #[derive(Drop)]

@@ -17,7 +17,7 @@ ghost use Rattle.cal_policy.specs.Board.{placement_of};
 ghost use Rattle.cal_policy.specs.State.{IsOfTable, Stands, Agrees};
 ghost use Rattle.cal_policy.specs.Board.Counts.{held_by, is_held_for};
 ghost use Rattle.cal_policy.specs.Pass.Choice.{best_below, lowest_below};
-ghost use Rattle.cal_policy.specs.Pass.Among.{class_among, is_beside_own, was_own};
+ghost use Rattle.cal_policy.specs.Pass.Among.{class_among, is_beside_own, was_own_last};
 ghost use Rattle.cal_policy.specs.Pass.AtHand.{setting_in};
 
 use crate::board::Board;
@@ -253,7 +253,7 @@ impl Pass<'_> {
     fn idle_again(&self, board: &Board, task: usize) -> Option<u8>
         requires at_hand { IsOfTable self.now.config.now board.now }
         ensures lowest { (x : List Action) → Agrees board.now x → result ≡ lowest_below
-            (was_own board.now.open_cores.idle self.now.config.now x task)
+            (was_own_last board.now.open_cores.idle self.now.config.now x task)
             self.now.config.now.cores }
         ensures below { IfSome result (λ core. core < self.now.config.now.cores) }
     {
