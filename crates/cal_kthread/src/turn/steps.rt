@@ -145,9 +145,7 @@ impl Thread {
             (turn.shown now self.old) }
     {
         let shown = self.record(now);
-        let Ok(place) = self.publisher.publish(shown) else {
-            unreachable!()
-        };
+        let place = self.publisher.put(shown);
         Publication { place, shown }
     }
 }
