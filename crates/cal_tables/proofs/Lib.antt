@@ -8,3 +8,4 @@ pub mod Variations
 pub mod Lines
 pub mod ReadBack
 pub mod OwnValue
+pub mod Unvaried

@@ -22,6 +22,10 @@ use Rattle.cal_tables.specs.declared.writing.Line.TheVariants as lines
 abbrev pub exact : ℕ → Figure
 exact n = record { number = n; is_bound = false; few = None }
 
+-- the number, where it is no bound
+abbrev pub known : Figure → Option ℕ
+known figure = if figure.is_bound then None else Some figure.number
+
 -- some thousandths, up to the greatest number
 abbrev pub share_in : Option ℕ → Option Figure
 share_in None = None

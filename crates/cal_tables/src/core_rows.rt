@@ -1,6 +1,7 @@
 //! The numbers of a run's cores, row by row.
 
-ghost use Rattle.std.specs.Prelude.{◌≡◌, ◌≤◌, ◌-◌, ◌^◌, min, Some};
+ghost use Rattle.std.specs.Prelude.{◌≡◌, ◌≤◌, ◌-◌, ◌*◌, ◌^◌, length, min, None, slice_get, Some};
+ghost use Rattle.cal_measure.specs.declared.cores.TaskCores.{TaskCores as OfTask};
 ghost use Rattle.cal_tables.specs.Rows.{core_figure_of, exact, machine_figure_of};
 
 use crate::figures::{Figure, Unit, count, share};
@@ -142,12 +143,12 @@ fn core_figure_of(cores: &TaskCores, lasted: u128, line: CoreLine) -> Option<Fig
 
 /// What a row says of a task's cores, which a run that lasted so long may not have, where there is
 /// something.
-pub fn core_figure(
-    cores: &[TaskCores],
-    lasted: u128,
-    task: usize,
-    line: CoreLine,
-) -> Option<Figure> {
+pub fn core_figure(cores: &[TaskCores], lasted: u128, task: usize, line: CoreLine) -> Option<Figure>
+    ensures there { (of_task : OfTask) → slice_get cores.now task ≡ Some of_task →
+        of_task.held ≤ 2 ^ 100 → of_task.leaving ≤ 2 ^ 100 → of_task.congested ≤ 2 ^ 100 →
+        lasted ≤ 2 ^ 100 → result ≡ core_figure_of of_task lasted line }
+    ensures missing { length cores.now ≤ task → result ≡ None }
+{
     let cores = cores.get(task)?;
     core_figure_of(cores, lasted, line)
 }
@@ -190,7 +191,13 @@ pub fn machine_figure(
     turns: u64,
     line: MachineLine,
     cores: u8,
-) -> Option<Figure> {
+) -> Option<Figure>
+    ensures { machine.now.held ≤ 2 ^ 100 → machine.now.leaving ≤ 2 ^ 100 →
+        machine.now.banned ≤ 2 ^ 100 → machine.now.free ≤ 2 ^ 100 →
+        machine.now.over_limit ≤ 2 ^ 100 → machine.now.lasted * cores ≤ 2 ^ 100 →
+        machine.now.lasted ≤ 2 ^ 100 →
+        result ≡ machine_figure_of machine.now (machine.now.lasted * cores) turns line }
+{
     let whole = machine.lasted.saturating_mul(cores as u128);
     machine_figure_of(machine, whole, turns, line)
 }

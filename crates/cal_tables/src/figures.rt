@@ -1,7 +1,8 @@
 //! The figures of rows, and how they are written.
 
 ghost use Rattle.std.specs.Prelude.{◌≡◌, ◌≤◌, ◌^◌, Some};
-ghost use Rattle.cal_tables.specs.Rows.{exact, few_for, if_below, ranked_figure, share_of, time_in};
+ghost use Rattle.cal_tables.specs.Rows.{exact, few_for, if_below, known, ranked_figure, share_of};
+ghost use Rattle.cal_tables.specs.Rows.{time_in};
 
 use crate::sheet::NumberForm;
 use cal_measure::{Spread, Time, thousandths};
@@ -57,7 +58,9 @@ impl Figure {
     }
 
     /// The number, where it is no bound.
-    pub fn known(self) -> Option<u64> {
+    pub fn known(self) -> Option<u64>
+        ensures { result ≡ known self }
+    {
         if self.is_bound {
             None
         } else {

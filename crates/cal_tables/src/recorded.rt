@@ -1,6 +1,8 @@
 //! A recorded history, measured.
 
-ghost use Rattle.std.specs.Prelude.{◌≡◌, ◌≤◌, IfOk, List, length};
+ghost use Rattle.std.specs.Prelude.{◌≡◌, ◌≤◌, Err, IfErr, IfOk, List, length};
+ghost use Rattle.cal_input.specs.Answers.{Decided};
+ghost use Rattle.cal_input.specs.Recorded.{recorded_in};
 ghost use Rattle.cal_machine.specs.Table.{Table};
 ghost use Rattle.cal_measure.specs.Walk.{IsOpenFor, IsWalkOf};
 ghost use Rattle.cal_policy.specs.Pass.{IsLegal};
@@ -13,7 +15,7 @@ ghost use Rattle.cal_tables.specs.Recording.{IsMeasured, IsRecorded};
 use cal_input::RunFault;
 use cal_machine::Config;
 use cal_measure::{MachineCores, TaskCores, Walk, walked};
-use cal_policy::{Auditor, MOST_PASSES, PassEntry, Verdict};
+use cal_policy::{Auditor, PassEntry, Verdict};
 use cal_trace::read_history;
 use std::alloc::{AllocError, Global};
 
@@ -104,13 +106,10 @@ pub fn measured_recording(
     config: &Config,
     trace: &[u8],
 ) -> Result<Recorded, RunFault>
-    ensures { IfOk result (IsRecorded config.now trace.now) }
+    ensures recorded { IfOk result (IsRecorded config.now trace.now) }
+    ensures fault { IfErr result (λ fault.
+        Decided fault (recorded_in config.now trace.now ≡ Err fault)) }
 {
     let history = read_history(alloc, config, trace)?;
-    let history = history.as_slice();
-    // (no file has more)
-    if history.len() > MOST_PASSES {
-        return Err(RunFault::Length);
-    }
-    Ok(measured(alloc, config, history)?)
+    Ok(measured(alloc, config, history.as_slice())?)
 }

@@ -1,6 +1,8 @@
 //! The numbers of a run, row by row.
 
-ghost use Rattle.std.specs.Prelude.{◌≡◌, ◌≤◌, ◌^◌};
+ghost use Rattle.std.specs.Prelude.{◌≡◌, ◌≤◌, ◌+◌, ◌^◌, length, None, slice_get, Some};
+ghost use Rattle.cal_measure.specs.declared.cores.TaskCores.{TaskCores as OfCores};
+ghost use Rattle.cal_measure.specs.declared.requests.TaskRequests.{TaskRequests as OfRequests};
 ghost use Rattle.cal_tables.specs.Rows.{bound_if, figure_of, oldest_in};
 
 use crate::core_rows::{
@@ -154,7 +156,15 @@ fn figure_of(requests: &TaskRequests, had: u128, turns: u64, line: Line) -> Opti
 }
 
 /// What a row says of a task, which a run may not have, where there is something.
-pub fn request_figure(numbers: &RunNumbers, task: usize, line: Line) -> Option<Figure> {
+pub fn request_figure(numbers: &RunNumbers, task: usize, line: Line) -> Option<Figure>
+    ensures there { (requests : OfRequests) (cores : OfCores) →
+        slice_get numbers.now.requests.items task ≡ Some requests →
+        slice_get numbers.now.cores.items task ≡ Some cores →
+        requests.together ≤ 2 ^ 100 → requests.work.worked ≤ 2 ^ 100 →
+        cores.held + cores.leaving ≤ 2 ^ 100 →
+        result ≡ figure_of requests (cores.held + cores.leaving) numbers.now.turns line }
+    ensures missing { length numbers.now.requests.items ≤ task → result ≡ None }
+{
     let requests = numbers.requests.as_slice().get(task)?;
     let cores = numbers.cores.as_slice().get(task)?;
     let had = cores.held.saturating_add(cores.leaving);

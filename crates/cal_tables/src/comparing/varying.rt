@@ -5,7 +5,7 @@ ghost use Rattle.std.specs.Prelude.{◌<◌, length, slice_get, string_bytes};
 ghost use Rattle.std.specs.List.{concat};
 ghost use Rattle.cal_input.specs.Answers.{ConfigDecided};
 ghost use Rattle.cal_trace.specs.Rows.Text.{numbered};
-ghost use Rattle.cal_tables.specs.TableText.{field_key, kind_text, text_of_lines};
+ghost use Rattle.cal_tables.specs.TableText.{field_key, kind_text, lines_of, text_of_lines};
 ghost use Rattle.cal_tables.specs.Varied.{AreVaried, AreVariedWith, has_key, varied};
 ghost use Rattle.cal_tables.specs.Varied.{varied_lines};
 ghost use Rattle.cal_tables.specs.Writing.{any_below, is_field, is_place, key_line};
@@ -143,7 +143,9 @@ fn varied_text(table: &Config, setting: Setting<'_>) -> Result<String, AllocErro
 }
 
 /// The table as a text. Fails only when out of memory.
-pub fn table_text(alloc: Global, table: &Config) -> Result<String, AllocError> {
+pub fn table_text(alloc: Global, table: &Config) -> Result<String, AllocError>
+    ensures { IfOk result (λ text. string_bytes text ≡ text_of_lines (lines_of table.now)) }
+{
     // No place is empty, so each has its own value.
     let (key, value) = ("", "");
     varied_text(table, Setting { alloc, key, value })
