@@ -9,3 +9,4 @@ pub mod Lines
 pub mod ReadBack
 pub mod OwnValue
 pub mod Unvaried
+pub mod OneTable

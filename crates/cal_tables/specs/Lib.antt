@@ -5,6 +5,7 @@ pub mod Compared
 pub mod Courses
 pub mod TableText
 pub mod Varied
+pub mod Faulty
 pub mod Writing
 pub mod Laws
 pub mod Changed

@@ -1,5 +1,5 @@
 -- A task table with another value at one of its keys.
-use Rattle.std.specs.Prelude.{◌≡◌, bytes_eq, ℕ, Bool, List, map, Result, Ok, Err}
+use Rattle.std.specs.Prelude.{◌≡◌, bytes_eq, ℕ, Bool, List, map, Option, Some, None, Result, Ok, Err}
 use Rattle.std.specs.Prelude.{if◌then◌else◌}
 use Rattle.std.specs.List.{list_any}
 use Rattle.cal_input.specs.Parts.{run_input_of}
@@ -8,7 +8,8 @@ use Rattle.cal_machine.specs.Table.{Table}
 use Rattle.cal_machine.specs.declared.fault.ConfigFault.{ConfigFault}
 use Rattle.cal_machine.specs.declared.fault.ConfigFault.TheVariants.{UnknownKey}
 use Rattle.cal_tables.specs.TableText.{Line, lines_of, text_of_lines}
-use Rattle.cal_tables.specs.Compared.{AreOfTables}
+use Rattle.cal_tables.specs.Compared.{AreOfTables, IsComparison}
+use Rattle.cal_tables.specs.declared.comparing.Variation.{Variation}
 use Rattle.cal_trace.specs.declared.arrivals.Arrivals.{Arrivals}
 
 -- the line; if its place is the key, with this value
@@ -49,3 +50,10 @@ pub record IsVariation {R : Type 0} (Is : Table → Arrivals → R → Type 0) (
   pub arrivals : Arrivals
   pub with : AreVariedWith input key values tables given arrivals
   pub are : AreOfTables Is given arrivals tables runs
+
+-- the runs of the tables of an input, or with a variation those of the tables that its table gives
+abbrev pub IsComparisonOf : {R : Type 0} → (Table → Arrivals → R → Type 0) → List ℕ →
+    Option Variation → List Table → List R → Type 0
+IsComparisonOf Is input None tables runs = IsComparison Is input tables runs
+IsComparisonOf Is input (Some variation) tables runs = IsVariation Is input variation.key.now
+    (map (λ value. value.now) variation.values.now) tables runs

@@ -11,7 +11,7 @@ pub mod varying;
 
 ghost use Rattle.std.specs.Prelude.{◌≡◌, ◌≢◌, IfErr, IfOk, map};
 ghost use Rattle.cal_tables.specs.Compared.{IsComparison};
-ghost use Rattle.cal_tables.specs.Varied.{IsVariation};
+ghost use Rattle.cal_tables.specs.Varied.{IsComparisonOf, IsVariation};
 
 use crate::comparing::fault::ComparisonFault;
 use crate::comparing::input_text::input_text;
@@ -89,7 +89,10 @@ pub fn comparison_of<R: OfRun>(
     alloc: Global,
     input: &[u8],
     variation: Option<Variation<'_>>,
-) -> Result<Comparison<R>, ComparisonFault> {
+) -> Result<Comparison<R>, ComparisonFault>
+    ensures { IfOk result (λ comparison. IsComparisonOf R.tells input.now variation.entry
+        comparison.tables.items comparison.runs.items) }
+{
     match variation {
         Some(variation) => compared_values(alloc, input, variation),
         None => compared(alloc, input),

@@ -1,10 +1,11 @@
 //! The tables that one gives with each of some values at one of its keys.
 
-ghost use Rattle.std.specs.Prelude.{◌≡◌, ◌++◌, bytes_eq, codes, decimal, IfErr, IfOk, OnOk, map};
+ghost use Rattle.std.specs.Prelude.{◌≡◌, ◌++◌, bytes_eq, codes, decimal, Err, IfErr, IfOk, OnOk, map};
 ghost use Rattle.std.specs.Prelude.{◌<◌, length, slice_get, string_bytes};
 ghost use Rattle.std.specs.List.{concat};
 ghost use Rattle.cal_input.specs.Answers.{ConfigDecided};
 ghost use Rattle.cal_trace.specs.Rows.Text.{numbered};
+ghost use Rattle.cal_tables.specs.Faulty.{IsFirstFaultyValue, IsOfTable};
 ghost use Rattle.cal_tables.specs.TableText.{field_key, kind_text, lines_of, text_of_lines};
 ghost use Rattle.cal_tables.specs.Varied.{AreVaried, AreVariedWith, has_key, varied};
 ghost use Rattle.cal_tables.specs.Varied.{varied_lines};
@@ -228,8 +229,10 @@ fn placed_table(
     setting: Setting<'_>,
     place: usize,
 ) -> Result<Config, ComparisonFault>
-    ensures { IfOk result (λ made.
+    ensures made { IfOk result (λ made.
         varied table.now setting.entry.key.now setting.entry.value.now ≡ Ok made) }
+    ensures fault { IfErr result (IsOfTable (λ at fault. (at ≡ place)
+        × (varied table.now setting.entry.key.now setting.entry.value.now ≡ Err fault))) }
 {
     match varied(table, setting) {
         Ok(made) => Ok(made),
@@ -245,8 +248,10 @@ pub fn varied_tables(
     key: &str,
     values: &[&str],
 ) -> Result<Vec<Config>, ComparisonFault>
-    ensures { IfOk result (λ tables.
+    ensures tables { IfOk result (λ tables.
         AreVaried table.now key.now (map (λ value. value.now) values.now) tables.items) }
+    ensures fault { IfErr result (IsOfTable
+        (IsFirstFaultyValue table.now key.now (map (λ value. value.now) values.now))) }
 {
     let mut tables = Vec::new(alloc);
     for place in 0..values.len() {

@@ -1,0 +1,48 @@
+-- Which of some tables is faulty, where tables were not read or not made.
+use Rattle.std.specs.Prelude.{◌≡◌, ℕ, List, [], ◌∷◌, length, take, Some, Ok, Err, slice_get}
+use Rattle.cal_input.specs.Answers.{ConfigDecided}
+use Rattle.cal_input.specs.Input.{input_parts}
+use Rattle.cal_input.specs.declared.fault.RunFault.TheVariants as faults
+use Rattle.cal_machine.specs.Reading.{table_in}
+use Rattle.cal_machine.specs.Table.{Table}
+use Rattle.cal_machine.specs.declared.fault.ConfigFault.{ConfigFault}
+use Rattle.cal_tables.specs.Varied.{varied, AreVaried}
+use Rattle.cal_tables.specs.declared.comparing.fault.ComparisonFault.{ComparisonFault}
+use Rattle.cal_tables.specs.declared.comparing.fault.ComparisonFault.TheVariants as comparison
+use Rattle.cal_tables.specs.declared.comparing.fault.Reason.TheVariants as reasons
+
+-- before this rest of an input stand these tables, each ended by a separator line
+abbrev pub AreTablesBefore : List ℕ → List Table → List ℕ → Type 0
+AreTablesBefore input [] rest = input ≡ rest
+AreTablesBefore input (table ∷ tables) rest = (front : List ℕ) × (back : List ℕ)
+    × (input_parts input ≡ Some (front, back)) × (table_in front ≡ Ok table)
+    × AreTablesBefore back tables rest
+
+-- of the tables of an input that of this number, from 0, is the first which is faulty, and this is
+-- its fault
+pub record IsFirstFaulty (input : List ℕ) (place : ℕ) (fault : ConfigFault) : Type 0 where
+  pub before : List Table
+  pub many : length before ≡ place
+  pub rest : List ℕ
+  pub stand : AreTablesBefore input before rest
+  pub front : List ℕ
+  pub back : List ℕ
+  pub next : input_parts rest ≡ Some (front, back)
+  pub faulty : table_in front ≡ Err fault
+
+-- of these values that at this place, from 0, is the first which at the key makes the table faulty,
+-- and this is the fault
+pub record IsFirstFaultyValue (table : Table) (key : List ℕ) (values : List (List ℕ)) (place : ℕ)
+    (fault : ConfigFault) : Type 0 where
+  pub before : List Table
+  pub made : AreVaried table key (take place values) before
+  pub value : List ℕ
+  pub at : slice_get values place ≡ Some value
+  pub faulty : varied table key value ≡ Err fault
+
+-- memory was refused, or a table is faulty: Is holds of its number and its fault
+abbrev pub IsOfTable : (ℕ → ConfigFault → Type 0) → ComparisonFault → Type 0
+IsOfTable Is (comparison.Run fault) = fault ≡ faults.Memory
+IsOfTable Is (comparison.OfTable place (reasons.Run (faults.Config fault))) =
+    ConfigDecided fault (Is place fault)
+IsOfTable Is (comparison.OfTable place reason) = ⊥
