@@ -1,1 +1,3 @@
 mod Answered
+mod OneMore
+mod First

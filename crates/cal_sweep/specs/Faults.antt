@@ -1,0 +1,51 @@
+-- Why there is no sweep.
+use Rattle.std.specs.Prelude.{◌≡◌, ℕ, List, length, Result, Ok, Err, All, codes, ⊤, ◌<◌, ◌⊎◌}
+use Rattle.cal_input.specs.Answers.{ConfigDecided}
+use Rattle.cal_input.specs.declared.fault.RunFault.TheVariants as runs
+use Rattle.cal_load.specs.declared.fault.LoadFault.{LoadFault}
+use Rattle.cal_load.specs.declared.fault.LoadFault.TheVariants as loads
+use Rattle.cal_load.specs.declared.fault.Why.TheVariants.{NotATask}
+use Rattle.cal_load.specs.declared.making.TaskLoad.{TaskLoad}
+use Rattle.cal_machine.specs.Table.{Table}
+use Rattle.cal_machine.specs.declared.fault.ConfigFault.{ConfigFault}
+use Rattle.cal_tables.specs.declared.comparing.fault.ComparisonFault.TheVariants as comparisons
+use Rattle.cal_sweep.specs.Sweeps.{of_memory}
+use Rattle.cal_sweep.specs.declared.fault.SweepFault.{SweepFault}
+use Rattle.cal_sweep.specs.declared.fault.SweepFault.TheVariants.{Names, Run, Word}
+
+-- the fault of a word, or of memory
+abbrev pub fault_of_load : LoadFault → SweepFault
+fault_of_load (loads.Word fault) = Word fault
+fault_of_load loads.Memory = Run of_memory
+
+-- P holds, unless the fault is Memory, which may come at any place
+abbrev pub SweepDecided : SweepFault → Type 0 → Type 0
+SweepDecided (Run (comparisons.Run runs.Memory)) P = ⊤
+SweepDecided (Run (comparisons.Run (runs.Config fault))) P = ConfigDecided fault P
+SweepDecided _ P = P
+
+-- so many names are none, or as many as tasks
+abbrev pub IsCounted : ℕ → ℕ → Type 0
+IsCounted names tasks = (names ≡ 0) ⊎ (names ≡ tasks)
+
+-- a table has the task of each of these loads
+abbrev pub AreKnown : Table → List TaskLoad → Type 0
+AreKnown table loads = All (λ load. load.task < length table.tasks) loads
+
+-- the fault is that of a word for a task which the table has not
+abbrev pub IsUnknown : Table → SweepFault → Type 0
+IsUnknown table (Word fault) =
+    (fault.flag.now ≡ codes "--task") × (fault.why ≡ NotATask (length table.tasks))
+IsUnknown table fault = ⊥
+
+-- the fault is the first that a table gives with so many names and these loads, where it gives one
+pub record IsFirstOf (table : Table) (names : ℕ) (loads : List TaskLoad)
+    (fault : SweepFault) : Type 0 where
+  pub counted : ¬ IsCounted names (length table.tasks) → fault ≡ Names names (length table.tasks)
+  pub known : IsCounted names (length table.tasks) → ¬ AreKnown table loads →
+      IsUnknown table fault
+
+-- the fault of a table comes before those that the table gives
+abbrev pub IsFirst : Result Table ConfigFault → ℕ → List TaskLoad → SweepFault → Type 0
+IsFirst (Err of_table) names loads fault = fault ≡ Run (comparisons.Run (runs.Config of_table))
+IsFirst (Ok table) names loads fault = IsFirstOf table names loads fault
