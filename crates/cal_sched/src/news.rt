@@ -53,10 +53,8 @@ pub(crate) fn find_news(
     }
 }
 
-/// Takes what was found of the next thread, which is news. It is a call of its own, so that what is
-/// no news costs nothing of it.
-#[cold]
-#[inline(never)]
+/// Takes what was found of the next thread, which is news.
+#[inline(always)]
 fn take_news(config: &Config, board: &Board, one: &FoundLook, pass: &mut OpenPass)
     requires next { pass.old.count < threads_of_table config.now }
     ensures taken { (h : List PassEntry) (looks : List FoundLook) → IsStateAfter board.now h →
