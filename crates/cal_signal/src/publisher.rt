@@ -92,6 +92,18 @@ impl Publisher {
         ensures refused { OnErr result (self.new ≡ self.old) }
     {
         self.check(&rec)?;
+        Ok(self.put(rec))
+    }
+
+    /// Publishes a record of which it is known that it may be published, as `publish` does, and
+    /// answers its place. Asks that it is later than the last record and shaped, and that a place is
+    /// left. Waits for nobody.
+    pub fn put(&mut self, rec: Record) -> u64
+        requires may { MayPublish self.old.published rec }
+        ensures page { self.new.page ≡ self.old.page }
+        ensures place { result ≡ length self.old.published + 1 }
+        ensures published { self.new.published ≡ self.old.published ++ rec ∷ [] }
+    {
         let version = self.place * 2;
         self.table
             .shared
@@ -102,7 +114,7 @@ impl Publisher {
             .store::<ClosingStore>(&mut self.seat, 0, version + 2);
         self.place += 1;
         self.last = rec;
-        Ok(self.place)
+        self.place
     }
 
     /// Begins to publish a record in steps: stores the odd version. Waits for nobody.

@@ -110,8 +110,11 @@ impl Thread {
         ensures fronted { (answer : Option Waiting) × (self.new ≡ turn.fronted answer self.old) }
         ensures apart { self.new.publisher ≡ self.old.publisher }
     {
-        if self.front.is_none() {
-            self.front = self.queue.pop();
+        if self.front.is_some() {
+            return;
+        }
+        if let Some(waiting) = self.queue.pop() {
+            self.front = Some(waiting);
         }
     }
 
@@ -142,9 +145,7 @@ impl Thread {
             (turn.shown now self.old) }
     {
         let shown = self.record(now);
-        let Ok(place) = self.publisher.publish(shown) else {
-            unreachable!()
-        };
+        let place = self.publisher.put(shown);
         Publication { place, shown }
     }
 }

@@ -8,7 +8,7 @@ use Rattle.cal_kthread.proofs.turn.thread.Thread.publish.Goals as goal
 
 pub invariant_of-self : goal.invariant_of-self
 invariant_of-self c =
-    let last : last_published c.publish.new.self.published ≡ c.record-shown.result = ap last_published c.in-Ok.ensures.published.2 ∙ last_snoc zero_record c.self.inside.publisher.published c.record-shown.result in
+    let last : last_published c.put-place.new.self.published ≡ c.record-shown.result = ap last_published c.put-place.ensures.published ∙ last_snoc zero_record c.self.inside.publisher.published c.record-shown.result in
     let shows = last ∙ c.record-shown.ensures in
     let same = ap (λ (t : ThreadView). length t.taker.taken) c.self.view_is in
     let likewise = ap (λ (t : ThreadView). t.misses) c.self.view_is in record {

@@ -7,7 +7,7 @@ use Rattle.cal_signal.specs.Rule.{parts_of}
 use Rattle.cal_signal.specs.Faults.{MayPublish}
 use Rattle.cal_signal.proofs.PageLists.{last_snoc}
 use Rattle.cal_signal.proofs.PageSteps.{M, publishes_of, opens, closes}
-use Rattle.cal_signal.proofs.publisher.Publisher.publish.Goals as goal
+use Rattle.cal_signal.proofs.publisher.Publisher.put.Goals as goal
 
 pub store-requires : goal.store-requires
 store-requires c = let v = c.self.invariant.version in (search rules, search rules, opens _ _ _ _ (publishes_of c.self.inside.seat.me.0 c.self.invariant.part) (omega arith) (omega arith))
