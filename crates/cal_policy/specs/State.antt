@@ -24,7 +24,7 @@ use Rattle.cal_policy.specs.declared.board.records.Keeping.{Keeping}
 use Rattle.cal_policy.specs.Board.{HoldersAgree, BansAgree, CapsAgree, BoardSound}
 use Rattle.cal_policy.specs.Board.{HasGranted, KeepsBefore, holder_in}
 use Rattle.cal_policy.specs.Board.CoreSets.{Sorts, IsSetOfBanned}
-use Rattle.cal_policy.specs.Board.KeepingSets.{KeepsSets, kept_in}
+use Rattle.cal_policy.specs.Board.KeepingSets.{KeepsSets, kept_in, shown_in}
 use Rattle.cal_policy.specs.Board.OpenCores.{Opens}
 use Rattle.cal_policy.specs.Board.Survey.{Surveys}
 use Rattle.cal_policy.specs.Board.Unshown.{Shows}
@@ -32,7 +32,6 @@ use Rattle.cal_policy.specs.History.{actions_of, looks_of}
 use Rattle.cal_policy.specs.History.Looks.{kept_by, last_shown}
 use Rattle.cal_policy.specs.Setting.{Setting, so_far}
 use Rattle.cal_signal.specs.Records.{zero_record}
-use Rattle.cal_signal.specs.Shown.{nothing_shown}
 
 -- the board is ready for passes on the table
 pub record IsReady (table : Table) (b : Board) : Type 0 where
@@ -66,8 +65,7 @@ pub record Agrees (b : Board) (x : List Action) : Type 0 where
 -- records are as all these looks say, those of the last pass included
 pub record KeepingAgrees (r : Keeping) (looks : List (List Seen)) : Type 0 where
   pub kept : (k : ℕ) → k < MOST_THREADS → slice_index_or r.kept k zero_record ≡ kept_by looks k
-  pub shown : (k : ℕ) → k < MOST_THREADS →
-      slice_index_or r.shown k nothing_shown ≡ last_shown looks k
+  pub shown : (k : ℕ) → k < MOST_THREADS → shown_in r k ≡ last_shown looks k
 
 -- the board is the state that the history leaves: it agrees with all its actions and all its looks
 pub record IsStateAfter (b : Board) (history : List PassEntry) : Type 0 where

@@ -166,10 +166,11 @@ impl Board {
             keeping: Keeping {
                 kept: self.keeping.kept,
                 before: self.keeping.before,
-                shown: self.keeping.shown,
                 moved: self.keeping.moved,
                 waiting: self.keeping.waiting,
+                numbers: self.keeping.numbers,
                 settled: self.keeping.settled,
+                unkept: self.keeping.unkept,
             },
             unshown: self.unshown,
             fresh: self.fresh,

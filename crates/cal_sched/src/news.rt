@@ -4,7 +4,6 @@ ghost use Rattle.std.specs.Prelude.{◌≡◌, ◌+◌, ◌<◌, ◌++◌, ◌�
 ghost use Rattle.cal_policy.specs.declared.judgement.open_input.FoundLook.{FoundLook};
 ghost use Rattle.cal_policy.specs.declared.history.entry.PassEntry.{PassEntry};
 ghost use Rattle.cal_policy.specs.State.{IsStateAfter};
-ghost use Rattle.cal_policy.specs.Board.KeepingSets.{KeepsSets};
 ghost use Rattle.cal_policy.specs.History.{actions_of, looks_of};
 ghost use Rattle.cal_policy.specs.History.Looks.{last_shown};
 ghost use Rattle.cal_policy.specs.Judgement.Judging.{judged, IsFitLook};
@@ -32,7 +31,6 @@ pub(crate) fn find_news(
 )
     requires pages { length observers.old ≡ threads_of_table config.now }
     requires rings { length senders.old ≡ threads_of_table config.now }
-    requires sets { KeepsSets board.now.keeping }
     requires nothing { found.old ≡ [] }
     requires begun { (h : List PassEntry) → IsOpenAt config.now h [] pass.old }
     ensures all { pass.new.count ≡ threads_of_table config.now }
@@ -53,10 +51,8 @@ pub(crate) fn find_news(
     }
 }
 
-/// Takes what was found of the next thread, which is news. It is a call of its own, so that what is
-/// no news costs nothing of it.
-#[cold]
-#[inline(never)]
+/// Takes what was found of the next thread, which is news.
+#[inline(always)]
 fn take_news(config: &Config, board: &Board, one: &FoundLook, pass: &mut OpenPass)
     requires next { pass.old.count < threads_of_table config.now }
     ensures taken { (h : List PassEntry) (looks : List FoundLook) → IsStateAfter board.now h →

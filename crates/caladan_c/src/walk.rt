@@ -6,7 +6,6 @@ ghost use Rattle.cal_machine.specs.TableTasks.{threads_of_table};
 ghost use Rattle.cal_policy.specs.declared.history.entry.PassEntry.{PassEntry};
 ghost use Rattle.cal_policy.specs.declared.judgement.open_input.FoundLook.{FoundLook};
 ghost use Rattle.cal_policy.specs.State.{IsStateAfter};
-ghost use Rattle.cal_policy.specs.Board.KeepingSets.{KeepsSets};
 ghost use Rattle.cal_policy.specs.Judgement.Judging.{IsInput};
 ghost use Rattle.cal_policy.specs.Judgement.OneByOne.{fault_of};
 ghost use Rattle.cal_policy.specs.Judgement.OpenPass.{IsOpenAt};
@@ -59,7 +58,6 @@ fn take_next(
     one: &Found,
 ) -> Result<(), LookFault>
     requires next { came.old.count < threads_of_table config.now }
-    requires sets { KeepsSets board.now.keeping }
     ensures taken { IfOk result (λ _. (h : List PassEntry) (looks : List FoundLook) →
         SettledAreNoNews config.now h → IsStateAfter board.now h →
         IsOpenAt config.now h looks came.old →
@@ -78,7 +76,6 @@ fn take_next(
 /// Takes the looks of a pass, or says why the first that does not fit does not.
 pub fn take_looks(came: &mut OpenPass, on: Basis<'_>, looks: &[Found]) -> Result<(), LookFault>
     requires count { length looks.now ≡ threads_of_table on.config.now }
-    requires sets { KeepsSets on.board.now.keeping }
     ensures taken { IfOk result (λ _. (h : List PassEntry) →
         SettledAreNoNews on.entry.config.now h → IsStateAfter on.entry.board.now h →
         IsOpenAt on.entry.config.now h (map found_of looks.entry.now) came.new) }
@@ -119,7 +116,6 @@ fn take_news_by_itself(came: &mut OpenPass, config: &Config, board: &Board, one:
 #[inline(always)]
 fn take_by_itself(came: &mut OpenPass, config: &Config, board: &Board, one: &Found) -> u8
     requires next { came.old.count < threads_of_table config.now }
-    requires sets { KeepsSets board.now.keeping }
     ensures taken { (h : List PassEntry) (looks : List Found) → SettledAreNoNews config.now h →
         IsStateAfter board.now h → length looks ≡ came.old.count →
         IsTakenAt config.now h looks came.old →
@@ -141,7 +137,6 @@ fn take_by_itself(came: &mut OpenPass, config: &Config, board: &Board, one: &Fou
 pub fn take_each(came: &mut OpenPass, on: Basis<'_>, looks: &[Found], judged: &mut [u8])
     requires count { length looks.now ≡ threads_of_table on.config.now }
     requires room { threads_of_table on.config.now ≤ length judged.old }
-    requires sets { KeepsSets on.board.now.keeping }
     ensures taken { (h : List PassEntry) → SettledAreNoNews on.entry.config.now h →
         IsStateAfter on.entry.board.now h →
         IsTakenAt on.entry.config.now h looks.entry.now came.new }

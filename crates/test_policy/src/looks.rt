@@ -1,15 +1,11 @@
 //! Looks that come in one by one.
 
-ghost use Rattle.cal_policy.specs.Board.KeepingSets.{KeepsSets};
-
 use cal_machine::{Config, MOST_THREADS};
 use cal_policy::state::Board;
 use cal_policy::{FoundLook, OpenPass};
 
 /// Takes in one look, and says whether it fits.
-fn take_in(came: &mut OpenPass, config: &Config, board: &Board, found: FoundLook) -> bool
-    requires { KeepsSets board.now.keeping }
-{
+fn take_in(came: &mut OpenPass, config: &Config, board: &Board, found: FoundLook) -> bool {
     if came.count >= config.threads() || came.count >= MOST_THREADS {
         return false;
     }
@@ -17,9 +13,12 @@ fn take_in(came: &mut OpenPass, config: &Config, board: &Board, found: FoundLook
 }
 
 /// Takes in the looks one by one, and says whether each of them fits.
-pub fn take_in_all(came: &mut OpenPass, config: &Config, board: &Board, looks: &[FoundLook]) -> bool
-    requires { KeepsSets board.now.keeping }
-{
+pub fn take_in_all(
+    came: &mut OpenPass,
+    config: &Config,
+    board: &Board,
+    looks: &[FoundLook],
+) -> bool {
     came.begin();
     for found in looks {
         if !take_in(came, config, board, *found) {

@@ -13,7 +13,7 @@ use Rattle.cal_policy.specs.declared.board.holders.Holder.TheVariants.{Free}
 use Rattle.cal_policy.specs.declared.board.open_cores.OpenCores.{OpenCores}
 use Rattle.cal_policy.specs.Board.{core_changed}
 use Rattle.cal_policy.specs.Board.Counts.{is_held}
-use Rattle.cal_policy.specs.Board.OpenCores.{Opens, IsSameElsewhere, core_named, is_idle_by, is_alone_by, is_beside_by}
+use Rattle.cal_policy.specs.Board.OpenCores.{Opens, IsSameElsewhere, core_named, is_idle_by, is_alone_by, is_beside_held_by}
 
 -- an action changes the holder of no core but the one that it names
 pub changes_named : (a : Action) (c : ℕ) → core_named a ≢ Some c → core_changed a ≢ Some c
@@ -48,7 +48,7 @@ idle_one f g x y core c old new e h was made (inr off) = made ∙ ap (λ b. cond
     ∙ was ∙ idle_same f g x y c (e off) (h off)
 
 beside_same : (f g : ℕ → Holder) (a b : CoreSet) (c : ℕ) → g c ≡ f c → g (sibling_of c) ≡ f (sibling_of c) → has b c ≡ has a c →
-    has b (sibling_of c) ≡ has a (sibling_of c) → is_beside_by f a c ≡ is_beside_by g b c
+    has b (sibling_of c) ≡ has a (sibling_of c) → is_beside_held_by f a c ≡ is_beside_held_by g b c
 beside_same f g a b c e es h hs = rw (e, es, h) refl
 
 -- a test of a core by what became of it and of its sibling
@@ -81,7 +81,7 @@ pair_one test by f g x y core c old new e h was made (inr off) =
 pub opens_one : (a : Action) (f g : ℕ → Holder) (x y : CoreSet) (core : ℕ) (old new : OpenCores) → core_named a ≡ Some core → Opens f x old → IsSameElsewhere a f x g y →
     ((c : ℕ) → has new.idle c ≡ cond (eqb c core) (is_idle_by g y core) (has old.idle c)) →
     ((c : ℕ) → has new.alone c ≡ cond (eqb c (sibling_of core)) (is_alone_by g y (sibling_of core)) (cond (eqb c core) (is_alone_by g y core) (has old.alone c))) →
-    ((c : ℕ) → has new.beside_held c ≡ cond (eqb c (sibling_of core)) (is_beside_by g y (sibling_of core)) (cond (eqb c core) (is_beside_by g y core) (has old.beside_held c))) →
+    ((c : ℕ) → has new.beside_held c ≡ cond (eqb c (sibling_of core)) (is_beside_held_by g y (sibling_of core)) (cond (eqb c core) (is_beside_held_by g y core) (has old.beside_held c))) →
     Opens g y new
 opens_one a f g x y core old new named o same idle alone beside =
     let off : (c : ℕ) → c ≢ core → core_named a ≢ Some c = λ c e s. some_other c core e (sym named ∙ s) in
@@ -89,14 +89,14 @@ opens_one a f g x y core old new named o same idle alone beside =
     let h : (c : ℕ) → c ≢ core → has y c ≡ has x c = λ c n. same.bans c (off c n) in record {
       idle = λ c lt. idle_one f g x y core c old new (e c) (h c) (o.idle c lt) (idle c) (cases_eq c core);
       alone = λ c lt. pair_one is_alone_by alone_same f g x y core c old.alone new.alone e h (o.alone c lt) (alone c) (cases_eq c (sibling_of core));
-      beside = λ c lt. pair_one is_beside_by beside_same f g x y core c old.beside_held new.beside_held e h (o.beside c lt) (beside c) (cases_eq c (sibling_of core));
+      beside = λ c lt. pair_one is_beside_held_by beside_same f g x y core c old.beside_held new.beside_held e h (o.beside c lt) (beside c) (cases_eq c (sibling_of core));
     }
 
 none_held : (b : Bool) → (b && false) ≡ false
 none_held true = refl
 none_held false = refl
 
-beside_none : (f : ℕ → Holder) (x : CoreSet) (c : ℕ) → ((k : ℕ) → f k ≡ Free) → is_beside_by f x c ≡ false
+beside_none : (f : ℕ → Holder) (x : CoreSet) (c : ℕ) → ((k : ℕ) → f k ≡ Free) → is_beside_held_by f x c ≡ false
 beside_none f x c free = ap (λ h. is_idle_by f x c && is_held h) (free (sibling_of c)) ∙ none_held (is_idle_by f x c)
 
 -- where every core is free and none is banned

@@ -19,7 +19,7 @@ use Rattle.cal_policy.specs.Board.{holder_in}
 use Rattle.cal_policy.specs.State.{Agrees, Stands}
 use Rattle.cal_policy.specs.Setting.{Setting, so_far}
 use Rattle.cal_policy.specs.Pass.Choice.{best_below, lowest_below}
-use Rattle.cal_policy.specs.Pass.Among.{class_among, is_beside_own, was_own}
+use Rattle.cal_policy.specs.Pass.Among.{class_among, is_beside_own, was_own_last}
 use Rattle.cal_policy.specs.Pass.Grants.{class_of, class_by, idle_class, is_thread_for}
 use Rattle.cal_policy.proofs.BoardLemmas.AsKept.{held_as_kept}
 use Rattle.cal_policy.proofs.BoardLemmas.StateKept.{free_kept}
@@ -163,13 +163,13 @@ chosen_beside b s acts t n c few st opens e = best_beside _ _ _ _ n c (by_tests 
 
 pub chosen_again : (b : Board) (s : Setting) (acts : List Action) (t n c : ℕ) → n ≤ 128 → Stands b s acts → Opens (holder_in b.holding) b.sets.banned b.open_cores →
     None ≡ lowest_below (is_beside_own b.open_cores.idle s.table (so_far s acts) t) n →
-    Some c ≡ lowest_below (was_own b.open_cores.idle s.table (so_far s acts) t) n →
+    Some c ≡ lowest_below (was_own_last b.open_cores.idle s.table (so_far s acts) t) n →
     Some (record { rank = classes.RecentlyUsed; number = c }) ≡ best_below comes_before (class_among b.open_cores.idle s acts t) n
 chosen_again b s acts t n c few st opens none e = best_again _ _ _ _ n c (by_tests b s acts t n few st opens) (sym none) (sym e)
 
 pub chosen_other : (b : Board) (s : Setting) (acts : List Action) (t n c : ℕ) → n ≤ 128 → Stands b s acts → Opens (holder_in b.holding) b.sets.banned b.open_cores →
     None ≡ lowest_below (is_beside_own b.open_cores.idle s.table (so_far s acts) t) n →
-    None ≡ lowest_below (was_own b.open_cores.idle s.table (so_far s acts) t) n →
+    None ≡ lowest_below (was_own_last b.open_cores.idle s.table (so_far s acts) t) n →
     c < n → has b.open_cores.idle c ≡ true → ((k : ℕ) → k < c → has b.open_cores.idle k ≡ false) →
     Some (record { rank = classes.OtherIdle; number = c }) ≡ best_below comes_before (class_among b.open_cores.idle s acts t) n
 chosen_other b s acts t n c few st opens none past lt member between =

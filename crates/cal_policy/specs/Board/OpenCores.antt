@@ -31,14 +31,14 @@ is_alone_by holder banned c =
     && not (has banned (sibling_of c))
 
 -- core c is idle, and its sibling is held
-abbrev pub is_beside_by : (ℕ → Holder) → CoreSet → ℕ → Bool
-is_beside_by holder banned c = is_idle_by holder banned c && is_held (holder (sibling_of c))
+abbrev pub is_beside_held_by : (ℕ → Holder) → CoreSet → ℕ → Bool
+is_beside_held_by holder banned c = is_idle_by holder banned c && is_held (holder (sibling_of c))
 
 -- where `holder` says who has each core, and `banned` which are banned, the sets are those of them
 pub record Opens (holder : ℕ → Holder) (banned : CoreSet) (cores : OpenCores) : Type 0 where
   pub idle : (c : ℕ) → c < MOST_CORES → has cores.idle c ≡ is_idle_by holder banned c
   pub alone : (c : ℕ) → c < MOST_CORES → has cores.alone c ≡ is_alone_by holder banned c
-  pub beside : (c : ℕ) → c < MOST_CORES → has cores.beside_held c ≡ is_beside_by holder banned c
+  pub beside : (c : ℕ) → c < MOST_CORES → has cores.beside_held c ≡ is_beside_held_by holder banned c
 
 -- holders and bans are the same but for the core that the action names
 pub record IsSameElsewhere (action : Action) (holder : ℕ → Holder) (banned : CoreSet)

@@ -20,5 +20,5 @@ abbrev pub is_beside_own : CoreSet → Table → List Action → ℕ → ℕ →
 is_beside_own cores table x t c = has cores c && is_held_for table t (holder_of x (sibling_of c))
 
 -- the set has core c, and it was last granted to a thread of task t
-abbrev pub was_own : CoreSet → Table → List Action → ℕ → ℕ → Bool
-was_own cores table x t c = has cores c && is_thread_for table t (last_thread x c)
+abbrev pub was_own_last : CoreSet → Table → List Action → ℕ → ℕ → Bool
+was_own_last cores table x t c = has cores c && is_thread_for table t (last_thread x c)

@@ -10,7 +10,7 @@ ghost use Rattle.cal_machine.specs.declared.machine.TheConstants.{MOST_CORES};
 ghost use Rattle.cal_policy.specs.declared.board.holders.Holder.{Holder};
 ghost use Rattle.cal_policy.specs.Board.{NamesCores, NamesTable, holder_in};
 ghost use Rattle.cal_policy.specs.Board.OpenCores.{Opens, IsSameElsewhere, core_named};
-ghost use Rattle.cal_policy.specs.Board.OpenCores.{is_idle_by, is_alone_by, is_beside_by};
+ghost use Rattle.cal_policy.specs.Board.OpenCores.{is_idle_by, is_alone_by, is_beside_held_by};
 
 use crate::board::core_sets::all_cores;
 use crate::board::holders::Holding;
@@ -82,7 +82,7 @@ fn is_beside_held(holding: &Holding, banned: &CoreSet, core: u8, beside: u8) -> 
     requires core { core < MOST_CORES }
     requires beside { beside < MOST_CORES }
     requires pair { beside ≡ sibling_of core }
-    ensures { result ≡ is_beside_by (holder_in holding.now) banned.now core }
+    ensures { result ≡ is_beside_held_by (holder_in holding.now) banned.now core }
 {
     is_idle(holding, banned, core) && holding.holder_at(Some(beside)).is_held()
 }
@@ -114,8 +114,8 @@ impl OpenCores {
             else if c == core then is_alone_by (holder_in holding.now) banned.now core
             else has self.old.alone c) }
         ensures beside { (c : ℕ) → has self.new.beside_held c ≡ (if c == beside
-            then is_beside_by (holder_in holding.now) banned.now beside
-            else if c == core then is_beside_by (holder_in holding.now) banned.now core
+            then is_beside_held_by (holder_in holding.now) banned.now beside
+            else if c == core then is_beside_held_by (holder_in holding.now) banned.now core
             else has self.old.beside_held c) }
     {
         put(&mut self.idle, core, is_idle(holding, banned, core));

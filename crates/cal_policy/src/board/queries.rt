@@ -95,7 +95,7 @@ impl Board {
             is_some result ≡ can_be_gone h k }
     {
         config.limits();
-        let last = self.keeping.shown[k];
+        let last = self.keeping.shown(k);
         let sent = self.holding.sent[k];
         if u128::from(last.rec.taken) <= sent && sent < 1 << 64 && last.number < u64::MAX {
             Some(Shown {

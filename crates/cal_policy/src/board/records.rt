@@ -6,7 +6,6 @@ ghost use Rattle.std.specs.Option.{unwrap_or};
 ghost use Rattle.cal_machine.specs.declared.numbering.TheConstants.{MOST_THREADS};
 ghost use Rattle.cal_policy.specs.declared.history.look.Seen.{Seen};
 ghost use Rattle.cal_signal.specs.Records.{zero_record};
-ghost use Rattle.cal_signal.specs.Shown.{nothing_shown};
 ghost use Rattle.cal_policy.specs.History.Looks.{record_to_keep, shown_by};
 ghost use Rattle.cal_policy.specs.Board.{KeepsBefore};
 ghost use Rattle.cal_policy.specs.State.{KeepingAgrees};
@@ -36,14 +35,16 @@ pub struct Keeping {
     pub kept: [Record; MOST_THREADS],
     /// The misses of the one that was kept before the last pass's look.
     pub before: [u64; MOST_THREADS],
-    /// That of its last look with a record, whatever was judged of it.
-    pub shown: [Shown; MOST_THREADS],
     /// The threads whose kept record has other misses since the last pass's looks.
     pub moved: ThreadSet,
     /// The threads whose kept record shows a request that waits.
     pub waiting: ThreadSet,
-    /// Threads whose kept record is the one last shown.
+    /// The place of its last look with a record, whatever was judged of it.
+    pub numbers: [u64; MOST_THREADS],
+    /// Threads whose kept record is the one of that look.
     pub settled: [bool; MOST_THREADS],
+    /// That record, of the other threads.
+    pub unkept: [Record; MOST_THREADS],
 }
 
 fn zero_records() -> [Record; MOST_THREADS]
@@ -52,19 +53,13 @@ fn zero_records() -> [Record; MOST_THREADS]
     [Record::ZERO; MOST_THREADS]
 }
 
-fn none_shown() -> [Shown; MOST_THREADS]
-    ensures { result ≡ replicate MOST_THREADS nothing_shown }
-{
-    [Shown::NOTHING; MOST_THREADS]
-}
-
 fn none_settled() -> [bool; MOST_THREADS]
     ensures { result ≡ replicate MOST_THREADS false }
 {
     [false; MOST_THREADS]
 }
 
-fn no_misses() -> [u64; MOST_THREADS]
+fn noughts() -> [u64; MOST_THREADS]
     ensures { result ≡ replicate MOST_THREADS 0 }
 {
     [0; MOST_THREADS]
@@ -86,18 +81,20 @@ impl Keeping {
     {
         Keeping {
             kept: zero_records(),
-            before: no_misses(),
-            shown: none_shown(),
+            before: noughts(),
             moved: ThreadSet::empty(),
             waiting: ThreadSet::empty(),
+            numbers: noughts(),
             settled: none_settled(),
+            unkept: zero_records(),
         }
     }
 
     /// Takes up the misses of each kept record, before the looks of the next pass.
     fn settle_all(&mut self)
         ensures kept { self.new.kept ≡ self.old.kept }
-        ensures shown { self.new.shown ≡ self.old.shown }
+        ensures shown { (self.new.numbers ≡ self.old.numbers)
+            × (self.new.settled ≡ self.old.settled) × (self.new.unkept ≡ self.old.unkept) }
         ensures before { (k : ℕ) → k < MOST_THREADS →
             slice_index self.new.before k ≡ (kept_in self.old k).misses }
         ensures sets { KeepsSets self.old → KeepsSets self.new }
@@ -112,7 +109,8 @@ impl Keeping {
     fn settle(&mut self)
         requires sets { KeepsSets self.old }
         ensures kept { self.new.kept ≡ self.old.kept }
-        ensures shown { self.new.shown ≡ self.old.shown }
+        ensures shown { (self.new.numbers ≡ self.old.numbers)
+            × (self.new.settled ≡ self.old.settled) × (self.new.unkept ≡ self.old.unkept) }
         ensures before { (k : ℕ) → k < MOST_THREADS →
             slice_index self.new.before k ≡ (kept_in self.old k).misses }
         ensures sets { KeepsSets self.new }
@@ -126,26 +124,42 @@ impl Keeping {
     }
 
     /// Keeps a record of thread `k`, which it showed at place `number`.
-    fn put(&mut self, k: usize, number: u64, rec: Record)
+    fn put(&mut self, k: usize, number: u64, rec: &Record)
         requires thread { k < MOST_THREADS }
         ensures kept { (j : ℕ) → j < MOST_THREADS →
-            kept_in self.new j ≡ (if j == k then rec else kept_in self.old j) }
+            kept_in self.new j ≡ (if j == k then rec.now else kept_in self.old j) }
         ensures shown { (j : ℕ) → j < MOST_THREADS → shown_in self.new j
-            ≡ (if j == k then record { number = number; rec = rec } else shown_in self.old j) }
+            ≡ (if j == k then record { number = number; rec = rec.now } else shown_in self.old j) }
         ensures before { self.new.before ≡ self.old.before }
         ensures sets { KeepsSets self.old → KeepsSets self.new }
     {
         if self.kept[k].misses != rec.misses {
             self.moved.insert(k);
         }
-        if is_waiting(&rec) {
+        if is_waiting(rec) {
             self.waiting.insert(k);
         } else {
             self.waiting.remove(k);
         }
+        self.numbers[k] = number;
         self.settled[k] = true;
-        self.kept[k] = rec;
-        self.shown[k] = Shown { number, rec };
+        self.kept[k] = *rec;
+    }
+
+    /// What was last shown of thread `k`.
+    pub fn shown(&self, k: usize) -> Shown
+        requires { k < MOST_THREADS }
+        ensures { result ≡ shown_in self.now k }
+    {
+        let rec = if self.settled[k] {
+            self.kept[k]
+        } else {
+            self.unkept[k]
+        };
+        Shown {
+            number: self.numbers[k],
+            rec,
+        }
     }
 
     /// What the kept record of thread `k` shows it on: 0, or the core's number plus one.
@@ -157,12 +171,12 @@ impl Keeping {
     }
 
     /// The same, and notes the core that the record kept before showed, where this one does not.
-    fn keep(&mut self, k: usize, number: u64, rec: Record, unshown: &mut CoreSet)
+    fn keep(&mut self, k: usize, number: u64, rec: &Record, unshown: &mut CoreSet)
         requires thread { k < MOST_THREADS }
         ensures kept { (j : ℕ) → j < MOST_THREADS →
-            kept_in self.new j ≡ (if j == k then rec else kept_in self.old j) }
+            kept_in self.new j ≡ (if j == k then rec.now else kept_in self.old j) }
         ensures shown { (j : ℕ) → j < MOST_THREADS → shown_in self.new j
-            ≡ (if j == k then record { number = number; rec = rec } else shown_in self.old j) }
+            ≡ (if j == k then record { number = number; rec = rec.now } else shown_in self.old j) }
         ensures before { self.new.before ≡ self.old.before }
         ensures sets { KeepsSets self.old → KeepsSets self.new }
         ensures shows { (holder : ℕ → Holder) → Shows holder (kept_in self.old) unshown.old →
@@ -173,38 +187,38 @@ impl Keeping {
     }
 
     /// Notes what thread `k` showed, where that is not kept.
-    fn note(&mut self, k: usize, number: u64, rec: Record)
+    fn note(&mut self, k: usize, number: u64, rec: &Record)
         requires thread { k < MOST_THREADS }
         ensures kept { self.new.kept ≡ self.old.kept }
         ensures shown { (j : ℕ) → j < MOST_THREADS → shown_in self.new j
-            ≡ (if j == k then record { number = number; rec = rec } else shown_in self.old j) }
+            ≡ (if j == k then record { number = number; rec = rec.now } else shown_in self.old j) }
         ensures before { self.new.before ≡ self.old.before }
         ensures sets { KeepsSets self.old → KeepsSets self.new }
     {
+        self.numbers[k] = number;
         self.settled[k] = false;
-        self.shown[k] = Shown { number, rec };
+        self.unkept[k] = *rec;
     }
 
     /// Whether a fit look at this place finds thread `k` with the record that is kept already.
     fn is_as_kept(&self, k: usize, number: u64) -> bool
         requires thread { k < MOST_THREADS }
-        requires sets { KeepsSets self.now }
         ensures { (rec : Record) → IsTrue result →
             IsFitLook (shown_in self.now k) (Whole number rec) →
             (rec ≡ kept_in self.now k)
             × (record { number = number; rec = rec } ≡ shown_in self.now k) }
     {
-        self.settled[k] && self.shown[k].number == number
+        self.settled[k] && self.numbers[k] == number
     }
 
     /// Takes one look, at thread `k`.
-    fn take(&mut self, k: usize, look: Seen, unshown: &mut CoreSet)
+    fn take(&mut self, k: usize, look: &Seen, unshown: &mut CoreSet)
         requires thread { k < MOST_THREADS }
         ensures kept { (j : ℕ) → j < MOST_THREADS → kept_in self.new j
-            ≡ (if j == k then unwrap_or (record_to_keep look) (kept_in self.old j)
+            ≡ (if j == k then unwrap_or (record_to_keep look.now) (kept_in self.old j)
             else kept_in self.old j) }
         ensures shown { (j : ℕ) → j < MOST_THREADS → shown_in self.new j
-            ≡ (if j == k then unwrap_or (shown_by look) (shown_in self.old j)
+            ≡ (if j == k then unwrap_or (shown_by look.now) (shown_in self.old j)
             else shown_in self.old j) }
         ensures before { self.new.before ≡ self.old.before }
         ensures sets { KeepsSets self.old → KeepsSets self.new }
@@ -212,9 +226,9 @@ impl Keeping {
             Shows holder (kept_in self.new) unshown.new }
     {
         match look {
-            Seen::Whole { number, rec } => self.keep(k, number, rec, unshown),
+            Seen::Whole { number, rec } => self.keep(k, *number, rec, unshown),
             Seen::Ahead { number, rec } | Seen::Foreign { number, rec } => {
-                self.note(k, number, rec);
+                self.note(k, *number, rec);
             }
             Seen::Busy { .. } => {}
         }
@@ -238,7 +252,7 @@ impl Keeping {
     {
         match look {
             Seen::Whole { number, .. } if self.is_as_kept(k, *number) => {}
-            _ => self.take(k, *look, unshown),
+            _ => self.take(k, look, unshown),
         }
     }
 
@@ -255,7 +269,7 @@ impl Keeping {
     {
         self.settle_all();
         for (k, look) in seen.iter().enumerate() {
-            self.take(k, *look, unshown);
+            self.take(k, look, unshown);
         }
     }
 
@@ -295,8 +309,7 @@ impl Keeping {
         self.settle();
         let mut first = 0;
         while let Some(k) = pass.listed.next(first, MOST_THREADS) {
-            let look = pass.noted(k);
-            self.take(k, look, unshown);
+            self.take(k, pass.noted(k), unshown);
             first = k + 1;
         }
     }

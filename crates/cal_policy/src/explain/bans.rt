@@ -22,7 +22,8 @@ use crate::pass::Pass;
 /// the last three say is asked of a core only where a request on it runs too long.
 #[derive(Clone, Copy, Debug, PartialEq, Eq)]
 pub enum BanReason {
-    /// It is due: the request of this thread, which holds the core, runs too long.
+    /// It is due: the request of this thread, which holds the core, runs too long, and none of the
+    /// last three is so.
     Due { thread: u8 },
     /// Nobody holds the core.
     NotHeld,

@@ -26,6 +26,7 @@ use std::alloc::{AllocError, Global};
 
 impl Board {
     /// The judgement of a look at thread `k` after the history.
+    #[inline(always)]
     pub fn judge(&self, config: &Config, k: usize, look: Look) -> Seen
         requires { k < threads_of_table config.now }
         ensures { (h : List PassEntry) → IsStateAfter self.now h →
@@ -90,7 +91,7 @@ impl Board {
             result ≡ rules.misfit_of (last_shown (looks_of h) k) look }
     {
         config.limits();
-        misfit_of(&self.keeping.shown[k], look)
+        misfit_of(&self.keeping.shown(k), look)
     }
 
     /// Why a look at thread `k` is refused where looks are taken one by one.

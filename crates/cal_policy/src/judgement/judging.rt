@@ -61,6 +61,7 @@ fn is_elsewhere(holding: &Holding, cores: u8, k: usize, rec: Record) -> bool
 }
 
 /// The judgement of a look at thread `k`.
+#[inline(always)]
 pub fn judged_by(board: &Board, cores: u8, k: usize, look: Look) -> Seen
     requires cores { cores ≤ MOST_CORES }
     requires thread { k < MOST_THREADS }
@@ -120,7 +121,7 @@ fn each_fits(keeping: &Keeping, seen: &[Seen]) -> bool
         IsFitLook (last_shown looks k) look) }
 {
     for (k, look) in seen.iter().enumerate() {
-        if !is_fit_look(&keeping.shown[k], look) {
+        if !is_fit_look(&keeping.shown(k), look) {
             return false;
         }
     }

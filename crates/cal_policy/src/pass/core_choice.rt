@@ -17,12 +17,12 @@ ghost use Rattle.cal_policy.specs.Board.{placement_of};
 ghost use Rattle.cal_policy.specs.State.{IsOfTable, Stands, Agrees};
 ghost use Rattle.cal_policy.specs.Board.Counts.{held_by, is_held_for};
 ghost use Rattle.cal_policy.specs.Pass.Choice.{best_below, lowest_below};
-ghost use Rattle.cal_policy.specs.Pass.Among.{class_among, is_beside_own, was_own};
+ghost use Rattle.cal_policy.specs.Pass.Among.{class_among, is_beside_own, was_own_last};
 ghost use Rattle.cal_policy.specs.Pass.AtHand.{setting_in};
 
 use crate::board::Board;
 use crate::board::core_sets::next_core;
-use crate::board::counts::{holds_for, some_is_over};
+use crate::board::counts::{self, holds_for, some_is_over};
 use crate::board::holders::{Holder, Placement};
 use crate::board::survey::survey_of;
 use crate::history::core_class::CoreClass;
@@ -227,14 +227,18 @@ impl Pass<'_> {
         was_for(self.config, task, board.holding.granted[core as usize])
     }
 
-    /// The lowest idle core beside one that the task holds.
+    /// The lowest idle core beside one that the task holds; none where it holds no core.
     fn idle_beside(&self, board: &Board, task: usize) -> Option<u8>
         requires at_hand { IsOfTable self.now.config.now board.now }
+        requires task { task < length self.now.config.now.tasks }
         ensures lowest { (x : List Action) → Agrees board.now x → result ≡ lowest_below
             (is_beside_own board.now.open_cores.idle self.now.config.now x task)
             self.now.config.now.cores }
         ensures below { IfSome result (λ core. core < self.now.config.now.cores) }
     {
+        if counts::held_by(self.config, board, task) == 0 {
+            return None;
+        }
         let mut from = 0;
         while let Some(core) = next_core(self.config, &board.open_cores.beside_held, from) {
             if self.holds_beside(board, task, core) {
@@ -249,7 +253,7 @@ impl Pass<'_> {
     fn idle_again(&self, board: &Board, task: usize) -> Option<u8>
         requires at_hand { IsOfTable self.now.config.now board.now }
         ensures lowest { (x : List Action) → Agrees board.now x → result ≡ lowest_below
-            (was_own board.now.open_cores.idle self.now.config.now x task)
+            (was_own_last board.now.open_cores.idle self.now.config.now x task)
             self.now.config.now.cores }
         ensures below { IfSome result (λ core. core < self.now.config.now.cores) }
     {

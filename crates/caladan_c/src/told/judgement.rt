@@ -40,7 +40,7 @@ pub fn tell_looks(looks: &OpenPass, out: &mut [u8])
     tell_kept(looks.count, out);
     let mut first = 0;
     while let Some(k) = looks.listed.next(first, looks.count) {
-        out[k] = judgement(looks.noted(k));
+        out[k] = judgement(*looks.noted(k));
         first = k + 1;
     }
 }

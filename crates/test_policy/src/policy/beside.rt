@@ -59,7 +59,7 @@ fn next_record(draw: &mut Draw, config: &Config, board: &Board, k: usize) -> Rec
     requires { k < MOST_THREADS }
 {
     let clock = draw.clock;
-    let last = board.keeping.shown[k].rec;
+    let last = board.keeping.shown(k).rec;
     let sent = u64::try_from(board.holding.sent[k]).unwrap_or(0);
     let taken = match draw.below(32) {
         0 => sent.saturating_add(1),
@@ -88,7 +88,7 @@ fn next_record(draw: &mut Draw, config: &Config, board: &Board, k: usize) -> Rec
 fn found(draw: &mut Draw, config: &Config, board: &Board, k: usize) -> Look
     requires { k < MOST_THREADS }
 {
-    let last = board.keeping.shown[k];
+    let last = board.keeping.shown(k);
     match draw.below(1024) {
         0 => Look::Whole {
             number: last.number,

@@ -1,13 +1,13 @@
 use Rattle.std.proofs.Common.{◌≡◌, ◌≤◌, ◌-◌, List, None}
 use Rattle.cal_policy.specs.declared.history.action.Action.{Action}
 use Rattle.cal_policy.specs.Pass.Choice.{lowest_below}
-use Rattle.cal_policy.specs.Pass.Among.{was_own}
+use Rattle.cal_policy.specs.Pass.Among.{was_own_last}
 use Rattle.cal_policy.specs.State.{Agrees}
 use Rattle.cal_policy.proofs.pass.Pass.idle_again.Given as goal
 
 abbrev pub invariant-loop-core : goal.invariant-loop-core
 invariant-loop-core l = record {
-  none : (x : List Action) → Agrees l.board x → lowest_below (was_own l.board.open_cores.idle l.self.config.now x l.task) l.first ≡ None;
+  none : (x : List Action) → Agrees l.board x → lowest_below (was_own_last l.board.open_cores.idle l.self.config.now x l.task) l.first ≡ None;
   first : l.first ≤ l.self.config.now.cores;
 }
 

@@ -2,7 +2,7 @@
 use Rattle.std.proofs.Common.{◌≡◌, ℕ, eqb, cond, sym, ◌∙◌, subst}
 use Rattle.cal_machine.specs.CoreSet.{has}
 use Rattle.cal_policy.specs.Board.{holder_in}
-use Rattle.cal_policy.specs.Board.OpenCores.{is_alone_by, is_beside_by}
+use Rattle.cal_policy.specs.Board.OpenCores.{is_alone_by, is_beside_held_by}
 use Rattle.cal_policy.proofs.BoardLemmas.OpenCores.{opens_one}
 use Rattle.cal_policy.proofs.board.open_cores.OpenCores.note.Goals as goal
 
@@ -15,8 +15,8 @@ returns-in-Some c = record {
       let core = c.in-Some.core in
       let Alone : ℕ → Type 0 = λ n. (k : ℕ) → has new.alone k ≡ cond (eqb k n) (is_alone_by now c.args.banned.now n)
       (cond (eqb k core) (is_alone_by now c.args.banned.now core) (has old.alone k)) in
-      let Beside : ℕ → Type 0 = λ n. (k : ℕ) → has new.beside_held k ≡ cond (eqb k n) (is_beside_by now c.args.banned.now n)
-      (cond (eqb k core) (is_beside_by now c.args.banned.now core) (has old.beside_held k)) in
+      let Beside : ℕ → Type 0 = λ n. (k : ℕ) → has new.beside_held k ≡ cond (eqb k n) (is_beside_held_by now c.args.banned.now n)
+      (cond (eqb k core) (is_beside_held_by now c.args.banned.now core) (has old.beside_held k)) in
       opens_one c.args.action holder now bans c.args.banned.now core old new (sym c.core_named_by.ensures.named ∙ c.in-Some.is) o same
       c.sort.ensures.idle (subst Alone c.sibling-beside.ensures.value c.sort.ensures.alone)
       (subst Beside c.sibling-beside.ensures.value c.sort.ensures.beside);

@@ -5,7 +5,8 @@ use Rattle.cal_policy.proofs.board.records.Keeping.settle.Given as goal
 abbrev pub invariant-loop-k : goal.invariant-loop-k
 invariant-loop-k l = record {
   kept : l.self.kept ≡ l.fn.self.kept;
-  shown : l.self.shown ≡ l.fn.self.shown;
+  numbers : l.self.numbers ≡ l.fn.self.numbers;
+  unkept : l.self.unkept ≡ l.fn.self.unkept;
   moved : l.self.moved ≡ l.fn.self.moved;
   waiting : l.self.waiting ≡ l.fn.self.waiting;
   settled : l.self.settled ≡ l.fn.self.settled;
