@@ -44,21 +44,20 @@ is_in_state states.Leaving holder banned = is_leaving holder
 is_in_state states.Banned holder banned = is_free holder && banned
 is_in_state states.Free holder banned = is_free holder && not banned
 
+-- how many of the first n cores are in this state after these actions
+abbrev pub count_in_first : ℕ → List Action → CoreState → ℕ
+count_in_first n x state = count_below (λ c. is_in_state state (holder_of x c) (is_banned x c)) n
+
 -- how many cores are in this state after these actions
 abbrev pub count_in_state : Table → List Action → CoreState → ℕ
-count_in_state table x state =
-    count_below (λ c. is_in_state state (holder_of x c) (is_banned x c)) table.cores
+count_in_state table = count_in_first table.cores
 
 -- so many of the first n cores are in each state after these actions
 pub record AreStateCounts (x : List Action) (n : ℕ) (counts : StateCounts) : Type 0 where
-  pub held : counts.held ≡
-      count_below (λ c. is_in_state states.Held (holder_of x c) (is_banned x c)) n
-  pub leaving : counts.leaving ≡
-      count_below (λ c. is_in_state states.Leaving (holder_of x c) (is_banned x c)) n
-  pub banned : counts.banned ≡
-      count_below (λ c. is_in_state states.Banned (holder_of x c) (is_banned x c)) n
-  pub free : counts.free ≡
-      count_below (λ c. is_in_state states.Free (holder_of x c) (is_banned x c)) n
+  pub held : counts.held ≡ count_in_first n x states.Held
+  pub leaving : counts.leaving ≡ count_in_first n x states.Leaving
+  pub banned : counts.banned ≡ count_in_first n x states.Banned
+  pub free : counts.free ≡ count_in_first n x states.Free
 
 -- no more than so many cores are in each state
 pub record AreAtMost (most : ℕ) (counts : StateCounts) : Type 0 where

@@ -17,7 +17,8 @@ use cal_machine::Config;
 use cal_policy::state::{Board, is_banned, record_delay};
 use cal_policy::{Action, Holder};
 
-/// What a core can be in.
+/// What a core can be in. No call takes or gives one: the definitions name by it what `StateCounts`
+/// counts.
 #[derive(Clone, Copy, Debug, PartialEq, Eq)]
 pub enum CoreState {
     /// A thread holds it.

@@ -2,7 +2,6 @@
 
 pub mod each_task;
 pub mod machine_time;
-pub mod state_after;
 pub mod task_time;
 
 ghost use Rattle.std.specs.Prelude.{◌≡◌, ◌<◌, ◌≤◌, ◌+◌, ◌++◌, ◌∷◌, [], ℕ, List, IfOk, length};
@@ -23,18 +22,17 @@ ghost use Rattle.cal_policy.specs.declared.history.entry.TheConstants.{MOST_PASS
 use crate::cores::{MachineCores, TaskActions, TaskCores};
 use crate::walk::each_task::{count_actions_of_each, time_each};
 use crate::walk::machine_time::MachineTime;
-use crate::walk::state_after::bring_up;
 use crate::walk::task_time::{PassTiming, TaskTime};
 use cal_machine::Config;
-use cal_policy::state::Board;
+use cal_policy::state::{Board, replay};
 use cal_policy::{Action, PassEntry, legal_is_orderly, legal_is_short};
 use cal_trace::GivenPass;
 use std::alloc::{AllocError, Global};
 
 /// The walk over the passes of a history, one after the other, whoever gives them. Its numbers are
 /// at any time those of the passes so far, and each pass costs the work of that pass alone: there is
-/// one board, and for each task a row of numbers. No pass takes memory. The state that a pass leaves
-/// it is told: whoever makes passes has it.
+/// for each task a row of numbers, and one board, which is brought up by actions alone. No pass takes
+/// memory. The state that a pass leaves it is told: whoever makes passes has it.
 ///
 /// Every call is to be given the table that it was opened for.
 #[derive(Drop)]
@@ -197,7 +195,7 @@ pub fn walked(alloc: Global, config: &Config, history: &[PassEntry]) -> Result<W
     let mut state = Board::new();
     for pass in 0..history.len() {
         let entry = &history[pass];
-        bring_up(config, &mut state, entry);
+        replay(config, &mut state, entry);
         let given = given_of(entry);
         walk.pass(config, &state, given, entry.actions.as_slice());
     }

@@ -19,8 +19,8 @@ loop-pass-init c = record {
   walk = c.in_ok-walk.ensures.walk;
 }
 
-pub bring_up-requires-clause-looks : goal.bring_up-requires-clause-looks
-bring_up-requires-clause-looks c =
+pub replay-requires-clause-looks : goal.replay-requires-clause-looks
+replay-requires-clause-looks c =
     let h = c.args.history.now in
     let p = c.loop-pass.pass in
     let entry = c.index-history-pass.result in
@@ -28,8 +28,8 @@ bring_up-requires-clause-looks c =
     let fits = orderly.entries p entry (slice_get_read h (length h) p entry refl c.loop-pass-test.true c.index-history-pass.is) in
     omega (arith, fits.looks.looks, c.limits.ensures.threads)
 
-pub bring_up-requires-clause-names : goal.bring_up-requires-clause-names
-bring_up-requires-clause-names c =
+pub replay-requires-clause-names : goal.replay-requires-clause-names
+replay-requires-clause-names c =
     let table = c.args.config.now in
     let h = c.args.history.now in
     let p = c.loop-pass.pass in
@@ -71,10 +71,14 @@ loop-pass-preserved c =
     let few : length h ≤ 1048576 = c.requires.few in
     let low : length (take p h) < 1048576 = omega (arith, few, lt, length-take-le p h (omega (arith, lt))) in
     let longer = take_item h p entry lt c.index-history-pass.is in
-    let state : IsStateAfter c.bring_up.new.state (take p h ++ entry ∷ []) = c.bring_up.ensures.state (take p h) here c.loop-pass.invariant.state in
+    let was = c.loop-pass.invariant.state in
+    let state : IsStateAfter c.replay.new.board (take p h ++ entry ∷ []) = record {
+      actions = c.replay.ensures.agrees (take p h) was.actions;
+      looks = c.replay.ensures.keeping (take p h) was.looks here.looks.fit;
+    } in
     record {
-      ready = c.bring_up.ensures.ready;
-      state = subst (λ (l : List PassEntry). IsStateAfter c.bring_up.new.state l) longer state;
+      ready = c.replay.ensures.ready;
+      state = subst (λ (l : List PassEntry). IsStateAfter c.replay.new.board l) longer state;
       is_open = c.pass.ensures.open;
       walk = subst (λ (l : List PassEntry). IsWalkOf table l c.pass.new.self) longer
           (c.pass.ensures.walk (take p h) entry low state c.given_of-given.ensures.now c.given_of-given.ensures.bandwidth c.as_slice.ensures c.loop-pass.invariant.walk);
