@@ -4,4 +4,5 @@ pub mod ListLemmas
 pub mod HistoryLemmas
 pub mod GivenSignals
 pub mod ArrivalsFit
+pub mod Ids
 pub mod Tallies

@@ -1,5 +1,6 @@
 -- What the rows of a file of arrivals say.
 pub mod FitsTable
+pub mod Ids
 pub mod Reading
 use Rattle.std.specs.Prelude.{◌==◌, ◌&&◌, ◌||◌, ◌+◌, ◌-◌, not, nat_le, nat_lt, ℕ, List, [], ◌∷◌}
 use Rattle.std.specs.Prelude.{◌++◌, length, codes, slice_get, Bool, true, false, Option, Some, None}

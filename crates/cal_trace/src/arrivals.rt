@@ -1,6 +1,7 @@
 //! Files of arrivals: the passes and turns of a run, and the requests that come to its threads.
 
 pub mod file;
+pub mod ids;
 pub mod reading;
 
 use cal_machine::{Listed, Request};

@@ -4,6 +4,7 @@ ghost use Rattle.std.specs.Prelude.{◌≡◌, Option};
 ghost use Rattle.cal_trace.specs.Arrivals.{form_of, last_in, turn_row, arrival_row, comes_after};
 ghost use Rattle.csv.specs.Records.{fields_of};
 
+use crate::arrivals::ids::Ids;
 use crate::arrivals::{Arrival, Arrivals, GivenPass};
 use crate::fault::FaultKind;
 use crate::rows::fields::{has_numbers, is_row, number_at};
@@ -12,7 +13,6 @@ use crate::rows::reading::Reading;
 use cal_machine::{Listed, Request};
 use csv::ByteRecord;
 use std::alloc::Global;
-use std::collections::BTreeSet;
 
 /// The most turns that a file may have: few enough that no thread's journal is ever full.
 /// Doranjei's own limit.
@@ -143,7 +143,7 @@ pub(crate) struct ArrivalReading {
     turns: Vec<u64>,
     requests: Vec<Arrival>,
     // The ids of these requests.
-    ids: BTreeSet<u64>,
+    ids: Ids,
     ended: bool,
 }
 
@@ -166,7 +166,7 @@ impl ArrivalReading {
             passes: Vec::new(alloc),
             turns: Vec::new(alloc),
             requests: Vec::new(alloc),
-            ids: BTreeSet::new(alloc),
+            ids: Ids::new(alloc),
             ended: false,
         }
     }
@@ -223,7 +223,8 @@ impl ArrivalReading {
         ensures kept { OnOk result (KeepsArrivals self.new) }
         ensures file { self.new.threads ≡ self.old.threads }
     {
-        if !self.ids.insert(arrival.request.id)? {
+        let requests = self.requests.as_slice();
+        if !self.ids.insert(requests, arrival.request.id)? {
             return Err(FaultKind::Repeated);
         }
         self.requests.push(arrival)?;
