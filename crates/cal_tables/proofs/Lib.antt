@@ -10,3 +10,4 @@ pub mod ReadBack
 pub mod OwnValue
 pub mod Unvaried
 pub mod OneTable
+pub mod Verdicts

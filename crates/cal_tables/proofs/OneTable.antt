@@ -9,7 +9,7 @@ use Rattle.cal_machine.specs.Reading.{table_in}
 use Rattle.cal_machine.specs.Table.{Table}
 use Rattle.cal_machine.specs.declared.fault.ConfigFault.{ConfigFault}
 use Rattle.cal_machine.specs.declared.fault.ConfigFault.TheVariants as config
-use Rattle.cal_tables.specs.Faulty.{IsOfTable, AreTablesBefore}
+use Rattle.cal_tables.specs.Faulty.{SaysWhichTable, AreTablesBefore}
 use Rattle.cal_tables.specs.declared.comparing.fault.ComparisonFault.{ComparisonFault}
 use Rattle.cal_tables.specs.declared.comparing.fault.ComparisonFault.TheVariants as comparison
 use Rattle.cal_tables.specs.declared.comparing.fault.Reason.TheVariants as reasons
@@ -31,7 +31,7 @@ pub placed : (f : ConfigFault) (place : ℕ) (P : Type 0) → ConfigDecided f P 
 placed f place P h = run_decided (faults.Config f) P ((place ≡ place) × P) (λ p. (refl, p)) h
 
 -- what follows from it
-pub of_table_weaker : (P Q : ℕ → ConfigFault → Type 0) → ((place : ℕ) (f : ConfigFault) → P place f → Q place f) → (e : ComparisonFault) → IsOfTable P e → IsOfTable Q e
+pub of_table_weaker : (P Q : ℕ → ConfigFault → Type 0) → ((place : ℕ) (f : ConfigFault) → P place f → Q place f) → (e : ComparisonFault) → SaysWhichTable P e → SaysWhichTable Q e
 of_table_weaker P Q by (comparison.Run fault) h = h
 of_table_weaker P Q by (comparison.OfTable place (reasons.Run (faults.Config f))) h = run_decided (faults.Config f) (P place f) (Q place f) (by place f) h
 of_table_weaker P Q by (comparison.OfTable place (reasons.Run faults.Read)) h = absurd h

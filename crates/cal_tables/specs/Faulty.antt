@@ -11,7 +11,8 @@ use Rattle.cal_tables.specs.declared.comparing.fault.ComparisonFault.{Comparison
 use Rattle.cal_tables.specs.declared.comparing.fault.ComparisonFault.TheVariants as comparison
 use Rattle.cal_tables.specs.declared.comparing.fault.Reason.TheVariants as reasons
 
--- before this rest of an input stand these tables, each ended by a separator line
+-- before this rest of an input stand these tables, each ended by a separator line; the rest may have
+-- more of them
 abbrev pub AreTablesBefore : List ℕ → List Table → List ℕ → Type 0
 AreTablesBefore input [] rest = input ≡ rest
 AreTablesBefore input (table ∷ tables) rest = (front : List ℕ) × (back : List ℕ)
@@ -40,9 +41,10 @@ pub record IsFirstFaultyValue (table : Table) (key : List ℕ) (values : List (L
   pub at : slice_get values place ≡ Some value
   pub faulty : varied table key value ≡ Err fault
 
--- memory was refused, or a table is faulty: Is holds of its number and its fault
-abbrev pub IsOfTable : (ℕ → ConfigFault → Type 0) → ComparisonFault → Type 0
-IsOfTable Is (comparison.Run fault) = fault ≡ faults.Memory
-IsOfTable Is (comparison.OfTable place (reasons.Run (faults.Config fault))) =
+-- memory was refused, to one table or at all, or a table is faulty, and Is holds of its number and
+-- its fault
+abbrev pub SaysWhichTable : (ℕ → ConfigFault → Type 0) → ComparisonFault → Type 0
+SaysWhichTable Is (comparison.Run fault) = fault ≡ faults.Memory
+SaysWhichTable Is (comparison.OfTable place (reasons.Run (faults.Config fault))) =
     ConfigDecided fault (Is place fault)
-IsOfTable Is (comparison.OfTable place reason) = ⊥
+SaysWhichTable Is (comparison.OfTable place reason) = ⊥

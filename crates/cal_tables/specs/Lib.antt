@@ -1,5 +1,6 @@
 pub mod Measured
 pub mod Recording
+pub mod Asked
 pub mod Moved
 pub mod Compared
 pub mod Courses

@@ -1,10 +1,14 @@
 //! A run on one thread or a recorded history, measured.
 
-ghost use Rattle.std.specs.Prelude.{◌≡◌, ◌≢◌, IfErr, IfOk};
+ghost use Rattle.std.specs.Prelude.{◌≡◌, ◌≢◌, Err, IfErr, IfOk, IfSome};
+ghost use Rattle.cal_input.specs.Answers.{Decided};
+ghost use Rattle.cal_input.specs.Parts.{within_limit};
+ghost use Rattle.cal_input.specs.Recorded.{recorded_in};
 ghost use Rattle.cal_measure.specs.Clocks.{AreClocksOf};
 ghost use Rattle.cal_measure.specs.Walk.{IsOpenFor};
 ghost use Rattle.cal_run.specs.declared.outcome.Outcome.{Outcome};
 ghost use Rattle.cal_trace.specs.Arrivals.FitsTable.{FitsTable};
+ghost use Rattle.cal_tables.specs.Asked.{asked_history, asked_of, IsVerdictFor, Judges};
 ghost use Rattle.cal_tables.specs.Measured.{AreNumbersAtEnd, AreNumbersOf, AreRunNumbers};
 ghost use Rattle.cal_tables.specs.Measured.{IsMeasuredRun};
 
@@ -103,7 +107,7 @@ impl OfRun for RunNumbers {
     }
 }
 
-/// What is written of a run on these arrivals, in memory.
+/// What is written of a run on these arrivals, in memory. Its fault is `Memory`.
 fn run_text(
     alloc: Global,
     config: &Config,
@@ -111,6 +115,7 @@ fn run_text(
     style: NumberStyle<'_>,
 ) -> Result<String, RunFault>
     requires { FitsTable config.now arrivals.now }
+    ensures kind { IfErr result (λ fault. fault ≡ RunFault.Memory) }
 {
     let numbers = measured_run(alloc, config, arrivals)?;
     let sheet = sheet_of(alloc, config, &numbers, style)?;
@@ -124,7 +129,12 @@ fn recorded_text(
     config: &Config,
     trace: &[u8],
     style: NumberStyle<'_>,
-) -> Result<(Verdict, String), RunFault> {
+) -> Result<(Verdict, String), RunFault>
+    ensures verdict { IfOk result (λ told.
+        IsVerdictFor told.0 (asked_history (recorded_in config.now trace.now))) }
+    ensures fault { IfErr result (λ fault.
+        Decided fault (recorded_in config.now trace.now ≡ Err fault)) }
+{
     match measured_recording(alloc, config, trace)? {
         Recorded::Legal { numbers } => {
             let sheet = history_sheet(alloc, config, &numbers, style)?;
@@ -134,13 +144,16 @@ fn recorded_text(
     }
 }
 
-/// What is written of an input, in memory: of the run on its arrivals or, where what follows the
-/// table has not their header, of the history that it records.
+/// The verdict on what an input asks for, and what is written of it, in memory: of the run on its
+/// arrivals or, where what follows the table has not their header, of the history that it records.
 fn measured_text(
     alloc: Global,
     input: &[u8],
     style: NumberStyle<'_>,
-) -> Result<(Verdict, String), RunFault> {
+) -> Result<(Verdict, String), RunFault>
+    ensures verdict { IfOk result (λ told. IsVerdictFor told.0 (asked_of input.now)) }
+    ensures fault { IfErr result (λ fault. Decided fault (asked_of input.now ≡ Err fault)) }
+{
     let (config, trace) = read_parts(alloc, input)?;
     match read_arrivals(alloc, &config, trace) {
         Ok(arrivals) => Ok((Verdict::Legal, run_text(alloc, &config, &arrivals, style)?)),
@@ -163,6 +176,10 @@ pub fn measure<R: Read + Drop, W: Write>(
     style: NumberStyle<'_>,
     writer: &mut W,
 ) -> Result<Verdict, RunFault>
+    // The verdict is that on the run or the history that the input asks for, or the fault says what
+    // it must of the input.
+    ensures exact { IfSome (R.remaining reader) (λ input.
+        Judges result (within_limit input (asked_of input))) }
     // Nothing is written before the run was made, and nothing of a history that is not legal.
     ensures untouched { IfErr result (λ fault. fault ≢ RunFault.Write → writer.new ≡ writer.old) }
     ensures illegal { IfOk result (λ verdict.

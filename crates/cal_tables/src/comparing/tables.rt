@@ -3,7 +3,7 @@
 ghost use Rattle.std.specs.Prelude.{◌≡◌, Err, Ok, IfErr, IfOk, slice_get};
 ghost use Rattle.cal_machine.specs.Reading.{table_in};
 ghost use Rattle.cal_tables.specs.Compared.{AreTables, AreTablesWith, AreToldFor};
-ghost use Rattle.cal_tables.specs.Faulty.{IsFirstFaulty, IsOfTable};
+ghost use Rattle.cal_tables.specs.Faulty.{IsFirstFaulty, SaysWhichTable};
 ghost use Rattle.cal_trace.specs.Arrivals.FitsTable.{FitsTable};
 
 use crate::comparing::fault::{ComparisonFault, Reason, fault_of};
@@ -26,7 +26,7 @@ pub struct GivenTables {
 /// The table that a text spells, counted from 0 among its like.
 fn read_table(alloc: Global, text: &[u8], place: usize) -> Result<Config, ComparisonFault>
     ensures table { IfOk result (λ table. table_in text.now ≡ Ok table) }
-    ensures fault { IfErr result (IsOfTable (λ at fault.
+    ensures fault { IfErr result (SaysWhichTable (λ at fault.
         (at ≡ place) × (table_in text.now ≡ Err fault))) }
 {
     match Config::read(alloc, text) {
@@ -39,7 +39,7 @@ fn read_table(alloc: Global, text: &[u8], place: usize) -> Result<Config, Compar
 /// lines. The fault is that of the first table that has one. `Memory` may come at any place.
 pub fn read_tables(alloc: Global, input: &[u8]) -> Result<(Vec<Config>, &[u8]), ComparisonFault>
     ensures tables { IfOk result (λ parts. AreTables input.now parts.0.items parts.1.now) }
-    ensures fault { IfErr result (IsOfTable (IsFirstFaulty input.now)) }
+    ensures fault { IfErr result (SaysWhichTable (IsFirstFaulty input.now)) }
 {
     let mut tables = Vec::new(alloc);
     let mut rest = input;

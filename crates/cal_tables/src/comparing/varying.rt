@@ -5,7 +5,7 @@ ghost use Rattle.std.specs.Prelude.{◌<◌, length, slice_get, string_bytes};
 ghost use Rattle.std.specs.List.{concat};
 ghost use Rattle.cal_input.specs.Answers.{ConfigDecided};
 ghost use Rattle.cal_trace.specs.Rows.Text.{numbered};
-ghost use Rattle.cal_tables.specs.Faulty.{IsFirstFaultyValue, IsOfTable};
+ghost use Rattle.cal_tables.specs.Faulty.{IsFirstFaultyValue, SaysWhichTable};
 ghost use Rattle.cal_tables.specs.TableText.{field_key, kind_text, lines_of, text_of_lines};
 ghost use Rattle.cal_tables.specs.Varied.{AreVaried, AreVariedWith, has_key, varied};
 ghost use Rattle.cal_tables.specs.Varied.{varied_lines};
@@ -231,7 +231,7 @@ fn placed_table(
 ) -> Result<Config, ComparisonFault>
     ensures made { IfOk result (λ made.
         varied table.now setting.entry.key.now setting.entry.value.now ≡ Ok made) }
-    ensures fault { IfErr result (IsOfTable (λ at fault. (at ≡ place)
+    ensures fault { IfErr result (SaysWhichTable (λ at fault. (at ≡ place)
         × (varied table.now setting.entry.key.now setting.entry.value.now ≡ Err fault))) }
 {
     match varied(table, setting) {
@@ -250,7 +250,7 @@ pub fn varied_tables(
 ) -> Result<Vec<Config>, ComparisonFault>
     ensures tables { IfOk result (λ tables.
         AreVaried table.now key.now (map (λ value. value.now) values.now) tables.items) }
-    ensures fault { IfErr result (IsOfTable
+    ensures fault { IfErr result (SaysWhichTable
         (IsFirstFaultyValue table.now key.now (map (λ value. value.now) values.now))) }
 {
     let mut tables = Vec::new(alloc);

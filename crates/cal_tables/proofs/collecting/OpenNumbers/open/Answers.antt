@@ -1,4 +1,4 @@
-use Rattle.std.proofs.Common.{◌≡◌, [], ℕ, replicate, subst, sym}
+use Rattle.std.proofs.Common.{[], ℕ, replicate, subst, sym}
 use Rattle.std.specs.List.{AllZip}
 use Rattle.cal_machine.specs.Table.{Table}
 use Rattle.cal_measure.specs.ThreadWork.{IsThreadWorkOf}

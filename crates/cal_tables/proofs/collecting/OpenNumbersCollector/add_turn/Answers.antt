@@ -1,4 +1,4 @@
-use Rattle.std.proofs.Common.{◌≡◌, ◌∙◌, List, subst, sym}
+use Rattle.std.proofs.Common.{◌∙◌, subst, sym}
 use Rattle.cal_machine.specs.Table.{Table}
 use Rattle.cal_measure.specs.Walk.{IsOpenFor, IsWalkOf}
 use Rattle.cal_measure.specs.declared.walk.Walk.{Walk}
