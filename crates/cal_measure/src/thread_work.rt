@@ -70,7 +70,8 @@ impl ThreadWork {
         Ok(ended.totals(thefts, suspensions))
     }
 
-    /// Takes what a step did, if it did something.
+    /// Takes what a step did, if it did something. (Inlined, so that no entry is made of it.)
+    #[inline(always)]
     fn take_step(&mut self, entry: Option<Entry>) -> Result<(), AllocError>
         ensures { (journal : List EntryOf) → IsThreadWorkOf journal self.old →
             length (noted journal entry) ≤ MOST_ENTRIES →
@@ -83,6 +84,7 @@ impl ThreadWork {
     }
 
     /// Takes one entry more.
+    #[inline(always)]
     fn take_entry(&mut self, entry: Entry) -> Result<(), AllocError>
         ensures { (journal : List EntryOf) → IsThreadWorkOf journal self.old →
             length (journal ++ entry ∷ []) ≤ MOST_ENTRIES →

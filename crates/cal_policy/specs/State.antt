@@ -26,6 +26,7 @@ use Rattle.cal_policy.specs.Board.{HasGranted, KeepsBefore, holder_in}
 use Rattle.cal_policy.specs.Board.CoreSets.{Sorts, IsSetOfBanned}
 use Rattle.cal_policy.specs.Board.KeepingSets.{KeepsSets, kept_in, shown_in}
 use Rattle.cal_policy.specs.Board.OpenCores.{Opens}
+use Rattle.cal_policy.specs.Board.RecentCores.{AreRecent, thread_in}
 use Rattle.cal_policy.specs.Board.Survey.{Surveys}
 use Rattle.cal_policy.specs.Board.Unshown.{Shows}
 use Rattle.cal_policy.specs.History.{actions_of, looks_of}
@@ -45,6 +46,8 @@ pub record IsReady (table : Table) (b : Board) : Type 0 where
   pub sets : Sorts (holder_in b.holding) b.sets
   -- and in those of the cores that are open where both say
   pub opens : Opens (holder_in b.holding) b.sets.banned b.open_cores
+  -- each core is with those of the task that had it last
+  pub recent : AreRecent table (thread_in b.holding) b.recent
   -- each thread is in the sets where its kept record says
   pub keeping : KeepsSets b.keeping
   -- each core that its thread's kept record does not show is in the set of those
