@@ -1,8 +1,12 @@
 //! The runs of a sweep, measured.
 
-ghost use Rattle.std.specs.Prelude.{◌≡◌, ◌∷◌, [], IfOk, string_bytes};
+ghost use Rattle.std.specs.Prelude.{◌≡◌, ◌∷◌, [], IfErr, IfOk, Ok, length, string_bytes};
+ghost use Rattle.cal_machine.specs.Reading.{table_in};
+ghost use Rattle.cal_machine.specs.Table.{Table};
+ghost use Rattle.cal_sweep.specs.Faults.{AreKnown, AreCounted, IsFirstFault, SweepDecided};
 ghost use Rattle.cal_sweep.specs.Sweeps.{AreSweptLoads, AreSweptRuns, AreTablesOf, IsSweep};
 ghost use Rattle.cal_sweep.specs.Sweeps.{IsRunOn, IsSweptLoad, IsSweptRun, varying_of};
+ghost use Rattle.cal_tables.specs.Joining.{table_part};
 
 use crate::fault::SweepFault;
 use crate::job::SweepJob;
@@ -190,8 +194,19 @@ fn tables_of(
 /// that of the first word that names a task which it has not, then that of the first value that
 /// makes the table faulty; then that of the first run that has one. `Memory` may come at any place.
 pub fn swept<'a>(rt: &(impl Threads + Sync), job: &SweepJob<'a>) -> Result<Sweep, SweepFault<'a>>
-    ensures { IfOk result (λ sweep. IsSweep job.now.input.now (varying_of job.now.names.variation)
-        job.now.asked.now.loads.items sweep.tables.items sweep.loads.items) }
+    ensures made { IfOk result (λ sweep. IsSweep job.now.input.now
+        (varying_of job.now.names.variation) job.now.asked.now.loads.items
+        sweep.tables.items sweep.loads.items) }
+    // None is made with some names that are not as many as the tasks, nor for a task that is not
+    // there.
+    ensures named { IfOk result (λ _. (table : Table) →
+        table_in (table_part job.now.input.now) ≡ Ok table →
+        AreCounted (length job.now.names.labels.names.now) (length table.tasks)
+        × AreKnown table job.now.asked.now.tasks.items) }
+    // The faults of the table, the names and the words for tasks come first.
+    ensures refused { IfErr result (λ fault. SweepDecided fault (IsFirstFault
+        (table_in (table_part job.now.input.now)) (length job.now.names.labels.names.now)
+        job.now.asked.now.tasks.items fault)) }
 {
     let SweepJob {
         alloc,
