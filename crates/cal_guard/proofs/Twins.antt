@@ -15,6 +15,9 @@ use Rattle.cal_policy.specs.declared.board.Board.{Board}
 use Rattle.cal_policy.specs.declared.board.holders.Holder.{Holder}
 use Rattle.cal_policy.specs.declared.board.holders.Holder.TheVariants as holders
 use Rattle.cal_policy.specs.declared.board.holders.Placement as placements
+use Rattle.std.specs.Option.{option_map}
+use Rattle.cal_policy.specs.Board.RecentCores.{last_thread_in}
+use Rattle.cal_policy.specs.Pass.Grants.{is_thread_for}
 use Rattle.cal_policy.specs.declared.board.bans.BannedFor as bans
 use Rattle.cal_policy.specs.declared.judgement.open_pass.OpenPass.{OpenPass}
 use Rattle.cal_policy.specs.Judgement.OpenPass.{noted_in}
@@ -123,6 +126,11 @@ ready_alike one other a b x wide wide2 ax bx ra rb other_a =
       counts = surveys_alike one other (holder_in a.holding) (holder_in b.holding) a b keeps ra.counts rb.counts other_a.counts;
       sets = rb.sets;
       opens = rb.opens;
+      recent = record {
+        cores = λ t lt c.
+            let same : last_thread_in b.holding c ≡ last_thread_in a.holding c = ap (option_map (λ (p : placements.Placement). p.thread)) (grants c) in
+            rb.recent.cores t lt c ∙ ap (is_thread_for one t) same ∙ sym (ra.recent.cores t lt c) ∙ other_a.recent.cores t lt c ∙ ap (is_thread_for other t) (sym same);
+      };
       keeping = rb.keeping;
       shows = rb.shows;
     }

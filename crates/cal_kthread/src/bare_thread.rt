@@ -55,7 +55,7 @@ impl BareThread {
     ///
     /// Asks for a place that is left on its page, which has 2^62 - 1. Fails only where room for the
     /// request was refused; then nothing has changed. Beyond that room a turn takes no memory.
-    /// (Inlined, so that who reads little of what a turn hands out has the rest of it not even made.)
+    /// (Inlined, so that what a caller does not read of the answer is not made.)
     #[inline(always)]
     pub fn turn(&mut self, now: u64, request: Option<Request>) -> Result<TurnEntries, AllocError>
         requires started { 1 ≤ now }

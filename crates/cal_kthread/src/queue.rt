@@ -27,8 +27,8 @@ const FIRST_ROOM: usize = 4;
 #[derive(Drop)]
 pub struct OwnQueue {
     worker: Worker<Waiting, Global, Knowledge, Balance>,
-    /// Whether something was pushed since it was last found empty: thieves only take, so until then
-    /// there is nothing to pop.
+    // whether something was pushed since it was last found empty: thieves only take, so until then
+    // there is nothing to pop
     filled: bool,
 }
 

@@ -6,6 +6,7 @@ pub mod BansKept
 pub mod CommandNumbers
 pub mod FitLooks
 pub mod OpenCores
+pub mod RecentCores
 pub mod Replayed
 pub mod Sorted
 pub mod StateKept

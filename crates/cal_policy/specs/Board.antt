@@ -5,6 +5,7 @@ pub mod Counts
 pub mod KeepingSets
 pub mod Losing
 pub mod OpenCores
+pub mod RecentCores
 pub mod Survey
 pub mod Unshown
 use Rattle.std.specs.Prelude.{◌≡◌, ℕ, ◌<◌, ◌≤◌, ◌^◌, List, min, Option, Some, None}

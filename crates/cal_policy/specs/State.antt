@@ -1,8 +1,9 @@
 -- When a board is the state of a history. Six words say it, here and in the crates above:
 --
 --   of a board beside a task table
---     `IsReady`        its counts and sets are those of its own holders, bans and records, and it
---                      names no thread that the table has not: passes can be decided from it
+--     `IsReady`        its counts and sets are those of its own holders, last grants, bans and
+--                      records, and it names no thread that the table has not: passes can be
+--                      decided from it
 --     `IsOfTable`      the table is an accepted one, and the board is ready for it
 --   of a board and what led to it
 --     `IsStateAfter`   it is the state that the passes of a history leave
@@ -26,6 +27,7 @@ use Rattle.cal_policy.specs.Board.{HasGranted, KeepsBefore, holder_in}
 use Rattle.cal_policy.specs.Board.CoreSets.{Sorts, IsSetOfBanned}
 use Rattle.cal_policy.specs.Board.KeepingSets.{KeepsSets, kept_in, shown_in}
 use Rattle.cal_policy.specs.Board.OpenCores.{Opens}
+use Rattle.cal_policy.specs.Board.RecentCores.{AreRecent, last_thread_in}
 use Rattle.cal_policy.specs.Board.Survey.{Surveys}
 use Rattle.cal_policy.specs.Board.Unshown.{Shows}
 use Rattle.cal_policy.specs.History.{actions_of, looks_of}
@@ -45,6 +47,8 @@ pub record IsReady (table : Table) (b : Board) : Type 0 where
   pub sets : Sorts (holder_in b.holding) b.sets
   -- and in those of the cores that are open where both say
   pub opens : Opens (holder_in b.holding) b.sets.banned b.open_cores
+  -- each core is with those of the task that had it last
+  pub recent : AreRecent table (last_thread_in b.holding) b.recent
   -- each thread is in the sets where its kept record says
   pub keeping : KeepsSets b.keeping
   -- each core that its thread's kept record does not show is in the set of those

@@ -8,6 +8,7 @@ pub mod counts;
 pub mod holders;
 pub mod open_cores;
 pub mod queries;
+pub mod recent_cores;
 pub mod records;
 pub mod replay;
 pub mod survey;
@@ -34,6 +35,7 @@ use crate::board::caps::Caps;
 use crate::board::core_sets::CoreSets;
 use crate::board::holders::{Holding, core_changed_by};
 use crate::board::open_cores::OpenCores;
+use crate::board::recent_cores::RecentCores;
 use crate::board::records::Keeping;
 use crate::board::survey::Survey;
 use crate::board::unshown::note_changed;
@@ -54,6 +56,8 @@ pub struct Board {
     pub sets: CoreSets,
     /// Which cores grants and bans go over.
     pub open_cores: OpenCores,
+    /// Which cores each task had last.
+    pub recent: RecentCores,
     /// For whom each core is banned.
     pub bans: Bans,
     /// The cap of each task: how many cores a best-effort one may book.
@@ -96,6 +100,7 @@ impl Board {
             survey: Survey::new(),
             sets: CoreSets::new(),
             open_cores: OpenCores::new(),
+            recent: RecentCores::new(),
             bans: Bans::new(),
             caps: Caps::new(),
             keeping: Keeping::new(),
@@ -119,6 +124,7 @@ impl Board {
         let core = core_changed_by(action);
         let before = self.holding.holder_at(core);
         self.survey.remove(config, before);
+        self.recent.note(config, &self.holding, action);
         self.holding.apply(action);
         let after = self.holding.holder_at(core);
         self.survey.add(config, after);
@@ -156,6 +162,9 @@ impl Board {
                 idle: self.open_cores.idle,
                 alone: self.open_cores.alone,
                 beside_held: self.open_cores.beside_held,
+            },
+            recent: RecentCores {
+                of_task: self.recent.of_task,
             },
             bans: Bans {
                 bans: self.bans.bans,

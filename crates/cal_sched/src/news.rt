@@ -1,12 +1,9 @@
 //! What a pass finds, taken in one walk: only what is news is judged.
 
-ghost use Rattle.std.specs.Prelude.{◌≡◌, ◌+◌, ◌<◌, ◌++◌, ◌∷◌, [], List, length};
+ghost use Rattle.std.specs.Prelude.{◌≡◌, [], List, length};
 ghost use Rattle.cal_policy.specs.declared.judgement.open_input.FoundLook.{FoundLook};
 ghost use Rattle.cal_policy.specs.declared.history.entry.PassEntry.{PassEntry};
 ghost use Rattle.cal_policy.specs.State.{IsStateAfter};
-ghost use Rattle.cal_policy.specs.History.{actions_of, looks_of};
-ghost use Rattle.cal_policy.specs.History.Looks.{last_shown};
-ghost use Rattle.cal_policy.specs.Judgement.Judging.{judged, IsFitLook};
 ghost use Rattle.cal_policy.specs.Judgement.OpenPass.{IsOpenAt};
 ghost use Rattle.cal_policy.specs.Judgement.Settled.{SettledAreNoNews};
 ghost use Rattle.cal_machine.specs.TableTasks.{threads_of_table};
@@ -46,21 +43,7 @@ pub(crate) fn find_news(
         let one = FoundLook { look, room };
         found.note(&one);
         if !pass.pass_over(board, one) {
-            take_news(config, board, &one, pass);
+            pass.take(config, board, one);
         }
     }
-}
-
-/// Takes what was found of the next thread, which is news.
-#[inline(always)]
-fn take_news(config: &Config, board: &Board, one: &FoundLook, pass: &mut OpenPass)
-    requires next { pass.old.count < threads_of_table config.now }
-    ensures taken { (h : List PassEntry) (looks : List FoundLook) → IsStateAfter board.now h →
-        IsOpenAt config.now h looks pass.old →
-        IsFitLook (last_shown (looks_of h) pass.old.count)
-        (judged config.now.cores (actions_of h) pass.old.count one.now.look) →
-        IsOpenAt config.now h (looks ++ one.now ∷ []) pass.new }
-    ensures count { pass.new.count ≡ pass.old.count + 1 }
-{
-    pass.take(config, board, *one);
 }

@@ -50,6 +50,7 @@ impl Thread {
     }
 
     /// 2. At most one command is taken. A Run puts the thread on its core, a Park takes it off.
+    #[inline(always)]
     pub(crate) fn take(&mut self, now: u64) -> Option<Taken>
         ensures taken { (command : Option Command)
             × ((self.new, option_map entry_of_taken result)
@@ -136,7 +137,8 @@ impl Thread {
         }
     }
 
-    /// 5. The record is published.
+    /// 5. The record is published. (Inlined, as a turn is.)
+    #[inline(always)]
     pub(crate) fn publish(&mut self, now: u64) -> Publication
         requires later { (last_published self.old.publisher.published).stamp ≤ now }
         requires room { length self.old.publisher.published < LAST_PLACE }

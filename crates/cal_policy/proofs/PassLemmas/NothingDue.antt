@@ -179,7 +179,7 @@ neither_waits now true b x y e = cc
 neither_waits now false true x y e = cc
 neither_waits now false false x y e = refl
 
-no_delay_shown : (now : ℕ) (rec : Record) → shows_waiting rec ≡ false → record_delay now rec ≡ 0
+pub no_delay_shown : (now : ℕ) (rec : Record) → shows_waiting rec ≡ false → record_delay now rec ≡ 0
 no_delay_shown now rec e = neither_waits now (nat_lt 0 rec.queued) (nat_lt 0 rec.paused) rec.oldest rec.since e
 
 -- so a thread that does not wait has none

@@ -1,5 +1,5 @@
--- Which threads are in the sets that are kept beside the records.
-use Rattle.std.specs.Prelude.{◌≡◌, ℕ, ◌<◌, ◌||◌, Bool, true, false, nat_lt, List, Some}
+-- What is kept and was last shown of each thread, and which threads are in the sets beside that.
+use Rattle.std.specs.Prelude.{◌≡◌, ℕ, ◌<◌, ◌||◌, Bool, false, nat_lt, List, Some}
 use Rattle.std.specs.Prelude.{slice_get, slice_index, slice_index_or, if◌then◌else◌}
 use Rattle.cal_machine.specs.declared.numbering.TheConstants.{MOST_THREADS}
 use Rattle.cal_signal.specs.declared.record.Record.{Record}

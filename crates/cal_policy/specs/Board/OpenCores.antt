@@ -38,7 +38,8 @@ is_beside_held_by holder banned c = is_idle_by holder banned c && is_held (holde
 pub record Opens (holder : ℕ → Holder) (banned : CoreSet) (cores : OpenCores) : Type 0 where
   pub idle : (c : ℕ) → c < MOST_CORES → has cores.idle c ≡ is_idle_by holder banned c
   pub alone : (c : ℕ) → c < MOST_CORES → has cores.alone c ≡ is_alone_by holder banned c
-  pub beside : (c : ℕ) → c < MOST_CORES → has cores.beside_held c ≡ is_beside_held_by holder banned c
+  pub beside : (c : ℕ) → c < MOST_CORES →
+      has cores.beside_held c ≡ is_beside_held_by holder banned c
 
 -- holders and bans are the same but for the core that the action names
 pub record IsSameElsewhere (action : Action) (holder : ℕ → Holder) (banned : CoreSet)

@@ -82,7 +82,7 @@ pub record IsSiblingBanned (s : Setting) (x : List Action) (c : ℕ) : Type 0 wh
   pub banned : is_banned x (sibling_of c) ≡ true
 
 -- a request on core c runs too long, neither core is banned, and the sibling may not be emptied
-pub record IsSiblingKept (s : Setting) (x : List Action) (c : ℕ) : Type 0 where
+pub record IsSiblingStaying (s : Setting) (x : List Action) (c : ℕ) : Type 0 where
   pub long : IsSome (too_long_on s c (holder_of x c))
   pub unbanned : is_banned x c ≡ false
   pub beside : is_banned x (sibling_of c) ≡ false
@@ -106,7 +106,7 @@ HoldsBy s x c reasons.BestEffort = is_held_best_effort s.table (holder_of x c) �
 HoldsBy s x c reasons.NotTooLong = HasNoLongRequest s x c
 HoldsBy s x c reasons.Banned = IsItselfBanned s x c
 HoldsBy s x c reasons.SiblingBanned = IsSiblingBanned s x c
-HoldsBy s x c reasons.SiblingStays = IsSiblingKept s x c
+HoldsBy s x c reasons.SiblingStays = IsSiblingStaying s x c
 
 -- the answer says for which thread a ban of the sibling of core c is due, or by what it is not: of
 -- several reasons the first, so that no other answer is right

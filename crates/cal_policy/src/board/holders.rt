@@ -1,7 +1,7 @@
 //! Who has each core, and how many commands each thread was sent.
 
 ghost use Rattle.std.specs.Prelude.{◌≡◌, ◌≢◌, ℕ, ◌+◌, ◌<◌, ◌≤◌, ◌^◌, ◌++◌};
-ghost use Rattle.std.specs.Prelude.{◌∷◌, [], List, Some, min, replicate};
+ghost use Rattle.std.specs.Prelude.{◌∷◌, [], List, Some, None, ◌==◌, if◌then◌else◌, min, replicate};
 ghost use Rattle.cal_machine.specs.declared.machine.TheConstants.{MOST_CORES};
 ghost use Rattle.cal_machine.specs.declared.numbering.TheConstants.{MOST_THREADS};
 ghost use Rattle.cal_policy.specs.declared.history.action.Action.{Action};
@@ -9,7 +9,8 @@ ghost use Rattle.cal_policy.specs.declared.history.action.Action.TheVariants.{Re
 ghost use Rattle.cal_policy.specs.Board.{HoldersAgree, HoldingSound, NamesCores, granted_in};
 ghost use Rattle.cal_policy.specs.Board.{holder_in, holder_at, core_changed};
 ghost use Rattle.cal_policy.specs.Board.Counts as counts;
-ghost use Rattle.std.specs.Option.{IfSome, option_map};
+ghost use Rattle.cal_policy.specs.Board.RecentCores.{last_thread_in, last_thread_with};
+ghost use Rattle.std.specs.Option.{IfSome};
 
 use crate::history::action::{Action, Cause};
 use cal_machine::{MOST_CORES, MOST_THREADS};
@@ -122,6 +123,7 @@ impl Holding {
         ensures agrees { HoldersAgree result [] }
         ensures sound { (threads : ℕ) → HoldingSound threads result }
         ensures free { (c : ℕ) → holder_in result c ≡ Holder.Free }
+        ensures ungranted { (c : ℕ) → last_thread_in result c ≡ None }
     {
         Holding {
             granted: none_granted(),
@@ -155,7 +157,7 @@ impl Holding {
     /// The thread of this core's last grant; of no core none.
     pub fn thread_granted(&self, core: Option<u8>) -> Option<u8>
         ensures { (c : ℕ) → core ≡ Some c →
-            result ≡ option_map (λ (p : Placement). p.thread) (granted_in self.now c) }
+            result ≡ last_thread_in self.now c }
     {
         match self.grant_of(core?) {
             Some(grant) => Some(grant.thread),
@@ -173,6 +175,8 @@ impl Holding {
             NamesCores MOST_CORES threads action → HoldingSound threads self.new }
         ensures others { (c : ℕ) → core_changed action ≢ Some c →
             holder_in self.new c ≡ holder_in self.old c }
+        ensures granted { (c : ℕ) → last_thread_in self.new c
+            ≡ last_thread_with action (last_thread_in self.old) c }
     {
         match action {
             Action::Free { core } => self.holders[core as usize] = Holder::Free,
@@ -193,6 +197,7 @@ impl Holding {
         ensures sound { (threads : ℕ) → HoldingSound threads self.old →
             HoldingSound threads self.new }
         ensures others { (c : ℕ) → c ≢ core → holder_in self.new c ≡ holder_in self.old c }
+        ensures granted { self.new.granted ≡ self.old.granted }
     {
         match self.granted[core as usize] {
             None => self.holders[core as usize] = Holder::Free,
@@ -215,6 +220,8 @@ impl Holding {
         ensures sound { (threads : ℕ) → HoldingSound threads self.old → thread < threads →
             HoldingSound threads self.new }
         ensures others { (c : ℕ) → c ≢ core → holder_in self.new c ≡ holder_in self.old c }
+        ensures granted { (c : ℕ) → last_thread_in self.new c
+            ≡ (if c == core then Some thread else last_thread_in self.old c) }
     {
         let number = one_more(self.sent[thread as usize]);
         let placement = Placement { thread, number };

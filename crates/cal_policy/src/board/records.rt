@@ -41,9 +41,9 @@ pub struct Keeping {
     pub waiting: ThreadSet,
     /// The place of its last look with a record, whatever was judged of it.
     pub numbers: [u64; MOST_THREADS],
-    /// Threads whose kept record is the one of that look.
+    /// Whether the kept record of a thread is the one of that look: whether it is settled.
     pub settled: [bool; MOST_THREADS],
-    /// That record, of the other threads.
+    /// The record of that look, of the threads that are not settled.
     pub unkept: [Record; MOST_THREADS],
 }
 
@@ -124,6 +124,7 @@ impl Keeping {
     }
 
     /// Keeps a record of thread `k`, which it showed at place `number`.
+    #[inline(always)]
     fn put(&mut self, k: usize, number: u64, rec: &Record)
         requires thread { k < MOST_THREADS }
         ensures kept { (j : ℕ) → j < MOST_THREADS →
@@ -170,7 +171,9 @@ impl Keeping {
         self.kept[k].running
     }
 
-    /// The same, and notes the core that the record kept before showed, where this one does not.
+    /// Keeps a record of thread `k`, as `put` does, and notes the core that the record kept before
+    /// showed, where this one does not.
+    #[inline(always)]
     fn keep(&mut self, k: usize, number: u64, rec: &Record, unshown: &mut CoreSet)
         requires thread { k < MOST_THREADS }
         ensures kept { (j : ℕ) → j < MOST_THREADS →
@@ -211,7 +214,8 @@ impl Keeping {
         self.settled[k] && self.numbers[k] == number
     }
 
-    /// Takes one look, at thread `k`.
+    /// Takes one look, at thread `k`. (Inlined, since it is made for each look that is news.)
+    #[inline(always)]
     fn take(&mut self, k: usize, look: &Seen, unshown: &mut CoreSet)
         requires thread { k < MOST_THREADS }
         ensures kept { (j : ℕ) → j < MOST_THREADS → kept_in self.new j
@@ -238,7 +242,6 @@ impl Keeping {
     /// nothing.
     fn take_fit(&mut self, k: usize, look: &Seen, unshown: &mut CoreSet)
         requires thread { k < MOST_THREADS }
-        requires sets { KeepsSets self.old }
         ensures kept { IsFitLook (shown_in self.old k) look.now → (j : ℕ) → j < MOST_THREADS →
             kept_in self.new j ≡ (if j == k
             then unwrap_or (record_to_keep look.now) (kept_in self.old j) else kept_in self.old j) }
@@ -246,7 +249,7 @@ impl Keeping {
             shown_in self.new j ≡ (if j == k
             then unwrap_or (shown_by look.now) (shown_in self.old j) else shown_in self.old j) }
         ensures before { self.new.before ≡ self.old.before }
-        ensures sets { KeepsSets self.new }
+        ensures sets { KeepsSets self.old → KeepsSets self.new }
         ensures shows { (holder : ℕ → Holder) → Shows holder (kept_in self.old) unshown.old →
             Shows holder (kept_in self.new) unshown.new }
     {

@@ -141,7 +141,9 @@ impl Pass<'_> {
         }
     }
 
-    /// The ban that a core gives rise to, and where the banned core is held its revocation.
+    /// The ban that a core gives rise to, and where the banned core is held its revocation. (Inlined,
+    /// since mostly there is none.)
+    #[inline(always)]
     pub fn ban_beside(&self, board: &Board, core: u8) -> Coupled
         requires at_hand { IsOfTable self.now.config.now board.now }
         requires core { core < self.now.config.now.cores }

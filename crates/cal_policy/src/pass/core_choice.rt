@@ -217,16 +217,6 @@ impl Pass<'_> {
         holds_for(self.config, task, board.holding.holders[sibling as usize])
     }
 
-    /// Whether the core was last granted to a thread of the task.
-    fn had_last(&self, board: &Board, task: usize, core: u8) -> bool
-        requires at_hand { IsOfTable self.now.config.now board.now }
-        requires core { core < self.now.config.now.cores }
-        ensures { (x : List Action) → Agrees board.now x →
-            result ≡ is_thread_for self.now.config.now task (last_thread x core) }
-    {
-        was_for(self.config, task, board.holding.granted[core as usize])
-    }
-
     /// The lowest idle core beside one that the task holds; none where it holds no core.
     fn idle_beside(&self, board: &Board, task: usize) -> Option<u8>
         requires at_hand { IsOfTable self.now.config.now board.now }
@@ -252,14 +242,17 @@ impl Pass<'_> {
     /// The lowest idle core that was last granted to a thread of the task.
     fn idle_again(&self, board: &Board, task: usize) -> Option<u8>
         requires at_hand { IsOfTable self.now.config.now board.now }
+        requires task { task < length self.now.config.now.tasks }
         ensures lowest { (x : List Action) → Agrees board.now x → result ≡ lowest_below
             (was_own_last board.now.open_cores.idle self.now.config.now x task)
             self.now.config.now.cores }
         ensures below { IfSome result (λ core. core < self.now.config.now.cores) }
     {
+        self.config.limits();
+        let had = board.recent.of(task);
         let mut first = 0;
-        while let Some(core) = next_core(self.config, &board.open_cores.idle, first) {
-            if self.had_last(board, task, core) {
+        while let Some(core) = next_core(self.config, &had, first) {
+            if board.open_cores.idle.has(core) {
                 return Some(core);
             }
             first = core + 1;

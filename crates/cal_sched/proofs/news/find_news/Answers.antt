@@ -66,7 +66,7 @@ loop-k-preserved c =
       count = elim c.if-not-pass_over.branch [
         | then-not-pass_over w ↦
             let over : c.pass_over.result ≡ false = search rules in
-            rw w.pass-is (w.take_news.ensures.count ∙ ap (λ (p : OpenPass). p.count + 1) (c.pass_over.ensures.same over) ∙ ap (λ n. n + 1) count)
+            rw w.pass-is (w.take.ensures.count ∙ ap (λ (p : OpenPass). p.count + 1) (c.pass_over.ensures.same over) ∙ ap (λ n. n + 1) count)
         | else-not-pass_over w ↦
             let over : c.pass_over.result ≡ true = search rules in
             rw w.pass-is (c.pass_over.ensures.count over ∙ ap (λ n. n + 1) count)
@@ -84,7 +84,7 @@ loop-k-preserved c =
                 let Fits : ℕ → Type 0 = λ n. IsFitLook (last_shown (looks_of h) n) (judged c.args.config.now.cores (actions_of h) n one.look) in
                 let Open : OpenPass → Type 0 = λ p. IsOpenAt c.args.config.now h found p in
                 let fit : Fits c.pass_over.new.self.count = subst Fits (sym (ap (λ (p : OpenPass). p.count) same ∙ count)) (fits h so) in
-                rw w.pass-is (w.take_news.ensures.taken h found agrees (subst Open (sym same) is) fit)
+                rw w.pass-is (w.take.ensures.taken h found agrees (subst Open (sym same) is) fit)
             | else-not-pass_over w ↦
                 let over : c.pass_over.result ≡ true = search rules in
                 rw w.pass-is (c.pass_over.ensures.taken over c.args.config.now h found quiet agrees is)

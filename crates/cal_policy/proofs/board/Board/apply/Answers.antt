@@ -1,10 +1,11 @@
 -- The counts and sets are kept up with the one holder that an action changes.
-use Rattle.std.proofs.Common.{◌∙◌, ap, subst, arith}
+use Rattle.std.proofs.Common.{◌∙◌, ap, subst, sym, arith}
 use Rattle.cal_machine.specs.CoreSet.{has}
 use Rattle.std.specs.Option.{IfSome}
 use Rattle.cal_machine.specs.TableTasks.{threads_of_table}
 use Rattle.cal_policy.specs.declared.board.holders.Holder.{Holder}
 use Rattle.cal_policy.specs.Board.{holder_in}
+use Rattle.cal_policy.specs.Pass.Grants.{is_thread_for}
 use Rattle.cal_policy.specs.Board.Survey.{CountsOneMore}
 use Rattle.cal_policy.specs.Board.CoreSets.{IsSorted}
 use Rattle.cal_policy.proofs.BoardLemmas.StateKept.{names_fixed, names_threads, placed_at}
@@ -66,10 +67,13 @@ returns-clause-ready c =
           (Sorts_moved old.holding c.apply.new.self core old.sets c.move_core.new.self
           (λ j off. c.apply.ensures.others j (λ same. off (c.core_changed_by-core.ensures.changed ∙ same)))
           c.requires.ready.sets (subst At c.holder_at-after.ensures c.move_core.ensures.sorted) c.move_core.ensures.others k lt);
-      opens = c.note.ensures.kept (holder_in old.holding) old.sets.banned c.requires.ready.opens (record {
+      opens = c.note-2.ensures.kept (holder_in old.holding) old.sets.banned c.requires.ready.opens (record {
         holders = λ k off. c.apply.ensures.others k (changes_named c.args.action k off);
         bans = λ k off. c.note_ban.ensures.elsewhere k off ∙ ap (λ set. has set k) c.move_core.ensures.banned;
       });
+      recent = record {
+        cores = λ t lt k. (c.note.ensures.kept c.requires.ready.recent).cores t lt k ∙ sym (ap (is_thread_for table t) (c.apply.ensures.granted k));
+      };
       keeping = c.requires.ready.keeping;
       shows = shows_moved (holder_in old.holding) (holder_in c.apply.new.self) _ old.unshown _ core
           (λ k off. c.apply.ensures.others k (λ same. off (c.core_changed_by-core.ensures.changed ∙ same)))

@@ -1,9 +1,10 @@
 -- Before any action every core is free.
-use Rattle.std.proofs.Common.{subst, sym}
+use Rattle.std.proofs.Common.{◌∙◌, ap, subst, sym}
 use Rattle.cal_machine.specs.TableTasks.{threads_of_table}
 use Rattle.cal_policy.specs.declared.board.holders.Holder.{Holder}
 use Rattle.cal_policy.specs.Board.{holder_in}
 use Rattle.cal_policy.specs.Board.CoreSets.{IsSorted}
+use Rattle.cal_policy.specs.Pass.Grants.{is_thread_for}
 use Rattle.cal_policy.proofs.BoardLemmas.Surveyed.{Surveys_free}
 use Rattle.cal_policy.proofs.BoardLemmas.OpenCores.{opens_free}
 use Rattle.cal_policy.proofs.BoardLemmas.Unshown.{shows_free}
@@ -11,14 +12,15 @@ use Rattle.cal_policy.proofs.board.Board.new.Goals as goal
 
 pub returns-clause-ready : goal.returns-clause-ready
 returns-clause-ready c = λ table. record {
-  sound = record { holding = c.new.ensures.sound 128; bans = c.new-5.ensures.sound 128 };
-  own = record { holding = c.new.ensures.sound (threads_of_table table); bans = c.new-5.ensures.sound (threads_of_table table) };
+  sound = record { holding = c.new.ensures.sound 128; bans = c.new-6.ensures.sound 128 };
+  own = record { holding = c.new.ensures.sound (threads_of_table table); bans = c.new-6.ensures.sound (threads_of_table table) };
   counts = Surveys_free table (holder_in c.new.result) c.new-2.result c.new.ensures.free
       c.new-2.ensures.held c.new-2.ensures.booked c.new-2.ensures.placed c.new-2.ensures.awaited;
   sets = λ k lt. let At : Holder → Type 0 = λ a. IsSorted k a c.new-3.result in
       subst At (sym (c.new.ensures.free k)) (c.new-3.ensures.sorted k lt);
   opens = opens_free (holder_in c.new.result) c.new-3.result.banned c.new-4.result c.new.ensures.free
       (λ k lt. c.new-3.ensures.banned.banned k lt) c.new-4.ensures.idle c.new-4.ensures.alone c.new-4.ensures.beside;
-  keeping = c.new-7.ensures.sets;
+  recent = record { cores = λ t lt k. c.new-5.ensures t k ∙ sym (ap (is_thread_for table t) (c.new.ensures.ungranted k)) };
+  keeping = c.new-8.ensures.sets;
   shows = shows_free (holder_in c.new.result) _ _ c.new.ensures.free;
 }

@@ -25,6 +25,7 @@ returns-clause-ready c = λ table r.
       counts = r.counts;
       sets = r.sets;
       opens = r.opens;
+      recent = r.recent;
       keeping = r.keeping;
       shows = shows_out (holder_in old.holding) (kept_in old.keeping) core old.unshown c.take_out.new.unshown
           (λ k off. ⊎_elim (λ still. inl still) (λ both. inr (both.0, c.is_shown-is_shown.ensures both.1)) (c.take_out.ensures k off)) r.shows;

@@ -1,5 +1,5 @@
 -- Before any action each place of the arrays has its default.
-use Rattle.std.proofs.Common.{ℕ, arith, None, Option}
+use Rattle.std.proofs.Common.{ℕ, arith, refl, None, Option}
 use Rattle.cal_policy.specs.declared.board.holders.Placement as placements
 use Rattle.cal_policy.specs.declared.board.holders.Holder.TheVariants as holders
 use Rattle.cal_policy.proofs.ListLemmas.OneMore.{get_or_same}
@@ -21,3 +21,6 @@ returns-clause-sound c = λ threads. record {
 
 pub returns-clause-free : goal.returns-clause-free
 returns-clause-free c = λ k. rw c.all_free.ensures (get_or_same 128 k holders.Free)
+
+pub returns-clause-ungranted : goal.returns-clause-ungranted
+returns-clause-ungranted c = λ k. rw (c.none_granted.ensures, get_or_same {X = Option placements.Placement} 128 k None) refl

@@ -28,7 +28,7 @@ loop-k-preserved c =
       shown_left = λ all. left_one_less (shown_in new) (shown_in cur) (shown_in old) _ k (c.take_fit.ensures.shown (fit_here cur old seen k _ all (at all) before_end)) (i.shown_left all);
       shows = λ holder was. c.take_fit.ensures.shows holder (i.shows holder was);
       before = λ j low. rw c.take_fit.ensures.before (i.before j low);
-      sets = c.take_fit.ensures.sets;
+      sets = c.take_fit.ensures.sets i.sets;
     }
 
 pub returns-clause-agrees : goal.returns-clause-agrees
