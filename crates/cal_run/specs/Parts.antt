@@ -1,10 +1,12 @@
 -- The parts of a run: its scheduler, its kernel threads and its watch. They belong together by
 -- their pages, rings and places, which no pass, turn or round changes.
-use Rattle.std.specs.Prelude.{◌≡◌, ℕ, List, length, map, min, take}
+use Rattle.std.specs.Prelude.{◌≡◌, ℕ, ◌-◌, ◌≤◌, ◌++◌, List, length, map, min, take, replicate}
 use Rattle.atomic_table.specs.Seated.{TableId}
 use Rattle.cal_machine.specs.Table.{Table}
 use Rattle.cal_command.specs.Rings.{RingId, SenderView}
 use Rattle.cal_signal.specs.Ends.{ObserverView}
+use Rattle.cal_signal.specs.declared.look.Look.{Look}
+use Rattle.cal_signal.specs.declared.look.Look.TheVariants.{Busy}
 use Rattle.cal_machine.specs.TableTasks.{threads_of_table}
 use Rattle.cal_sched.specs.Scheduler.{HaveSeenNothing, SchedulerView}
 use Rattle.cal_sched.specs.Watching.{WatchView}
@@ -58,7 +60,7 @@ pub record AreOfOneTeam (table : Table) (scheduler : SchedulerSeat) (seats : Lis
 abbrev pub HasPassed : Arrivals → ℕ → SchedulerView → Type 0
 HasPassed arrivals p scheduler = map figures_of scheduler.history ≡ take p arrivals.passes
 
--- how many rounds the watch of a run makes
+-- how many watched rounds the outcome of a run has
 abbrev pub rounds_of : Arrivals → ℕ
 rounds_of arrivals = min (length arrivals.passes) MOST_ROUNDS
 
@@ -71,4 +73,18 @@ pub record AreParts (table : Table) (arrivals : Arrivals) (p j r : ℕ) (parts :
   pub passes : HasPassed arrivals p parts.scheduler
   pub turns : HaveMade arrivals j parts.workers.items
   pub rounds : length parts.watch.rounds ≡ r
-  pub most : parts.watch.most ≡ rounds_of arrivals
+
+-- all passes and turns are made, and no more watched rounds than the outcome of a run has
+pub record MayBeEnded (table : Table) (arrivals : Arrivals) (parts : Parts) : Type 0 where
+  pub are : AreParts table arrivals (length arrivals.passes) (length arrivals.turns)
+      (length parts.watch.rounds) parts
+  pub few : length parts.watch.rounds ≤ rounds_of arrivals
+
+-- a round whose looks read no record, each because it met an odd version
+abbrev pub unread_round : Table → List Look
+unread_round table = replicate (threads_of_table table) (Busy 1 1)
+
+-- these rounds, and in the place of each that was not made one that read no record
+abbrev pub filled : Table → Arrivals → List (List Look) → List (List Look)
+filled table arrivals rounds =
+    rounds ++ replicate (rounds_of arrivals - length rounds) (unread_round table)

@@ -7,7 +7,7 @@ ghost use Rattle.std.specs.Prelude.{◌≡◌, IfErr, IfOk, length};
 ghost use Rattle.cal_linear.specs.Runs.{AreOfOneRun, AreWatched};
 ghost use Rattle.cal_run.specs.Collecting.{IsCollectedOf};
 ghost use Rattle.cal_run.specs.Outcome.{IsRun, IsRunEnd, outcome_of};
-ghost use Rattle.cal_run.specs.Parts.{AreParts, rounds_of};
+ghost use Rattle.cal_run.specs.Parts.{MayBeEnded, AreParts, filled, rounds_of};
 ghost use Rattle.cal_run.specs.Workers.{journals_of};
 ghost use Rattle.cal_run.specs.declared.fault.SimFault.TheVariants.{Memory};
 ghost use Rattle.cal_run.specs.declared.outcome.Outcome.{Outcome};
@@ -88,9 +88,11 @@ pub fn end_parts(
     })
 }
 
-/// What is left of a run, whose passes, turns and rounds were all made. Ends the threads, gathers
-/// what was left with them, and closes their pages and rings. With the history of its scheduler and
-/// the journals of its threads, whatever became of them, it is the end of a run.
+/// What is left of a run, whose passes and turns were all made, and whose watch made no more rounds
+/// than the outcome of a run has. Ends the threads, gathers what was left with them, and closes their
+/// pages and rings. With the history of its scheduler and the journals of its threads, whatever
+/// became of them, it is the end of a run, in which a round whose looks read no record stands in the
+/// place of each that the watch did not make.
 pub(crate) fn end_run(
     alloc: Global,
     config: &Config,
@@ -98,14 +100,14 @@ pub(crate) fn end_run(
     parts: Parts,
 ) -> Result<RunRest, AllocError>
     requires fits { FitsTable config.now arrivals.now }
-    requires parts { AreParts config.now arrivals.now (length arrivals.now.passes)
-        (length arrivals.now.turns) (rounds_of arrivals.now) parts }
-    ensures { IfOk result (λ rest. IsRunEnd config.now arrivals.now (record {
+    requires made { MayBeEnded config.now arrivals.now parts }
+    ensures run { IfOk result (λ rest. IsRunEnd config.now arrivals.now (record {
       history = parts.scheduler.history;
       journals = journals_of parts.workers.items;
       left = rest.left;
-      watched = rest.watched;
+      watched = filled config.now arrivals.now rest.watched;
     })) }
+    ensures watched { IfOk result (λ rest. rest.watched ≡ parts.watch.rounds) }
 {
     fitting_looks_are_publications();
     given_stand_once();
@@ -128,8 +130,8 @@ pub(crate) fn end_run(
     })
 }
 
-/// Ends a run whose history was told pass by pass, and whose passes, turns and rounds were all made.
-/// Fails only when out of memory.
+/// Ends a run whose history was told pass by pass, whose passes and turns were all made, and whose
+/// watch made no more rounds than the outcome of a run has. Fails only when out of memory.
 pub fn end_told(
     alloc: Global,
     config: &Config,
@@ -137,8 +139,7 @@ pub fn end_told(
     parts: Parts,
 ) -> Result<(), AllocError>
     requires fits { FitsTable config.now arrivals.now }
-    requires parts { AreParts config.now arrivals.now (length arrivals.now.passes)
-        (length arrivals.now.turns) (rounds_of arrivals.now) parts }
+    requires made { MayBeEnded config.now arrivals.now parts }
     ensures { IfOk result (λ _. (outcome : Outcome) × IsRun config.now arrivals.now outcome
         × (outcome.history ≡ parts.scheduler.history)) }
 {

@@ -28,7 +28,7 @@ pub use outcome::given_once::given_stand_once;
 pub use outcome::headline::headline_of_runs;
 pub use outcome::{Outcome, RunEnd, TalliedEnd};
 pub use parts::Parts;
-pub use parts::opening::{MOST_ROUNDS, open_parts};
+pub use parts::opening::{MOST_ROUNDS, open_parts, open_unwatched};
 pub use rounds::passes::{pass_given, step_given};
 pub use rounds::watch::watch_of_round;
 pub use rounds::{rounds_to_make, told_round};

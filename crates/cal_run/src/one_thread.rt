@@ -18,7 +18,7 @@ use crate::fault::SimFault;
 use crate::outcome::headline::headline_of_runs;
 use crate::outcome::{Outcome, RunEnd, TalliedEnd};
 use crate::parts::Parts;
-use crate::parts::opening::open_parts;
+use crate::parts::opening::{open_parts, open_unwatched};
 use crate::rounds::make_rounds;
 use cal_kthread::RequestList;
 use cal_machine::{Config, Listed};
@@ -61,8 +61,9 @@ pub fn lockstep_end(alloc: Global, config: &Config, arrivals: &Arrivals) -> Resu
 }
 
 /// What the same run ends with where what its kernel threads do is counted. No pass and no entry is
-/// kept: the memory that this takes grows with the threads, with what is left with them at the end,
-/// and with the rounds of the watch. Fails only when out of memory; nothing is left of the run then.
+/// kept, and the watch makes no round, since nobody reads what it finds: the memory that this takes
+/// grows with the threads and with the requests that wait with them at one time. Fails only when out
+/// of memory; nothing is left of the run then.
 pub fn lockstep_tallied(
     alloc: Global,
     config: &Config,
@@ -72,7 +73,7 @@ pub fn lockstep_tallied(
     ensures run { IfOk result (IsTalliedEnd config.now arrivals.now) }
     ensures memory { IfErr result (λ fault. fault ≡ Memory) }
 {
-    let mut parts = open_parts(alloc, config, arrivals)?;
+    let mut parts = open_unwatched(alloc, config, arrivals)?;
     let mut tallies = Tallies::new(alloc, parts.workers.len())?;
     make_rounds(&mut parts, arrivals, &mut tallies)?;
     let RunRest { left, .. } = end_run(alloc, config, arrivals, parts)?;
@@ -84,8 +85,9 @@ pub fn lockstep_tallied(
 
 /// What is left with the kernel threads of the same run, in thread order, where a collector of the
 /// caller's makes its passes and takes what its turns hand out: to begin with it holds nothing, for
-/// no pass and for threads that did nothing. No pass and no entry is kept here. Fails only when out
-/// of memory, or where the collector does; what the collector holds then is of no run.
+/// no pass and for threads that did nothing. No pass and no entry is kept here, and the watch makes
+/// no round. Fails only when out of memory, or where the collector does; what the collector holds
+/// then is of no run.
 pub fn lockstep_collected<C: Collector>(
     alloc: Global,
     config: &Config,
@@ -98,7 +100,7 @@ pub fn lockstep_collected<C: Collector>(
     ensures suits { IfOk result (λ _. C.suits collector.new config.now) }
     ensures run { IfOk result (IsCollectedEnd (C.holds collector.new) config.now arrivals.now) }
 {
-    let Ok(mut parts) = open_parts(alloc, config, arrivals) else {
+    let Ok(mut parts) = open_unwatched(alloc, config, arrivals) else {
         return Err(C::Fault::from(AllocError));
     };
     make_rounds(&mut parts, arrivals, collector)?;

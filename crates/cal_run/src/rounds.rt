@@ -9,7 +9,7 @@ ghost use Rattle.cal_policy.specs.Pass.{IsLegal};
 ghost use Rattle.cal_kthread.specs.declared.journal.entry.Entry.{Entry};
 ghost use Rattle.cal_machine.specs.Table.{Table};
 ghost use Rattle.cal_policy.specs.declared.history.entry.PassEntry.{PassEntry as EntryOfPass};
-ghost use Rattle.cal_run.specs.Parts.{AreParts, HasPassed, rounds_of, scheduler_seat_of};
+ghost use Rattle.cal_run.specs.Parts.{AreParts, HasPassed, scheduler_seat_of};
 ghost use Rattle.cal_run.specs.Rounds.{AreAfterRounds};
 ghost use Rattle.cal_run.specs.Workers.{FitSomeTable, HaveMade, journals_of, seats_of};
 
@@ -36,9 +36,9 @@ pub(crate) fn make_rounds<C: Collector>(
     requires fits { FitSomeTable arrivals.now }
     requires opened { AreParts parts.old.scheduler.table arrivals.now 0 0 0 parts.old }
     ensures suits { IfOk result (λ _. C.suits collector.new parts.old.scheduler.table) }
-    ensures made { IfOk result (λ _. AreParts parts.old.scheduler.table arrivals.now
-        (length arrivals.now.passes) (length arrivals.now.turns) (rounds_of arrivals.now)
-        parts.new) }
+    ensures made { IfOk result (λ _. AreAfterRounds parts.old.scheduler.table arrivals.now
+        (max (length arrivals.now.passes) (length arrivals.now.turns)) parts.new) }
+    ensures most { IfOk result (λ _. parts.new.watch.most ≡ parts.old.watch.most) }
     ensures collected { C.holds collector.old parts.old.scheduler.history
         (journals_of parts.old.workers.items) →
         OnOk result (C.holds collector.new parts.new.scheduler.history
@@ -64,6 +64,7 @@ fn make_round<C: Collector>(
     ensures suits { IfOk result (λ _. C.suits collector.new parts.old.scheduler.table) }
     ensures made { IfOk result (λ _.
         AreAfterRounds parts.old.scheduler.table arrivals.now (r + 1) parts.new) }
+    ensures most { IfOk result (λ _. parts.new.watch.most ≡ parts.old.watch.most) }
     ensures collected { C.holds collector.old parts.old.scheduler.history
         (journals_of parts.old.workers.items) →
         OnOk result (C.holds collector.new parts.new.scheduler.history
@@ -88,6 +89,7 @@ pub fn told_round(
     requires legal { IsLegal parts.old.scheduler.table parts.old.scheduler.history }
     ensures made { IfOk result (λ _.
         AreAfterRounds parts.old.scheduler.table arrivals.now (r + 1) parts.new) }
+    ensures most { IfOk result (λ _. parts.new.watch.most ≡ parts.old.watch.most) }
     ensures told { IfOk result (λ entry. parts.new.scheduler.history
         ≡ parts.old.scheduler.history ++ option_to_list entry) }
     ensures legal { IfOk result (λ _.

@@ -10,27 +10,28 @@ use Rattle.cal_run.specs.Workers.{HaveMade, Seat, seat_of, seats_of}
 use Rattle.cal_run.specs.declared.workers.worker.Worker.{Worker}
 use Rattle.cal_machine.specs.TableTasks.{threads_of_table}
 use Rattle.cal_run.specs.declared.parts.Parts.{Parts}
-use Rattle.cal_threads.specs.Promises.{HasMadePasses, HasMadeRounds}
+use Rattle.cal_threads.specs.Promises.{HasMadePasses, HasMadeRounds, HaveRun}
 
 -- each worker came back in its seat and made all that it was given
-pub ran : (table : Table) (arrivals : Arrivals) (before after : Parts) → AreParts table arrivals 0 0 0 before →
+pub ran : (table : Table) (arrivals : Arrivals) (before after : Parts) → AreParts table arrivals 0 0 0 before → before.watch.most ≡ rounds_of arrivals →
     HasMadePasses arrivals before.scheduler after.scheduler →
     HaveMade arrivals (length arrivals.turns) after.workers.items → seats_of after.workers.items ≡ seats_of before.workers.items →
     HasMadeRounds (length arrivals.passes) before.watch after.watch →
-    AreParts table arrivals (length arrivals.passes) (length arrivals.turns) (rounds_of arrivals) after
-ran table arrivals before after parts passes turns seats rounds =
+    HaveRun table arrivals after
+ran table arrivals before after parts most passes turns seats rounds =
     let P : SchedulerSeat → Type 0 = λ s. AreOfOneTeam table s (seats_of before.workers.items) (watch_seat_of before.watch) in
     let Q : List Seat → Type 0 = λ s. AreOfOneTeam table (scheduler_seat_of after.scheduler) s (watch_seat_of before.watch) in
     let R : WatchSeat → Type 0 = λ w. AreOfOneTeam table (scheduler_seat_of after.scheduler) (seats_of after.workers.items) w in
     record {
-      together = subst R (sym rounds.seat) (subst Q (sym seats) (subst P (sym passes.seat) parts.together));
-      passes = passes.passes;
-      turns = turns;
-      rounds =
-          let made = rounds.rounds in
-          let most = parts.most in
-          omega (arith, made, most);
-      most = ap (λ (w : WatchSeat). w.most) rounds.seat ∙ parts.most;
+      most = ap (λ (w : WatchSeat). w.most) rounds.seat ∙ most;
+      made = record {
+        together = subst R (sym rounds.seat) (subst Q (sym seats) (subst P (sym passes.seat) parts.together));
+        passes = passes.passes;
+        turns = turns;
+        rounds =
+            let made = rounds.rounds in
+            omega (arith, made, most);
+      };
     }
 
 -- the same of what keeps a promise of this scheduler

@@ -14,15 +14,18 @@ use Rattle.cal_run.specs.declared.fault.SimFault.{SimFault}
 use Rattle.cal_threads.specs.Gates.{EndedBy, LetsAllTurns, LetsPasses, LetsTurns, MayRefuseTurn}
 use Rattle.cal_threads.specs.declared.kernel_threads.Turned.{Turned}
 
--- the parts of a run on these arrivals that has not begun: no pass, turn or round is made
-abbrev pub HaveNotRun : Arrivals → Parts → Type 0
-HaveNotRun arrivals parts = AreParts parts.scheduler.table arrivals 0 0 0 parts
+-- the parts of a run on these arrivals that has not begun: no pass, turn or round is made, and the
+-- watch is for all rounds of such a run
+pub record HaveNotRun (arrivals : Arrivals) (parts : Parts) : Type 0 where
+  pub opened : AreParts parts.scheduler.table arrivals 0 0 0 parts
+  pub most : parts.watch.most ≡ rounds_of arrivals
 
 -- the parts of a run on these arrivals that has come to its end: all passes, turns and rounds are
--- made
-abbrev pub HaveRun : Table → Arrivals → Parts → Type 0
-HaveRun table arrivals =
-    AreParts table arrivals (length arrivals.passes) (length arrivals.turns) (rounds_of arrivals)
+-- made, as many rounds as the watch is for
+pub record HaveRun (table : Table) (arrivals : Arrivals) (parts : Parts) : Type 0 where
+  pub made : AreParts table arrivals (length arrivals.passes) (length arrivals.turns)
+      (rounds_of arrivals) parts
+  pub most : parts.watch.most ≡ rounds_of arrivals
 
 -- what a run of these parts comes back with where it ends well: they have run, what was collected
 -- is theirs, and before each pass and each turn the gate may have answered yes

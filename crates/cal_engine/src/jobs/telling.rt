@@ -1,10 +1,11 @@
 //! A run on one thread whose history is written pass by pass.
 
-ghost use Rattle.std.specs.Prelude.{◌≡◌, ◌⊎◌, ◌++◌, List, length, option_to_list, IfOk, IfErr};
+ghost use Rattle.std.specs.Prelude.{◌≡◌, ◌⊎◌, ◌++◌, List, length, max, option_to_list, IfOk, IfErr};
 ghost use Rattle.std.specs.Prelude.{OnOk};
 ghost use Rattle.std.specs.List.{flat_map};
 ghost use Rattle.std.specs.Io.KnownBytes.{Appends};
-ghost use Rattle.cal_run.specs.Parts.{AreParts, rounds_of};
+ghost use Rattle.cal_run.specs.Parts.{AreParts};
+ghost use Rattle.cal_run.specs.Rounds.{AreAfterRounds};
 ghost use Rattle.cal_run.specs.Workers.{FitSomeTable};
 ghost use Rattle.cal_trace.specs.Arrivals.FitsTable.{FitsTable};
 ghost use Rattle.cal_policy.specs.declared.history.entry.PassEntry.{PassEntry as EntryOfPass};
@@ -18,7 +19,7 @@ use crate::jobs::answer::write_answer;
 use crate::jobs::front::{Front, write_front};
 use cal_input::RunFault;
 use cal_policy::{PassEntry, nothing_is_legal};
-use cal_run::{Parts, end_told, open_parts, rounds_to_make, told_round};
+use cal_run::{Parts, end_told, open_unwatched, rounds_to_make, told_round};
 use cal_trace::{Arrivals, write_history_end, write_history_header, write_history_pass};
 use std::alloc::Global;
 use std::io::Write;
@@ -47,7 +48,7 @@ pub(crate) fn tell_lockstep<W: Write>(
     ensures kind { IfErr result (λ fault. (fault ≡ RunFault.Memory) ⊎ (fault ≡ RunFault.Write)) }
 {
     let (config, arrivals) = (accepted.config, accepted.arrivals);
-    let mut parts = open_parts(alloc, config, arrivals)?;
+    let mut parts = open_unwatched(alloc, config, arrivals)?;
     let mut text = head_text(alloc, front, accepted.input)?;
     write_answer(text.as_slice(), writer)?;
     tell_rounds(&mut parts, arrivals, &mut text, writer)?;
@@ -82,9 +83,9 @@ fn tell_rounds<W: Write>(
 ) -> Result<(), RunFault>
     requires fits { FitSomeTable arrivals.now }
     requires opened { AreParts parts.old.scheduler.table arrivals.now 0 0 0 parts.old }
-    ensures made { IfOk result (λ _. AreParts parts.old.scheduler.table arrivals.now
-        (length arrivals.now.passes) (length arrivals.now.turns) (rounds_of arrivals.now)
-        parts.new) }
+    ensures made { IfOk result (λ _. AreAfterRounds parts.old.scheduler.table arrivals.now
+        (max (length arrivals.now.passes) (length arrivals.now.turns)) parts.new) }
+    ensures most { IfOk result (λ _. parts.new.watch.most ≡ parts.old.watch.most) }
     ensures first { IfOk result (λ _. AreFirstPasses
         (record { table = parts.old.scheduler.table; arrivals = arrivals.now })
         parts.new.scheduler.history) }

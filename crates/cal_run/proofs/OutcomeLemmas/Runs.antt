@@ -87,7 +87,7 @@ module _ (table : Table) (s : SchedulerView) (w : watching.WatchView) (workers :
   same_threads : threads_of_table s.table ≡ threads_of_table table
   same_threads = ap threads_of_table together.same_table
 
-  many_watchers : length w.observers ≡ threads_of_table table
+  pub many_watchers : length w.observers ≡ threads_of_table table
   many_watchers = sym (length-map w.observers (λ (o : ObserverView). o.page)) ∙ ap length together.watched ∙ length-map (seats_of workers) (λ (s : Seat). s.page) ∙ together.threads
 
   legal : IsLegal table s.history

@@ -1,5 +1,5 @@
 -- The parts of a run that was just opened.
-use Rattle.std.proofs.Common.{◌≡◌, List, [], ◌∷◌, ◌++◌, length, map, refl, sym, ap, subst, ◌∙◌, append_assoc}
+use Rattle.std.proofs.Common.{◌≡◌, ℕ, List, [], ◌∷◌, ◌++◌, length, map, refl, sym, ap, subst, ◌∙◌, append_assoc}
 use Rattle.std.specs.List.{slice_get}
 use Rattle.std.proofs.lemmas.List.{length-map, map-append}
 use Rattle.cal_command.specs.Rings.{SenderView}
@@ -13,7 +13,7 @@ use Rattle.cal_sched.specs.Watching.{WatchView, new_watch}
 use Rattle.cal_signal.specs.Ends.{ObserverView}
 use Rattle.cal_trace.specs.declared.arrivals.Arrivals.{Arrivals}
 use Rattle.cal_run.specs.Outcome.{figures_of}
-use Rattle.cal_run.specs.Parts.{AreParts, rounds_of}
+use Rattle.cal_run.specs.Parts.{AreParts}
 use Rattle.cal_run.specs.Workers.{HasMade, HaveMade, HaveMadeNoTurn, MadeNoTurn, Seat, seat_of, seats_of}
 use Rattle.cal_run.specs.declared.parts.Parts.{Parts}
 use Rattle.cal_run.specs.declared.workers.worker.Worker.{Worker}
@@ -76,12 +76,12 @@ pub seats_give : {Y : Type 0} (f : Seat → Y) (threads : List KernelView) (work
 seats_give f threads workers same = ap (λ (l : List KernelView). map (λ (t : KernelView). f (seat_of t)) l) (sym same) ∙ of_seats f workers
 
 -- the parts belong together, and did nothing yet
-pub are_opened : (table : Table) (arrivals : Arrivals) (parts : Parts) (threads : List KernelView) (observers : List ObserverView) (senders : List SenderView) (watchers : List ObserverView) →
+pub are_opened : (table : Table) (arrivals : Arrivals) (m : ℕ) (parts : Parts) (threads : List KernelView) (observers : List ObserverView) (senders : List SenderView) (watchers : List ObserverView) →
     length threads ≡ threads_of_table table → AreOpened threads observers senders watchers → IsTeam (map (λ (k : KernelView). place_of k.thread) threads) →
     map (λ (w : Worker). w.thread) parts.workers.items ≡ threads → HaveMade arrivals 0 parts.workers.items →
     parts.scheduler ≡ record { table = table; history = []; observers = observers; senders = senders } →
-    parts.watch ≡ new_watch watchers (rounds_of arrivals) → AreParts table arrivals 0 0 0 parts
-are_opened table arrivals parts threads observers senders watchers count opened team same made scheduler watch = record {
+    parts.watch ≡ new_watch watchers m → AreParts table arrivals 0 0 0 parts
+are_opened table arrivals m parts threads observers senders watchers count opened team same made scheduler watch = record {
   together = record {
     same_table = ap (λ (s : SchedulerView). s.table) scheduler;
     threads = length-map parts.workers.items (λ (w : Worker). seat_of w.thread)
@@ -100,5 +100,4 @@ are_opened table arrivals parts threads observers senders watchers count opened 
   passes = ap (λ (s : SchedulerView). map figures_of s.history) scheduler;
   turns = made;
   rounds = ap (λ (w : WatchView). length w.rounds) watch;
-  most = ap (λ (w : WatchView). w.most) watch;
 }

@@ -1,9 +1,9 @@
 -- The rounds of a run on one thread, one after the other.
-use Rattle.std.proofs.Common.{◌≡◌, ℕ, ◌+◌, List, length, sym, ap, subst, ◌∙◌, arith}
-use Rattle.std.specs.Prelude.{min}
+use Rattle.std.proofs.Common.{◌≡◌, ℕ, ◌+◌, ◌≤◌, List, length, refl, sym, ap, subst, arith}
+use Rattle.std.specs.Prelude.{max, min}
 use Rattle.cal_machine.specs.Table.{Table}
 use Rattle.cal_trace.specs.declared.arrivals.Arrivals.{Arrivals}
-use Rattle.cal_run.specs.Parts.{AreOfOneTeam, AreParts, HasPassed, SchedulerSeat, WatchSeat, rounds_of, scheduler_seat_of, watch_seat_of}
+use Rattle.cal_run.specs.Parts.{MayBeEnded, AreOfOneTeam, AreParts, HasPassed, SchedulerSeat, WatchSeat, rounds_of, scheduler_seat_of, watch_seat_of}
 use Rattle.cal_run.specs.Rounds.{AreAfterRounds}
 use Rattle.cal_run.specs.Workers.{HaveMade, Seat, seats_of}
 use Rattle.cal_run.specs.declared.parts.Parts.{Parts}
@@ -22,7 +22,7 @@ pub turns_counted : (arrivals : Arrivals) (workers : List Worker) (j k : ℕ) �
 turns_counted arrivals workers j k same made = let P : ℕ → Type 0 = λ n. HaveMade arrivals n workers in subst P same made
 
 pub before_rounds : (table : Table) (arrivals : Arrivals) (parts : Parts) → AreParts table arrivals 0 0 0 parts → AreAfterRounds table arrivals 0 parts
-before_rounds table arrivals parts are = with_counts table arrivals parts 0 (min 0 (length arrivals.passes)) 0 (min 0 (length arrivals.turns)) 0 (min 0 (rounds_of arrivals))
+before_rounds table arrivals parts are = with_counts table arrivals parts 0 (min 0 (length arrivals.passes)) 0 (min 0 (length arrivals.turns)) 0 (min 0 parts.watch.most)
     (omega arith) (omega arith) (omega arith) are
 
 -- one round more
@@ -39,10 +39,32 @@ round_more table arrivals r before after are scheduler seats watch passed made r
       subst P (sym scheduler) (subst Q (sym seats) (subst R (sym watch) are.together));
   passes = passed;
   turns = made;
-  rounds = let was = are.rounds in let most = are.most in omega (arith, rounds, was, most);
-  most = ap (λ (w : WatchSeat). w.most) watch ∙ are.most;
+  rounds = let was = are.rounds in let most = ap (λ (w : WatchSeat). w.most) watch in omega (arith, rounds, was, most);
 }
 
 -- the table of the scheduler is that of the parts
 pub with_table : (table other : Table) (arrivals : Arrivals) (n : ℕ) (parts : Parts) → table ≡ other → AreAfterRounds table arrivals n parts → AreAfterRounds other arrivals n parts
 with_table table other arrivals n parts same are = let P : Table → Type 0 = λ t. AreAfterRounds t arrivals n parts in subst P same are
+
+-- after its last round all passes and turns are made, and all rounds of the watch that are no more than passes
+pub after_all_rounds : (table other : Table) (arrivals : Arrivals) (m : ℕ) (parts : Parts) → table ≡ other → parts.watch.most ≡ m → m ≤ rounds_of arrivals →
+    AreAfterRounds table arrivals (max (length arrivals.passes) (length arrivals.turns)) parts →
+    AreParts other arrivals (length arrivals.passes) (length arrivals.turns) m parts
+after_all_rounds table other arrivals m parts same most few are =
+    let P : Table → Type 0 = λ t. AreParts t arrivals (length arrivals.passes) (length arrivals.turns) m parts in
+    subst P same (with_counts table arrivals parts _ (length arrivals.passes) _ (length arrivals.turns) _ m
+    (omega arith) (omega arith) (omega (arith, most, few)) are)
+
+-- where so many rounds are made, no more than a run has
+pub may_be_ended : (table : Table) (arrivals : Arrivals) (m : ℕ) (parts : Parts) → m ≤ rounds_of arrivals →
+    AreParts table arrivals (length arrivals.passes) (length arrivals.turns) m parts → MayBeEnded table arrivals parts
+may_be_ended table arrivals m parts few are = record {
+  are = with_counts table arrivals parts _ _ _ _ m (length parts.watch.rounds) refl refl (sym are.rounds) are;
+  few = let is = are.rounds in omega (arith, is, few);
+}
+
+-- as where the watch was opened for no round
+pub unwatched_end : (table other : Table) (arrivals : Arrivals) (parts : Parts) → table ≡ other → parts.watch.most ≡ 0 →
+    AreAfterRounds table arrivals (max (length arrivals.passes) (length arrivals.turns)) parts → MayBeEnded other arrivals parts
+unwatched_end table other arrivals parts same none are =
+    may_be_ended other arrivals 0 parts (omega arith) (after_all_rounds table other arrivals 0 parts same none (omega arith) are)

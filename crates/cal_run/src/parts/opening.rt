@@ -5,7 +5,7 @@ ghost use Rattle.cal_machine.specs.declared.numbering.TheConstants.{MOST_THREADS
 ghost use Rattle.cal_trace.specs.Arrivals.FitsTable.{FitsTable};
 ghost use Rattle.cal_run.specs.declared.fault.SimFault.TheVariants.{Memory};
 ghost use Rattle.cal_run.specs.declared.workers.worker.Worker.{Worker};
-ghost use Rattle.cal_run.specs.Parts.{AreParts};
+ghost use Rattle.cal_run.specs.Parts.{AreParts, rounds_of};
 ghost use Rattle.cal_run.specs.Workers.{FitSomeTable, HaveMade, HaveMadeNoTurn};
 
 use crate::fault::SimFault;
@@ -26,6 +26,39 @@ pub const MOST_ROUNDS: usize = 1024;
 pub fn open_parts(alloc: Global, config: &Config, arrivals: &Arrivals) -> Result<Parts, SimFault>
     requires fits { FitsTable config.now arrivals.now }
     ensures parts { IfOk result (λ parts. AreParts config.now arrivals.now 0 0 0 parts) }
+    ensures most { IfOk result (λ parts. parts.watch.most ≡ rounds_of arrivals.now) }
+    ensures memory { IfErr result (λ fault. fault ≡ Memory) }
+{
+    let rounds = arrivals.passes.as_slice().len().min(MOST_ROUNDS);
+    open_parts_for(alloc, config, arrivals, rounds as u64)
+}
+
+/// As `open_parts`, with a watch for no round, which takes no memory for any: for a run of which
+/// nobody reads what the watch finds. `end_told` ends such parts; `end_parts` and `close_parts` ask
+/// for all rounds. Fails only when out of memory.
+pub fn open_unwatched(
+    alloc: Global,
+    config: &Config,
+    arrivals: &Arrivals,
+) -> Result<Parts, SimFault>
+    requires fits { FitsTable config.now arrivals.now }
+    ensures parts { IfOk result (λ parts. AreParts config.now arrivals.now 0 0 0 parts) }
+    ensures most { IfOk result (λ parts. parts.watch.most ≡ 0) }
+    ensures memory { IfErr result (λ fault. fault ≡ Memory) }
+{
+    open_parts_for(alloc, config, arrivals, 0)
+}
+
+/// The parts of a run, with a watch for so many rounds.
+fn open_parts_for(
+    alloc: Global,
+    config: &Config,
+    arrivals: &Arrivals,
+    rounds: u64,
+) -> Result<Parts, SimFault>
+    requires fits { FitsTable config.now arrivals.now }
+    ensures parts { IfOk result (λ parts. AreParts config.now arrivals.now 0 0 0 parts) }
+    ensures most { IfOk result (λ parts. parts.watch.most ≡ rounds) }
     ensures memory { IfErr result (λ fault. fault ≡ Memory) }
 {
     config.limits();
@@ -40,8 +73,7 @@ pub fn open_parts(alloc: Global, config: &Config, arrivals: &Arrivals) -> Result
     let Ok(scheduler) = BareScheduler::new(alloc, config, observers, senders) else {
         return Err(SimFault::Memory);
     };
-    let rounds = arrivals.passes.as_slice().len().min(MOST_ROUNDS);
-    let Ok(watch) = Watch::new(alloc, watchers, rounds as u64) else {
+    let Ok(watch) = Watch::new(alloc, watchers, rounds) else {
         return Err(SimFault::Memory);
     };
     Ok(Parts {

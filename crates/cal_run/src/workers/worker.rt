@@ -43,8 +43,8 @@ impl Worker {
 
     /// Its turn `j`, with the clock that is given for it and the request that comes to the thread
     /// before it, if one does. Gives what the turn adds to the thread's journal. Asks that the turns
-    /// before were made. Fails only when out of memory. (Inlined, so that who reads little of what a
-    /// turn hands out has the rest of it not even made.)
+    /// before were made. Fails only when out of memory. (Inlined, so that what a caller does not read
+    /// of the answer is not made.)
     #[inline(always)]
     pub fn turn(&mut self, arrivals: &Arrivals, j: usize) -> Result<TurnEntries, AllocError>
         requires fits { FitSomeTable arrivals.now }

@@ -1,5 +1,6 @@
 use Rattle.std.proofs.Common.{refl}
 use Rattle.cal_run.specs.Outcome.{outcome_of}
+use Rattle.cal_run.specs.Parts.{filled}
 use Rattle.cal_run.specs.Workers.{journals_of}
 use Rattle.cal_run.proofs.closing.end_told.Goals as goal
 
@@ -9,8 +10,8 @@ returns c = (
     history = c.args.parts.scheduler.history;
     journals = journals_of c.args.parts.workers.items;
     left = c.in_ok-end_run.field-0.left;
-    watched = c.in_ok-end_run.field-0.watched;
+    watched = filled c.args.config.now c.args.arrivals.now c.in_ok-end_run.field-0.watched;
   }),
-  c.in_ok-end_run.ensures,
+  c.in_ok-end_run.ensures.run,
   refl,
 )

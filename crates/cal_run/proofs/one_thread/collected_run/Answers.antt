@@ -1,9 +1,18 @@
 use Rattle.std.proofs.Common.{◌≡◌, length, sym, ◌∙◌, arith}
 use Rattle.std.proofs.lemmas.List.{length-map}
+use Rattle.cal_run.specs.Parts.{rounds_of}
 use Rattle.cal_run.specs.Workers.{journals_of}
 use Rattle.cal_run.specs.declared.workers.worker.Worker.{Worker}
 use Rattle.cal_run.proofs.CollectorLemmas.Opened.{no_pass_yet, no_turn_yet, same_empty}
+use Rattle.cal_run.proofs.RoundsLemmas.Rounds.{after_all_rounds}
 use Rattle.cal_run.proofs.one_thread.collected_run.Goals as goal
+
+pub returns-clause-parts : goal.returns-clause-parts
+returns-clause-parts c =
+    let arrivals = c.args.arrivals.now in
+    let made = c.in_ok-make_rounds.ensures in
+    let opened = c.in_ok-parts.ensures in
+    after_all_rounds _ c.args.config.now arrivals (rounds_of arrivals) c.make_rounds.new.parts opened.parts.together.same_table (made.most ∙ opened.most) (omega arith) made.made
 
 -- before the first round nothing was made and nothing collected
 pub returns-clause-collected : goal.returns-clause-collected

@@ -1,19 +1,28 @@
-use Rattle.std.proofs.Common.{◌≡◌, List, [], length, refl, replicate, subst, sym, arith}
+use Rattle.std.proofs.Common.{◌≡◌, List, [], length, refl, replicate, subst, sym, ◌∙◌, arith}
 use Rattle.std.proofs.lemmas.List.{length-map}
 use Rattle.cal_kthread.specs.declared.journal.entry.Entry.{Entry}
 use Rattle.cal_machine.specs.Table.{Table}
 use Rattle.cal_machine.specs.TableTasks.{threads_of_table}
 use Rattle.cal_policy.specs.declared.history.entry.PassEntry.{PassEntry}
 use Rattle.cal_run.specs.Outcome.{outcome_of}
+use Rattle.cal_run.specs.Parts.{filled}
 use Rattle.cal_run.specs.Workers.{journals_of, seat_of}
 use Rattle.cal_run.specs.declared.workers.worker.Worker.{Worker}
 use Rattle.cal_run.proofs.CollectorLemmas.Opened.{all_empty, no_pass_yet, no_turn_yet}
+use Rattle.cal_run.proofs.RoundsLemmas.Rounds.{unwatched_end}
 use Rattle.cal_run.proofs.one_thread.lockstep_collected.Goals as goal
 
 pub make_rounds-requires-clause-suits : goal.make_rounds-requires-clause-suits
 make_rounds-requires-clause-suits g c =
     let P : Table → Type 0 = λ t. g.C.Collector.suits c.args.collector.now t in
     subst P (sym c.in-Ok.ensures.parts.together.same_table) c.requires.suits
+
+pub end_run-requires-clause-made : goal.end_run-requires-clause-made
+end_run-requires-clause-made g c =
+    let arrivals = c.args.arrivals.now in
+    let made = c.in_ok-make_rounds.ensures in
+    let opened = c.in-Ok.ensures in
+    unwatched_end _ c.args.config.now arrivals c.make_rounds.new.parts opened.parts.together.same_table (made.most ∙ opened.most) made.made
 
 -- before the first round nothing was made
 pub returns-clause-run : goal.returns-clause-run
@@ -33,8 +42,8 @@ returns-clause-run g c =
     let Q : List PassEntry → Type 0 = λ h. g.C.Collector.holds c.args.collector.now h journals in
     let held : Q opened.scheduler.history = subst Q (sym (no_pass_yet arrivals opened.scheduler are.passes)) (subst P nothing c.requires.opened) in
     record {
-      outcome = outcome_of (record { history = made.scheduler.history; journals = journals_of made.workers.items; left = c.in_ok-left.field-0.left; watched = c.in_ok-left.field-0.watched });
-      run = c.in_ok-left.ensures;
+      outcome = outcome_of (record { history = made.scheduler.history; journals = journals_of made.workers.items; left = c.in_ok-left.field-0.left; watched = filled c.args.config.now arrivals c.in_ok-left.field-0.watched });
+      run = c.in_ok-left.ensures.run;
       collected = c.in_ok-make_rounds.ensures.collected held;
       left = refl;
     }

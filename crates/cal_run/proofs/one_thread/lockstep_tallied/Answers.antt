@@ -1,12 +1,21 @@
-use Rattle.std.proofs.Common.{◌≡◌, length, refl, arith}
+use Rattle.std.proofs.Common.{◌≡◌, length, refl, ◌∙◌, arith}
 use Rattle.std.specs.List.{AllZip}
 use Rattle.std.proofs.lemmas.List.{length-map}
 use Rattle.cal_trace.specs.Report.Summary.{IsTallyOf}
 use Rattle.cal_run.specs.Outcome.{outcome_of}
+use Rattle.cal_run.specs.Parts.{filled}
 use Rattle.cal_run.specs.Workers.{journals_of}
 use Rattle.cal_run.specs.declared.workers.worker.Worker.{Worker}
 use Rattle.cal_run.proofs.CollectorLemmas.Opened.{no_turn_yet, none_counted}
+use Rattle.cal_run.proofs.RoundsLemmas.Rounds.{unwatched_end}
 use Rattle.cal_run.proofs.one_thread.lockstep_tallied.Goals as goal
+
+pub end_run-requires-clause-made : goal.end_run-requires-clause-made
+end_run-requires-clause-made c =
+    let arrivals = c.args.arrivals.now in
+    let made = c.in_ok-make_rounds.ensures in
+    let opened = c.in_ok-parts.ensures in
+    unwatched_end _ c.args.config.now arrivals c.make_rounds.new.parts opened.parts.together.same_table (made.most ∙ opened.most) made.made
 
 -- before the first round nothing is counted
 pub returns-clause-run : goal.returns-clause-run
@@ -23,8 +32,8 @@ returns-clause-run c =
     let fresh : AllZip IsTallyOf journals c.in_ok-tallies.tallies.tallies.items = rw c.in_ok-tallies.ensures (none_counted journals c.len.result many (no_turn_yet arrivals opened.workers.items are.turns)) in
     let held : AllZip IsTallyOf (journals_of made.workers.items) c.make_rounds.new.collector.tallies.items = c.in_ok-make_rounds.ensures.collected fresh in
     record {
-      outcome = outcome_of (record { history = made.scheduler.history; journals = journals_of made.workers.items; left = c.in_ok-left.field-0.left; watched = c.in_ok-left.field-0.watched });
-      run = c.in_ok-left.ensures;
+      outcome = outcome_of (record { history = made.scheduler.history; journals = journals_of made.workers.items; left = c.in_ok-left.field-0.left; watched = filled c.args.config.now arrivals c.in_ok-left.field-0.watched });
+      run = c.in_ok-left.ensures.run;
       tallies = rw c.new-2.ensures held;
       left = refl;
     }

@@ -1,6 +1,7 @@
 use Rattle.std.proofs.Common.{◌≡◌, ◌+◌, List, sym, ap, subst, ◌∙◌, length, min, arith}
 use Rattle.std.specs.Vec.{with_items}
 use Rattle.std.proofs.lemmas.List.{length-map, with_items_is}
+use Rattle.cal_run.specs.Parts.{WatchSeat}
 use Rattle.cal_run.specs.Workers.{HaveMade, Seat, journals_of, seat_of, seats_of}
 use Rattle.cal_run.specs.declared.parts.Parts.{Parts}
 use Rattle.cal_run.specs.declared.workers.worker.Worker.{Worker}
@@ -44,3 +45,7 @@ returns-clause-collected g c = λ held.
 
 pub returns-clause-suits : goal.returns-clause-suits
 returns-clause-suits g c = c.in_ok-turns_of_round.ensures.suits c.args.parts.now.scheduler.table c.in_ok-pass_of_round.ensures.suits
+
+-- the watch stays in its seat
+pub returns-clause-most : goal.returns-clause-most
+returns-clause-most g c = ap (λ (w : WatchSeat). w.most) c.watch_of_round.ensures.seat

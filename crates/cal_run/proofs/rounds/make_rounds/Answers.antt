@@ -1,4 +1,4 @@
-use Rattle.std.proofs.Common.{subst, sym}
+use Rattle.std.proofs.Common.{refl, subst, sym, ◌∙◌}
 use Rattle.cal_machine.specs.Table.{Table}
 use Rattle.cal_run.proofs.RoundsLemmas.Rounds.{before_rounds, with_table}
 use Rattle.cal_run.proofs.rounds.make_rounds.Goals as goal
@@ -6,6 +6,7 @@ use Rattle.cal_run.proofs.rounds.make_rounds.Goals as goal
 pub loop-r-init : goal.loop-r-init
 loop-r-init g c = record {
   made = before_rounds c.args.parts.now.scheduler.table c.args.arrivals.now c.args.parts.now c.requires.opened;
+  most = refl;
   suits = c.requires.suits;
   collected = λ held. held;
 }
@@ -25,6 +26,7 @@ loop-r-preserved g c =
     let made = c.loop-r.invariant.made in
     let P : Table → Type 0 = λ t. g.C.Collector.suits c.make_round.new.collector t in
     record {
+      most = c.in_ok-make_round.ensures.most ∙ c.loop-r.invariant.most;
       suits = subst P made.together.same_table c.in_ok-make_round.ensures.suits;
       made = with_table _ c.args.parts.now.scheduler.table c.args.arrivals.now _ c.make_round.new.parts made.together.same_table c.in_ok-make_round.ensures.made;
       collected = λ held. c.in_ok-make_round.ensures.collected (c.loop-r.invariant.collected held);

@@ -1,3 +1,4 @@
+use Rattle.std.specs.Prelude.{◌≡◌}
 use Rattle.cal_run.specs.Rounds.{AreAfterRounds}
 use Rattle.cal_run.specs.Workers.{journals_of}
 use Rattle.cal_run.proofs.rounds.make_rounds.Given as goal
@@ -6,6 +7,7 @@ use Rattle.cal_run.proofs.rounds.make_rounds.Given as goal
 abbrev pub invariant-loop-r : goal.invariant-loop-r
 invariant-loop-r g l = record {
   made : AreAfterRounds l.initial.parts.scheduler.table l.arrivals l.r l.parts;
+  most : l.parts.watch.most ≡ l.initial.parts.watch.most;
   suits : g.C.Collector.suits l.collector l.initial.parts.scheduler.table;
   collected : g.C.Collector.holds l.initial.collector l.initial.parts.scheduler.history (journals_of l.initial.parts.workers.items) →
       g.C.Collector.holds l.collector l.parts.scheduler.history (journals_of l.parts.workers.items);

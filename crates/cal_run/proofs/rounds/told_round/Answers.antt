@@ -1,8 +1,8 @@
 use Rattle.std.proofs.Common.{◌≡◌, ◌+◌, List, sym, ap, subst, ◌∙◌, length, min, arith}
 use Rattle.std.specs.Vec.{with_items}
 use Rattle.std.proofs.lemmas.List.{length-map, with_items_is}
-use Rattle.cal_policy.specs.declared.history.entry.PassEntry.{PassEntry}
-use Rattle.cal_run.specs.Workers.{HaveMade, Seat, journals_of, seat_of, seats_of}
+use Rattle.cal_run.specs.Parts.{WatchSeat}
+use Rattle.cal_run.specs.Workers.{HaveMade, Seat, seat_of, seats_of}
 use Rattle.cal_run.specs.declared.parts.Parts.{Parts}
 use Rattle.cal_run.specs.declared.workers.worker.Worker.{Worker}
 use Rattle.cal_run.proofs.RoundsLemmas.Rounds.{round_more}
@@ -30,3 +30,7 @@ returns-clause-made c =
 
 pub returns-clause-legal : goal.returns-clause-legal
 returns-clause-legal c = c.in_ok-entry.ensures.legal c.requires.legal
+
+-- the watch stays in its seat
+pub returns-clause-most : goal.returns-clause-most
+returns-clause-most c = ap (λ (w : WatchSeat). w.most) c.watch_of_round.ensures.seat

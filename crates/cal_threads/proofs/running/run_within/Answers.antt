@@ -24,7 +24,7 @@ returns-in_ok-made-in-Ok-clause-ran g c =
     let Q : List Worker → Type 0 = λ l. HaveMade arrivals (length arrivals.turns) l in
     let R : WatchView → Type 0 = λ w. HasMadeRounds (length arrivals.passes) before.watch w in
     record {
-      ran = ran _ _ before c.in_ok-made-in-Ok.made.0 c.requires.parts (subst P (sym apart.scheduler) passes) (subst Q (sym apart.workers) turns)
+      ran = ran _ _ before c.in_ok-made-in-Ok.made.0 c.requires.parts.opened c.requires.parts.most (subst P (sym apart.scheduler) passes) (subst Q (sym apart.workers) turns)
           (ap seats_of apart.workers ∙ seats) (subst R (sym apart.watch) rounds);
       collected = apart.collected;
       passes_asked = rw (← c.in_ok-passing.ensures.gate, ← c.in_ok-passing.ensures.arrivals) joined.asked;

@@ -1,10 +1,11 @@
-use Rattle.std.proofs.Common.{◌≡◌, Err, inr, length, sym, ap, subst, ◌∙◌, rules}
+use Rattle.std.proofs.Common.{◌≡◌, Err, inr, length, arith, sym, ap, subst, ◌∙◌, rules}
 use Rattle.std.proofs.lemmas.Result.{on_ok_weaker, IfErr-weaker}
 use Rattle.cal_machine.specs.Table.{Table}
-use Rattle.cal_run.specs.Parts.{AreParts, rounds_of}
+use Rattle.cal_run.specs.Parts.{AreParts}
 use Rattle.cal_input.specs.declared.fault.RunFault.TheVariants as fault
 use Rattle.cal_engine.specs.Front.{front_of}
 use Rattle.cal_engine.specs.Running.{AreFirstPasses}
+use Rattle.cal_run.proofs.RoundsLemmas.Rounds.{after_all_rounds, unwatched_end}
 use Rattle.cal_engine.proofs.Telling.{all_passed, begun, ended}
 use Rattle.cal_engine.proofs.jobs.telling.tell_lockstep.Goals as goal
 
@@ -14,11 +15,13 @@ tell_rounds-requires-clause-opened g c =
     let P : Table → Type 0 = λ t. AreParts t c.args.accepted.now.arrivals.now 0 0 0 parts in
     subst P (sym c.in_ok-parts.ensures.parts.together.same_table) c.in_ok-parts.ensures.parts
 
-pub end_told-requires-clause-parts : goal.end_told-requires-clause-parts
-end_told-requires-clause-parts g c =
+-- the watch was opened for no round
+pub end_told-requires-clause-made : goal.end_told-requires-clause-made
+end_told-requires-clause-made g c =
     let arrivals = c.args.accepted.now.arrivals.now in
-    let P : Table → Type 0 = λ t. AreParts t arrivals (length arrivals.passes) (length arrivals.turns) (rounds_of arrivals) c.tell_rounds.new.parts in
-    subst P c.in_ok-parts.ensures.parts.together.same_table c.in_ok-tell_rounds.ensures.made
+    let made = c.in_ok-tell_rounds.ensures in
+    let opened = c.in_ok-parts.ensures in
+    unwatched_end _ c.args.accepted.now.config.now arrivals c.tell_rounds.new.parts opened.parts.together.same_table (made.most ∙ opened.most) made.made
 
 -- memory was refused in the midst of the rounds
 pub returns-in_err-tell_rounds-clause-begun : goal.returns-in_err-tell_rounds-clause-begun
@@ -59,6 +62,9 @@ returns-clause-told g c =
     let front = front_of c.args.front c.args.accepted.now.input.now in
     let history = c.tell_rounds.new.parts.scheduler.history in
     let run = c.in_ok-end_told.ensures in
-    let many = all_passed c.args.accepted.now.arrivals.now history c.in_ok-tell_rounds.ensures.made.passes ∙ sym (ap (λ l. length l) c.as_slice-2.ensures) in
+    let rounds = c.in_ok-tell_rounds.ensures in
+    let opened = c.in_ok-parts.ensures in
+    let all = after_all_rounds _ c.args.accepted.now.config.now c.args.accepted.now.arrivals.now 0 c.tell_rounds.new.parts opened.parts.together.same_table (rounds.most ∙ opened.most) (omega arith) rounds.made in
+    let many = all_passed c.args.accepted.now.arrivals.now history all.passes ∙ sym (ap (λ l. length l) c.as_slice-2.ensures) in
     let before = begun front _ _ _ c.in_ok-text.text.items history c.in_ok-text.ensures.text (rw c.as_slice.ensures.value at c.in_ok-write_answer.ensures.bytes) c.in_ok-tell_rounds.ensures.told in
     on_ok_weaker c.tell_end.result (λ last. record { outcome = run.0; run = run.1; written = rw run.2 (ended front _ _ _ history _ many before last) }) c.tell_end.ensures.bytes

@@ -1,4 +1,4 @@
-use Rattle.std.proofs.Common.{◌≡◌, List, [], Err, sym, subst, rules}
+use Rattle.std.proofs.Common.{◌≡◌, ◌∙◌, List, [], Err, refl, sym, subst, rules}
 use Rattle.std.specs.Prelude.{option_to_list}
 use Rattle.std.proofs.KnownBytes.{Appends-nil}
 use Rattle.std.specs.Io.KnownBytes.{Appends}
@@ -20,6 +20,7 @@ loop-r-init g c =
     let T : List PassEntry → Type 0 = λ h. Appends (g.W.Write.contents c.args.writer.now) (g.W.Write.contents c.args.writer.now) (lines_of (flat_map entry_rows h)) in
     record {
       made = before_rounds table c.args.arrivals.now c.args.parts.now c.requires.opened;
+      most = refl;
       legal = subst L (sym none) (c.nothing_is_legal.ensures table);
       told = subst T (sym none) (Appends-nil (g.W.Write.contents c.args.writer.now));
     }
@@ -43,6 +44,7 @@ loop-r-preserved g c =
     let T : List PassEntry → Type 0 = λ h. Appends (g.W.Write.contents c.args.writer.now) (g.W.Write.contents c.tell_entry.new.writer) (lines_of (flat_map entry_rows h)) in
     record {
       made = with_table _ table c.args.arrivals.now _ c.told_round.new.parts same c.in_ok-entry.ensures.made;
+      most = c.in_ok-entry.ensures.most ∙ c.loop-r.invariant.most;
       legal = subst L same c.in_ok-entry.ensures.legal;
       told = subst T (sym c.in_ok-entry.ensures.told) (told_more _ _ _ c.loop-r.parts.scheduler.history (option_to_list c.in_ok-entry.entry) c.loop-r.invariant.told c.in_ok-tell_entry.ensures.bytes);
     }

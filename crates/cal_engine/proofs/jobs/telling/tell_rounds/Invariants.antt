@@ -1,3 +1,4 @@
+use Rattle.std.specs.Prelude.{◌≡◌}
 use Rattle.std.specs.Io.KnownBytes.{Appends}
 use Rattle.std.specs.List.{flat_map}
 use Rattle.cal_policy.specs.Pass.{IsLegal}
@@ -9,6 +10,7 @@ use Rattle.cal_engine.proofs.jobs.telling.tell_rounds.Given as goal
 abbrev pub invariant-loop-r : goal.invariant-loop-r
 invariant-loop-r g l = record {
   made : AreAfterRounds l.initial.parts.scheduler.table l.arrivals l.r l.parts;
+  most : l.parts.watch.most ≡ l.initial.parts.watch.most;
   legal : IsLegal l.initial.parts.scheduler.table l.parts.scheduler.history;
   told : Appends (g.W.Write.contents l.initial.writer) (g.W.Write.contents l.writer) (lines_of (flat_map entry_rows l.parts.scheduler.history));
 }

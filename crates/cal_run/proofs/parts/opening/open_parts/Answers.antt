@@ -1,32 +1,13 @@
-use Rattle.std.proofs.Common.{◌≡◌, ℕ, [], List, length, ap, ◌∙◌, arith}
-use Rattle.cal_machine.specs.Table.{Table}
-use Rattle.cal_sched.specs.Scheduler.{SchedulerView}
-use Rattle.cal_sched.specs.Watching.{new_watch}
+use Rattle.std.proofs.Common.{◌≡◌, List, length, ap, ◌∙◌, arith}
+use Rattle.std.proofs.lemmas.Result.{IfOk-weaker}
 use Rattle.cal_trace.specs.declared.arrivals.GivenPass.{GivenPass}
 use Rattle.cal_run.specs.Parts.{rounds_of}
-use Rattle.cal_run.proofs.PartsLemmas.Opened.{are_opened, opened_are_fresh, saw_nothing, sent_nothing}
+use Rattle.cal_run.specs.declared.parts.Parts.{Parts}
 use Rattle.cal_run.proofs.parts.opening.open_parts.Goals as goal
 
-pub open_workers-requires-clause-fresh : goal.open_workers-requires-clause-fresh
-open_workers-requires-clause-fresh c = let team = c.in_ok-threads.field-0 in
-    opened_are_fresh team.threads.items team.observers.items team.senders.items team.watchers.items c.in_ok-threads.ensures.opened
-
-pub new-requires-clause-unseen : goal.new-requires-clause-unseen
-new-requires-clause-unseen c = let team = c.in_ok-threads.field-0 in
-    saw_nothing team.threads.items team.observers.items team.senders.items team.watchers.items c.in_ok-threads.ensures.opened
-
-pub new-requires-clause-unsent : goal.new-requires-clause-unsent
-new-requires-clause-unsent c = let team = c.in_ok-threads.field-0 in
-    sent_nothing team.threads.items team.observers.items team.senders.items team.watchers.items c.in_ok-threads.ensures.opened
-
-pub returns-clause-parts : goal.returns-clause-parts
-returns-clause-parts c =
-    let team = c.in_ok-threads.field-0 in
+pub returns-clause-most : goal.returns-clause-most
+returns-clause-most c =
     let arrivals = c.args.arrivals.now in
     let passes = ap (λ (l : List GivenPass). length l) c.as_slice.ensures in
     let rounds : c.min-rounds.result ≡ rounds_of arrivals = omega (arith, passes, c.min-rounds.ensures) in
-    let fresh : Table → SchedulerView = λ t. record { table = t; history = []; observers = team.observers.items; senders = team.senders.items } in
-    are_opened c.args.config.now arrivals _ team.threads.items team.observers.items team.senders.items team.watchers.items
-    c.in_ok-threads.ensures.count c.in_ok-threads.ensures.opened c.in_ok-threads.ensures.team c.in_ok-workers.ensures.threads c.in_ok-workers.ensures.made
-    (c.in-Ok.ensures.made ∙ ap fresh c.in_ok-config.ensures)
-    (c.in-Ok-new.ensures.made ∙ ap (λ (n : ℕ). new_watch team.watchers.items n) rounds)
+    IfOk-weaker c.open_parts_for.result _ (λ (parts : Parts). parts.watch.most ≡ rounds_of arrivals) (λ parts most. most ∙ rounds) c.open_parts_for.ensures.most
