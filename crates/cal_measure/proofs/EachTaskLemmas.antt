@@ -53,6 +53,20 @@ one_done {X} Old New i rows d is lt are step = record {
         let R : X → Type 0 = λ r. New i r in
         subst Q same (subst R found made)
 
+-- one place is brought up, and at the others what is new is what was
+pub one_place : {X : Type 0} (Old New : ℕ → X → Type 0) (i : ℕ) (rows : List X) (d is : X) → i < length rows → EachTask Old rows →
+    (Old i (get_or rows i d) → New i is) → ((t : ℕ) (row : X) → t ≢ i → Old t row → New t row) → EachTask New (set rows i is)
+one_place {X} Old New i rows d is lt each step others t row at =
+    ⊎_elim (λ (same : i ≡ t). here same) (λ (off : i ≡ t → ⊥). others t row (λ same. off (sym same)) (each t row (set_other rows i t is row off at))) (cases_eq i t)
+  where
+    here : i ≡ t → New t row
+    here same =
+        let P : ℕ → Type 0 = λ n. slice_get (set rows i is) n ≡ Some row in
+        let found : is ≡ row = set_same rows i is row lt (subst P (sym same) at) in
+        let Q : ℕ → Type 0 = λ n. New n row in
+        let R : X → Type 0 = λ r. New i r in
+        subst Q same (subst R found (step (each i (get_or rows i d) (slice_get-get_or rows i d lt))))
+
 -- one row more, at its end
 pub each_more : {X : Type 0} (P : ℕ → X → Type 0) (rows : List X) (row : X) → EachTask P rows → P (length rows) row → EachTask P (rows ++ row ∷ [])
 each_more {X} P rows row each here t found at =

@@ -2,6 +2,7 @@ pub mod Serving
 pub mod Steps
 pub mod Counting
 pub mod Whole
+pub mod NothingTo
 pub mod OneMore
 pub mod SpanLemmas
 pub mod EachTaskLemmas

@@ -123,3 +123,13 @@ pub record AreActionsOf (table : Table) (t : ℕ) (x : List Action)
   pub cuts : numbers.cuts ≡ many_of (is_cut table t) x
   pub raises : numbers.raises ≡ many_of (is_raise table t) x
   pub bans : numbers.bans ≡ many_of (is_ban table t) x
+
+-- the action counts for nothing that is done to the cores of task t
+pub record IsNothingTo (table : Table) (t : ℕ) (before : List Action)
+    (action : Action) : Type 0 where
+  pub is_no_grant : (class : CoreClass) → is_grant table t class before action ≡ false
+  pub is_no_loss : (kind : LossKind) → is_loss table t kind before action ≡ false
+  pub is_no_taking : is_taking table t before action ≡ false
+  pub is_no_cut : is_cut table t before action ≡ false
+  pub is_no_raise : is_raise table t before action ≡ false
+  pub is_no_ban : is_ban table t before action ≡ false

@@ -7,6 +7,7 @@ use Rattle.cal_machine.specs.Table.{Table}
 use Rattle.cal_policy.specs.History.{actions_of}
 use Rattle.cal_policy.specs.Pass.Choice.{greatest_below}
 use Rattle.cal_policy.specs.State.{Agrees, IsReady}
+use Rattle.cal_policy.specs.declared.history.action.Action.{Action}
 use Rattle.cal_policy.specs.declared.history.action_list.TheConstants.{MOST_ACTIONS}
 use Rattle.cal_policy.specs.declared.history.entry.PassEntry.{PassEntry}
 use Rattle.cal_measure.specs.Actions.{AreActionsOf}
@@ -14,6 +15,7 @@ use Rattle.cal_measure.specs.Cores.{AreMachineCores, IsHeldCourse, congested_for
 use Rattle.cal_measure.specs.Cores.{held_after, in_state_after, is_over_limit, left_after}
 use Rattle.cal_measure.specs.States.{is_congested_at, lasts_at}
 use Rattle.cal_measure.specs.declared.cores.MachineCores.{MachineCores}
+use Rattle.cal_measure.specs.declared.cores.TaskActions.{TaskActions}
 use Rattle.cal_measure.specs.declared.states.CoreState.TheVariants as states
 use Rattle.cal_measure.specs.declared.walk.machine_time.MachineTime.{MachineTime}
 use Rattle.cal_measure.specs.declared.walk.Walk.{Walk}
@@ -41,6 +43,10 @@ since (Some clock) now = now - clock
 -- something holds of what stands at each task's place
 abbrev pub EachTask : {X : Type 0} → (ℕ → X → Type 0) → List X → Type 0
 EachTask {X} P rows = (t : ℕ) (row : X) → slice_get rows t ≡ Some row → P t row
+
+-- at each task's place, the numbers of what these actions did to its cores
+abbrev pub AreActionsOfEach : Table → List Action → List TaskActions → Type 0
+AreActionsOfEach table x = EachTask (λ t of_task. AreActionsOf table t x of_task)
 
 -- at each task's place, how many cores its threads hold after each pass
 abbrev pub AreHeldCourses : Table → List PassEntry → List (Vec ℕ Global) → Type 0
@@ -99,8 +105,7 @@ pub record IsOpenFor (table : Table) (walk : Walk) : Type 0 where
 pub record IsWalkOf (table : Table) (history : List PassEntry) (walk : Walk) : Type 0 where
   pub state : Agrees walk.board (actions_of history)
   pub clock : walk.clock ≡ last_clock history
-  pub actions : EachTask (λ t of_task. AreActionsOf table t (actions_of history) of_task)
-      walk.actions.items
+  pub actions : AreActionsOfEach table (actions_of history) walk.actions.items
   pub times : EachTask (IsTimeOf table history) walk.times.items
   pub machine : IsMachineTimeOf table history walk.machine
   pub few_actions : length (actions_of history) ≤ length history * MOST_ACTIONS

@@ -2,9 +2,8 @@
 
 ghost use Rattle.std.specs.Prelude.{◌≡◌, ◌+◌, ◌<◌, List, length};
 ghost use Rattle.std.specs.Prelude.{if◌then◌else◌, nat_lt};
-ghost use Rattle.cal_machine.specs.declared.machine.TheConstants.{MOST_CORES};
 ghost use Rattle.cal_machine.specs.declared.numbering.TheConstants.{MOST_THREADS};
-ghost use Rattle.cal_policy.specs.State.{Agrees, KeepingAgrees};
+ghost use Rattle.cal_policy.specs.State.{Agrees, IsReady, KeepingAgrees};
 ghost use Rattle.cal_policy.specs.History.Looks.{kept_by};
 ghost use Rattle.cal_machine.specs.TableTasks.{delay_of};
 ghost use Rattle.cal_policy.specs.Pass.Grants as grants;
@@ -133,4 +132,25 @@ pub fn is_congested(config: &Config, board: &Board, clock: u64, task: usize) -> 
         result ≡ nat_lt (delay_of config.now task) (delay_after config.now looks clock task) }
 {
     task_delay(config, board, clock, task) > config.task(task).delay
+}
+
+/// The same as `is_congested`, of a board that is ready for passes: where none of the task's threads
+/// is in its set of those that wait, no record is read.
+pub(crate) fn is_congested_when_ready(
+    config: &Config,
+    board: &Board,
+    clock: u64,
+    task: usize,
+) -> bool
+    requires ready { IsReady config.now board.now }
+    requires task { task < length config.now.tasks }
+    ensures { (looks : List (List Seen)) → KeepingAgrees board.now.keeping looks →
+        result ≡ nat_lt (delay_of config.now task) (delay_after config.now looks clock task) }
+{
+    config.limits();
+    let (first, count) = config.threads_of(task);
+    match board.keeping.waiting.next(first, first + count) {
+        None => false,
+        Some(_) => is_congested(config, board, clock, task),
+    }
 }

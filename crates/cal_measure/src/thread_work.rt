@@ -45,7 +45,8 @@ impl ThreadWork {
     }
 
     /// Takes what one turn more added to the journal. Fails only when out of memory; what is held
-    /// then is of no journal.
+    /// then is of no journal. (Inlined, so that of the entries only what is read is made.)
+    #[inline(always)]
     pub fn take(&mut self, entries: &TurnEntries) -> Result<(), AllocError>
         ensures { (journal : List EntryOf) → IsThreadWorkOf journal self.old →
             length (journal ++ entries_of entries.now) ≤ MOST_ENTRIES →
@@ -70,7 +71,8 @@ impl ThreadWork {
         Ok(ended.totals(thefts, suspensions))
     }
 
-    /// Takes what a step did, if it did something.
+    /// Takes what a step did, if it did something. (Inlined, so that no entry is made of it.)
+    #[inline(always)]
     fn take_step(&mut self, entry: Option<Entry>) -> Result<(), AllocError>
         ensures { (journal : List EntryOf) → IsThreadWorkOf journal self.old →
             length (noted journal entry) ≤ MOST_ENTRIES →
@@ -83,6 +85,7 @@ impl ThreadWork {
     }
 
     /// Takes one entry more.
+    #[inline(always)]
     fn take_entry(&mut self, entry: Entry) -> Result<(), AllocError>
         ensures { (journal : List EntryOf) → IsThreadWorkOf journal self.old →
             length (journal ++ entry ∷ []) ≤ MOST_ENTRIES →

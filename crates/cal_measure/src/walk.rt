@@ -6,11 +6,11 @@ pub mod task_time;
 
 ghost use Rattle.std.specs.Prelude.{◌≡◌, ◌<◌, ◌≤◌, ◌+◌, ◌++◌, ◌∷◌, [], ℕ, List, IfOk, length};
 ghost use Rattle.std.specs.List.{All};
-ghost use Rattle.cal_measure.specs.Actions.{AreActionsOf};
 ghost use Rattle.cal_machine.specs.Table.{Table};
 ghost use Rattle.cal_measure.specs.Cores.{AreCoresOfTasks, AreMachineCores, MakeTheWhole};
 ghost use Rattle.cal_measure.specs.Cores.{held_after};
-ghost use Rattle.cal_measure.specs.Walk.{EachTask, IsOpenFor, IsTimeOf, IsWalkOf};
+ghost use Rattle.cal_measure.specs.Walk.{AreActionsOfEach, EachTask, IsOpenFor, IsTimeOf};
+ghost use Rattle.cal_measure.specs.Walk.{IsWalkOf};
 ghost use Rattle.cal_measure.specs.Walk.{since};
 ghost use Rattle.cal_policy.specs.Board.{NamesTable};
 ghost use Rattle.cal_policy.specs.Pass.{IsLegal};
@@ -62,8 +62,7 @@ fn ticks_since(clock: Option<u64>, now: u64) -> u64
 /// For so many tasks, what was done to their cores before any pass. Fails only when out of memory.
 fn no_actions(alloc: Global, config: &Config) -> Result<Vec<TaskActions>, AllocError>
     ensures many { IfOk result (λ rows. length rows.items ≡ length config.now.tasks) }
-    ensures each { IfOk result (λ rows.
-        EachTask (λ t of_task. AreActionsOf config.now t [] of_task) rows.items) }
+    ensures each { IfOk result (λ rows. AreActionsOfEach config.now [] rows.items) }
 {
     let mut rows = Vec::new(alloc);
     for task in 0..config.tasks() {

@@ -99,7 +99,9 @@ impl OpenNumbers {
         self.walk.pass(&self.config, after, given, actions);
     }
 
-    /// Takes what a turn of thread `k` added to its journal. Fails only when out of memory.
+    /// Takes what a turn of thread `k` added to its journal. Fails only when out of memory. (Inlined
+    /// into the loop of the turns, so that of the entries only what is read is made.)
+    #[inline(always)]
     pub fn turn(&mut self, k: usize, entries: &TurnEntries) -> Result<(), AllocError>
         ensures table { self.new.config ≡ self.old.config }
         ensures walk { self.new.walk ≡ self.old.walk }

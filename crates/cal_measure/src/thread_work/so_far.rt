@@ -35,7 +35,9 @@ impl TurnsSoFar {
         }
     }
 
-    /// Takes one turn more, if there is one. Fails only when out of memory.
+    /// Takes one turn more, if there is one. Fails only when out of memory. (Inlined with what calls
+    /// it, so that no turn is written to memory and read again.)
+    #[inline(always)]
     pub(crate) fn take(&mut self, turn: Option<Turn>) -> Result<(), AllocError>
         ensures { (turns : List TurnOf) → length turns + 1 < 2 ^ 64 → AreTurnsSoFar turns self.old →
             OnOk result (AreTurnsSoFar (turns ++ one_of turn) self.new) }
@@ -47,6 +49,7 @@ impl TurnsSoFar {
     }
 
     /// Takes one turn more: with it the last one ends.
+    #[inline(always)]
     fn take_turn(&mut self, turn: Turn) -> Result<(), AllocError>
         ensures { (turns : List TurnOf) → length turns + 1 < 2 ^ 64 → AreTurnsSoFar turns self.old →
             OnOk result (AreTurnsSoFar (turns ++ turn ∷ []) self.new) }

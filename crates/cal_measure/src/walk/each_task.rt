@@ -1,9 +1,10 @@
 //! What stands at each task's place, with one action or one pass more.
 
-ghost use Rattle.std.specs.Prelude.{◌≡◌, ◌<◌, ◌+◌, ◌^◌, ◌++◌, ◌∷◌, [], List, length};
+ghost use Rattle.std.specs.Prelude.{◌≡◌, ◌≢◌, ◌<◌, ◌+◌, ◌^◌, ◌++◌, ◌∷◌, [], ℕ, List, length};
 ghost use Rattle.std.specs.List.{All};
-ghost use Rattle.cal_measure.specs.Actions.{AreActionsOf};
-ghost use Rattle.cal_measure.specs.Walk.{EachTask, IsTimeOf, until_next};
+ghost use Rattle.cal_machine.specs.TableTasks.{owner_of, threads_of_table};
+ghost use Rattle.cal_measure.specs.Actions.{IsNothingTo};
+ghost use Rattle.cal_measure.specs.Walk.{AreActionsOfEach, EachTask, IsTimeOf, until_next};
 ghost use Rattle.cal_policy.specs.Board.{NamesTable};
 ghost use Rattle.cal_policy.specs.State.{Agrees, IsReady, IsStateAfter};
 ghost use Rattle.cal_policy.specs.declared.history.action.Action.{Action as ActionOf};
@@ -39,8 +40,8 @@ fn count_each(config: &Config, board: &Board, numbers: &mut [TaskActions], actio
     requires many { length numbers.old ≡ length config.now.tasks }
     ensures many { length numbers.new ≡ length numbers.old }
     ensures numbers { (x : List ActionOf) → length x + 1 < 2 ^ 64 → Agrees board.now x →
-        EachTask (λ t of_task. AreActionsOf config.now t x of_task) numbers.old →
-        EachTask (λ t of_task. AreActionsOf config.now t (x ++ action ∷ []) of_task) numbers.new }
+        AreActionsOfEach config.now x numbers.old →
+        AreActionsOfEach config.now (x ++ action ∷ []) numbers.new }
 {
     for task in 0..numbers.len() {
         let state = TaskState {
@@ -49,6 +50,56 @@ fn count_each(config: &Config, board: &Board, numbers: &mut [TaskActions], actio
             task,
         };
         numbers[task] = state.with_one(&numbers[task], action);
+    }
+}
+
+/// The numbers of all tasks, with one action more, which may count for the task of this thread
+/// alone.
+fn count_for(
+    config: &Config,
+    board: &Board,
+    numbers: &mut [TaskActions],
+    thread: u8,
+    action: Action,
+)
+    requires ready { IsReady config.now board.now }
+    requires names { NamesTable config.now action }
+    requires many { length numbers.old ≡ length config.now.tasks }
+    requires thread { thread < threads_of_table config.now }
+    requires alone { (x : List ActionOf) (t : ℕ) → t ≢ owner_of config.now thread →
+        IsNothingTo config.now t x action }
+    ensures many { length numbers.new ≡ length numbers.old }
+    ensures numbers { (x : List ActionOf) → length x + 1 < 2 ^ 64 → Agrees board.now x →
+        AreActionsOfEach config.now x numbers.old →
+        AreActionsOfEach config.now (x ++ action ∷ []) numbers.new }
+{
+    let task = config.task_of(thread as usize);
+    let state = TaskState {
+        config,
+        board,
+        task,
+    };
+    numbers[task] = state.with_one(&numbers[task], action);
+}
+
+/// The numbers of all tasks, with one action more. A core that is freed or unbanned counts for no
+/// task, and a grant and a ban for that of their thread alone.
+fn count_action(config: &Config, board: &Board, numbers: &mut [TaskActions], action: Action)
+    requires ready { IsReady config.now board.now }
+    requires names { NamesTable config.now action }
+    requires many { length numbers.old ≡ length config.now.tasks }
+    ensures many { length numbers.new ≡ length numbers.old }
+    ensures numbers { (x : List ActionOf) → length x + 1 < 2 ^ 64 → Agrees board.now x →
+        AreActionsOfEach config.now x numbers.old →
+        AreActionsOfEach config.now (x ++ action ∷ []) numbers.new }
+{
+    match action {
+        Action::Free { .. } => {}
+        Action::Unban { .. } => {}
+        Action::Grant { thread, .. } => count_for(config, board, numbers, thread, action),
+        Action::Ban { thread, .. } => count_for(config, board, numbers, thread, action),
+        Action::Revoke { .. } => count_each(config, board, numbers, action),
+        Action::Cap { .. } => count_each(config, board, numbers, action),
     }
 }
 
@@ -69,12 +120,12 @@ pub fn count_actions_of_each(
     ensures many { length numbers.new ≡ length numbers.old }
     ensures numbers { (x : List ActionOf) → length (x ++ actions.now) < 2 ^ 64 →
         Agrees board.old x →
-        EachTask (λ t of_task. AreActionsOf config.now t x of_task) numbers.old →
-        EachTask (λ t of_task. AreActionsOf config.now t (x ++ actions.now) of_task) numbers.new }
+        AreActionsOfEach config.now x numbers.old →
+        AreActionsOfEach config.now (x ++ actions.now) numbers.new }
 {
     config.limits();
     for action in actions {
-        count_each(config, board, numbers, *action);
+        count_action(config, board, numbers, *action);
         board.apply(config, *action);
     }
 }

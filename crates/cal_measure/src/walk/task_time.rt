@@ -8,7 +8,7 @@ ghost use Rattle.cal_policy.specs.declared.history.entry.PassEntry.{PassEntry};
 ghost use Rattle.cal_policy.specs.declared.history.entry.TheConstants.{MOST_PASSES};
 
 use crate::cores::{core_time, ticks_if};
-use crate::states::is_congested;
+use crate::states::is_congested_when_ready;
 use cal_machine::Config;
 use cal_policy::state::{Board, booked_by, held_by};
 
@@ -84,7 +84,7 @@ impl TaskTime {
             congested: self.congested.saturating_add(congested),
             holds,
             leaves,
-            found: is_congested(config, board, timing.clock, task),
+            found: is_congested_when_ready(config, board, timing.clock, task),
         }
     }
 }

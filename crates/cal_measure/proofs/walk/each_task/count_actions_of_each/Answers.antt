@@ -18,9 +18,9 @@ loop-action-preserved c =
       agrees = λ x a. subst (λ (l : List Action). Agrees c.apply.new.self l) (after_more x xs n _ lt) (c.apply.ensures.agrees (x ++ take n xs) (inv.agrees x a));
       ready = c.apply.ensures.ready;
       keeping = c.apply.ensures.keeping ∙ inv.keeping;
-      many = c.count_each.ensures.many ∙ inv.many;
-      numbers = λ x low a was. subst (λ (l : List Action). EachTask (λ t of_task. AreActionsOf table t l of_task) c.count_each.new.numbers) (after_more x xs n _ lt)
-          (c.count_each.ensures.numbers (x ++ take n xs) (low_so_far x xs n lt low) (inv.agrees x a) (inv.numbers x low a was));
+      many = c.count_action.ensures.many ∙ inv.many;
+      numbers = λ x low a was. subst (λ (l : List Action). EachTask (λ t of_task. AreActionsOf table t l of_task) c.count_action.new.numbers) (after_more x xs n _ lt)
+          (c.count_action.ensures.numbers (x ++ take n xs) (low_so_far x xs n lt low) (inv.agrees x a) (inv.numbers x low a was));
     }
 
 pub returns-clause-numbers : goal.returns-clause-numbers

@@ -27,9 +27,9 @@ returns c = λ h e few state clock lasting was.
     c.saturating_sub-leaves.ensures ∙ ap (λ n. n - c.held_by-holds.result) booked ∙ ap (λ n. booked_by table y t - n) holds in
     let looks : KeepingAgrees c.args.board.now.keeping (looks_of h ++ e.input.seen ∷ []) =
     subst (λ (l : List (List Seen)). KeepingAgrees c.args.board.now.keeping l) (looks_push h e) state.looks in
-    let found : c.is_congested.result ≡ found_congested table h t (Some e) =
-    subst (λ n. c.is_congested.result ≡ found_congested table h t (Some e)) clock (rw clock at c.is_congested.ensures (looks_of h ++ e.input.seen ∷ []) looks) in
-    let is_found : c.is_congested.result ≡ is_congested_at table h2 t (length h) =
+    let found : c.is_congested_when_ready.result ≡ found_congested table h t (Some e) =
+    subst (λ n. c.is_congested_when_ready.result ≡ found_congested table h t (Some e)) clock (rw clock at c.is_congested_when_ready.ensures (looks_of h ++ e.input.seen ∷ []) looks) in
+    let is_found : c.is_congested_when_ready.result ≡ is_congested_at table h2 t (length h) =
     found ∙ sym (ap (λ (l : List PassEntry). found_congested table l t (Some e)) (take_before h e)) ∙ sym (ap (found_congested table (take (length h) h2) t) (slice_here h e)) in
     let held_sum : c.saturating_add.result ≡ c.args.self.held + c.core_time-held.result = let a = c.saturating_add.ensures in let b = was.few_held in let d = c.core_time-held.ensures.few in omega (arith, a, b, d, low) in
     let leaving_sum : c.saturating_add-2.result ≡ c.args.self.leaving + c.core_time-leaving.result = let a = c.saturating_add-2.ensures in let b = was.few_leaving in let d = c.core_time-leaving.ensures.few in omega (arith, a, b, d, low) in
