@@ -1,3 +1,4 @@
 pub mod Counts
+pub mod Known
 pub mod Refused
 pub mod Services

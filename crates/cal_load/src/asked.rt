@@ -1,7 +1,7 @@
 //! What comes to tasks, as the words of a command line say it.
 
-ghost use Rattle.std.specs.Prelude.{◌<◌, All, IfErr, IfOk, length};
-ghost use Rattle.std.specs.Prelude.{ℕ, List};
+ghost use Rattle.std.specs.Prelude.{ℕ, List, IfErr, IfOk, length};
+ghost use Rattle.cal_load.specs.Known.{AreKnown};
 ghost use Rattle.cal_load.specs.Refused.{IsRefusedFor};
 
 use crate::fault::{LoadFault, Why, refused};
@@ -170,9 +170,8 @@ pub fn are_known<'a>(
     loads: &[TaskLoad],
     words: &[&'a str],
 ) -> Result<(), LoadFault<'a>>
-    ensures known { IfOk result (λ _. All (λ load. load.task < length config.now.tasks) loads.now) }
-    ensures unknown { IfErr result (λ _.
-        ¬ All (λ load. load.task < length config.now.tasks) loads.now) }
+    ensures known { IfOk result (λ _. AreKnown config.now loads.now) }
+    ensures unknown { IfErr result (λ _. ¬ AreKnown config.now loads.now) }
     ensures fault { IfErr result (λ fault. (word : List ℕ) ×
         IsRefusedFor TASK.now word (Why.NotATask (length config.now.tasks)) fault) }
 {

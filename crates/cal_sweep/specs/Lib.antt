@@ -1,3 +1,5 @@
+pub mod Faults
 pub mod Objectives
 pub mod Shares
 pub mod Sweeps
+pub mod Words

@@ -1,6 +1,6 @@
 -- The runs of a sweep.
 use Rattle.std.specs.Prelude.{◌≡◌, ℕ, List, [], ◌∷◌, map, Option, Some, None, Ok}
-use Rattle.cal_input.specs.declared.fault.RunFault.TheVariants.{Write}
+use Rattle.cal_input.specs.declared.fault.RunFault.TheVariants.{Memory, Write}
 use Rattle.cal_machine.specs.Reading.{table_in}
 use Rattle.cal_machine.specs.Table.{Table}
 use Rattle.cal_tables.specs.Compared.{AreEachOf, AreToldFor}
@@ -68,3 +68,7 @@ pub record IsSweep (input : List ℕ) (varying : Option Varying) (loads : List �
 -- the fault of a writer
 abbrev pub of_writer : ComparisonFault
 of_writer = faults.Run Write
+
+-- the fault of memory
+abbrev pub of_memory : ComparisonFault
+of_memory = faults.Run Memory

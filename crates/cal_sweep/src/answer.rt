@@ -1,8 +1,11 @@
 //! A sweep from its words to what is written of it.
 
-ghost use Rattle.std.specs.Prelude.{◌≡◌, ◌≢◌, IfErr, IfOk};
+ghost use Rattle.std.specs.Prelude.{◌≡◌, ◌≢◌, ◌⊎◌, IfErr, IfOk, length};
+ghost use Rattle.cal_machine.specs.Reading.{table_in};
+ghost use Rattle.cal_sweep.specs.Faults.{IsFirstFault, SweepDecided};
 ghost use Rattle.cal_sweep.specs.Objectives.{EndsSweep, status_of_sweep};
-ghost use Rattle.cal_sweep.specs.Sweeps.{of_writer, varying_of};
+ghost use Rattle.cal_sweep.specs.Sweeps.{of_memory, of_writer, varying_of};
+ghost use Rattle.cal_tables.specs.Joining.{table_part};
 
 use crate::fault::SweepFault;
 use crate::job::SweepJob;
@@ -46,6 +49,8 @@ pub fn end_sweep<'a, W: Write, E: Write>(
 ) -> Result<u8, SweepFault<'a>>
     ensures status { IfOk result (λ status.
         status ≡ status_of_sweep job.now.asked.now.objective sweep.now.loads.items) }
+    ensures kind { IfErr result (λ fault.
+        (fault ≡ SweepFault.Run of_writer) ⊎ (fault ≡ SweepFault.Run of_memory)) }
     ensures untouched { IfErr result (λ fault.
         fault ≢ SweepFault.Run of_writer → output.new ≡ output.old) }
 {
@@ -74,6 +79,10 @@ pub fn answer_sweep<'a, W: Write, E: Write>(
     // A sweep of the input was made, and the status is that of its runs.
     ensures status { IfOk result (EndsSweep job.now.input.now (varying_of job.now.names.variation)
         job.now.asked.now.loads.items job.now.asked.now.objective) }
+    // The faults of the table, the names and the words for tasks come first.
+    ensures refused { IfErr result (λ fault. fault ≢ SweepFault.Run of_writer →
+        SweepDecided fault (IsFirstFault (table_in (table_part job.now.input.now))
+        (length job.now.names.labels.names.now) job.now.asked.now.tasks.items fault)) }
     // Nothing is written before the runs were made.
     ensures untouched { IfErr result (λ fault.
         fault ≢ SweepFault.Run of_writer → output.new ≡ output.old) }

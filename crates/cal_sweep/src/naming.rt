@@ -1,5 +1,8 @@
 //! What the tables, the tasks and the clock ticks of a sweep are called.
 
+ghost use Rattle.std.specs.Prelude.{◌≡◌, IfErr, IfOk, length};
+ghost use Rattle.cal_sweep.specs.Faults.{AreCounted};
+
 use crate::fault::SweepFault;
 use cal_machine::Config;
 use cal_tables::{Labels, Variation};
@@ -15,7 +18,14 @@ pub struct SweepNames<'a> {
 }
 
 /// Whether there are no names of tasks, or as many as a table has tasks. The fault is `Names`.
-pub fn are_counted<'a>(table: &Config, labels: Labels<'_>) -> Result<(), SweepFault<'a>> {
+pub fn are_counted<'a>(table: &Config, labels: Labels<'_>) -> Result<(), SweepFault<'a>>
+    ensures counted { IfOk result (λ _.
+        AreCounted (length labels.entry.names.now) (length table.now.tasks)) }
+    ensures uncounted { IfErr result (λ _.
+        ¬ AreCounted (length labels.entry.names.now) (length table.now.tasks)) }
+    ensures fault { IfErr result (λ fault. fault
+        ≡ SweepFault.Names (length labels.entry.names.now) (length table.now.tasks)) }
+{
     let (names, tasks) = (labels.names.len(), table.tasks());
     if names == 0 || names == tasks {
         Ok(())

@@ -1,6 +1,7 @@
 //! An objective: within how many clock ticks so many of a task's requests are to be answered.
 
-ghost use Rattle.std.specs.Prelude.{◌≡◌};
+ghost use Rattle.std.specs.Prelude.{◌≡◌, IfErr};
+ghost use Rattle.cal_load.specs.Refused.{IsRefusedFor};
 ghost use Rattle.cal_tables.specs.Rows.{time_in};
 ghost use Rattle.cal_sweep.specs.Objectives.{is_kept, is_within, response_at};
 
@@ -59,8 +60,10 @@ fn read(word: &str) -> Option<Objective> {
 }
 
 /// The objective of a word, as `task.0.p99=65`: a task, `p50`, `p90`, `p99`, `p99.9` or `max`, and
-/// clock ticks. Which tasks the table has is not asked.
-pub fn objective_of<'a>(word: &'a str) -> Result<Objective, LoadFault<'a>> {
+/// clock ticks. Which tasks the table has is not asked. The fault is `NotAnObjective`, of the word.
+pub fn objective_of<'a>(word: &'a str) -> Result<Objective, LoadFault<'a>>
+    ensures { IfErr result (IsRefusedFor FLAG.now word.now Why.NotAnObjective) }
+{
     match read(word) {
         Some(objective) => Ok(objective),
         None => Err(refused(FLAG, word, Why::NotAnObjective)),

@@ -1,8 +1,13 @@
 //! The runs of a sweep, measured.
 
-ghost use Rattle.std.specs.Prelude.{◌≡◌, ◌∷◌, [], IfOk, string_bytes};
+ghost use Rattle.std.specs.Prelude.{◌≡◌, ◌∷◌, [], IfErr, IfOk, Ok, length, string_bytes};
+ghost use Rattle.cal_machine.specs.Reading.{table_in};
+ghost use Rattle.cal_machine.specs.Table.{Table};
+ghost use Rattle.cal_load.specs.Known.{AreKnown};
+ghost use Rattle.cal_sweep.specs.Faults.{AreCounted, IsFirstFault, SweepDecided};
 ghost use Rattle.cal_sweep.specs.Sweeps.{AreSweptLoads, AreSweptRuns, AreTablesOf, IsSweep};
 ghost use Rattle.cal_sweep.specs.Sweeps.{IsRunOn, IsSweptLoad, IsSweptRun, varying_of};
+ghost use Rattle.cal_tables.specs.Joining.{table_part};
 
 use crate::fault::SweepFault;
 use crate::job::SweepJob;
@@ -186,12 +191,23 @@ fn tables_of(
 /// The table of a job's input, or those that it gives with each value of a variation, and for each
 /// load in turn a run of each of these tables on arrivals that are made for it with this load.
 ///
-/// The fault is that of the table, then `Names` where the names are not as many as its tasks, then
-/// that of the first word that names a task which it has not, then that of the first value that
+/// The fault is that of the table, then `Names` where there are some and not as many as its tasks,
+/// then that of the first word that names a task which it has not, then that of the first value that
 /// makes the table faulty; then that of the first run that has one. `Memory` may come at any place.
 pub fn swept<'a>(rt: &(impl Threads + Sync), job: &SweepJob<'a>) -> Result<Sweep, SweepFault<'a>>
-    ensures { IfOk result (λ sweep. IsSweep job.now.input.now (varying_of job.now.names.variation)
-        job.now.asked.now.loads.items sweep.tables.items sweep.loads.items) }
+    ensures made { IfOk result (λ sweep. IsSweep job.now.input.now
+        (varying_of job.now.names.variation) job.now.asked.now.loads.items
+        sweep.tables.items sweep.loads.items) }
+    // None is made with some names that are not as many as the tasks, nor for a task that is not
+    // there.
+    ensures named { IfOk result (λ _. (table : Table) →
+        table_in (table_part job.now.input.now) ≡ Ok table →
+        AreCounted (length job.now.names.labels.names.now) (length table.tasks)
+        × AreKnown table job.now.asked.now.tasks.items) }
+    // The faults of the table, the names and the words for tasks come first.
+    ensures refused { IfErr result (λ fault. SweepDecided fault (IsFirstFault
+        (table_in (table_part job.now.input.now)) (length job.now.names.labels.names.now)
+        job.now.asked.now.tasks.items fault)) }
 {
     let SweepJob {
         alloc,

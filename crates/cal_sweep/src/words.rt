@@ -1,5 +1,8 @@
 //! What a sweep is of, as words say it.
 
+ghost use Rattle.std.specs.Prelude.{◌≡◌, IfOk, IfSome, IsTrue};
+ghost use Rattle.cal_sweep.specs.Words.{AreLoadedWith, IsAsked, has_load, swept_task};
+
 use crate::fault::SweepFault;
 use crate::objective::{FLAG, Objective, objective_of};
 use cal_load::{LoadFault, LoadWords, TaskLoad, Timing, Why, refused, stepped_loads};
@@ -52,7 +55,9 @@ pub struct Asked<'a> {
 }
 
 /// The objective of a word, of one of the tasks to which requests come.
-fn objective_among<'a>(word: &'a str, tasks: &[TaskLoad]) -> Result<Objective, LoadFault<'a>> {
+fn objective_among<'a>(word: &'a str, tasks: &[TaskLoad]) -> Result<Objective, LoadFault<'a>>
+    ensures { IfOk result (λ objective. IsTrue (has_load tasks.now objective.task)) }
+{
     let objective = objective_of(word)?;
     if tasks.iter().any(|of_task| of_task.task == objective.task) {
         Ok(objective)
@@ -65,7 +70,10 @@ fn objective_among<'a>(word: &'a str, tasks: &[TaskLoad]) -> Result<Objective, L
 fn asked_objective<'a>(
     slo: Option<&'a str>,
     tasks: &[TaskLoad],
-) -> Result<Option<Objective>, LoadFault<'a>> {
+) -> Result<Option<Objective>, LoadFault<'a>>
+    ensures { IfOk result (λ asked. IfSome asked
+        (λ objective. IsTrue (has_load tasks.now objective.task))) }
+{
     match slo {
         None => Ok(None),
         Some(word) => Ok(Some(objective_among(word, tasks)?)),
@@ -82,7 +90,9 @@ fn are_values<'a>(vary: Option<&'a str>) -> Result<(), LoadFault<'a>> {
 
 /// What words ask for, where they need no table: loads, of one task at most several; an objective
 /// of a task to which requests come; a key with values. The fault is that of the first word.
-pub fn asked_of<'a>(alloc: Global, words: &SweepWords<'a>) -> Result<Asked<'a>, SweepFault<'a>> {
+pub fn asked_of<'a>(alloc: Global, words: &SweepWords<'a>) -> Result<Asked<'a>, SweepFault<'a>>
+    ensures { IfOk result (IsAsked words.now) }
+{
     let stepped = stepped_loads(alloc, &words.load)?;
     let objective = asked_objective(words.slo, stepped.tasks.as_slice())?;
     are_values(words.vary)?;
@@ -100,8 +110,10 @@ pub fn asked_of<'a>(alloc: Global, words: &SweepWords<'a>) -> Result<Asked<'a>, 
 }
 
 impl<'a> Asked<'a> {
-    /// The task that is swept.
-    pub fn task(&self) -> usize {
+    /// The task that is swept; 0 where there is none.
+    pub fn task(&self) -> usize
+        ensures { result ≡ swept_task self.now }
+    {
         match self.tasks.as_slice().get(self.place) {
             Some(of_task) => of_task.task,
             None => 0,
@@ -109,7 +121,9 @@ impl<'a> Asked<'a> {
     }
 
     /// What comes to each task where the swept one has this load.
-    pub fn at(&self, alloc: Global, load: u64) -> Result<Vec<TaskLoad>, AllocError> {
+    pub fn at(&self, alloc: Global, load: u64) -> Result<Vec<TaskLoad>, AllocError>
+        ensures { IfOk result (λ tasks. AreLoadedWith self.now load tasks.items) }
+    {
         let mut tasks = Vec::new(alloc);
         for place in 0..self.tasks.len() {
             let of_task = &self.tasks[place];

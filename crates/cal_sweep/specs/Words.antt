@@ -1,0 +1,41 @@
+-- What a sweep is of, as words say it.
+use Rattle.std.specs.Prelude.{◌≡◌, ◌==◌, ℕ, Bool, List, Option, Some, None, IfSome, IsTrue}
+use Rattle.std.specs.Prelude.{map, slice_get, if◌then◌else◌}
+use Rattle.std.specs.List.{list_any}
+use Rattle.cal_load.specs.declared.making.TaskLoad.{TaskLoad}
+use Rattle.cal_trace.specs.Rows.Text.{numbered}
+use Rattle.cal_sweep.specs.declared.words.Asked.{Asked}
+use Rattle.cal_sweep.specs.declared.words.SweepWords.{SweepWords}
+
+-- requests come to this task
+abbrev pub has_load : List TaskLoad → ℕ → Bool
+has_load tasks task = list_any (λ of_task. of_task.task == task) tasks
+
+-- the timing, the seed and the form asked for are those of the words, and an objective is of a
+-- task to which requests come
+pub record IsAsked (words : SweepWords) (asked : Asked) : Type 0 where
+  pub timing : asked.timing ≡ words.load.timing
+  pub seed : asked.seed ≡ words.load.seed
+  pub form : asked.form ≡ words.form
+  pub objective : IfSome asked.objective (λ objective.
+      IsTrue (has_load asked.tasks.items objective.task))
+
+-- the number of this task with a load, 0 where there is none
+abbrev pub task_loaded : Option TaskLoad → ℕ
+task_loaded None = 0
+task_loaded (Some of_task) = of_task.task
+
+-- the task that is swept, 0 where there is none
+abbrev pub swept_task : Asked → ℕ
+swept_task asked = task_loaded (slice_get asked.tasks.items asked.place)
+
+-- the load of the i-th of the tasks, where the one at a place has this load
+abbrev pub load_at : ℕ → ℕ → ℕ → TaskLoad → ℕ
+load_at place load i of_task = if i == place then load else of_task.load
+
+-- the tasks of what is asked, each with its load, and the swept one with this load
+pub record AreLoadedWith (asked : Asked) (load : ℕ) (tasks : List TaskLoad) : Type 0 where
+  pub same : map (λ of_task. of_task.task) tasks
+      ≡ map (λ of_task. of_task.task) asked.tasks.items
+  pub loads : map (λ of_task. of_task.load) tasks
+      ≡ numbered (load_at asked.place load) 0 asked.tasks.items
