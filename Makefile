@@ -2,6 +2,7 @@
 # make NAME            one of them, or caladan_c, the C library
 # make check           the gate
 # make files           docs/FILES.md, a list of every file with what it is for
+# make wrong_bodies    docs/WRONG_BODIES.md, a list of every wrong body with the clause that refuses it
 # make install PREFIX=/usr/local      programs, C library, headers, pkg-config, manual pages and completions
 # make install_library PREFIX=..      the C library, its headers and the files for pkg-config and CMake alone
 # make dist            a release in out/release: packages, a prefix, the sources, and PROOF of what the gate keeps
@@ -11,7 +12,7 @@ share = $(PREFIX)/share
 programs = caladan_sim caladan_view
 archive = crates/caladan_c/out/libcaladan_c.a
 
-.PHONY: all $(programs) caladan_c check dist files install install_library
+.PHONY: all $(programs) caladan_c check dist files wrong_bodies install install_library
 
 all: $(programs)
 
@@ -26,6 +27,9 @@ check:
 
 files:
 	tools/docs --files > docs/FILES.md
+
+wrong_bodies:
+	tools/wrong_bodies --page > docs/WRONG_BODIES.md
 
 dist: $(programs) caladan_c
 	tools/make_release

@@ -56,7 +56,7 @@ Proved, crate by crate
 ----------------------
 
 Each function of each crate keeps its contract, is safe, and returns (but for those that run threads, which wait at
-their joins). A wrong body is a body with a mistake in it that the prover must refuse, and refused: docs/WRONG_BODIES.md
+their joins). A wrong body is a body with a mistake in it that the prover must refuse, and refused: crates/*/must-fail
 of the sources has each.
 
 {rows}
