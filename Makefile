@@ -42,7 +42,7 @@ install: $(programs) caladan_c
 	tools/doc_pages $(share)/man
 
 install_library: $(archive)
-	tools/install_c_library $(PREFIX)
+	CALADAN_ARCHIVE=$(archive) tools/install_c_library $(PREFIX)
 
 $(archive):
 	tools/prove caladan_c
