@@ -1,6 +1,9 @@
 # make                 proves and builds the two programs, caladan_sim and caladan_view, and says how far it is
 # make NAME            one of them, or caladan_c, the C library
-# make check           the gate
+# make test            tests everything that needs no proof, in minutes; needs the kit, and nothing proved
+# make check           the gate: make test, then every proof, and what the proved programs say
+# make prove CRATE=..  proves one crate with all that it stands on
+# make needs           installs the Debian packages that make test and make check use, as root; else lists them
 # make files           docs/FILES.md, a list of every file with what it is for
 # make wrong_bodies    docs/WRONG_BODIES.md, a list of every wrong body with the clause that refuses it
 # make install PREFIX=/usr/local      programs, C library, headers, pkg-config, manual pages and completions
@@ -12,7 +15,7 @@ share = $(PREFIX)/share
 programs = caladan_sim caladan_view
 archive = crates/caladan_c/out/libcaladan_c.a
 
-.PHONY: all $(programs) caladan_c check dist files wrong_bodies install install_library
+.PHONY: all $(programs) caladan_c check dist files install install_library needs prove test wrong_bodies
 
 all: $(programs)
 
@@ -22,8 +25,18 @@ all: $(programs)
 $(programs) caladan_c:
 	tools/prove $@
 
+test:
+	tools/test
+
 check:
 	.ci/run
+
+prove:
+	@[ -n "$(CRATE)" ] || { echo "make prove CRATE=..: a crate of crates.txt, as CRATE=cal_policy" >&2; exit 2; }
+	tools/prove $(CRATE)
+
+needs:
+	tools/needs
 
 files:
 	tools/docs --files > docs/FILES.md
