@@ -44,11 +44,6 @@ def sum_of(at, names, *parts):
     return made.hexdigest()
 
 
-def newest(names):
-    """When the last of the files that these crates are made from was changed."""
-    return max(map(os.path.getmtime, files_of(names, "src", "specs", "proofs")))
-
-
 def kit():
     """The folder of the kit."""
     said = subprocess.run(["rt", "doc"], capture_output=True, text=True, check=True).stdout.strip()

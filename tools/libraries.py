@@ -1,27 +1,50 @@
 """The libraries below a crate, for the scripts that ask the kit's prover themselves.
 
 `rt ci` leaves each proved library in crates/NAME/out/rlib, without the mark by which `rt lib` and `rt check` would take
-it: those prove all below once more. What `rt ci` has just proved in this tree is taken here as it stands."""
+it: those prove all below once more. So .ci/run notes, right after `rt ci` passed (tools/note_libraries), what stands
+there and what it is made from; where that is still so, the library is taken as it stands."""
+import json
 import os
 import subprocess
 
-from crates import TOP, below, newest, text_of
+from crates import TOP, below, crates, kit, sum_of, text_of
+
+NOTED = f"{TOP}/out/libraries.json"
+PARTS = ("src", "specs", "proofs")
 
 
 def rlib_of(crate):
     return f"{TOP}/crates/{crate}/out/rlib/{crate}.rlib"
 
 
-def is_current(crate):
-    """Whether the crate's library was built after the last change of a source of it."""
+def mark_of(crate, uses, at):
+    """What tells that a library is the one that `rt ci` left, and that it is made from what its crate has now; None of
+    one that another command built."""
     made = f"{rlib_of(crate)}/format"
-    return os.path.isfile(made) and os.path.getmtime(made) > newest([crate])
+    if not os.path.isfile(made) or os.path.exists(f"{os.path.dirname(rlib_of(crate))}/stamp"):
+        return None
+    found = os.stat(made)
+    return [found.st_ino, found.st_size, found.st_mtime_ns, sum_of(at, [*below(crate, uses, []), crate], *PARTS)]
+
+
+def note():
+    """Notes the libraries that `rt ci` has just left."""
+    uses, at = crates(), kit()
+    os.makedirs(os.path.dirname(NOTED), exist_ok=True)
+    with open(NOTED, "w", encoding="utf-8") as it:
+        json.dump({it: mark_of(it, uses, at) for it in uses}, it)
+
+
+def are_current(names):
+    """Whether these libraries are those that `rt ci` left, of what their crates have now."""
+    noted, uses, at = json.loads(text_of(NOTED)) if os.path.isfile(NOTED) else {}, crates(), kit()
+    return all(noted.get(it) and noted[it] == mark_of(it, uses, at) for it in names)
 
 
 def lacking(wanted, uses):
     """Proves the libraries below these crates, as far as they are not; gives the first that is not proved, or ''."""
     names = list(dict.fromkeys(lower for crate in wanted for lower in below(crate, uses, [])))
-    if all(is_current(it) for it in names):
+    if are_current(names):
         return ""
     for it in names:
         ran = subprocess.run(["rt", "lib"], cwd=f"{TOP}/crates/{it}", stdout=subprocess.PIPE, stderr=subprocess.STDOUT)
