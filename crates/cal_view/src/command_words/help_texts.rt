@@ -415,7 +415,9 @@ pub const CHECK: &str = help_with_a_run!(
     "\
 Input: a task table (TOML) alone, or a task table, the line ---, and
 signals, arrivals or a history (CSV).
-Output: a line that says what it is. Of an input that is refused,
+Output: a line that says what it is, and below it a note for each task that
+may have to wait for its guaranteed cores, since a latency-critical task that
+may have more than its own comes first. Of an input that is refused,
 standard error has the line of its fault, and below it where it is, what stands
 there, what is wanted, and what to do about it where that is plain.
 Exit status: 0 accepted, 2 rejected input, 3 memory or output was refused.",
