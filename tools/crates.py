@@ -39,8 +39,9 @@ def files_of(names, *parts):
 def sum_of(at, names, *parts):
     """A sum of all that these crates are made from: their files in these folders, crates.txt, and the kit there."""
     made = hashlib.sha256()
-    for file in [f"{TOP}/crates.txt", f"{at}/KIT-ID", *files_of(names, *parts)]:
-        made.update(f"{os.path.relpath(file, TOP)}\n{text_of(file)}\n".encode())
+    for name, file in [("KIT-ID", f"{at}/KIT-ID"), ("crates.txt", f"{TOP}/crates.txt"),
+                       *((os.path.relpath(it, TOP), it) for it in files_of(names, *parts))]:
+        made.update(f"{name}\n{text_of(file)}\n".encode())
     return made.hexdigest()
 
 
