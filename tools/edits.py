@@ -10,8 +10,9 @@ tries by itself) or crates/CRATE/witnesses/NAME.edit (all others, which tools/wi
     new: the text in its place
 
 and further `old:` and `new:` pairs. FUNCTION is where the proof fails, as the end of its path (`take`, `BareThread::turn`);
-each CLAUSE is one of its clauses, a call whose requirement it owes (`store`), or `invariant`. A function alone stands
-for its one clause without a name, or, where it has no clause at all, for its safety. `NAME-is` alone is an equation of
+each CLAUSE is one of its clauses, a call whose requirement it owes (`store`), or `invariant`; what a loop keeps carries
+the clauses of its function. A function alone stands for its one clause without a name, or, where it has no clause at
+all, for its safety. `NAME-is` alone is an equation of
 specs/Limits.antt."""
 import collections
 import functools
@@ -193,7 +194,7 @@ def is_refused_at(edit, goal):
     of = clause_of(goal)
     has_clauses = any(it.clauses for it in named(edit.crate, edit.function))
     if edit.clauses:
-        return of in edit.clauses
+        return of in (*edit.clauses, "invariant")
     return of in ("", "invariant") if has_clauses else True
 
 
