@@ -12,8 +12,7 @@ tries by itself) or crates/CRATE/witnesses/NAME.edit (all others, which tools/wi
 and further `old:` and `new:` pairs. FUNCTION is where the proof fails, as the end of its path (`take`, `BareThread::turn`);
 each CLAUSE is one of its clauses, a call whose requirement it owes (`store`), or `invariant`; what a loop keeps carries
 the clauses of its function. A function alone stands for its one clause without a name, or, where it has no clause at
-all, for its safety. `NAME-is` alone is an equation of
-specs/Limits.antt."""
+all, for its safety. `NAME-is` alone is an equation of specs/Limits.antt."""
 import collections
 import functools
 import glob
