@@ -139,11 +139,20 @@ def named(crate, function):
     return [it for it in functions(crate) if f"::{it.path}".endswith(f"::{function}")]
 
 
+def path_of(edit):
+    """The path of the function that an edit names, as the prover writes it; nothing where that is an equation."""
+    found = named(edit.crate, edit.function)
+    if not found:
+        return ""
+    *owner, name = found[0].path.split("::")
+    return "::".join([*owner[:-1], f"{owner[-1]}+{found[0].of_trait}", name]) if found[0].of_trait else found[0].path
+
+
 def function_at(crate, file, line):
     """The function in whose lines, or in whose folder of proofs/, a place lies; in specs/ the equation there."""
     if file.startswith("proofs/"):
         path = os.path.dirname(file) if file.endswith(("/Answers.antt", "/Invariants.antt", "/Proof.antt")) else file
-        return path.removeprefix("proofs/").removesuffix(".antt").replace("/", "::")
+        return re.sub(r"\+\w+", "", path).removeprefix("proofs/").removesuffix(".antt").replace("/", "::")
     if file.startswith("specs/"):
         above = text_of(f"{TOP}/crates/{crate}/{file}").splitlines()[:line]
         return next((it[1] for it in map(EQUATION.match, reversed(above)) if it), "")
