@@ -200,10 +200,11 @@ def is_refused_at(edit, goal):
     if edit.function.endswith("-is"):
         return True
     of = clause_of(goal)
-    has_clauses = any(it.clauses for it in named(edit.crate, edit.function))
+    clauses = [clause for it in named(edit.crate, edit.function) for clause in it.clauses]
     if edit.clauses:
-        return of in (*edit.clauses, "invariant")
-    return of in ("", "invariant") if has_clauses else True
+        # (where each clause has a name, one goal without a name stands for all of them together)
+        return of in (*edit.clauses, "invariant") or of == "" and "" not in clauses
+    return of in ("", "invariant") if clauses else True
 
 
 def fault_of(edit, said):
