@@ -27,8 +27,8 @@ FOLDERS = ("must-fail", "witnesses")
 Edit = collections.namedtuple("Edit", "file crate name mistake function clauses pairs")
 # What the prover did not take: the file and the line, and the goal's name or the text of the error.
 Refusal = collections.namedtuple("Refusal", "file line goal said")
-# A function of src/: its path below the crate, its file, its first and last line, the names of its clauses, and the
-# trait whose method it is, or ''.
+# A function of src/: its path below the crate, as the prover writes it (a trait's method stands below the type's and the
+# trait's names joined), its file, its first and last line, the names of its clauses, and the trait, or ''.
 Function = collections.namedtuple("Function", "path file first last clauses of_trait")
 
 PLACE = re.compile(r"^(?:note: )?(?:\./)?((?:src|proofs|specs)/\S+?\.(?:rt|antt)):(\d+):\d+: (.*)")
@@ -102,7 +102,7 @@ def functions(crate):
     found = []
     for path in sorted(glob.glob(f"{TOP}/crates/{crate}/src/**/*.rt", recursive=True)):
         found += functions_in(os.path.relpath(path, f"{TOP}/crates/{crate}"), text_of(path).splitlines())
-    of_traits = {tuple(it.path.split("::")[-2:]): it.clauses for it in found}
+    of_traits = {tuple(it.path.split("::")[-2:]): it.clauses for it in found if not it.of_trait}
     return [it._replace(clauses=it.clauses or of_traits.get((it.of_trait, it.path.split("::")[-1]), [])) for it in found]
 
 
@@ -117,7 +117,7 @@ def functions_in(file, lines):
             owner = trait = ""
         head = HEAD.match(line)
         if head:
-            path = "::".join([*module_of(file), *([owner] if owner and head[1] else []), head[2]])
+            path = "::".join([*module_of(file), *([owner + trait] if owner and head[1] else []), head[2]])
             found.append(Function(path, file, number, len(lines), clauses_below(lines, number), trait))
     ends = [it.first - 1 for it in found[1:]] + [len(lines)]
     return [it._replace(last=end) for it, end in zip(found, ends)]
@@ -140,19 +140,16 @@ def named(crate, function):
 
 
 def path_of(edit):
-    """The path of the function that an edit names, as the prover writes it; nothing where that is an equation."""
+    """The path of the function that an edit names; nothing where that is an equation."""
     found = named(edit.crate, edit.function)
-    if not found:
-        return ""
-    *owner, name = found[0].path.split("::")
-    return "::".join([*owner[:-1], f"{owner[-1]}+{found[0].of_trait}", name]) if found[0].of_trait else found[0].path
+    return found[0].path if found else ""
 
 
 def function_at(crate, file, line):
     """The function in whose lines, or in whose folder of proofs/, a place lies; in specs/ the equation there."""
     if file.startswith("proofs/"):
         path = os.path.dirname(file) if file.endswith(("/Answers.antt", "/Invariants.antt", "/Proof.antt")) else file
-        return re.sub(r"\+\w+", "", path).removeprefix("proofs/").removesuffix(".antt").replace("/", "::")
+        return path.removeprefix("proofs/").removesuffix(".antt").replace("/", "::")
     if file.startswith("specs/"):
         above = text_of(f"{TOP}/crates/{crate}/{file}").splitlines()[:line]
         return next((it[1] for it in map(EQUATION.match, reversed(above)) if it), "")
