@@ -6,6 +6,7 @@ pub mod Guarantee
 pub mod Hyperthreads
 pub mod InFlight
 pub mod Laws
+pub mod NotGiven
 pub mod Order
 pub mod Owed
 pub mod Pass
