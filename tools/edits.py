@@ -140,9 +140,10 @@ def named(crate, function):
 
 
 def path_of(edit):
-    """The path of the function that an edit names; nothing where that is an equation."""
-    found = named(edit.crate, edit.function)
-    return found[0].path if found else ""
+    """By what a check names the function of an edit: as the edit does, or by its whole path where a module has that
+    name too, which would stand for all functions in it."""
+    modules = {it for one in functions(edit.crate) for it in module_of(one.file)}
+    return named(edit.crate, edit.function)[0].path if edit.function in modules else edit.function
 
 
 def function_at(crate, file, line):
