@@ -9,11 +9,13 @@
  *   foreign  hands over the thread number of another process, its parent, as its own
  *   last     shows the last place that a page has, and ends
  *   last_one the same on one of its threads alone
+ *   misses   shows as many misses as a record may have on each of its threads, and ends
  *   wordy    publishes records of the longest numbers, and never leaves
  *   visits   connects, says nothing and closes; it lives on
+ *   silent   connects twelve times at once, says nothing, and comes again where it is sent away
  *   closes   is given a core, closes its connection, and works on
  *   mixed    becomes nobody by half, as root alone can: its scheduler may not signal it
- *   punches  takes the pages out of its segment again and again */
+ *   punches  would take the pages out of its segment again and again */
 #define _GNU_SOURCE
 #include <errno.h>
 #include <pthread.h>
@@ -79,31 +81,67 @@ static void work(host_slot *slot, caladan_publisher *publisher, uint64_t words[C
     }
 }
 
-/* The longest records that are kept. */
+/* The longest records that are kept: of misses, one a nanosecond. */
 static void talk(host_slot *slot) {
+    caladan_publisher publisher;
+    uint64_t words[CALADAN_WORDS], from = host_clock();
+    caladan_adopt(&publisher, &slot->page, words);
+    uint64_t misses = words[MISSES];
+    for (int i = 0; i < CALADAN_WORDS; i++) words[i] = UINT64_MAX;
+    words[TAKEN] = words[RUNNING] = 0;
+    for (; host_clock() < until; usleep(200)) {
+        words[MISSES] = misses + (host_clock() - from);
+        caladan_publish(&publisher, words);
+    }
+}
+
+static void miss(host_slot *slot) {
     caladan_publisher publisher;
     uint64_t words[CALADAN_WORDS];
     caladan_adopt(&publisher, &slot->page, words);
-    for (int i = 0; i < CALADAN_WORDS; i++) words[i] = UINT64_MAX;
-    words[TAKEN] = words[RUNNING] = 0;
     words[MISSES] = (uint64_t)1 << 56;
-    for (; host_clock() < until; usleep(200)) caladan_publish(&publisher, words);
+    for (int i = 0; i < 100; i++, usleep(2000)) caladan_publish(&publisher, words);
 }
 
+/* It waits until it is refused, and ends with status 7 where it is not from then on. */
 static void punch(void) {
-    while (host_clock() < until) madvise(segment, sizeof *segment, MADV_REMOVE);
+    while (host_clock() < until && madvise(segment, sizeof *segment, MADV_REMOVE) == 0) {}
+    if (host_clock() >= until) exit(7);
+    for (; host_clock() < until; usleep(100))
+        if (madvise(segment, sizeof *segment, MADV_REMOVE) == 0) exit(7);
+}
+
+static int open_folder(const char *name) {
+    char base[HOST_PATH], path[HOST_PATH + HOST_NAME + 2];
+    if (!host_base(base)) exit(2);
+    snprintf(path, sizeof path, "%s/%s", base, name);
+    return host_open_folder(AT_FDCWD, path);
 }
 
 static int visit(const char *name, unsigned task) {
-    char base[HOST_PATH], path[HOST_PATH + HOST_NAME + 2];
     struct sockaddr_un address;
-    if (!host_base(base)) return 2;
-    snprintf(path, sizeof path, "%s/%s", base, name);
-    int folder = host_open_folder(AT_FDCWD, path), visitor = socket(AF_UNIX, SOCK_SEQPACKET, 0);
+    int folder = open_folder(name), visitor = socket(AF_UNIX, SOCK_SEQPACKET, 0);
     socklen_t length = host_address(&address, folder, task);
     if (connect(visitor, (struct sockaddr *)&address, length)) return perror("misbehave"), 2;
     close(visitor);
     while (host_clock() < until) usleep(1000);
+    return 0;
+}
+
+/* Twelve connections that say nothing; where one is closed, there is another. */
+static int say_nothing(const char *name, unsigned task) {
+    struct sockaddr_un address;
+    int silent[12], folder = open_folder(name);
+    char byte;
+    socklen_t length = host_address(&address, folder, task);
+    for (int i = 0; i < 12; i++) silent[i] = -1;
+    for (; host_clock() < until; usleep(1000))
+        for (int i = 0; i < 12; i++) {
+            if (silent[i] >= 0 && recv(silent[i], &byte, 1, MSG_DONTWAIT) < 0 && errno == EAGAIN) continue;
+            if (silent[i] >= 0) close(silent[i]);
+            silent[i] = socket(AF_UNIX, SOCK_SEQPACKET | SOCK_NONBLOCK, 0);
+            if (connect(silent[i], (struct sockaddr *)&address, length)) close(silent[i]), silent[i] = -1;
+        }
     return 0;
 }
 
@@ -115,6 +153,7 @@ static void *live(void *argument) {
     atomic_store(&slot->tid, (int32_t)(strcmp(how, "foreign") ? syscall(SYS_gettid) : getppid()));
     if (!strcmp(how, "noise")) return lie(slot), NULL;
     if (!strcmp(how, "wordy")) return talk(slot), NULL;
+    if (!strcmp(how, "misses")) return miss(slot), NULL;
     if (!strcmp(how, "punches")) return punch(), NULL;
     if (!strcmp(how, "last_one") && slot != segment->slot) return sleep(1), NULL;
     if (!strncmp(how, "last", 4)) return atomic_store(&slot->page.version, UINT64_MAX - 1), sleep(1), NULL;
@@ -132,6 +171,7 @@ int main(int count, char **words) {
     until = host_clock() + strtoull(words[3], NULL, 10) * 1000000000u;
     how = words[4];
     if (!strcmp(how, "visits")) return visit(words[1], (unsigned)atoi(words[2]));
+    if (!strcmp(how, "silent")) return say_nothing(words[1], (unsigned)atoi(words[2]));
     if (!strcmp(how, "mixed") && setresuid(0, 65534, 0)) return perror("misbehave"), 3;
     segment = host_attach(words[1], (unsigned)atoi(words[2]), &connection);
     if (segment == NULL) return fprintf(stderr, "misbehave: %s\n", host_why(errno)), 2;

@@ -32,7 +32,8 @@ begin() { # begin OPTION..: a scheduler that records
     record=$build/record/$name-1
 }
 go() { # go SECONDS PROGRAM WORD..: a process of the run, in the background; its number is $last
-    timeout -k 5 "$1" "${@:2}" > "$build/process.$((processes = ${processes-0} + 1))" 2>&1 &
+    processes=$((${processes-0} + 1)) # here, since what is in the background counts for itself alone
+    timeout -k 5 "$1" "${@:2}" > "$build/process.$processes" 2>&1 &
     last=$!
     running+=($last)
 }
@@ -49,9 +50,9 @@ says() { grep -qE "$1" "$build/said"; note $? "$what: the scheduler did not say 
 metric() { awk -v name="caladan_$1" '$1 == name { print $2 }' "$CALADAN_FOLDER/$name/metrics" 2> /dev/null; } # metric NAME{LABELS}
 counts() { [ "$(metric "$1")" -ge "$2" ] 2> /dev/null; }
 
-no_reports() { # no sanitizer has found anything in the run, whose processes have ended
+no_reports() { # in the run, whose processes have ended, no sanitizer has found anything, and no thread another processor than its core's
     local each
-    each=$(grep -lE "Sanitizer|runtime error" "$build"/process.* "$build/said" 2> /dev/null | head -n 1)
+    each=$(grep -lE "Sanitizer|runtime error|runs on processor" "$build"/process.* "$build/said" 2> /dev/null | head -n 1)
     [ -z "$each" ]; note $? "$what: $(head -n 40 "${each:-/dev/null}")"
     rm -f "$build"/process.*
     running=()
@@ -77,11 +78,11 @@ are_legal() { # each piece of the record is whole and legal
 }
 end() { stop "$@"; are_legal; }
 
-counter() { od -A n -v -t u8 "$build/counter" 2> /dev/null | awk '{ for (i = 1; i <= NF; i++) sum += $i } END { print sum + 0 }'; }
+counter() { od -A n -v -t u8 "$counter" 2> /dev/null | awk '{ for (i = 1; i <= NF; i++) sum += $i } END { print sum + 0 }'; }
 counts_on() { local before=${1:-$(counter)}; [ "$(counter)" -gt "$before" ]; }
 works() { # works: a best-effort process of its own gets cores, and does something with them
-    rm -f "$build/counter"
-    "$bin/load" be -n "$name" -u 1 -k 200 -s 1.5 -c "$build/counter" > "$build/process.works" 2>&1
+    rm -f "$counter"
+    "$bin/load" be -n "$name" -u 1 -k 200 -s 1.5 -c "$counter" > "$build/process.works" 2>&1
     [ "$(counter)" -gt 0 ]; note $? "$what: a successor got no core: $(cat "$build/process.works")"
 }
 # is_served FILE [OF]: more than one of OF requests of a latency-critical load, of which there were some, were served.

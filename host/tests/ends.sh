@@ -22,6 +22,7 @@ stand_still() {
     stop $last $be
     exactly 0 killed
     above 1 revoke
+    above 1100000000 "longest gap between passes"
 }
 
 # A deaf process is to leave a core. The scheduler stands still; the process ends meanwhile, and its successor attaches first.
@@ -76,6 +77,26 @@ told_twice() { # the second signal waits for nobody
     no_reports
 } 2> /dev/null
 
+late_guests() { # who comes while a piece ends is not let in: one after the other would keep it open
+    what="a process that attaches while a piece ends"
+    start -k 2000 -g 50000
+    only_child_of $scheduler && daemon=$child
+    go 60 "$bin/misbehave" "$name" 1 50 deaf
+    wait_for 20 counts 'actions_total{kind="grant"}' 1; note $? "$what: nothing was granted"
+    kill -TERM "$daemon"
+    sleep 0.3
+    refuses "there is no scheduler of that name" "$bin/load" lc -n "$name" -u 0 -k 200
+    wait $scheduler; note $? "$what: its status"
+    exactly 1 attached
+    wait
+    no_reports
+} 2> /dev/null
+
+ends_of_pieces() { # see host/tests/ends_test.c
+    what="the end of a piece"
+    timeout 60 "$bin/ends_test" > "$build/process.ends" 2>&1; note $? "$what: $(cat "$build/process.ends")"
+}
+
 hang_up() { # SIGHUP is SIGTERM: the piece is whole
     what="a scheduler whose terminal hangs up"
     begin -k 1000 -g 100000
@@ -100,10 +121,10 @@ is_unpinned() { # no thread of the process is pinned
     for each in "/proc/$1/task/"*/status; do [ "$(grep -s Cpus_allowed_list "$each")" = "$(processors_of $$)" ] || return 1; done
 }
 begin_endless() { # begin_endless WHAT: a best-effort process that outlives its scheduler, which is killed
-    rm -f "$build/counter"
+    rm -f "$counter"
     start -k 1000 -g 20000
     only_child_of $scheduler && daemon=$child
-    go 60 "$bin/load" be -n "$name" -u 1 -k 200 -s 50 -c "$build/counter" -e "$1"
+    go 60 "$bin/load" be -n "$name" -u 1 -k 200 -s 50 -c "$counter" -e "$1"
     wait_for 20 child_of $last && runtime=$child
     wait_for 20 counts_on 0; note $? "$what: it never worked"
     kill -9 "$daemon"
@@ -121,6 +142,16 @@ orphans() {
     begin_endless run
     wait_for 20 is_unpinned "$runtime"; note $? "$what: it is still pinned"
     wait_for 20 counts_on; note $? "$what: it does not work"
+    end_endless
+    what="a runtime that asks for the next scheduler, which does not answer"
+    begin_endless seek
+    wait_for 20 is_unpinned "$runtime"; note $? "$what: it is still pinned"
+    rm -f "$CALADAN_FOLDER/$name/"*
+    "$bin/impostor" "$name" silent 1 > "$build/silent" 2>&1 &
+    wait_for 20 grep -q silent "$build/silent"; note $? "$what: it does not ask"
+    sleep 1
+    wait_for 4 counts_on "$(counter)"; note $? "$what: its threads stand still meanwhile"
+    kill $!
     end_endless
     what="a runtime that attaches to the next scheduler"
     begin_endless again

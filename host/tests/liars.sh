@@ -14,8 +14,14 @@ bad() { # bad HOW STATUS WORDS NUMBER: an ill-behaved best-effort process beside
     [ "$2" = 0 ] || [ $status = "$2" ]; note $? "$what: it ended with $status, not $2"
     [ "$2" = 0 ] || says "caladand: process [0-9]+ of task 1 is killed: "
     works
+    [ "$1" != deaf ] || late_leaver
     end
     above "$4" "$3"
+}
+late_leaver() { # how long the core was not left is counted, in time and in passes, of which a second has 10,000 at most
+    wait_for 5 counts 'most_nanoseconds{step="free"}' 1000000000; note $? "$what: $(metric 'most_nanoseconds{step="free"}') ns to leave a core"
+    counts 'most_passes{step="free"}' 100; note $? "$what: $(metric 'most_passes{step="free"}') passes to leave a core"
+    counts 'latency_nanoseconds_count{step="free"}' 1; note $? "$what: no core is counted as left"
 }
 processors_of() { grep Cpus_allowed_list "/proc/$1/status"; }
 
@@ -41,6 +47,23 @@ last_places() { # no liar ends a piece for the others
     above 4 "place too far"
 }
 
+misses_of_another() { # who shows all the misses that a record may have, and ends: its successor still counts its own
+    local before
+    what="the successor of a process that showed too many misses"
+    sed 's/^bandwidth_limit.*/bandwidth_limit = 1/' "$top/host/tables/mix.toml" > "$build/narrow.toml"
+    table=$build/narrow.toml
+    start -k 2000 -g 100000 -w 1000000
+    "$bin/misbehave" "$name" 1 5 misses > "$build/process.liar" 2>&1
+    wait_for 20 counts ended_total 1; note $? "$what: its predecessor is not seen as ended"
+    sleep 0.6
+    before=$(metric 'actions_total{kind="cap"}')
+    go 30 "$bin/load" be -n "$name" -u 1 -k 200 -s 10 -b
+    wait_for 20 counts 'actions_total{kind="cap"}' $((${before:-0} + 4)); note $? "$what: its misses do not count"
+    stop $last
+    above 1 "misses too many"
+    table=$top/host/tables/mix.toml
+}
+
 visitors() { # to connect is not to attach, and to close is to leave
     what="who connects and closes"
     begin -k 2000 -g 100000 -p 5000
@@ -61,17 +84,50 @@ visitors() { # to connect is not to attach, and to close is to leave
     above 1 left
 }
 
-punched() { # memory that is taken out of a segment is fetched again by each pass
-    what="a process that punches its segment away"
+silent_guests() { # who says nothing keeps nobody waiting, however often it comes
+    what="who connects again and again, and says nothing"
+    start -k 2000 -g 100000
+    go 60 "$bin/misbehave" "$name" 1 50 silent
+    wait_for 20 only_child_of $last && visitor=$child
+    sleep 0.5
+    works
+    kill -9 "$visitor"
+    stop
+    above 1 attached
+    exactly 0 killed
+}
+
+punched() { # memory that is taken out of a segment would be fetched again by each pass: the kernel refuses it
+    what="a process that would punch its segment away"
     begin -k 2000 -g 20000
-    go 20 "$bin/misbehave" "$name" 1 15 punches
+    go 20 "$bin/misbehave" "$name" 1 4 punches
     lc -s 1 > "$build/process.honest" 2>&1; note $? "$what: the honest one: $(cat "$build/process.honest")"
-    wait $last 2> /dev/null
-    [ $? = 137 ]; note $? "$what: it was left alone: $(cat "$build/said")"
+    wait $last; note $? "$what: it could, or was killed: $(cat "$build/said")"
     works
     end
-    says "of task 1 has punched its segment away"
 }
+
+strays() { # a thread that is moved from its processor sees it, and is pinned there again, while it has its core too
+    what="threads that are moved elsewhere while they work"
+    command -v taskset > /dev/null || { skip "$what, for want of taskset"; return; }
+    start -k 2000 -g 100000
+    rm -f "$counter"
+    go 30 "$bin/load" be -n "$name" -u 1 -k 200 -s 25 -c "$counter"
+    wait_for 20 child_of $last
+    wait_for 20 counts_on 0; note $? "$what: it never worked"
+    wait_for 20 sees_that_it_strays "$child" "$build/process.$processes"; note $? "$what: none saw it: $(cat "$build/process.$processes")"
+    wait_for 20 has_pinned "$child" 2; note $? "$what: they were left where they are"
+    rm "$build/process.$processes" # it says that one ran elsewhere
+    stop $last
+    above 2 strayed
+}
+sees_that_it_strays() { # sees_that_it_strays PID FILE: its threads are moved to a processor that is nobody's, and one says so in its file
+    local tid
+    for tid in $(pinned_threads "$1"); do taskset -pc "${allowed[0]}" "$tid" > /dev/null 2>&1; done
+    grep -q "runs on processor ${allowed[0]}, and has the core of processor" "$2"
+}
+pinned_threads() { grep -lE "^Cpus_allowed_list:[[:space:]]*(${managed//,/|})$" "/proc/$1/task/"*/status 2> /dev/null | cut -d/ -f5; }
+has_pinned() { [ "$(pinned_threads "$1" | wc -l)" -ge "$2" ]; } # has_pinned PID NUMBER
 
 unpinned() { # the kernel pins nobody: then nobody runs, and it is said
     what="threads that cannot be pinned"
