@@ -1,0 +1,1 @@
+"""Pictures of runs, comparisons and sweeps, from the facts that caladan_view prints as CSV."""
