@@ -7,7 +7,7 @@ from typing import Any, NamedTuple, NoReturn, Optional, Sequence
 
 from .refusal import Refusal
 from .sources import Given, compared_from, read_file, run_from, swept_from
-from .tables import MOST_NAME, MOST_UNIT, Table, checked, count, named_tasks
+from .tables import MOST_NAME, MOST_UNIT, Table, checked, named_tasks
 
 NAME, LEAST_WIDTH, MOST_WIDTH = "caladan_draw", 480, 6000
 SWEEP_WORDS = {
@@ -60,7 +60,7 @@ def shared(parser: argparse.ArgumentParser, files: str) -> None:
     parser.add_argument("--width", type=whole(LEAST_WIDTH, MOST_WIDTH), default=800, metavar="PIXELS",
                         help="how wide it is; 800 without it, as wide as a README shows it")
     parser.add_argument("--program", default="", metavar="FILE",
-                        help="the caladan_view that reads an input; without it that of this checkout, or the installed one")
+                        help="the caladan_view that reads an input; without it the one beside this, or in the PATH")
 
 
 def parser_of() -> Parser:
@@ -70,7 +70,8 @@ def parser_of() -> Parser:
     run = words.add_parser("run", help="the lanes of a run: its tasks, the bandwidth figure, its cores")
     shared(run, "an input with arrivals, a history or signals; or the CSV of `spans` and of `series`")
     run.add_argument("--table", metavar="FILE", help="the task table of CSV: its cores, guarantees and threads")
-    run.add_argument("--from", dest="first", type=whole(0, 2 ** 63), default=0, metavar="PASS", help="the first pass shown")
+    run.add_argument("--from", dest="first", type=whole(0, 2 ** 63), default=0, metavar="PASS",
+                     help="the first pass shown")
     run.add_argument("--passes", type=whole(1, 2 ** 63), metavar="N",
                      help="how many are shown; without it all, if they are no more than 80, else 64")
     run.add_argument("--task", type=whole(0, 2 ** 63), metavar="T", help="this task alone")

@@ -5,7 +5,7 @@ from __future__ import annotations
 import math
 from dataclasses import dataclass
 from functools import cached_property
-from typing import Optional, Sequence
+from typing import Sequence
 
 import numpy
 from matplotlib.axes import Axes
@@ -265,11 +265,12 @@ class Strips:
 def lines_of(scene: CompareScene) -> list[tuple[str, bool]]:
     """What stands below the title."""
     across = scene.width - 2 * MARGIN
-    words = "Steps: which share of a task's requests was answered within so long. What is missing at the right was left."
+    words = "Steps: which share of a task's requests was answered within so long. What is missing at the right was "
+    words += "left."
     lines = [(it, True) for it in wrapped(words, across)]
     if scene.has_cost:
-        note = (f"At the right what it costs: {COST_RANK} over the cores that best-effort tasks held in the mean; lower "
-                "and further right is better.")
+        note = (f"At the right what it costs: {COST_RANK} over the cores that best-effort tasks held in the mean; "
+                "lower and further right is better.")
         lines += [(it, False) for it in wrapped(note, across)]
     return lines
 

@@ -9,7 +9,7 @@ from matplotlib.patches import Rectangle
 from .bands import MARGIN, Scene, fill_of
 from .facts import Span
 from .marks import cause_mark
-from .paper import PLAIN, SMALL, Paper, width_of, words_on
+from .paper import PLAIN, SMALL, Paper, width_of
 from .tasks import HATCH
 
 CLASSES = {1: "sibling", 2: "recently used", 3: "other idle"}

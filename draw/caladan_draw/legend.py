@@ -23,7 +23,8 @@ def box(**how: object) -> Sign:
         colours = paper.palette
         fill = {"full": colours.second, "pale": colours.lane, "none": colours.ground, "ink": colours.ink,
                 "figure": colours.figure, "best": colours.best}[str(how.get("fill", "full"))]
-        axes.add_patch(Rectangle((x, y - 7), SIGN - 6, 14, facecolor=fill, edgecolor=getattr(colours, str(kind)), lw=0.8,
+        edge = getattr(colours, str(kind))
+        axes.add_patch(Rectangle((x, y - 7), SIGN - 6, 14, facecolor=fill, edgecolor=edge, lw=0.8,
                                  hatch=how.get("hatch")))
         if number:
             words_on(axes, x + 5, y, str(number), SMALL, colours.ground if fill == colours.second else colours.ink)

@@ -5,7 +5,7 @@ import sys
 from dataclasses import dataclass
 from typing import Optional, Sequence
 
-from .facts import (HEADS, Request, Run, Span, Standing, by_pass, kind_of, read_facts, request_of, run_of, span_of,
+from .facts import (Request, Run, Span, Standing, by_pass, kind_of, read_facts, request_of, run_of, span_of,
                     standing_of, table_of)
 from .numbers import Comparison, Sweep, read_comparison, read_sweep
 from .refusal import Refusal
@@ -132,7 +132,7 @@ def compared_from(given: Sequence[Given], words: Sequence[str], arrivals: Option
     numbers = read_comparison(compare[0].text, compare[0].name)
     for name, files in (("requests", requests), ("series", series)):
         if len(files) not in (0, len(numbers.tables)):
-            raise Refusal(f"{len(files)} files of {name}; wanted: one for each of {len(numbers.tables)} tables, or none")
+            raise Refusal(f"{len(files)} files of {name}; wanted: one for each of {len(numbers.tables)} tables or none")
     return whole(numbers, [requests_in(it) for it in requests],
                  [by_pass(series_in(it), it.name) for it in series],
                  read_table(table.text, table.name).tasks if table else ())

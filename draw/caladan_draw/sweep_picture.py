@@ -217,8 +217,8 @@ class CostPlot:
         runs = [it for it in scene.runs(scene.values[0]) if answered(it.times[scene.cost_rank]) >= 0]
         for run in {it.load: it for it in (*runs[:1], *runs[-1:])}.values():
             place = (scene.best_effort(run), answered(run.times[scene.cost_rank]))
-            axes.annotate(f"load {run.load:g}", place, (0, -11), textcoords="offset points", fontsize=(SMALL - 1) * 0.75,
-                          color=colours.second, ha="center", va="center", zorder=2,
+            axes.annotate(f"load {run.load:g}", place, (0, -11), textcoords="offset points", ha="center", va="center",
+                          fontsize=(SMALL - 1) * 0.75, color=colours.second, zorder=2,
                           bbox={"facecolor": colours.ground, "edgecolor": "none", "pad": 0.5})
 
 

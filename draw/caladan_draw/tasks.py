@@ -42,7 +42,8 @@ class TaskLane:
         task, shade, middle = self.task, paper.palette.shade(self.task.number), top + self.high / 2
         box = paper.pixels(MARGIN, middle - 13, 11, 11)
         full = task.kind == "lc"
-        box.add_patch(Rectangle((0.5, 0.5), 10, 10, facecolor=shade.full if full else shade.pale, edgecolor=shade.edge))
+        fill = shade.full if full else shade.pale
+        box.add_patch(Rectangle((0.5, 0.5), 10, 10, facecolor=fill, edgecolor=shade.edge))
         if task.number >= len(paper.palette.shades):
             box.plot([1, 10], [5.5, 5.5], color=shade.on if full else shade.edge, lw=1.2)
         words = f"{cut(task.label, 70)} {task.kind}"
@@ -55,8 +56,8 @@ class TaskLane:
         guarantee = "" if task.guaranteed is None else f", guaranteed {task.guaranteed}"
         most = max((it.held for it in self.standings), default=0)
         late = sum(it.congested for it in self.standings)
-        return (f"{task.label} {task.kind}: limit {task.limit}{guarantee}; at most {most} cores held; its delay is over "
-                f"its threshold in {late} of {len(self.standings)} passes shown")
+        return (f"{task.label} {task.kind}: limit {task.limit}{guarantee}; at most {most} cores held; its delay is "
+                f"over its threshold in {late} of {len(self.standings)} passes shown")
 
     def cores(self, axes: Axes, paper: Paper) -> None:
         """What it holds, and on top of it what it leaves."""

@@ -1,9 +1,13 @@
 """What the command line writes and refuses: one line on standard error, and its status."""
 from __future__ import annotations
 
+import contextlib
+import io
 import os
 import subprocess
+import sys
 import unittest
+import unittest.mock
 import xml.etree.ElementTree as tree
 
 from given import RUNS, TOP, VIEW, Files, drawn, example, facts, text_of, words_of
@@ -13,9 +17,20 @@ FILES = Files()
 SVG = "{http://www.w3.org/2000/svg}"
 
 
-def run(*words: str, given: str = "", **more: str) -> subprocess.CompletedProcess:
-    return subprocess.run(["/usr/bin/python3", DRAW, *words], input=given, capture_output=True, text=True, check=False,
-                          env={**os.environ, **more})
+def run(*words: str) -> tuple[int, str, str]:
+    """The status of the command line in this process, and what it writes on both outputs."""
+    from caladan_draw.command import main
+    out, error = io.StringIO(), io.StringIO()
+    with unittest.mock.patch.object(sys, "argv", [DRAW, *words]), contextlib.redirect_stdout(out), \
+            contextlib.redirect_stderr(error):
+        return main(), out.getvalue(), error.getvalue()
+
+
+def run_alone(*words: str, **more: str) -> tuple[int, str, str]:
+    """The same of the program itself."""
+    ran = subprocess.run(["/usr/bin/python3", DRAW, *words], capture_output=True, text=True, check=False,
+                         env={**os.environ, **more})
+    return ran.returncode, ran.stdout, ran.stderr
 
 
 def path(name: str) -> str:
@@ -43,6 +58,14 @@ class Written(unittest.TestCase):
         self.assertEqual(len([it for it in titles if it.startswith("core ")]), len(facts("spans", "lockstep/tour")))
         self.assertIn("@media(prefers-color-scheme:dark)", "".join(it.text for it in picture.iter(f"{SVG}style")))
         self.assertLess(float(picture.get("width").removesuffix("pt")) * 96 / 72, 801)
+
+    def test_the_picture_in_docs_tells_the_same(self):
+        picture = tree.parse(os.path.join(TOP, "docs/pictures/drawn_lockstep_tour.svg"))
+        paper = drawn("run", example("lockstep/tour"))
+        told = [it.text for it in picture.iter(f"{SVG}title")]
+        self.assertEqual(sorted(told), sorted([paper.title, *paper.told.values()]))
+        words = ["".join(it.itertext()) for it in picture.iter(f"{SVG}text")]
+        self.assertEqual(sorted(words), sorted(words_of(paper)))
 
     def test_a_dark_one_stays_dark(self):
         from caladan_draw.colours import DARK, LIGHT, colours_of
@@ -82,12 +105,11 @@ class Read(unittest.TestCase):
 class Refused(unittest.TestCase):
     """What cannot be drawn."""
 
-    def refused(self, words, line, status=2, **more):
-        ran = run(*words, **more)
-        self.assertEqual((ran.returncode, ran.stdout), (status, ""))
-        self.assertEqual(ran.stderr.count("\n"), 1)
-        self.assertTrue(ran.stderr.startswith("caladan_draw: "))
-        self.assertIn(line, ran.stderr)
+    def refused(self, ran, line, status=2):
+        self.assertEqual(ran[:2], (status, ""))
+        self.assertEqual(ran[2].count("\n"), 1, ran[2])
+        self.assertTrue(ran[2].startswith("caladan_draw: "))
+        self.assertIn(line, ran[2])
 
     def test_lines(self):
         tour, out = example("lockstep/tour"), ("-o", path("x.svg"), "--program", VIEW)
@@ -101,7 +123,7 @@ class Refused(unittest.TestCase):
                 (["run", tour], "required: -o"),
                 (["run", tour, "-o", "x.gif"], "a file that ends in .svg, .png or .pdf"),
                 (["run", "none", *out], "none: No such file or directory"),
-                (["run", other, *out], "is no head that is known; wanted: an input, or the CSV of `caladan_view spans`"),
+                (["run", other, *out], "no head that is known; wanted: an input, or the CSV of `caladan_view spans`"),
                 (["run", facts_of[0], *out], "1 files of spans and 0 of series"),
                 (["sweep", facts_of[0], *out], "the CSV of `caladan_view spans`; wanted: a task table, or the CSV of"),
                 (["run", short, facts_of[1], *out], "line 2 has 3 fields, and its head has 13"),
@@ -113,25 +135,24 @@ class Refused(unittest.TestCase):
                 (["run", tour, "-o", path("x.svg"), "--program", "/none"], "there is no such program"),
                 (["sweep", example("sweep/team_csv", "output"), *out, "--slo", "p99"], "an objective is task.T.R=N")):
             with self.subTest(words):
-                self.refused(words, line)
+                self.refused(run(*words), line)
         self.assertFalse(os.path.exists(path("x.svg")))
 
     def test_what_the_program_refuses_is_said_as_it_says_it(self):
-        ran = run("run", FILES.file("no.in", "cores = 3\n---\n"), "-o", path("x.svg"), "--program", VIEW)
-        self.assertEqual(ran.returncode, 2)
-        self.assertTrue(ran.stderr.startswith("caladan_view: config"))
+        status, _, said = run("run", FILES.file("no.in", "cores = 3\n---\n"), "-o", path("x.svg"), "--program", VIEW)
+        self.assertEqual(status, 2)
+        self.assertTrue(said.startswith("caladan_view: "), said)
 
     def test_without_matplotlib_its_package_is_named(self):
         os.makedirs(path("without/matplotlib"), exist_ok=True)
         with open(path("without/matplotlib/__init__.py"), "w", encoding="utf-8") as it:
             it.write("raise ImportError('No module named matplotlib', name='matplotlib')\n")
         words = ["run", example("lockstep/tour"), "-o", path("x.svg")]
-        self.refused(words, "matplotlib is not installed; on Debian: apt-get install python3-matplotlib",
-                     PYTHONPATH=path("without"))
+        self.refused(run_alone(*words, PYTHONPATH=path("without")),
+                     "matplotlib is not installed; on Debian: apt-get install python3-matplotlib")
 
     def test_a_place_that_cannot_be_written(self):
-        ran = run("run", *FILES.run_files("lockstep/tour"), "-o", "/proc/x.svg")
-        self.assertEqual((ran.returncode, ran.stderr.count("\n")), (3, 1))
+        self.refused(run("run", *FILES.run_files("lockstep/tour"), "-o", "/proc/x.svg"), "/proc/x.svg: ", 3)
 
 
 if __name__ == "__main__":

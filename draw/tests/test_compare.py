@@ -6,8 +6,7 @@ import unittest
 
 import numpy
 
-from caladan_draw.colours import LIGHT
-from given import DELAYS, Files, drawn, example, input_of, named, pairs, rows_in, task_values, text_of, viewed, words_of
+from given import DELAYS, Files, drawn, example, input_of, named, pairs, rows_in, task_values, viewed, words_of
 
 NAME, VALUES = "lockstep/tour", ("10", "30", "50")
 FILES = Files()

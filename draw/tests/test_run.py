@@ -7,14 +7,15 @@ from collections import Counter
 import numpy
 
 from caladan_draw.colours import LIGHT
-from given import RUNS, Files, drawn, example, facts, input_of, named, pairs, task_values, table_of, words_of
+from given import RUNS, Files, drawn, example, facts, named, rows_in, table_of, task_values, text_of, words_of
 
 CORES = "cores"
 
 
 def lanes(paper):
     """Of each core the middle of its lane."""
-    return {int(gid.partition("-")[2]): it.get_xy()[:, 1].mean() for gid, it in named(paper, "lane-").items()}
+    found = {int(gid.partition("-")[2]): it.get_xy()[:, 1] for gid, it in named(paper, "lane-").items()}
+    return {core: (ys.min() + ys.max()) / 2 for core, ys in found.items()}
 
 
 def boxes(paper, state):
@@ -131,7 +132,8 @@ class Examples(unittest.TestCase):
                 if row["cause"]:
                     cause = {"ban": f"for a ban by core {row['by core']}", "bandwidth": "for bandwidth",
                              "preempt": f"for task {row['for task']}"}[row["cause"]]
-                    self.assertIn(f"revoked in pass {row['from pass']} (clock {row['from clock [ticks]']}) {cause}", told)
+                    revoked = f"revoked in pass {row['from pass']} (clock {row['from clock [ticks]']})"
+                    self.assertIn(f"{revoked} {cause}", told)
 
     def test_counts_of_the_heading(self):
         for name, paper, spans, series in self.each():
@@ -160,8 +162,8 @@ class Windows(unittest.TestCase):
 
     def test_a_window_with_the_whole_above(self):
         name = "audit/tour"
-        paper, spans, series = drawn("run", example(name), "--from", "4", "--passes", "4"), facts("spans", name), \
-            facts("series", name)
+        paper = drawn("run", example(name), "--from", "4", "--passes", "4")
+        spans, series = facts("spans", name), facts("series", name)
         for state in ("held", "leaving", "banned"):
             self.assertEqual(boxes(paper, state), asked(spans, state, 12, 4, 8))
         held = task_values(series, 0, "held [cores]")
@@ -179,7 +181,8 @@ class Windows(unittest.TestCase):
         self.assertFalse(named(drawn("run", example("audit/tour")), "whole-"))
 
     def test_of_a_long_run_64_passes_are_shown(self):
-        with_80, with_81 = (drawn("run", *made_run(Files(), it)) for it in (80, 81))
+        files = Files()
+        with_80, with_81 = (drawn("run", *made_run(files, it)) for it in (80, 81))
         self.assertFalse(named(with_80, "whole-"))
         self.assertEqual(named(with_81, "whole-window")["whole-window"].get_width(), 64)
 
@@ -244,8 +247,8 @@ def made_run(files, passes, cores=2, tasks=1, seed=1):
             begin = end
     series = [f"{p},{10 * p},{p % 7},5,{t},0,{(p + t) % 2},{held[t, p]},0,{held[t, p]},,16"
               for p in range(passes) for t in range(tasks)]
-    return (files.file("spans.csv", "\n".join([HEADS["spans"], *spans, ""])),
-            files.file("series.csv", "\n".join([HEADS["series"], *series, ""])))
+    return (files.file(f"spans{passes}.csv", "\n".join([HEADS["spans"], *spans, ""])),
+            files.file(f"series{passes}.csv", "\n".join([HEADS["series"], *series, ""])))
 
 
 class Coarse(unittest.TestCase):
@@ -255,7 +258,6 @@ class Coarse(unittest.TestCase):
 
     @classmethod
     def setUpClass(cls):
-        from given import rows_in, text_of
         cls.files = Files()
         given = made_run(cls.files, cls.PASSES, cls.CORES, cls.TASKS)
         cls.spans, cls.series = (rows_in(text_of(it)) for it in given)

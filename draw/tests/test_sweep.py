@@ -4,6 +4,8 @@ from __future__ import annotations
 import math
 import unittest
 
+import numpy
+
 from caladan_draw.colours import LIGHT
 from given import drawn, example, named, pairs, rows_in, text_of, words_of
 
@@ -46,7 +48,8 @@ class Team(unittest.TestCase):
                 line = self.part(f"pending-{rank}-{number}")
                 self.assertEqual([round(float(it), 1) for it in line.get_xdata()], loads)
                 self.assertEqual(line.axes.get_label(), f"pending {rank}")
-                self.assertLess(abs(line.get_xdata() - loads).max(initial=0), 0.05)
+                beside = numpy.abs(numpy.asarray(line.get_xdata()) - loads)
+                self.assertLess(beside.max(initial=0), 0.05)
         curves = next(it for it in self.paper.figure.axes if it.get_label() == "response over load")
         for label in ("pending p99", "pending p99.9"):
             band = next(it for it in self.paper.figure.axes if it.get_label() == label)
@@ -74,7 +77,8 @@ class Team(unittest.TestCase):
         for name in ("objective", "cost-objective"):
             self.assertEqual(set(self.part(name).get_ydata()), {45})
         label = next(it for it in self.paper.figure.texts if it.get_text() == "p90 at most")
-        right = max(it.get_position().x1 for it in self.paper.figure.axes if it.get_label() in ("cost", "response over load"))
+        plots = [it for it in self.paper.figure.axes if it.get_label() in ("cost", "response over load")]
+        right = max(it.get_position().x1 for it in plots)
         self.assertGreater(label.get_position()[0], right)
 
     def test_axes_name_what_they_reach(self):
@@ -107,7 +111,8 @@ class Times(unittest.TestCase):
         from caladan_draw.scales import TimeScale
         self.assertTrue(TimeScale([0, 20, 30]).has_zero)
         self.assertFalse(TimeScale([20, 30]).has_zero)
-        for times, ticks in (([20, 500], [20, 50, 100, 200, 500]), ([30, 420], [20, 50, 100, 200, 500]), ([7, 7], [5, 10])):
+        for times, ticks in (([20, 500], [20, 50, 100, 200, 500]), ([30, 420], [20, 50, 100, 200, 500]),
+                             ([7, 7], [5, 10])):
             self.assertEqual(TimeScale(times).ticks, ticks)
 
     def test_there_and_back(self):
