@@ -75,10 +75,15 @@ def drawn(*words: str, dark: bool = False) -> Paper:
     return DRAW[space.word](space, DARK if dark else LIGHT).paper
 
 
+@functools.lru_cache(maxsize=None)
+def parts_of(paper: Paper) -> dict[str, Artist]:
+    """The parts of a picture that have names."""
+    return {it.get_gid(): it for it in paper.figure.findobj(lambda it: bool(it.get_gid()))}
+
+
 def named(paper: Paper, start: str) -> dict[str, Artist]:
     """The parts of a picture whose names begin so."""
-    parts = paper.figure.findobj(lambda it: (it.get_gid() or "").startswith(start))
-    return {it.get_gid(): it for it in parts}
+    return {name: part for name, part in parts_of(paper).items() if name.startswith(start)}
 
 
 def words_of(paper: Paper) -> list[str]:
