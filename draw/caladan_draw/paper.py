@@ -3,7 +3,7 @@ from __future__ import annotations
 
 import logging
 from functools import lru_cache
-from typing import Any, Callable, Optional
+from typing import Any
 
 import matplotlib
 from matplotlib.artist import Artist
@@ -127,11 +127,3 @@ def swatch(paper: Paper, left: float, middle: float, colour: str, words: str) ->
     box = paper.pixels(left, middle - 5, 10, 10)
     box.add_patch(Rectangle((0, 0), 10, 10, color=colour))
     paper.text(left + 15, middle, words, SMALL, color=paper.palette.second)
-
-
-def find(figure: Figure, name: str) -> Optional[Artist]:
-    """The part of a figure with this name."""
-    return next(iter(figure.findobj(lambda it: it.get_gid() == name)), None)
-
-
-Draw = Callable[[Paper, float], None]

@@ -2,6 +2,7 @@
 from __future__ import annotations
 
 import unittest
+from bisect import bisect_left
 from collections import Counter
 
 import numpy
@@ -279,23 +280,27 @@ class Coarse(unittest.TestCase):
             whose = "banned" if it["state"] == "banned" else it["task"]
             for number in range(int(it["from pass"]), int(it["to pass"] or self.PASSES)):
                 had[int(it["core"])][number] = whose
-        drawn_in, middles = {}, {round(float(y), 3): core for core, y in lanes(self.paper).items()}
-        for gid, shape in named(self.paper, "coarse-").items():
-            corners = shape.get_path().vertices.reshape(-1, 5, 2)
-            for box in corners:
-                core = middles[round(float(box[:, 1].min() + box[:, 1].max()) / 2, 3)]
-                for column in self.columns():
-                    if box[:, 0].min() <= column[0] and column[1] <= box[:, 0].max():
-                        self.assertNotIn((core, column), drawn_in)
-                        drawn_in[core, column] = gid
+        drawn_in = self.cells()
         for core in range(self.CORES):
             for begin, end in self.columns():
                 counts = Counter(had[core][begin:end])
-                gid = drawn_in.get((core, (begin, end)), "coarse-free-most")
+                gid = drawn_in.get((core, begin), "coarse-free-most")
                 whose, _, part = gid.removeprefix("coarse-").rpartition("-")
                 self.assertEqual(counts[whose], max(counts.values()), (core, begin))
                 if whose != "free":
                     self.assertEqual(part, "most" if counts[whose] * 4 >= 3 * (end - begin) else "part")
+
+    def cells(self):
+        """Of each core and each column that begins at a pass, the shape that covers it, if any."""
+        found, middles = {}, {round(float(y), 3): core for core, y in lanes(self.paper).items()}
+        begins = [begin for begin, _ in self.columns()]
+        for gid, shape in named(self.paper, "coarse-").items():
+            for box in shape.get_path().vertices.reshape(-1, 5, 2):
+                core = middles[round(float(box[:, 1].min() + box[:, 1].max()) / 2, 3)]
+                for begin in begins[bisect_left(begins, box[:, 0].min()):bisect_left(begins, box[:, 0].max())]:
+                    self.assertNotIn((core, begin), found)
+                    found[core, begin] = gid
+        return found
 
     def test_lanes_have_means(self):
         for task in (0, 15):
