@@ -53,7 +53,8 @@ install: $(programs) caladan_c
 	for each in $(programs); do install -m 755 crates/$$each/out/$$each $(PREFIX)/bin || exit; done
 	install -m 755 caladan_draw $(PREFIX)/bin
 	install -D -m 644 -t $(share)/caladan_draw/caladan_draw draw/caladan_draw/*.py
-	tools/manual $(share) $(PREFIX)/bin/caladan_sim $(PREFIX)/bin/caladan_view
+	tools/manual $(share) $(PREFIX)/bin/caladan_sim $(PREFIX)/bin/caladan_view \
+		$(if $(wildcard /usr/bin/python3),$(PREFIX)/bin/caladan_draw)
 	tools/doc_pages $(share)/man
 
 install_library: $(archive)

@@ -77,17 +77,18 @@ def compressed(at):
 
 
 def programs(at, made):
-    """caladan_sim and caladan_view, stripped, with their manual pages and completions, caladan_draw, the pages of docs/
-    and the examples."""
+    """caladan_sim and caladan_view, stripped, and caladan_draw, with their manual pages and completions, the pages of
+    docs/ and the examples."""
     man = os.path.normpath(f"{at.root}/{at.prefix}/share")
     for name in ("caladan_sim", "caladan_view"):
         program = write(at, f"{at.prefix}/bin/{name}", None, 0o755, made.programs[name])
         tool("strip", "--strip-all", program)
-    tool(f"{TOP}/tools/manual", man, *(os.path.normpath(f"{at.root}/{at.prefix}/bin/{it}") for it in made.programs))
+    drawing(at)
+    names = (*made.programs, "caladan_draw")
+    tool(f"{TOP}/tools/manual", man, *(os.path.normpath(f"{at.root}/{at.prefix}/bin/{it}") for it in names))
     if at.zsh != share(at, "zsh/site-functions"):
         os.renames(f"{man}/zsh/site-functions", f"{at.root}/{at.zsh}")
     tool(f"{TOP}/tools/doc_pages", f"{man}/man")
-    drawing(at)
     for page in PAGES:
         write(at, share(at, f"doc/doranjei/{page}"), None, 0o644, f"{TOP}/{page}")
     for file in tracked("examples") + tracked("docs/pictures"):

@@ -83,6 +83,7 @@ class RevokedLane:
     def __init__(self, scene: Scene) -> None:
         self.scene = scene
         self.counts = {cause: self.count(cause) for cause, _ in CAUSES}
+        self.most = sum(self.counts.values()).max()
 
     def count(self, cause: str) -> numpy.ndarray:
         """How many revocations of this cause each column has."""
@@ -93,10 +94,9 @@ class RevokedLane:
 
     def draw(self, paper: Paper, top: float) -> None:
         scene, colours = self.scene, paper.palette
-        most = max(float(sum(self.counts.values()).max()), 1.0)
         paper.text(MARGIN, top + 8, "Revoked", weight="bold")
         axes = scene.axes(paper, top, self.height - 18, "revoked")
-        axes.set_ylim(0, most)
+        axes.set_ylim(0, self.most)
         axes.axhline(0, color=colours.grid, lw=1, zorder=0, clip_on=False)
         below, fills = numpy.zeros(len(scene.buckets)), (colours.second, colours.ink, colours.best)
         for (cause, words), fill in zip(CAUSES, fills):
@@ -105,4 +105,4 @@ class RevokedLane:
             below = above
         for place, ((cause, words), fill) in enumerate(zip(CAUSES, fills)):
             swatch(paper, MARGIN, top + 23 + 14 * place, fill, words)
-        scene.at_right(paper, top + 6, f"{most:.0f} at most")
+        scene.at_right(paper, top + 6, f"{self.most:.0f} at most")

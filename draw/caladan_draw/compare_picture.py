@@ -16,6 +16,7 @@ from .curves import grid, look, sample_rows, samples, shorts
 from .facts import Request, Standing
 from .numbers import RANKS, Cell, Comparison
 from .paper import SMALL, Paper, cut, heading, wrapped
+from .refusal import Refusal
 from .scales import ShareScale, TimeScale
 from .tables import Task, count
 
@@ -156,7 +157,7 @@ class SharePlot:
 
     def draw(self, paper: Paper, left: float, top: float, across: float) -> None:
         colours, task = paper.palette, self.task
-        paper.text(MARGIN, top + 6, cut(task.label, LABELS - 30), weight="bold")
+        paper.text(MARGIN, top + 6, cut(task.label, LABELS - 30, weight="bold"), weight="bold")
         paper.text(MARGIN, top + 23, {"lc": "latency-critical", "be": "best-effort"}.get(task.kind, ""), SMALL,
                    color=colours.second)
         for place, words in enumerate(wrapped(self.same(), LABELS - 30, SMALL)):
@@ -247,13 +248,14 @@ class Strips:
         paper.text(left, top + 8, f"cores held, full height {most}", SMALL, color=colours.second)
         paper.text(left + across + 8, top + 8, "answered", SMALL, color=colours.second)
         for table, (held, edges) in enumerate(every):
-            y, shade = top + 18 + (self.high + 4) * table, colours.shade(table)
+            y = top + 18 + (self.high + 4) * table
             axes = paper.axes(left, y, across, self.high, f"strip {number}-{table}")
             axes.set_facecolor(colours.lane)
             axes.set_xlim(min(clocks), max(max(clocks), min(clocks) + 1))
             axes.set_ylim(0, most)
             if held:
-                axes.stairs(held, edges, fill=True, color=shade.full, lw=0, gid=f"strip-{number}-{table}")
+                axes.stairs(held, edges, fill=True, color=colours.shade(table).line, lw=0,
+                            gid=f"strip-{number}-{table}")
             paper.text(left - 8, y + self.high / 2, cut(scene.shorts[table], LABELS - 10, SMALL), SMALL, ha="right")
             curve = scene.curve(self.task, table)
             paper.text(left + across + 8, y + self.high / 2, f"{curve.answered:,} of {curve.requests:,}", SMALL)
@@ -277,18 +279,18 @@ def lines_of(scene: CompareScene) -> list[tuple[str, bool]]:
 
 def draw_comparison(scene: CompareScene) -> Paper:
     """The picture of a comparison."""
+    if not scene.asked:
+        raise Refusal("no requests came: there is nothing to draw")
     tables = list(scene.numbers.tables)
     title = f"{count(len(tables), 'table')} on the same arrivals"
     lines = lines_of(scene)
     top = 44.0 + 17 * len(lines) + 20 * sample_rows(scene.width, MARGIN, tables) + 30
     strips = [Strips(scene, it) for it in scene.asked]
     each = [SHARES + 40 + it.height + GAP for it in strips]
-    paper = Paper(scene.width, top + sum(each) if each else top + 30, scene.palette, title)
+    paper = Paper(scene.width, top + sum(each), scene.palette, title)
     below = heading(paper, MARGIN, title, lines)
     looks = [look(number, len(tables), scene.palette) for number in range(len(tables))]
     samples(paper, MARGIN, below, tables, looks)
-    if not scene.asked:
-        paper.text(MARGIN, top, "No requests came.", color=scene.palette.second)
     left = MARGIN + LABELS + 20
     cost = 170.0 if scene.has_cost else 0.0
     across = scene.width - left - MARGIN - (cost + 68 if cost else 70)

@@ -46,7 +46,7 @@ def story(scene: Scene, span: Span, whole: list[Span]) -> str:
         return (f"core {span.core}: banned for thread {span.thread}, whose request began at {span.started}, from pass "
                 f"{span.from_pass} (clock {span.from_clock}){end}")
     first, last = whole[0], whole[-1]
-    words = (f"core {span.core}: thread {span.thread} of {tasks[span.task or 0].label}; granted in pass "
+    words = (f"core {span.core}: thread {span.thread} of {tasks[span.task].label}; granted in pass "
              f"{first.from_pass} (clock {first.from_clock}, class {CLASSES.get(span.grant_class, span.grant_class)})")
     if last.state == "leaving":
         words += f"; revoked in pass {last.from_pass} (clock {last.from_clock}) {reason(scene, last)}"
@@ -91,7 +91,7 @@ class CoreLanes:
     def draw(self, paper: Paper, top: float) -> None:
         colours = paper.palette
         paper.text(MARGIN, top + 9, "Cores", weight="bold")
-        paper.text(MARGIN + 44, top + 9, "in sibling pairs", SMALL, color=colours.second)
+        paper.text(MARGIN + 44, top + 9, "sibling pairs", SMALL, color=colours.second)
         axes = self.scene.axes(paper, top + TITLE, self.lanes, "cores")
         axes.set_ylim(self.lanes, 0)
         for core in self.cores:
@@ -141,7 +141,7 @@ class CoreLanes:
 
     def held(self, axes: Axes, paper: Paper, span: Span, begin: int, end: int) -> Rectangle:
         """A thread on a core: in the task's colour, with a thick line where it was granted."""
-        task, shade = self.scene.run.table.tasks[span.task or 0], paper.palette.shade(span.task or 0)
+        task, shade = self.scene.run.table.tasks[span.task], paper.palette.shade(span.task)
         fill, on = fill_of(task, shade)
         shape = axes.add_patch(self.box(span, begin, end, facecolor=fill, edgecolor=shade.edge, lw=0.8, zorder=2))
         top, low = self.tops[span.core], self.tops[span.core] + self.high
@@ -163,7 +163,7 @@ class CoreLanes:
 
     def leaving(self, axes: Axes, paper: Paper, span: Span, begin: int, end: int) -> Rectangle:
         """A core that is being left: hatched, with the mark of its cause where it was revoked."""
-        colours, shade = paper.palette, paper.palette.shade(span.task or 0)
+        colours, shade = paper.palette, paper.palette.shade(span.task)
         shape = axes.add_patch(self.box(span, begin, end, facecolor=colours.ground, edgecolor=shade.edge, lw=0.8,
                                         hatch=HATCH, zorder=2))
         if begin != span.from_pass:

@@ -16,7 +16,7 @@ STYLES = {"p50": ":", "p90": "-.", "p99": "-", "p99.9": (0, (5, 2.5)), "max": "-
 
 def look(number: int, tables: int, palette: Palette) -> dict[str, Any]:
     """How the curves of a table look. Every second marker is hollow."""
-    colour = palette.shade(number).edge
+    colour = palette.shade(number).line
     rank = number / max(tables - 1, 1)
     return {
         "color": colour,

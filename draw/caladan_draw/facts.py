@@ -17,7 +17,7 @@ HEADS = {
     "requests": "id,task,thread,arrived [ticks],work [turns],by thread,begun [ticks],answered [ticks],worked [ticks],"
                 "pending [ticks]",
 }
-STATES, CAUSES = ("held", "leaving", "banned"), ("", "ban", "bandwidth", "preempt")
+STATES, CAUSES = ("held", "leaving", "banned"), ("ban", "bandwidth", "preempt")
 Made = TypeVar("Made")
 
 
@@ -27,7 +27,7 @@ class Span:
 
     core: int
     thread: int
-    task: Optional[int]
+    task: int
     grant_class: Optional[int]
     state: str
     cause: str
@@ -49,29 +49,20 @@ class Standing:
     bandwidth: int
     bandwidth_limit: int
     task: int
-    delay: int
     congested: bool
     held: int
     leaving: int
-    booked: int
     cap: Optional[int]
     limit: int
 
 
 @dataclass(frozen=True)
 class Request:
-    """A request: when it came, and when it was answered or for how long it is pending."""
+    """A request: when it came, and when it was answered, if it was."""
 
-    number: int
     task: int
-    thread: int
     arrived: int
-    work: int
-    by_thread: Optional[int]
-    begun: Optional[int]
     answered: Optional[int]
-    worked: Optional[int]
-    pending: Optional[int]
 
 
 def kind_of(text: str) -> str:
@@ -87,30 +78,31 @@ def kind_of(text: str) -> str:
 
 
 class Row:
-    """The cells of a row, read by place; a cell that is not what it must be is refused with its line."""
+    """A row of a CSV, whose cells are read by the names of their columns, without units; a cell that is not what it
+    must be is refused with its line."""
 
     def __init__(self, name: str, line: int, head: Sequence[str], cells: Sequence[str]) -> None:
         if len(cells) != len(head):
             raise Refusal(f"{name}: line {line} has {len(cells)} fields, and its head has {len(head)}")
-        self.name, self.line, self.head, self.cells = name, line, head, cells
+        self.name, self.line = name, line
+        self.cells = {column.partition(" [")[0]: cell for column, cell in zip(head, cells)}
 
-    def wrong(self, place: int, wanted: str) -> Refusal:
-        cell = self.cells[place]
-        return Refusal(f"{self.name}: line {self.line}: `{self.head[place]}` is `{cell}`; wanted: {wanted}")
+    def wrong(self, column: str, wanted: str) -> Refusal:
+        return Refusal(f"{self.name}: line {self.line}: `{column}` is `{self.cells[column]}`; wanted: {wanted}")
 
-    def number(self, place: int) -> int:
-        cell = self.cells[place]
+    def number(self, column: str) -> int:
+        cell = self.cells[column]
         if not (cell.isascii() and cell.isdigit()):
-            raise self.wrong(place, "a number")
+            raise self.wrong(column, "a number")
         return int(cell)
 
-    def maybe(self, place: int) -> Optional[int]:
-        return self.number(place) if self.cells[place] else None
+    def maybe(self, column: str) -> Optional[int]:
+        return self.number(column) if self.cells[column] else None
 
-    def word(self, place: int, words: Sequence[str]) -> str:
-        if self.cells[place] not in words:
-            raise self.wrong(place, " or ".join(it or "nothing" for it in words))
-        return self.cells[place]
+    def word(self, column: str, words: Sequence[str]) -> str:
+        if self.cells[column] not in words:
+            raise self.wrong(column, " or ".join(it or "nothing" for it in words))
+        return self.cells[column]
 
 
 def rows_of(text: str, name: str) -> Iterator[Row]:
@@ -123,24 +115,46 @@ def rows_of(text: str, name: str) -> Iterator[Row]:
 
 
 def span_of(row: Row) -> Span:
-    at, maybe = row.number, row.maybe
-    return Span(at(0), at(1), maybe(2), maybe(3), row.word(4, STATES), row.word(5, CAUSES), maybe(6), maybe(7),
-                maybe(8), at(9), maybe(10), at(11), maybe(12))
+    state = row.word("state", STATES)
+    cause = row.word("cause", CAUSES if state == "leaving" else ("",))
+    return Span(
+        core=row.number("core"),
+        thread=row.number("thread"),
+        task=row.number("task"),
+        grant_class=row.maybe("class"),
+        state=state,
+        cause=cause,
+        by_core=row.number("by core") if cause == "ban" else None,
+        for_task=row.number("for task") if cause == "preempt" else None,
+        started=row.number("started") if state == "banned" else None,
+        from_pass=row.number("from pass"),
+        to_pass=row.maybe("to pass"),
+        from_clock=row.number("from clock"),
+        to_clock=row.maybe("to clock"),
+    )
 
 
 def standing_of(row: Row) -> Standing:
-    at = row.number
-    return Standing(at(0), at(1), at(2), at(3), at(4), at(5), row.word(6, ("0", "1")) == "1", at(7), at(8), at(9),
-                    row.maybe(10), at(11))
+    return Standing(
+        in_pass=row.number("pass"),
+        clock=row.number("clock"),
+        bandwidth=row.number("bandwidth"),
+        bandwidth_limit=row.number("bandwidth limit"),
+        task=row.number("task"),
+        congested=row.word("congested", ("0", "1")) == "1",
+        held=row.number("held"),
+        leaving=row.number("leaving"),
+        cap=row.maybe("cap"),
+        limit=row.number("limit"),
+    )
 
 
 def request_of(row: Row) -> Request:
-    at, maybe = row.number, row.maybe
-    return Request(at(0), at(1), at(2), at(3), at(4), maybe(5), maybe(6), maybe(7), maybe(8), maybe(9))
+    return Request(task=row.number("task"), arrived=row.number("arrived"), answered=row.maybe("answered"))
 
 
 def read_facts(text: str, name: str, kind: str, make: Callable[[Row], Made]) -> list[Made]:
-    """The rows of a CSV of this kind; another head is refused with the one that is asked for."""
+    """The rows of a CSV of this kind; another head is refused with the one that is wanted."""
     if kind_of(text) != kind:
         raise Refusal(f"{name}: not the CSV of `caladan_view {kind}`, whose first line is {HEADS[kind]}")
     return [make(row) for row in rows_of(text, name)]
@@ -177,9 +191,10 @@ def by_pass(standings: Sequence[Standing], name: str) -> tuple[tuple[Standing, .
     return tuple(map(tuple, passes))
 
 
-def table_of(spans: Sequence[Span], passes: Sequence[Sequence[Standing]]) -> Table:
-    """What the facts alone say of the table: cores up to the last pair that had a span, and tasks without guarantee."""
-    tasks = [Task(it.task, "lc" if it.cap is None else "be", it.limit) for it in (passes[0] if passes else ())]
+def table_of(spans: Sequence[Span], standings: Sequence[Standing]) -> Table:
+    """What the facts alone say of the table, by how tasks stand after one pass: tasks without guarantee, and cores up
+    to the last pair that had a span."""
+    tasks = [Task(it.task, "lc" if it.cap is None else "be", it.limit) for it in standings]
     last = max((it.core for it in spans), default=0)
     return Table(last // 2 * 2 + 2, tuple(tasks))
 
@@ -188,11 +203,13 @@ def run_of(spans: Sequence[Span], standings: Sequence[Standing], table: Optional
            illegal_from: Optional[int] = None) -> Run:
     """A run of its facts, and of its table where that is known."""
     passes = by_pass(standings, name)
-    table = table or table_of(spans, passes)
-    if passes and len(passes[0]) != len(table.tasks):
+    if not passes:
+        raise Refusal(f"{name}: the run has no passes: there is nothing to draw")
+    table = table or table_of(spans, passes[0])
+    if len(passes[0]) != len(table.tasks):
         raise Refusal(f"{name}: {len(passes[0])} tasks in each pass, and the table has {len(table.tasks)}")
     for it in spans:
-        if it.core >= table.cores or (it.task or 0) >= len(table.tasks):
+        if it.core >= table.cores or max(it.task, it.for_task or 0) >= len(table.tasks):
             raise Refusal(f"{name}: core {it.core} of task {it.task} is not of a table of {table.cores} cores and "
                           f"{len(table.tasks)} tasks")
     return Run(table, tuple(spans), passes, illegal_from)

@@ -15,8 +15,8 @@ from .window import Window, buckets
 STRIP = 40
 
 
-def counted(run: Run) -> str:
-    """What a run did. A grant has one row that is held, and a span that goes on has one row without an end."""
+def counted(run: Run) -> list[str]:
+    """What a run has and did. A grant has one row that is held, and a span that goes on has one row without an end."""
     kinds = Counter(it.kind for it in run.table.tasks)
     spans = [it for it in run.spans if it.state != "banned"]
     bans = [it for it in run.spans if it.state == "banned"]
@@ -24,17 +24,15 @@ def counted(run: Run) -> str:
     causes = Counter(it.cause for it in spans if it.state == "leaving")
     frees = grants - sum(it.to_pass is None for it in spans)
     unbans = sum(it.to_pass is not None for it in bans)
-    return (f"{count(len(run.table.tasks), 'task')}: {kinds['lc']} latency-critical, {kinds['be']} best-effort. "
+    return [f"{count(len(run.table.tasks), 'task')}: {kinds['lc']} latency-critical, {kinds['be']} best-effort.",
             f"{count(grants, 'grant')}, {count(sum(causes.values()), 'revocation')} ({causes['preempt']} for a task, "
             f"{causes['bandwidth']} for bandwidth, {causes['ban']} for a ban), {count(frees, 'free')}, "
-            f"{count(len(bans), 'ban')}, {count(unbans, 'unban')}.")
+            f"{count(len(bans), 'ban')}, {count(unbans, 'unban')}."]
 
 
 def shown(scene: Scene) -> str:
     """Which passes are shown, and how."""
     run, window = scene.run, scene.window
-    if not window.shown:
-        return "The history has no passes."
     unit = f" {scene.tick}" if scene.tick else ""
     clocks = f"clock {run.clock(window.first)} to {run.clock(window.beyond - 1)}{unit}"
     words = f"All passes are shown, {clocks}."
@@ -54,7 +52,7 @@ class Heading:
     def __init__(self, scene: Scene) -> None:
         self.scene, run = scene, scene.run
         across = scene.width - 2 * MARGIN
-        self.lines = [(it, True) for it in wrapped(counted(run), across)]
+        self.lines = [(it, True) for words in counted(run) for it in wrapped(words, across)]
         self.lines += [(it, False) for it in wrapped(shown(scene), across)]
         if run.illegal_from is not None:
             self.lines.append((f"From pass {run.illegal_from} on the history is not the policy's.", True))

@@ -1,7 +1,6 @@
 """A figure measured in pixels from its upper left corner, as a README shows it: 96 to the inch, text of 12."""
 from __future__ import annotations
 
-import logging
 from functools import lru_cache
 from typing import Any
 
@@ -20,9 +19,10 @@ from .colours import Palette
 PIXELS_PER_INCH = 96
 POINTS = 72 / PIXELS_PER_INCH
 TITLE, PLAIN, SMALL = 19, 12, 11
+# DejaVu Sans comes with matplotlib, so words are as wide on every machine; who reads an SVG may have another font.
 SETTINGS = {
     "font.family": "sans-serif",
-    "font.sans-serif": ["Liberation Sans", "Arial", "Helvetica", "DejaVu Sans", "sans-serif"],
+    "font.sans-serif": ["DejaVu Sans"],
     "svg.fonttype": "none",
     "svg.hashsalt": "caladan_draw",
     "pdf.fonttype": 42,
@@ -30,19 +30,14 @@ SETTINGS = {
     "path.simplify": False,
     "axes.unicode_minus": False,
 }
-
-
-def use_settings() -> None:
-    """What every picture needs of matplotlib; a font that is not there is no news."""
-    matplotlib.rcParams.update(SETTINGS)
-    logging.getLogger("matplotlib.font_manager").setLevel(logging.ERROR)
+matplotlib.rcdefaults()
+matplotlib.rcParams.update(SETTINGS)
 
 
 @lru_cache(maxsize=4096)
-def width_of(words: str, size: float = PLAIN) -> float:
-    """How many pixels words take in the first of the fonts that is there."""
-    use_settings()
-    font = FontProperties(size=size * POINTS)
+def width_of(words: str, size: float = PLAIN, weight: str = "normal") -> float:
+    """How many pixels words take."""
+    font = FontProperties(size=size * POINTS, weight=weight)
     return text_to_path.get_text_width_height_descent(words, font, False)[0] / POINTS
 
 
@@ -50,7 +45,6 @@ class Paper:
     """A figure, and what its parts tell whoever points at them in an SVG."""
 
     def __init__(self, width: float, height: float, palette: Palette, title: str = "") -> None:
-        use_settings()
         self.width, self.height, self.palette, self.title = width, height, palette, title
         size = (width / PIXELS_PER_INCH, height / PIXELS_PER_INCH)
         self.figure = Figure(figsize=size, dpi=PIXELS_PER_INCH, facecolor=palette.ground)
@@ -103,11 +97,11 @@ def wrapped(words: str, pixels: float, size: float = PLAIN) -> list[str]:
     return lines
 
 
-def cut(words: str, pixels: float, size: float = PLAIN) -> str:
+def cut(words: str, pixels: float, size: float = PLAIN, weight: str = "normal") -> str:
     """Words as far as they have room, and `...` where they are cut."""
-    if width_of(words, size) <= pixels:
+    if width_of(words, size, weight) <= pixels:
         return words
-    kept = next((n for n in range(len(words) - 1, 1, -1) if width_of(words[:n] + "...", size) <= pixels), 1)
+    kept = next((n for n in range(len(words) - 1, 1, -1) if width_of(words[:n] + "...", size, weight) <= pixels), 1)
     return words[:kept] + "..."
 
 

@@ -13,22 +13,21 @@ from .tasks import BandwidthLane, TaskLane
 
 
 def lanes_of(scene: Scene) -> list[Band]:
-    """The lanes over the passes. A bandwidth figure that is 0 in all passes shown has none."""
+    """The lanes over the passes. What is 0 in all passes shown has none: the bandwidth figure, and revocations."""
     tasks = scene.tasks
     high = 34.0 if len(tasks) <= 4 else 25.0
     lanes: list[Band] = [Words("Tasks", "cores held"), *(TaskLane(scene, it, high) for it in tasks)]
     if any(it.bandwidth for it in scene.standings(0)):
         lanes.append(BandwidthLane(scene))
-    if scene.is_coarse:
-        return [*lanes, RevokedLane(scene), CoarseLanes(scene)]
-    return [*lanes, CoreLanes(scene)]
+    if not scene.is_coarse:
+        return [*lanes, CoreLanes(scene)]
+    revoked = RevokedLane(scene)
+    return [*lanes, *([revoked] if revoked.most else []), CoarseLanes(scene)]
 
 
 def bands_of(scene: Scene) -> list[Band]:
-    """The parts of the picture; of a run without passes its heading alone."""
+    """The parts of the picture."""
     bands: list[Band] = [Heading(scene)]
-    if not scene.window.shown:
-        return bands
     if scene.window.is_cut:
         bands.append(WholeRun(scene))
     lanes = lanes_of(scene)

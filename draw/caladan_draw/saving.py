@@ -3,7 +3,6 @@ from __future__ import annotations
 
 import io
 import os
-import tempfile
 import xml.etree.ElementTree as tree
 
 from .colours import other_ground
@@ -75,15 +74,10 @@ def as_bytes(paper: Paper, kind: str) -> bytes:
 
 
 def save(paper: Paper, file: str) -> None:
-    """Writes the figure beside the file, and gives it its name when it is whole."""
+    """Writes the figure, which is made whole before."""
     written = as_bytes(paper, format_of(file))
-    file = os.path.realpath(file)
     try:
-        with tempfile.NamedTemporaryFile(dir=os.path.dirname(file), delete=False) as it:
+        with open(file, "wb") as it:
             it.write(written)
-        mask = os.umask(0)
-        os.umask(mask)
-        os.chmod(it.name, os.stat(file).st_mode & 0o777 if os.path.exists(file) else 0o666 & ~mask)
-        os.replace(it.name, file)
     except OSError as fault:
         raise Refusal(f"{file}: {fault.strerror}", 3) from None

@@ -46,11 +46,12 @@ def read_file(file: str) -> Given:
 
 
 def as_input(word: str, given: Sequence[Given]) -> list[Given]:
-    """The files where all are inputs; none where all are CSV. A file that is neither is refused: an input has a line
-    with `=` or `---`, which no head of a CSV has."""
+    """The files where all are inputs; none where all are CSV. A file that is neither is refused: an input begins with
+    TOML, so no line of it before the first `=` has a comma, but for comments."""
     for it in given:
-        first = next((line for line in it.text.splitlines() if line.strip()), "")
-        if not it.kind and ("," in first and "=" not in first and "[" not in first or not first):
+        lines = (line.strip() for line in it.text.splitlines())
+        first = next((line for line in lines if line and not line.startswith("#")), "")
+        if not it.kind and "," in first.partition("=")[0]:
             raise Refusal(f"{it.name}: its first line is no head that is known; wanted: {WANTED[word]}")
     inputs = [it for it in given if not it.kind]
     if inputs and len(inputs) < len(given):
@@ -169,7 +170,7 @@ def joined(inputs: Sequence[Given], arrivals: Optional[Given]) -> str:
 def whole(numbers: Comparison, requests: Sequence[Sequence[Request]],
           passes: Sequence[tuple[tuple[Standing, ...], ...]], tasks: Sequence[Task]) -> Compared:
     """A comparison with its tasks: those of a table, else those that the passes tell of, else by their names alone."""
-    told = max((table_of((), it).tasks for it in passes), key=len, default=())
+    told = max((table_of((), it[0]).tasks for it in passes if it), key=len, default=())
     known = tuple(tasks or told or (Task(n, "", 0, name=it) for n, it in enumerate(numbers.tasks)))
     if len(known) != len(numbers.tasks):
         raise Refusal(f"{len(known)} tasks in a table, and the comparison has {len(numbers.tasks)}")
@@ -185,16 +186,17 @@ class Swept:
     missed: bool = False
 
 
-def swept_from(given: Sequence[Given], words: Sequence[str], viewer: str) -> Swept:
-    """A sweep, of its CSV or of a task table."""
+def swept_from(given: Sequence[Given], words: Sequence[str], goal: str, table: Optional[Given], viewer: str) -> Swept:
+    """A sweep, of its CSV or of a task table; that of a table has an objective where `goal` is one."""
     inputs = as_input("sweep", given)
     if len(given) != 1:
         raise Refusal(f"{len(given)} files; wanted: {WANTED['sweep']}")
     if inputs:
         asked = Viewer(viewer)
-        told = asked.ask(["sweep", *words, "--csv"], inputs[0].text, may_miss=True)
+        told = asked.ask(["sweep", *words, *(["--slo", goal] if goal else []), "--csv"], inputs[0].text, may_miss=True)
         return Swept(read_sweep(told, "sweep --csv"), read_table(inputs[0].text, inputs[0].name), asked.missed)
     if words:
         raise Refusal(f"{words[0]}: the runs of a CSV are made; a task table is wanted beside it")
     of_kind("sweep", given, "sweep")
-    return Swept(read_sweep(given[0].text, given[0].name))
+    known = read_table(table.text, table.name) if table else None
+    return Swept(read_sweep(given[0].text, given[0].name), known)

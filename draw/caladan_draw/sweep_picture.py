@@ -18,6 +18,8 @@ from .refusal import Refusal
 from .scales import TimeScale
 
 MARGIN, AXIS, PLOT, BAND = 14, 76, 300, 16
+# The part of the cost plot's width on each side that is kept for the loads at the ends of a line.
+ENDS = 0.3
 FEW = 0.45
 
 
@@ -172,10 +174,13 @@ class CostPlot:
         self.scene, self.left, self.across = scene, left, across
 
     def limits(self, axes: Axes) -> None:
+        """The same cores for the curves and for what is pending, with ticks at none below 0."""
         every = [self.scene.best_effort(it) for it in self.scene.sweep.runs]
         least, most = min(every), max(every)
-        room = (most - least) * 0.08 or 0.1
-        axes.set_xlim(max(least - room, 0), most + room)
+        room = (most - least) * ENDS or 0.1
+        ticks = MaxNLocator(5, steps=[1, 2, 5, 10]).tick_values(max(least - room, 0), most + room)
+        axes.set_xticks([it for it in ticks if 0 <= it <= most + room])
+        axes.set_xlim(least - room, most + room)
 
     def pending(self, paper: Paper, top: float) -> None:
         """At the height of its band above the loads, what is pending at the rank."""
@@ -186,6 +191,7 @@ class CostPlot:
         axes = paper.axes(self.left, y, self.across, BAND - 2, "cost pending")
         axes.set_facecolor(paper.palette.lane)
         self.limits(axes)
+        axes.set_xticks([])
         axes.set_ylim(0, 1)
         for number, value in enumerate(scene.values):
             held = [scene.best_effort(it) for it in scene.runs(value) if it.times[rank].pending]
@@ -198,7 +204,6 @@ class CostPlot:
         self.limits(axes)
         scene.times.use(axes, "y")
         axes.set_yticklabels([])
-        axes.xaxis.set_major_locator(MaxNLocator(5, steps=[1, 2, 5, 10]))
         grid(axes, colours)
         for number, value in enumerate(scene.values):
             runs = scene.runs(value)
@@ -212,14 +217,14 @@ class CostPlot:
         self.pending(paper, top)
 
     def ends(self, axes: Axes, colours: Palette) -> None:
-        """The loads at both ends of the first table's line."""
+        """The loads at both ends of the first table's line, to its left and to its right."""
         scene = self.scene
         runs = [it for it in scene.runs(scene.values[0]) if answered(it.times[scene.cost_rank]) >= 0]
-        for run in {it.load: it for it in (*runs[:1], *runs[-1:])}.values():
+        ends = sorted({it.load: it for it in (*runs[:1], *runs[-1:])}.values(), key=scene.best_effort)
+        for run, side in zip(ends, ((-7, "right"), (7, "left"))):
             place = (scene.best_effort(run), answered(run.times[scene.cost_rank]))
-            axes.annotate(f"load {run.load:g}", place, (0, -11), textcoords="offset points", ha="center", va="center",
-                          fontsize=(SMALL - 1) * 0.75, color=colours.second, zorder=2,
-                          bbox={"facecolor": colours.ground, "edgecolor": "none", "pad": 0.5})
+            axes.annotate(f"load {run.load:g}", place, (side[0], 0), textcoords="offset points", ha=side[1],
+                          va="center", fontsize=(SMALL - 1) * 0.75, color=colours.second, zorder=2)
 
 
 def lines_of(scene: SweepScene) -> list[tuple[str, bool]]:
@@ -239,6 +244,8 @@ def lines_of(scene: SweepScene) -> list[tuple[str, bool]]:
 
 def draw_sweep(scene: SweepScene) -> Paper:
     """The picture of a sweep."""
+    if all(it.times[rank].value is None for it in scene.sweep.runs for rank in scene.ranks):
+        raise Refusal("no requests came: there is nothing to draw")
     of = scene.task or scene.sweep.task
     title = f"Response of {of} over its load" if of else "Response over load"
     labels = [scene.sweep.label(it) for it in scene.values] if scene.sweep.key else []

@@ -7,12 +7,12 @@ import numpy
 from matplotlib.axes import Axes
 from matplotlib.patches import Rectangle
 
-from .bands import MARGIN, Scene
+from .bands import LABELS, MARGIN, Scene
 from .facts import Standing
 from .paper import SMALL, Paper, cut
 from .tables import Task
 
-HATCH, ROOM, LATE = "/////", 15, 5
+HATCH, DASHES, ROOM, LATE = "/////", (0, (5, 3)), 15, 5
 
 
 def steps_of(scene: Scene, values: Sequence[float], of: Callable[[Sequence[float]], float]) -> numpy.ndarray:
@@ -46,10 +46,10 @@ class TaskLane:
         box.add_patch(Rectangle((0.5, 0.5), 10, 10, facecolor=fill, edgecolor=shade.edge))
         if task.number >= len(paper.palette.shades):
             box.plot([1, 10], [5.5, 5.5], color=shade.on if full else shade.edge, lw=1.2)
-        words = f"{cut(task.label, 70)} {task.kind}"
-        told = paper.text(MARGIN + 17, middle - 7, words, weight="bold")
+        told = paper.text(MARGIN + 17, middle - 7, cut(task.label, LABELS - 20, weight="bold"), weight="bold")
         paper.tell(told, f"task-{task.number}", self.story())
-        paper.text(MARGIN + 17, middle + 8, task.threads, SMALL, color=paper.palette.second)
+        words = ", ".join(it for it in (task.kind, task.threads) if it)
+        paper.text(MARGIN + 17, middle + 8, words, SMALL, color=paper.palette.second)
 
     def story(self) -> str:
         task = self.task
@@ -77,7 +77,7 @@ class TaskLane:
         axes.axhline(task.limit, color=colours.second, lw=0.8, gid=f"limit-{task.number}", clip_on=False)
         names = {task.limit: [f"limit {task.limit}"]}
         if task.guaranteed:
-            axes.axhline(task.guaranteed, color=colours.ink, lw=1.2, ls=(0, (5, 3)), gid=f"guarantee-{task.number}",
+            axes.axhline(task.guaranteed, color=colours.ink, lw=1.2, ls=DASHES, gid=f"guarantee-{task.number}",
                          clip_on=False)
             names.setdefault(task.guaranteed, []).append(f"guar. {task.guaranteed}")
         if task.kind == "be":
@@ -133,7 +133,7 @@ class BandwidthLane:
         over = numpy.maximum(figures, self.limit)
         axes.stairs(over, scene.edges, baseline=self.limit, fill=True, color=colours.ink, lw=0, gid="bandwidth-over")
         if is_near:
-            axes.axhline(self.limit, color=colours.ink, lw=1.2, ls=(0, (5, 3)), gid="bandwidth-limit")
+            axes.axhline(self.limit, color=colours.ink, lw=1.2, ls=DASHES, gid="bandwidth-limit")
         y = top + (self.height - 12) * (1 - self.limit / high) if is_near else top + 6
         scene.at_right(paper, y, f"limit {short(self.limit)}" + ("" if is_near else " above"))
 

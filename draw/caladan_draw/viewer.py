@@ -18,8 +18,6 @@ def program(asked: str) -> str:
     """The file of the program: the one that is asked for, the one beside this one, as in a checkout, or the one in the
     PATH."""
     if asked:
-        if not os.access(asked, os.X_OK):
-            raise Refusal(f"--program {asked}: there is no such program")
         return asked
     beside = os.path.join(os.path.dirname(os.path.realpath(sys.argv[0])), NAME)
     if os.access(beside, os.X_OK):
@@ -40,7 +38,10 @@ class Viewer:
     def ask(self, words: Sequence[str], given: str = "", may_miss: bool = False) -> str:
         """What it prints. Where it refuses, so does this, with what it said; a status of 1, by which an objective is
         missed, is no refusal where `may_miss`, and what is said of it is said on."""
-        ran = subprocess.run([self.file, *words], input=given, capture_output=True, text=True, check=False)
+        try:
+            ran = subprocess.run([self.file, *words], input=given, capture_output=True, text=True, check=False)
+        except OSError as fault:
+            raise Refusal(f"{self.file}: {fault.strerror}") from None
         if ran.returncode and not (may_miss and ran.returncode == 1):
             said = ran.stderr.strip() or f"it ended with status {ran.returncode}"
             status = ran.returncode if ran.returncode in (1, 2, 3) else 3

@@ -43,8 +43,8 @@ class Window:
 
 def window_of(passes: int, first: int = 0, most: Optional[int] = None) -> Window:
     """`most` passes from `first` on; without a number all, if they are no more than 80, else 64."""
-    if first >= max(passes, 1):
-        raise Refusal(f"no pass {first}: there are {passes}, from 0" if passes else "no pass 0: there are none")
+    if first >= passes:
+        raise Refusal(f"no pass {first}: there are {passes}, from 0")
     left = passes - first
     if most is None:
         most = left if left <= WHOLE else PART

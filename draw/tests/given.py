@@ -4,10 +4,12 @@ CSV is read here by the csv module alone, so what is drawn is compared with the 
 of it."""
 from __future__ import annotations
 
+import atexit
 import csv
 import functools
 import io
 import os
+import re
 import subprocess
 import tempfile
 from typing import Any, Iterator
@@ -17,14 +19,16 @@ TOP = os.path.dirname(os.path.dirname(HERE))
 
 from matplotlib.artist import Artist
 
-from caladan_draw.colours import DARK, LIGHT
-from caladan_draw.command import DRAW, parser_of
+from caladan_draw.command import parser_of
+from caladan_draw.drawing import drawn as drawn_of
 from caladan_draw.paper import Paper
 
 VIEW = os.environ.get("CALADAN_VIEW", f"{TOP}/crates/caladan_view/out/caladan_view")
 # Inputs of every kind: arrivals, signals, a history, and signals of 128 cores.
 RUNS = ["lockstep/tour", "decide/tour", "audit/tour", "decide/hundred_twenty_eight_cores"]
 DELAYS = "task.0.delay=10,30,50"
+FOLDER = tempfile.TemporaryDirectory()
+atexit.register(FOLDER.cleanup)
 Rows = list[dict[str, str]]
 
 
@@ -57,6 +61,22 @@ def rows_in(text: str) -> Rows:
     return list(csv.DictReader(io.StringIO(text)))
 
 
+def as_csv(told: str) -> str:
+    """What `sweep` prints as a table, as `sweep --csv` does: `>30 (58)` is 30,>,58."""
+    head, *lines = [re.split(r"  +", it.strip()) for it in told.splitlines()]
+    last = head.index("mean")
+    first = head.index("p50")
+    titles = [cell for it in head[first:last + 1] for cell in (it, f"{it} bound", f"{it} of")]
+    rows = [[*head[:first], *titles, *head[last + 1:]]]
+    for cells in lines:
+        parts = [re.fullmatch(r"(>?)(\S+?)(?: \((\d+)\))?", it).groups("") for it in cells[first:last + 1]]
+        times = [cell for bound, time, of in parts for cell in (time, bound, of)]
+        rows.append([*cells[:first], *times, *cells[last + 1:]])
+    written = io.StringIO()
+    csv.writer(written, lineterminator="\n").writerows(rows)
+    return written.getvalue()
+
+
 def facts(word: str, name: str) -> Rows:
     """The rows of `spans`, `series` or `requests` of an example."""
     return rows_in(viewed(word, given=input_of(name)))
@@ -71,8 +91,8 @@ def table_of(name: str) -> dict[str, Any]:
 @functools.lru_cache(maxsize=None)
 def drawn(*words: str, dark: bool = False) -> Paper:
     """The picture that the words ask for."""
-    space = parser_of().parse_args([*words, "-o", "picture.svg", "--program", VIEW])
-    return DRAW[space.word](space, DARK if dark else LIGHT).paper
+    ground = ["--dark"] if dark else []
+    return drawn_of(parser_of().parse_args([*words, *ground, "-o", "picture.svg", "--program", VIEW])).paper
 
 
 @functools.lru_cache(maxsize=None)
@@ -92,21 +112,22 @@ def words_of(paper: Paper) -> list[str]:
     return [it.get_text() for it in paper.figure.findobj(Text) if it.get_text() and it.get_visible()]
 
 
-class Files:
-    """Files in a folder that goes with the test."""
+def path_of(name: str) -> str:
+    """A file of the folder that goes with the tests."""
+    return os.path.join(FOLDER.name, name)
 
-    def __init__(self) -> None:
-        self.folder = tempfile.TemporaryDirectory()
 
-    def file(self, name: str, text: str) -> str:
-        path = os.path.join(self.folder.name, name)
-        with open(path, "w", encoding="utf-8") as it:
-            it.write(text)
-        return path
+def file(name: str, text: str) -> str:
+    """A file with this text."""
+    with open(path_of(name), "w", encoding="utf-8") as it:
+        it.write(text)
+    return path_of(name)
 
-    def run_files(self, name: str) -> list[str]:
-        """The facts of an example's run as files."""
-        return [self.file(f"{word}.csv", viewed(word, given=input_of(name))) for word in ("spans", "series")]
+
+def run_files(name: str) -> list[str]:
+    """The facts of an example's run as files."""
+    return [file(f"{word}-{name.replace('/', '-')}.csv", viewed(word, given=input_of(name)))
+            for word in ("spans", "series")]
 
 
 def task_values(rows: Rows, task: int, column: str) -> list[float]:

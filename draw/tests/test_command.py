@@ -10,16 +10,17 @@ import unittest
 import unittest.mock
 import xml.etree.ElementTree as tree
 
-from given import RUNS, TOP, VIEW, Files, drawn, example, facts, text_of, words_of
+from caladan_draw.colours import DARK, LIGHT, colours_of
+from caladan_draw.command import main
+from caladan_draw.saving import as_svg, save
+from given import RUNS, TOP, VIEW, drawn, example, facts, file, path_of, run_files, text_of, words_of
 
 DRAW = os.path.join(TOP, "caladan_draw")
-FILES = Files()
 SVG = "{http://www.w3.org/2000/svg}"
 
 
 def run(*words: str) -> tuple[int, str, str]:
     """The status of the command line in this process, and what it writes on both outputs."""
-    from caladan_draw.command import main
     out, error = io.StringIO(), io.StringIO()
     with unittest.mock.patch.object(sys, "argv", [DRAW, *words]), contextlib.redirect_stdout(out), \
             contextlib.redirect_stderr(error):
@@ -33,23 +34,17 @@ def run_alone(*words: str, **more: str) -> tuple[int, str, str]:
     return ran.returncode, ran.stdout, ran.stderr
 
 
-def path(name: str) -> str:
-    return os.path.join(FILES.folder.name, name)
-
-
 class Written(unittest.TestCase):
     """The files that are written."""
 
     def test_svg_png_and_pdf(self):
-        from caladan_draw.saving import save
         paper = drawn("run", example("lockstep/tour"))
         for ending, begins in (("svg", b"<?xml"), ("png", b"\x89PNG"), ("pdf", b"%PDF")):
-            save(paper, path(f"tour.{ending}"))
-            with open(path(f"tour.{ending}"), "rb") as it:
+            save(paper, path_of(f"tour.{ending}"))
+            with open(path_of(f"tour.{ending}"), "rb") as it:
                 self.assertTrue(it.read().startswith(begins))
 
     def test_an_svg_has_words_stories_and_the_other_ground(self):
-        from caladan_draw.saving import as_svg
         paper = drawn("run", example("lockstep/tour"))
         picture = tree.fromstring(as_svg(paper))
         words = ["".join(it.itertext()) for it in picture.iter(f"{SVG}text")]
@@ -59,17 +54,7 @@ class Written(unittest.TestCase):
         self.assertIn("@media(prefers-color-scheme:dark)", "".join(it.text for it in picture.iter(f"{SVG}style")))
         self.assertLess(float(picture.get("width").removesuffix("pt")) * 96 / 72, 801)
 
-    def test_the_picture_in_docs_tells_the_same(self):
-        picture = tree.parse(os.path.join(TOP, "docs/pictures/drawn_lockstep_tour.svg"))
-        paper = drawn("run", example("lockstep/tour"))
-        told = [it.text for it in picture.iter(f"{SVG}title")]
-        self.assertEqual(sorted(told), sorted([paper.title, *paper.told.values()]))
-        words = ["".join(it.itertext()) for it in picture.iter(f"{SVG}text")]
-        self.assertEqual(sorted(words), sorted(words_of(paper)))
-
     def test_a_dark_one_stays_dark(self):
-        from caladan_draw.colours import DARK, LIGHT, colours_of
-        from caladan_draw.saving import as_svg
         light, dark = (as_svg(drawn("run", example("lockstep/tour"), dark=it)).decode() for it in (False, True))
         self.assertNotIn("prefers-color-scheme", dark)
         self.assertIn(f"fill: {DARK.ground}", dark)
@@ -77,7 +62,6 @@ class Written(unittest.TestCase):
         self.assertIn(f"fill: {LIGHT.ground}", light)
 
     def test_the_same_facts_give_the_same_bytes(self):
-        from caladan_draw.saving import as_svg
         name = example("lockstep/tour")
         self.assertEqual(as_svg(drawn("run", name)), as_svg(drawn.__wrapped__("run", name)))
 
@@ -112,12 +96,12 @@ class Refused(unittest.TestCase):
         self.assertIn(line, ran[2])
 
     def test_lines(self):
-        tour, out = example("lockstep/tour"), ("-o", path("x.svg"), "--program", VIEW)
-        facts_of = FILES.run_files("lockstep/tour")
+        tour, out = example("lockstep/tour"), ("-o", path_of("x.svg"), "--program", VIEW)
+        facts_of = run_files("lockstep/tour")
         head = text_of(facts_of[0]).partition("\n")[0]
-        other = FILES.file("other.csv", "time,core\n1,2\n")
-        short = FILES.file("short.csv", f"{head}\n1,2,3\n")
-        letters = FILES.file("letters.csv", f"{head}\nx,6,2,3,held,,,,,3,4,160,180\n")
+        other = file("other.csv", "time,core\n1,2\n")
+        short = file("short.csv", f"{head}\n1,2,3\n")
+        letters = file("letters.csv", f"{head}\nx,6,2,3,held,,,,,3,4,160,180\n")
         for words, line in (
                 ([], "no word; there are run, compare and sweep"),
                 (["run", tour], "required: -o"),
@@ -132,27 +116,27 @@ class Refused(unittest.TestCase):
                 (["run", *facts_of, *out, "--task", "3"], "no such task: there are 3, from 0"),
                 (["run", *facts_of, *out, "--names", "a,b"], "--names: 2 names, and the table has 3 tasks"),
                 (["run", *facts_of, *out, "--tick", "nanoseconds"], "--tick 'nanoseconds': 1 to 10 letters"),
-                (["run", tour, "-o", path("x.svg"), "--program", "/none"], "there is no such program"),
+                (["run", tour, "-o", path_of("x.svg"), "--program", "/none"], "/none: No such file or directory"),
                 (["sweep", example("sweep/team_csv", "output"), *out, "--slo", "p99"], "an objective is task.T.R=N")):
             with self.subTest(words):
                 self.refused(run(*words), line)
-        self.assertFalse(os.path.exists(path("x.svg")))
+        self.assertFalse(os.path.exists(path_of("x.svg")))
 
     def test_what_the_program_refuses_is_said_as_it_says_it(self):
-        status, _, said = run("run", FILES.file("no.in", "cores = 3\n---\n"), "-o", path("x.svg"), "--program", VIEW)
+        status, _, said = run("run", file("no.in", "cores = 3\n---\n"), "-o", path_of("x.svg"), "--program", VIEW)
         self.assertEqual(status, 2)
         self.assertTrue(said.startswith("caladan_view: "), said)
 
     def test_without_matplotlib_its_package_is_named(self):
-        os.makedirs(path("without/matplotlib"), exist_ok=True)
-        with open(path("without/matplotlib/__init__.py"), "w", encoding="utf-8") as it:
+        os.makedirs(path_of("without/matplotlib"), exist_ok=True)
+        with open(path_of("without/matplotlib/__init__.py"), "w", encoding="utf-8") as it:
             it.write("raise ImportError('No module named matplotlib', name='matplotlib')\n")
-        words = ["run", example("lockstep/tour"), "-o", path("x.svg")]
-        self.refused(run_alone(*words, PYTHONPATH=path("without")),
+        words = ["run", example("lockstep/tour"), "-o", path_of("x.svg")]
+        self.refused(run_alone(*words, PYTHONPATH=path_of("without")),
                      "matplotlib is not installed; on Debian: apt-get install python3-matplotlib")
 
     def test_a_place_that_cannot_be_written(self):
-        self.refused(run("run", *FILES.run_files("lockstep/tour"), "-o", "/proc/x.svg"), "/proc/x.svg: ", 3)
+        self.refused(run("run", *run_files("lockstep/tour"), "-o", "/proc/x.svg"), "/proc/x.svg: ", 3)
 
 
 if __name__ == "__main__":

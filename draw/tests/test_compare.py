@@ -6,10 +6,9 @@ import unittest
 
 import numpy
 
-from given import DELAYS, Files, drawn, example, input_of, named, pairs, rows_in, task_values, viewed, words_of
+from given import DELAYS, drawn, example, file, input_of, named, pairs, rows_in, task_values, viewed, words_of
 
 NAME, VALUES = "lockstep/tour", ("10", "30", "50")
-FILES = Files()
 
 
 def own(word, table):
@@ -24,8 +23,8 @@ def compared():
 
 def files():
     """The CSV of the comparison and of its runs as files."""
-    runs = [FILES.file(f"{word}{n}.csv", own(word, n)) for word in ("requests", "series") for n in range(3)]
-    return [FILES.file("compare.csv", compared()), *runs]
+    runs = [file(f"{word}{n}.csv", own(word, n)) for word in ("requests", "series") for n in range(3)]
+    return [file("compare.csv", compared()), *runs]
 
 
 def number(task, measure, value):
@@ -96,7 +95,7 @@ class Tour(unittest.TestCase):
         self.assertFalse(named(self.paper, "cost-2"))
 
     def test_of_the_comparison_alone_the_ranks_are_drawn(self):
-        paper = drawn("compare", FILES.file("alone.csv", compared()), "--table", example(NAME))
+        paper = drawn("compare", file("alone.csv", compared()), "--table", example(NAME))
         line = named(paper, "shares-1-0")["shares-1-0"]
         times = [float(number(1, f"response {it}", "10")[0]) for it in ("least", "median", "greatest")]
         self.assertEqual([x for x, _ in pairs(line.get_xydata())[1:-1]], sorted(set(times)))

@@ -8,7 +8,8 @@ from collections import Counter
 import numpy
 
 from caladan_draw.colours import LIGHT
-from given import RUNS, Files, drawn, example, facts, named, rows_in, table_of, task_values, text_of, words_of
+from given import (RUNS, drawn, example, facts, file, named, rows_in, run_files, table_of, task_values, text_of,
+                   words_of)
 
 CORES = "cores"
 
@@ -182,8 +183,7 @@ class Windows(unittest.TestCase):
         self.assertFalse(named(drawn("run", example("audit/tour")), "whole-"))
 
     def test_of_a_long_run_64_passes_are_shown(self):
-        files = Files()
-        with_80, with_81 = (drawn("run", *made_run(files, it)) for it in (80, 81))
+        with_80, with_81 = (drawn("run", *made_run(it)) for it in (80, 81))
         self.assertFalse(named(with_80, "whole-"))
         self.assertEqual(named(with_81, "whole-window")["whole-window"].get_width(), 64)
 
@@ -199,17 +199,17 @@ class Windows(unittest.TestCase):
 
     def test_names_and_unit(self):
         words = words_of(drawn("run", example("lockstep/tour"), "--names", "memcached,silo,batch", "--tick", "us"))
-        for it in ("memcached lc", "silo lc", "batch be", "clock, us"):
+        for it in ("memcached", "silo", "batch", "lc, threads 0-1", "be, threads 4-6", "clock, us"):
             self.assertIn(it, words)
 
     def test_files_are_drawn_as_their_input(self):
-        files, name = Files(), "lockstep/tour"
-        of_files = drawn("run", *files.run_files(name), "--table", example(name))
+        name = "lockstep/tour"
+        of_files = drawn("run", *run_files(name), "--table", example(name))
         of_input = drawn("run", example(name))
         self.assertEqual(words_of(of_files), words_of(of_input))
         for state in ("held", "leaving", "banned"):
             self.assertEqual(boxes(of_files, state), boxes(of_input, state))
-        bare = drawn("run", *files.run_files(name))
+        bare = drawn("run", *run_files(name))
         self.assertFalse(named(bare, "guarantee-"))
         self.assertEqual(boxes(bare, "held"), boxes(of_input, "held"))
 
@@ -226,7 +226,7 @@ def text_of_output(name):
         return it.read().split()[2]
 
 
-def made_run(files, passes, cores=2, tasks=1, seed=1):
+def made_run(passes, cores=2, tasks=1, seed=1):
     """Facts of a made run: each core goes round among tasks, free stretches, and bans of its sibling; the rows of the
     series are counted from the spans."""
     from random import Random
@@ -248,8 +248,8 @@ def made_run(files, passes, cores=2, tasks=1, seed=1):
             begin = end
     series = [f"{p},{10 * p},{p % 7},5,{t},0,{(p + t) % 2},{held[t, p]},0,{held[t, p]},,16"
               for p in range(passes) for t in range(tasks)]
-    return (files.file(f"spans{passes}.csv", "\n".join([HEADS["spans"], *spans, ""])),
-            files.file(f"series{passes}.csv", "\n".join([HEADS["series"], *series, ""])))
+    return (file(f"spans{passes}.csv", "\n".join([HEADS["spans"], *spans, ""])),
+            file(f"series{passes}.csv", "\n".join([HEADS["series"], *series, ""])))
 
 
 class Coarse(unittest.TestCase):
@@ -259,8 +259,7 @@ class Coarse(unittest.TestCase):
 
     @classmethod
     def setUpClass(cls):
-        cls.files = Files()
-        given = made_run(cls.files, cls.PASSES, cls.CORES, cls.TASKS)
+        given = made_run(cls.PASSES, cls.CORES, cls.TASKS)
         cls.spans, cls.series = (rows_in(text_of(it)) for it in given)
         cls.paper = drawn("run", *given, "--passes", "1000")
 

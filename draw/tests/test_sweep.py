@@ -7,7 +7,7 @@ import unittest
 import numpy
 
 from caladan_draw.colours import LIGHT
-from given import drawn, example, named, pairs, rows_in, text_of, words_of
+from given import as_csv, drawn, example, file, named, pairs, rows_in, table_of, text_of, words_of
 
 # Its output is the CSV itself; the other one's is drawn with the objective of its words.
 CSV = "sweep/team_csv"
@@ -102,6 +102,29 @@ class Team(unittest.TestCase):
         from caladan_draw.curves import look
         looks = {(it["color"], it["marker"]) for it in (look(n, 16, LIGHT) for n in range(16))}
         self.assertEqual(len(looks), 16)
+
+
+class Asked(unittest.TestCase):
+    """A sweep that caladan_view is asked for."""
+
+    def test_its_words_and_its_rows(self):
+        words = [*text_of(example("sweep/missed", "args")).split()[1:], example("sweep/missed")]
+        paper = drawn("sweep", *words)
+        runs = rows_in(as_csv(text_of(example("sweep/missed", "output"))))
+        self.assertEqual(repr(pairs(named(paper, "p99-0")["p99-0"].get_xydata())),
+                         repr([(float(it["load"]), float(answered(it, "p99"))) for it in runs]))
+        self.assertEqual(set(named(paper, "objective")["objective"].get_ydata()), {30})
+        self.assertIn("Response of task 0 over its load", words_of(paper))
+        self.assertFalse(named(paper, "cost"))
+
+    def test_a_table_beside_a_csv_gives_its_cores(self):
+        given = file("team.csv", text_of(example(CSV, "output")))
+        paper = drawn("sweep", given, "--table", example("sweep/team"))
+        cores = table_of("sweep/team")["cores"]
+        shares = [float(it["best-effort share"]) for it in rows("10")]
+        held = [x for x, _ in pairs(named(paper, "cost-0")["cost-0"].get_xydata())]
+        numpy.testing.assert_allclose(held, [it * cores for it in shares])
+        self.assertIn("best-effort cores", words_of(paper))
 
 
 class Times(unittest.TestCase):
