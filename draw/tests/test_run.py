@@ -4,10 +4,12 @@ from __future__ import annotations
 import unittest
 from bisect import bisect_left
 from collections import Counter
+from random import Random
 
 import numpy
 
 from caladan_draw.colours import LIGHT
+from caladan_draw.facts import HEADS
 from given import (RUNS, drawn, example, facts, file, named, rows_in, run_files, table_of, task_values, text_of,
                    words_of)
 
@@ -27,6 +29,16 @@ def boxes(paper, state):
     for it in named(paper, f"{state}-core").values():
         core = middles[round(it.get_y() + it.get_height() / 2, 3)]
         found.append((core, it.get_x(), it.get_x() + it.get_width()))
+    return Counter(found)
+
+
+def ruled(paper, name):
+    """Of each line of these its core, by the lane that it lies in, and from which to which pass it goes."""
+    found, middles = [], lanes(paper)
+    for it in named(paper, name).values():
+        for (begin, y), (end, low) in it.get_segments():
+            core = min(middles, key=lambda core: abs(middles[core] - (y + low) / 2))
+            found.append((core, begin, end))
     return Counter(found)
 
 
@@ -125,6 +137,13 @@ class Examples(unittest.TestCase):
             self.assertEqual(colours, Counter(LIGHT.shade(int(it["for task"])).full for it in spans
                                               if it["cause"] == "preempt"))
 
+    def test_grants_and_bans_have_their_lines(self):
+        for _, paper, spans, series in self.each():
+            passes = int(series[-1]["pass"]) + 1
+            self.assertEqual(ruled(paper, "grants"), Counter((core, begin, begin) for core, begin, _ in
+                                                             asked(spans, "held", passes).elements()))
+            self.assertEqual(ruled(paper, "bans"), asked(spans, "banned", passes))
+
     def test_each_part_tells_its_story(self):
         for _, paper, spans, _ in self.each():
             for row in spans:
@@ -170,6 +189,8 @@ class Windows(unittest.TestCase):
             self.assertEqual(boxes(paper, state), asked(spans, state, 12, 4, 8))
         held = task_values(series, 0, "held [cores]")
         self.assertEqual(list(named(paper, "held-0")["held-0"].get_data().values), held[4:8])
+        granted = [(int(it["core"]), int(it["from pass"])) for it in spans if it["state"] == "held"]
+        self.assertEqual(ruled(paper, "grants"), Counter((core, at, at) for core, at in granted if 4 <= at < 8))
         box = named(paper, "whole-window")["whole-window"]
         self.assertEqual((box.get_x(), box.get_width()), (4, 4))
         critical = [a + b for a, b in zip(held, task_values(series, 1, "held [cores]"))]
@@ -227,29 +248,38 @@ def text_of_output(name):
 
 
 def made_run(passes, cores=2, tasks=1, seed=1):
-    """Facts of a made run: each core goes round among tasks, free stretches, and bans of its sibling; the rows of the
-    series are counted from the spans."""
-    from random import Random
-    from caladan_draw.facts import HEADS
+    """Facts of a made run: each core goes round among tasks, which may be revoked, free stretches and bans; the rows of
+    the series are counted from the spans."""
     made, spans = Random(seed), []
-    held = numpy.zeros((tasks, passes), dtype=int)
+    held, leaving = numpy.zeros((2, tasks, passes), dtype=int)
     for core in range(cores):
         begin = 0
         while begin < passes:
-            end = min(begin + made.randint(1, 60), passes)
-            task, what = made.randrange(tasks), made.choice(["held", "held", "free", "banned"])
-            to = "" if end == passes else end
-            clocks = f"{10 * begin},{'' if to == '' else 10 * end}"
+            end, task = min(begin + made.randint(1, 60), passes), made.randrange(tasks)
+            what, left = made.choice(["held", "left", "free", "banned"]), made.randint(begin, end)
             if what == "held":
-                spans.append(f"{core},{task},{task},3,held,,,,,{begin},{to},{clocks}")
+                spans.append(span_row(core, task, "3,held,,,,", begin, end, passes))
                 held[task, begin:end] += 1
+            elif what == "left" and left < end:
+                cause = made.choice(["bandwidth,,,", "preempt,,0,", "ban,1,,"])
+                spans.append(span_row(core, task, "3,held,,,,", begin, left, passes))
+                spans.append(span_row(core, task, f"3,leaving,{cause}", left, end, passes))
+                held[task, begin:left] += 1
+                leaving[task, left:end] += 1
             elif what == "banned":
-                spans.append(f"{core},{task},{task},,banned,,,,5,{begin},{to},{clocks}")
+                spans.append(span_row(core, task, ",banned,,,,5", begin, end, passes))
             begin = end
-    series = [f"{p},{10 * p},{p % 7},5,{t},0,{(p + t) % 2},{held[t, p]},0,{held[t, p]},,16"
+    booked = held + leaving
+    series = [f"{p},{10 * p},{p % 7},5,{t},0,{(p + t) % 2},{held[t, p]},{leaving[t, p]},{booked[t, p]},,16"
               for p in range(passes) for t in range(tasks)]
     return (file(f"spans{passes}.csv", "\n".join([HEADS["spans"], *spans, ""])),
             file(f"series{passes}.csv", "\n".join([HEADS["series"], *series, ""])))
+
+
+def span_row(core, task, state, begin, end, passes):
+    """A row of spans over these passes; one that reaches the last goes on."""
+    to, clock = ("", "") if end == passes else (end, 10 * end)
+    return f"{core},{task},{task},{state},{begin},{to},{10 * begin},{clock}"
 
 
 class Coarse(unittest.TestCase):
@@ -300,6 +330,17 @@ class Coarse(unittest.TestCase):
                     self.assertNotIn((core, begin), found)
                     found[core, begin] = gid
         return found
+
+    def test_revocations_are_counted_by_their_cause(self):
+        below = numpy.zeros(len(self.columns()))
+        for cause in ("preempt", "bandwidth", "ban"):
+            revoked = [int(it["from pass"]) for it in self.spans if it["cause"] == cause]
+            asked_for = below + [sum(begin <= it < end for it in revoked) for begin, end in self.columns()]
+            steps = named(self.paper, f"revoked-{cause}")[f"revoked-{cause}"].get_data()
+            self.assertEqual(list(steps.baseline), list(below))
+            self.assertEqual(list(steps.values), list(asked_for))
+            below = asked_for
+        self.assertIn(f"{below.max():.0f} at most", words_of(self.paper))
 
     def test_lanes_have_means(self):
         for task in (0, 15):
