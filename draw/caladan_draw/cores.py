@@ -86,6 +86,7 @@ class CoreLanes:
         self.lanes = self.tops[self.cores[-1]] + self.high + 2
         self.height = TITLE + self.lanes + (FOLDED if self.free else 0) + 4
         self.grants: list[tuple[float, float, float]] = []
+        self.frees: list[tuple[float, float, float]] = []
         self.bans: list[tuple[float, float, float]] = []
 
     def draw(self, paper: Paper, top: float) -> None:
@@ -128,11 +129,15 @@ class CoreLanes:
                 shape = draw(axes, paper, span, *part)
                 name = f"{span.state}-core{span.core}-pass{span.from_pass}"
                 paper.tell(shape, name, story(self.scene, span, wholes[id(span)]))
+                if span.state != "banned" and span is wholes[id(span)][-1] and part[1] == span.to_pass:
+                    self.frees.append((span.to_pass, self.tops[span.core], self.tops[span.core] + self.high))
 
     def rule(self, axes: Axes, paper: Paper) -> None:
-        """The thick lines where cores were granted, and those below bans."""
+        """The thick lines where cores were granted, the thin ones where they were freed, and those below bans."""
         if self.grants:
             axes.vlines(*zip(*self.grants), color=paper.palette.ink, lw=2, zorder=5, gid="grants")
+        if self.frees:
+            axes.vlines(*zip(*self.frees), color=paper.palette.ink, lw=0.9, zorder=4, gid="frees")
         if self.bans:
             axes.hlines(*zip(*self.bans), color=paper.palette.ink, lw=BAN * 0.75, zorder=5, gid="bans")
 

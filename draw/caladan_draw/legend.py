@@ -46,9 +46,16 @@ def mark(cause: str) -> Draw:
     return draw
 
 
-def granted(axes: Axes, x: float, y: float, palette: Palette) -> None:
-    """The thick line where a core was granted."""
-    axes.plot([x + WIDE / 2] * 2, [y - HIGH / 2, y + HIGH / 2], color=palette.ink, lw=2)
+def upright(lw: float) -> Draw:
+    """The line where a core was granted or freed."""
+    def draw(axes: Axes, x: float, y: float, palette: Palette) -> None:
+        axes.plot([x + WIDE / 2] * 2, [y - HIGH / 2, y + HIGH / 2], color=palette.ink, lw=lw)
+    return draw
+
+
+def not_to_scale(axes: Axes, x: float, y: float, palette: Palette) -> None:
+    """The sign of a column that is not as wide as its time."""
+    words_on(axes, x + WIDE / 2, y, "//", SMALL, palette.second, ha="center")
 
 
 def fine_signs(scene: Scene) -> list[tuple[bool, Sign]]:
@@ -58,12 +65,14 @@ def fine_signs(scene: Scene) -> list[tuple[bool, Sign]]:
     return [
         ("lc" in kinds, Sign(box(thread="3"), "thread 3, of a latency-critical task")),
         ("be" in kinds, Sign(box("lane", thread="4"), "thread 4, of a best-effort task")),
-        ("held" in states, Sign(granted, "granted")),
+        ("held" in states, Sign(upright(2), "granted")),
+        ("held" in states, Sign(upright(0.9), "freed")),
         ("preempt" in causes, Sign(mark("preempt"), "revoked for the task of its colour")),
         ("bandwidth" in causes, Sign(mark("bandwidth"), "revoked for bandwidth")),
         ("ban" in causes, Sign(mark("ban"), "revoked for a ban")),
         ("banned" in states, Sign(box("lane", hatch=".."), "banned: nobody may have it")),
         ("banned" in states, Sign(line(lw=2.25), "as long as a ban lasts")),
+        (bool(scene.columns.not_to_scale), Sign(not_to_scale, "a step of time not to scale")),
     ]
 
 

@@ -53,7 +53,8 @@ def as_svg(paper: Paper) -> bytes:
     for part in picture.findall(f"{{{SVG}}}metadata"):
         picture.remove(part)
     tell_all(picture, paper.told)
-    rules = dark_rules(other_ground(paper.palette))
+    drawn = written.getvalue().decode()
+    rules = dark_rules({light: dark for light, dark in other_ground(paper.palette).items() if light in drawn})
     for name, words in (("style", rules), ("title", paper.title)):
         if words:
             part = tree.Element(f"{{{SVG}}}{name}")

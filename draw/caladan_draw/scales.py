@@ -15,7 +15,7 @@ def one_two_five(least: float, most: float) -> list[float]:
     """1, 2 and 5 and their powers of ten, from the last that is no more than the least to the first that is no less
     than the most."""
     power = math.floor(math.log10(least)) if least > 0 else 0
-    steps = [part * 10.0 ** p for p in range(power, power + 16) for part in (1, 2, 5)]
+    steps = [part * 10.0 ** p for p in range(power, power + 24) for part in (1, 2, 5)]
     low = max(it for it in steps if it <= least * (1 + 1e-9) or it == steps[0])
     high = next(it for it in steps if it >= most * (1 - 1e-9) and it > low)
     return [it for it in steps if low <= it <= high]

@@ -75,21 +75,27 @@ class TaskLane:
         """Its limit, guarantee and cap."""
         task, colours, scene = self.task, paper.palette, self.scene
         axes.axhline(task.limit, color=colours.second, lw=0.8, gid=f"limit-{task.number}", clip_on=False)
-        names = {task.limit: [f"limit {task.limit}"]}
         if task.guaranteed:
             axes.axhline(task.guaranteed, color=colours.ink, lw=1.2, ls=DASHES, gid=f"guarantee-{task.number}",
                          clip_on=False)
-            names.setdefault(task.guaranteed, []).append(f"guar. {task.guaranteed}")
         if task.kind == "be":
             caps = steps_of(scene, self.values(lambda it: it.cap), min)
             axes.stairs(caps, scene.edges, baseline=None, color=colours.ink, lw=2, gid=f"cap-{task.number}",
                         clip_on=False)
-        above = None
-        for value, words in sorted(names.items(), reverse=True):
-            y = top + self.high * (1 - value / task.limit)
-            y = y if above is None else max(y, above + 12)
-            scene.at_right(paper, y, ", ".join(words))
-            above = y
+        self.numbers(paper, top)
+
+    def numbers(self, paper: Paper, top: float) -> None:
+        """Beside the lines what they are; of the cap where it ends, if that is not at the limit."""
+        task, cap = self.task, self.standings[-1].cap
+        names = {task.limit: ["limit"]}
+        if task.guaranteed:
+            names.setdefault(task.guaranteed, []).append("guar.")
+        if cap not in (None, task.limit):
+            names.setdefault(cap, []).append("cap")
+        above = -12.0
+        for value, kinds in sorted(names.items(), reverse=True):
+            above = max(self.high * (1 - value / task.limit), above + 12)
+            self.scene.at_right(paper, top + above, f"{', '.join(kinds)} {value}")
 
     def late(self, paper: Paper, top: float) -> None:
         """The bar while its delay is over its threshold: its height is the part of a column's passes."""

@@ -13,7 +13,7 @@ import xml.etree.ElementTree as tree
 from caladan_draw.colours import DARK, LIGHT, colours_of
 from caladan_draw.command import main
 from caladan_draw.saving import as_svg, save
-from given import RUNS, TOP, VIEW, drawn, example, facts, file, path_of, run_files, text_of, words_of
+from given import DELAYS, RUNS, TOP, VIEW, drawn, example, facts, file, path_of, run_files, text_of, words_of
 
 DRAW = os.path.join(TOP, "caladan_draw")
 SVG = "{http://www.w3.org/2000/svg}"
@@ -71,6 +71,7 @@ class Read(unittest.TestCase):
 
     def test_words_are_large_enough_and_do_not_cover_each_other(self):
         for words in (*(("run", example(it)) for it in RUNS[:3]), ("sweep", example("sweep/team_csv", "output")),
+                      ("compare", "--vary", DELAYS, example("lockstep/tour")),
                       ("run", example("audit/tour"), "--from", "4", "--passes", "4", "--width", "480")):
             with self.subTest(words):
                 paper = drawn(*words)

@@ -112,6 +112,13 @@ class Examples(unittest.TestCase):
         if told["guaranteed"]:
             self.assertEqual(set(lines[f"guarantee-{task}"].get_ydata()), {told["guaranteed"]})
 
+    def test_lines_are_named_at_their_right(self):
+        words = words_of(drawn("run", example("decide/tour")))
+        for it in ("limit, guar. 1", "limit 2", "cap 1"):
+            self.assertIn(it, words)
+        self.assertIn("limit 2", words_of(drawn("run", example("lockstep/tour"))))
+        self.assertNotIn("cap 3", " ".join(words_of(drawn("run", example("lockstep/tour")))))
+
     def test_bandwidth(self):
         for _, paper, _, series in self.each():
             figures, limit = task_values(series, 0, "bandwidth"), float(series[0]["bandwidth limit"])
@@ -143,6 +150,12 @@ class Examples(unittest.TestCase):
             self.assertEqual(ruled(paper, "grants"), Counter((core, begin, begin) for core, begin, _ in
                                                              asked(spans, "held", passes).elements()))
             self.assertEqual(ruled(paper, "bans"), asked(spans, "banned", passes))
+            lines = Counter()
+            for it, below in zip(spans, [*spans[1:], {"core": "", "state": ""}]):
+                is_revoked = it["state"] == "held" and (below["core"], below["state"]) == (it["core"], "leaving")
+                if it["state"] != "banned" and it["to pass"] and not is_revoked:
+                    lines[int(it["core"]), int(it["to pass"]), int(it["to pass"])] += 1
+            self.assertEqual(ruled(paper, "frees"), lines)
 
     def test_each_part_tells_its_story(self):
         for _, paper, spans, _ in self.each():
