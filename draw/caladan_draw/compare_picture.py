@@ -94,7 +94,7 @@ class CompareScene:
         """The cores that best-effort tasks held in the mean with a table."""
         held = [self.row(it, "mean cores held")[table].value for it in self.tasks
                 if self.kind(it.number, table) == "be"]
-        return math.fsum(it for it in held if it is not None) if held else math.nan
+        return math.fsum(it for it in held if it is not None)
 
     @property
     def has_cost(self) -> bool:
@@ -178,35 +178,44 @@ class CostPlot:
     def __init__(self, scene: CompareScene, task: Task) -> None:
         self.scene, self.task = scene, task
         self.cells = scene.row(task, RANKS[COST_RANK])
+        self.held = [scene.best_effort(it) for it in range(len(self.cells))]
+
+    def limits(self, axes: Axes) -> None:
+        """The same cores for the points and for what is pending."""
+        least, most = min(self.held), max(self.held)
+        room = (most - least) * 0.15 or 0.1
+        axes.set_xlim(least - room, most + room)
+
+    def scales(self, axes: Axes, palette: Palette) -> None:
+        """Times of what was answered, if anything was, over cores."""
+        times = [it.value for it in self.cells if it.value is not None and not it.pending]
+        TimeScale(times).use(axes, "y")
+        if not times:
+            axes.set_yticks([])
+        self.limits(axes)
+        axes.xaxis.set_major_locator(MaxNLocator(4, steps=[1, 2, 5, 10]))
+        grid(axes, palette)
+
+    def band(self, paper: Paper, left: float, top: float, across: float) -> Axes:
+        """Where the points stand whose request is pending."""
+        axes = paper.axes(left, top, across, 16, f"cost pending {self.task.number}")
+        axes.set_facecolor(paper.palette.lane)
+        axes.set_ylim(0, 1)
+        self.limits(axes)
+        paper.text(left - 6, top + 8, "pending", SMALL - 1, color=paper.palette.second, ha="right")
+        return axes
 
     def draw(self, paper: Paper, left: float, top: float, across: float) -> None:
-        scene, colours = self.scene, paper.palette
-        answered = [n for n, it in enumerate(self.cells) if it.value is not None and not it.pending]
-        pending = [n for n, it in enumerate(self.cells) if it.pending]
-        room = 22 if pending else 0
+        is_waiting = any(it.pending for it in self.cells)
+        room = 22 if is_waiting else 0
         axes = paper.axes(left, top + room, across, SHARES - room, f"cost {self.task.number}")
-        times = TimeScale([self.cells[it].value or 0 for it in answered])
-        times.use(axes, "y")
-        grid(axes, colours)
-        bands = [axes]
-        if pending:
-            bands.append(paper.axes(left, top, across, 16, f"cost pending {self.task.number}"))
-            bands[-1].set_facecolor(colours.lane)
-            bands[-1].set_ylim(0, 1)
-            paper.text(left - 6, top + 8, "pending", SMALL - 1, color=colours.second, ha="right")
-        if not answered:
-            axes.set_yticks([])
-        held = [scene.best_effort(it) for it in range(len(self.cells))]
-        least, most = min(held), max(held)
-        for it in bands:
-            it.set_xlim(least - ((most - least) * 0.15 or 0.1), most + ((most - least) * 0.15 or 0.1))
-        axes.xaxis.set_major_locator(MaxNLocator(4, steps=[1, 2, 5, 10]))
-        for number in (*answered, *pending):
-            how = {**look(number, len(self.cells), colours), "linestyle": "none"}
-            is_pending = self.cells[number].pending
-            y = 0.5 if is_pending else self.cells[number].value
-            bands[-1 if is_pending else 0].plot([held[number]], [y], gid=f"cost-{self.task.number}-{number}",
-                                                clip_on=False, **how)
+        self.scales(axes, paper.palette)
+        band = self.band(paper, left, top, across) if is_waiting else axes
+        for number, cell in enumerate(self.cells):
+            how = {**look(number, len(self.cells), paper.palette), "linestyle": "none"}
+            where, y = (band, 0.5) if cell.pending else (axes, cell.value)
+            if cell.value is not None:
+                where.plot([self.held[number]], [y], gid=f"cost-{self.task.number}-{number}", clip_on=False, **how)
         self.names(paper, left, top, across)
 
     def names(self, paper: Paper, left: float, top: float, across: float) -> None:

@@ -175,7 +175,7 @@ class CostPlot:
 
     def limits(self, axes: Axes) -> None:
         """The same cores for the curves and for what is pending, with ticks at none below 0."""
-        every = [self.scene.best_effort(it) for it in self.scene.sweep.runs]
+        every = [it for it in map(self.scene.best_effort, self.scene.sweep.runs) if math.isfinite(it)]
         least, most = min(every), max(every)
         room = (most - least) * ENDS or 0.1
         ticks = MaxNLocator(5, steps=[1, 2, 5, 10]).tick_values(max(least - room, 0), most + room)

@@ -13,7 +13,8 @@ import xml.etree.ElementTree as tree
 from caladan_draw.colours import DARK, LIGHT, colours_of
 from caladan_draw.command import main
 from caladan_draw.saving import as_svg, save
-from given import DELAYS, RUNS, TOP, VIEW, drawn, example, facts, file, path_of, run_files, text_of, words_of
+from given import (DELAYS, RUNS, TOP, VIEW, as_csv, drawn, example, facts, file, path_of, run_files, text_of,
+                   words_of)
 
 DRAW = os.path.join(TOP, "caladan_draw")
 SVG = "{http://www.w3.org/2000/svg}"
@@ -102,6 +103,7 @@ class Refused(unittest.TestCase):
         head = text_of(facts_of[0]).partition("\n")[0]
         other = file("other.csv", "time,core\n1,2\n")
         short = file("short.csv", f"{head}\n1,2,3\n")
+        nothing = file("nothing.csv", as_csv(text_of(example("sweep/nothing_comes", "output"))))
         letters = file("letters.csv", f"{head}\nx,6,2,3,held,,,,,3,4,160,180\n")
         for words, line in (
                 ([], "no word; there are run, compare and sweep"),
@@ -117,6 +119,9 @@ class Refused(unittest.TestCase):
                 (["run", *facts_of, *out, "--task", "3"], "no such task: there are 3, from 0"),
                 (["run", *facts_of, *out, "--names", "a,b"], "--names: 2 names, and the table has 3 tasks"),
                 (["run", *facts_of, *out, "--tick", "nanoseconds"], "--tick 'nanoseconds': 1 to 10 letters"),
+                (["run", example("decide/empty_file"), *out], "the run has no passes: there is nothing to draw"),
+                (["compare", example("compare/kinds_csv", "output"), *out], "no requests came: there is nothing to"),
+                (["sweep", nothing, *out], "no requests came: there is nothing to draw"),
                 (["run", tour, "-o", path_of("x.svg"), "--program", "/none"], "/none: No such file or directory"),
                 (["sweep", example("sweep/team_csv", "output"), *out, "--slo", "p99"], "an objective is task.T.R=N")):
             with self.subTest(words):
