@@ -8,46 +8,38 @@ import numpy
 
 from given import DELAYS, drawn, example, file, input_of, named, pairs, rows_in, task_values, viewed, words_of
 
-NAME, VALUES = "lockstep/tour", ("10", "30", "50")
 
+class Compared:
+    """Tables on the same arrivals: what is drawn of three tasks with three tables."""
 
-def own(word, table):
-    """The facts of the run of one table."""
-    given = viewed("compare", "--vary", DELAYS, "--write-input", str(table), given=input_of(NAME))
-    return viewed(word, given=given)
-
-
-def compared():
-    return viewed("compare", "--vary", DELAYS, "--csv", given=input_of(NAME))
-
-
-def files():
-    """The CSV of the comparison and of its runs as files."""
-    runs = [file(f"{word}{n}.csv", own(word, n)) for word in ("requests", "series") for n in range(3)]
-    return [file("compare.csv", compared()), *runs]
-
-
-def number(task, measure, value):
-    """A number of the comparison, and its bound."""
-    row = next(it for it in rows_in(compared()) if it["task.0.delay"] == f"task {task} {measure}")
-    return row[value], row[f"{value} bound"]
-
-
-class Tour(unittest.TestCase):
-    """Three tables on the arrivals of the tour."""
+    NAME, WORDS, TABLES = "", [], ()
 
     @classmethod
     def setUpClass(cls):
-        cls.paper = drawn("compare", *files())
-        cls.requests = [rows_in(own("requests", it)) for it in range(3)]
-        cls.series = [rows_in(own("series", it)) for it in range(3)]
+        given = input_of(cls.NAME)
+        own = [viewed("compare", *cls.WORDS, "--write-input", str(it), given=given) for it in range(3)]
+        facts = {word: [viewed(word, given=it) for it in own] for word in ("requests", "series")}
+        cls.compared = file(f"{cls.__name__}.csv", viewed("compare", *cls.WORDS, "--csv", given=given))
+        cls.files = [cls.compared, *(file(f"{cls.__name__}-{word}{n}.csv", text)
+                                     for word, texts in facts.items() for n, text in enumerate(texts))]
+        cls.paper = drawn("compare", *cls.files)
+        cls.rows = rows_in(viewed("compare", *cls.WORDS, "--csv", given=given))
+        cls.requests, cls.series = (list(map(rows_in, facts[word])) for word in ("requests", "series"))
+
+    def number(self, task, measure, table):
+        """A number of the comparison, and its bound."""
+        row = next(it for it in self.rows if next(iter(it.values())) == f"task {task} {measure}")
+        return row[table], row[f"{table} bound"]
+
+    def part(self, name):
+        return named(self.paper, name)[name]
 
     def test_steps_are_the_shares_answered(self):
         for task in range(3):
             for table in range(3):
                 mine = [it for it in self.requests[table] if it["task"] == str(task)]
                 times = [int(it["answered [ticks]"]) - int(it["arrived [ticks]"]) for it in mine if it["begun [ticks]"]]
-                line = named(self.paper, f"shares-{task}-{table}")[f"shares-{task}-{table}"]
+                line = self.part(f"shares-{task}-{table}")
                 self.assertEqual(line.get_drawstyle(), "steps-post")
                 points = pairs(line.get_xydata())[1:-1]
                 steps = [(time, round(sum(it <= time for it in times) / len(mine), 9)) for time in sorted(set(times))]
@@ -61,49 +53,70 @@ class Tour(unittest.TestCase):
         self.assertEqual(len(limits), 3)
 
     def test_curves_that_cover_each_other_are_told_apart(self):
-        looks = {named(self.paper, f"shares-0-{it}")[f"shares-0-{it}"] for it in range(3)}
+        looks = [self.part(f"shares-0-{it}") for it in range(3)]
         widths = sorted(it.get_linewidth() for it in looks)
         self.assertTrue(all(b - a >= 0.5 for a, b in zip(widths, widths[1:])))
         self.assertEqual(len({it.get_color() for it in looks}), 3)
-        marks = [it.get_marker() for n in range(3) for it in named(self.paper, f"answered-1-{n}").values()]
+        marks = [self.part(f"answered-1-{it}").get_marker() for it in range(3)]
         self.assertEqual(len(set(marks)), 3)
-        words = " ".join(words_of(self.paper))
-        self.assertIn("50 the same as", words)
+
+    def test_curves_that_are_the_same_are_named(self):
+        words, told = " ".join(words_of(self.paper)), []
+        for task in range(3):
+            curves = [pairs(self.part(f"shares-{task}-{it}").get_xydata()) for it in range(3)]
+            first = [curves.index(it) for it in curves]
+            told += [f"{label} the same as {self.TABLES[at]}" for n, (label, at) in enumerate(zip(self.TABLES, first))
+                     if at < n]
+        self.assertTrue(told)
+        self.assertEqual(words.count(" the same as "), len(told))
+        self.assertEqual([it for it in told if it not in words], [])
 
     def test_strips_are_the_cores_held(self):
         for task in range(3):
             for table in range(3):
-                steps = named(self.paper, f"strip-{task}-{table}")[f"strip-{task}-{table}"].get_data()
+                steps = self.part(f"strip-{task}-{table}").get_data()
                 self.assertEqual(list(steps.values), task_values(self.series[table], task, "held [cores]")[:-1])
                 self.assertEqual(list(steps.edges), task_values(self.series[table], task, "clock [ticks]"))
         words = words_of(self.paper)
         for task in range(3):
-            for value in VALUES:
-                served, given = (number(task, it, value)[0] for it in ("requests served", "requests given"))
+            for table in self.TABLES:
+                served, given = (self.number(task, it, table)[0] for it in ("requests served", "requests given"))
                 self.assertIn(f"{served} of {given}", words)
 
     def test_the_cost_is_the_response_over_best_effort_cores(self):
         for task in range(2):
-            for table, value in enumerate(VALUES):
-                (x, y), = pairs(named(self.paper, f"cost-{task}-{table}")[f"cost-{task}-{table}"].get_xydata())
-                self.assertEqual(x, float(number(2, "mean cores held", value)[0]))
-                time, bound = number(task, "response 99 of 100", value)
-                part = named(self.paper, f"cost-{task}-{table}")[f"cost-{task}-{table}"].axes.get_label()
-                self.assertEqual(part, f"cost pending {task}" if bound else f"cost {task}")
+            for place, table in enumerate(self.TABLES):
+                line = self.part(f"cost-{task}-{place}")
+                (x, y), = pairs(line.get_xydata())
+                self.assertEqual(x, float(self.number(2, "mean cores held", table)[0]))
+                time, bound = self.number(task, "response 99 of 100", table)
+                self.assertEqual(line.axes.get_label(), f"cost pending {task}" if bound else f"cost {task}")
                 if not bound:
                     self.assertEqual(y, float(time))
         self.assertFalse(named(self.paper, "cost-2"))
 
     def test_of_the_comparison_alone_the_ranks_are_drawn(self):
-        paper = drawn("compare", file("alone.csv", compared()), "--table", example(NAME))
+        paper = drawn("compare", self.compared, "--table", example("lockstep/tour"))
         line = named(paper, "shares-1-0")["shares-1-0"]
-        times = [float(number(1, f"response {it}", "10")[0]) for it in ("least", "median", "greatest")]
+        ranks = ("least", "median", "greatest")
+        times = [float(self.number(1, f"response {it}", self.TABLES[0])[0]) for it in ranks]
         self.assertEqual([x for x, _ in pairs(line.get_xydata())[1:-1]], sorted(set(times)))
         self.assertFalse(named(paper, "strip-"))
 
     def test_an_input_is_drawn_as_its_files(self):
-        self.assertEqual(words_of(drawn("compare", "--vary", DELAYS, example(NAME))),
-                         words_of(drawn("compare", *files(), "--table", example(NAME))))
+        self.assertEqual(words_of(drawn("compare", *self.WORDS, example(self.NAME))), words_of(self.paper))
+
+
+class Delays(Compared, unittest.TestCase):
+    """One table with three delays."""
+
+    NAME, WORDS, TABLES = "lockstep/tour", ["--vary", DELAYS], ("10", "30", "50")
+
+
+class Tables(Compared, unittest.TestCase):
+    """Three tables in one input."""
+
+    NAME, TABLES = "compare/tour", ("table 0", "table 1", "table 2")
 
 
 class Shares(unittest.TestCase):
