@@ -13,7 +13,7 @@ from .paper import SMALL, Paper, cut
 from .tables import Task
 from .window import Columns, Window, bucket_size, buckets
 
-MARGIN, LABELS, LIMITS = 14, 118, 72
+MARGIN, LABELS, LIMITS = 14, 128, 72
 
 
 @dataclass(frozen=True)

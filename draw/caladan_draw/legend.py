@@ -8,6 +8,7 @@ from matplotlib.patches import Rectangle
 
 from .bands import MARGIN, Scene
 from .colours import Palette
+from .cores import joined
 from .marks import cause_mark
 from .paper import SMALL, Paper, width_of, words_on
 from .tasks import DASHES, HATCH
@@ -62,11 +63,13 @@ def fine_signs(scene: Scene) -> list[tuple[bool, Sign]]:
     """The signs of the lanes of cores, each with whether it is drawn, where a column is one pass."""
     spans = [it for it in scene.run.spans if scene.part(it)]
     causes, states, kinds = {it.cause for it in spans}, {it.state for it in spans}, {it.kind for it in scene.tasks}
+    wholes = joined(scene.run.spans)
+    ends = [it.to_pass for it in spans if it is wholes[id(it)][-1] and it.state != "banned"]
     return [
         ("lc" in kinds, Sign(box(thread="3"), "thread 3, of a latency-critical task")),
         ("be" in kinds, Sign(box("lane", thread="4"), "thread 4, of a best-effort task")),
         ("held" in states, Sign(upright(2), "granted")),
-        ("held" in states, Sign(upright(0.9), "freed")),
+        (any(it is not None and it <= scene.window.beyond for it in ends), Sign(upright(0.9), "freed")),
         ("preempt" in causes, Sign(mark("preempt"), "revoked for the task of its colour")),
         ("bandwidth" in causes, Sign(mark("bandwidth"), "revoked for bandwidth")),
         ("ban" in causes, Sign(mark("ban"), "revoked for a ban")),
