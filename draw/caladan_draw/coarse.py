@@ -58,21 +58,23 @@ class CoarseLanes(CoreLanes):
                     self.patch(axes, paper, whose, which, is_sure)
 
     def patch(self, axes: Axes, paper: Paper, whose: int, which: numpy.ndarray, is_sure: bool) -> None:
-        """All columns of one task, or of bans, as one shape."""
+        """All columns of one task, or of bans, as one shape; after the eighth task with a line in it."""
         edges, colours = self.scene.edges, paper.palette
-        corners: list[tuple[float, float]] = []
-        for core, row in zip(self.cores, which):
-            top, low = self.tops[core], self.tops[core] + self.high
-            for begin, end in runs_in(row):
-                left, right = edges[begin], edges[end]
-                corners += [(left, top), (right, top), (right, low), (left, low), (left, top)]
-        codes = [Path.MOVETO, Path.LINETO, Path.LINETO, Path.LINETO, Path.CLOSEPOLY] * (len(corners) // 5)
+        bars = [(self.tops[core], edges[begin], edges[end])
+                for core, row in zip(self.cores, which) for begin, end in runs_in(row)]
+        corners = [corner for top, left, right in bars for corner in
+                   ((left, top), (right, top), (right, top + self.high), (left, top + self.high), (left, top))]
+        codes = [Path.MOVETO, Path.LINETO, Path.LINETO, Path.LINETO, Path.CLOSEPOLY] * len(bars)
         shade = colours.shade(max(whose, 0))
         is_full = whose >= 0 and self.scene.run.table.tasks[whose].kind == "lc"
         colour = colours.figure if whose == BANNED else shade.full if is_full else shade.pale
         name = f"{'banned' if whose == BANNED else whose}-{'most' if is_sure else 'part'}"
         axes.add_patch(PathPatch(Path(corners, codes), facecolor=colour, lw=0, alpha=1 if is_sure else PALE,
                                  gid=f"coarse-{name}"))
+        if whose >= len(colours.shades):
+            tops, lefts, rights = zip(*bars)
+            axes.hlines([it + self.high / 2 for it in tops], lefts, rights, lw=0.8, gid=f"line-{name}",
+                        color=shade.on if is_full else shade.edge)
 
 
 class RevokedLane:

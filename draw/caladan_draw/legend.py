@@ -7,6 +7,7 @@ from matplotlib.axes import Axes
 from matplotlib.patches import Rectangle
 
 from .bands import MARGIN, Scene
+from .coarse import PALE
 from .colours import Palette
 from .cores import joined
 from .marks import cause_mark
@@ -30,6 +31,13 @@ def box(fill: str = "second", edge: str = "second", hatch: str = "", thread: str
         axes.add_patch(Rectangle((x, y - HIGH / 2), WIDE, HIGH, facecolor=getattr(palette, fill), lw=0.8,
                                  edgecolor=getattr(palette, edge), hatch=hatch))
         words_on(axes, x + 5, y, thread, SMALL, palette.ground if fill == "second" else palette.ink)
+    return draw
+
+
+def faded(alpha: float) -> Draw:
+    """A box in the colour of the first task."""
+    def draw(axes: Axes, x: float, y: float, palette: Palette) -> None:
+        axes.add_patch(Rectangle((x, y - HIGH / 2), WIDE, HIGH, color=palette.shade(0).full, alpha=alpha, lw=0))
     return draw
 
 
@@ -83,8 +91,8 @@ def coarse_signs(scene: Scene) -> list[tuple[bool, Sign]]:
     """The same where a column is several passes."""
     states = {it.state for it in scene.run.spans if scene.part(it)}
     return [
-        (True, Sign(box(), "had the core in most passes")),
-        (True, Sign(box("best", "best"), "paler: in fewer than three of four")),
+        (True, Sign(faded(1), "had the core in most passes")),
+        (True, Sign(faded(PALE), "paler: in fewer than three of four")),
         ("banned" in states, Sign(box("figure", "figure"), "banned in most passes")),
     ]
 

@@ -332,6 +332,14 @@ class Coarse(unittest.TestCase):
                 if whose != "free":
                     self.assertEqual(part, "most" if counts[whose] * 4 >= 3 * (end - begin) else "part")
 
+    def test_a_task_after_the_eighth_has_a_line_in_it(self):
+        shapes = {gid.removeprefix("coarse-") for gid in named(self.paper, "coarse-")}
+        asked_for = {it for it in shapes if it.partition("-")[0] in map(str, range(8, self.TASKS))}
+        self.assertEqual({gid.removeprefix("line-") for gid in named(self.paper, "line-")}, asked_for)
+        bars = named(self.paper, "coarse-8-most")["coarse-8-most"].get_path().vertices.reshape(-1, 5, 2)
+        lines = named(self.paper, "line-8-most")["line-8-most"].get_segments()
+        self.assertEqual([(it[0][0], it[1][0]) for it in lines], [(it[0][0], it[1][0]) for it in bars])
+
     def cells(self):
         """Of each core and each column that begins at a pass, the shape that covers it, if any."""
         found, middles = {}, {round(float(y), 3): core for core, y in lanes(self.paper).items()}
