@@ -9,7 +9,6 @@ from typing import Sequence
 
 import numpy
 from matplotlib.axes import Axes
-from matplotlib.ticker import MaxNLocator
 
 from .colours import Palette
 from .curves import grid, look, sample_rows, samples, shorts
@@ -17,7 +16,7 @@ from .facts import Request, Standing
 from .numbers import RANKS, Cell, Comparison
 from .paper import SMALL, Paper, cut, heading, wrapped
 from .refusal import Refusal
-from .scales import ShareScale, TimeScale
+from .scales import ShareScale, TimeScale, core_scale
 from .tables import Task, count
 
 MARGIN, LABELS, SHARES, STRIP, GAP = 14, 112, 170, 18, 34
@@ -180,20 +179,13 @@ class CostPlot:
         self.cells = scene.row(task, RANKS[COST_RANK])
         self.held = [scene.best_effort(it) for it in range(len(self.cells))]
 
-    def limits(self, axes: Axes) -> None:
-        """The same cores for the points and for what is pending."""
-        least, most = min(self.held), max(self.held)
-        room = (most - least) * 0.15 or 0.1
-        axes.set_xlim(least - room, most + room)
-
     def scales(self, axes: Axes, palette: Palette) -> None:
         """Times of what was answered, if anything was, over cores."""
         times = [it.value for it in self.cells if it.value is not None and not it.pending]
         TimeScale(times).use(axes, "y")
         if not times:
             axes.set_yticks([])
-        self.limits(axes)
-        axes.xaxis.set_major_locator(MaxNLocator(4, steps=[1, 2, 5, 10]))
+        core_scale(axes, self.held, 0.15, 4)
         grid(axes, palette)
 
     def band(self, paper: Paper, left: float, top: float, across: float) -> Axes:
@@ -201,7 +193,8 @@ class CostPlot:
         axes = paper.axes(left, top, across, 16, f"cost pending {self.task.number}")
         axes.set_facecolor(paper.palette.lane)
         axes.set_ylim(0, 1)
-        self.limits(axes)
+        core_scale(axes, self.held, 0.15, 4)
+        axes.set_xticks([])
         paper.text(left - 6, top + 8, "pending", SMALL - 1, color=paper.palette.second, ha="right")
         return axes
 

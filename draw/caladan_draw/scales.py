@@ -2,7 +2,7 @@
 from __future__ import annotations
 
 import math
-from typing import Iterable
+from typing import Iterable, Sequence
 
 import numpy
 from matplotlib.axes import Axes
@@ -67,6 +67,16 @@ class TimeScale:
         """How far up an axis a time stands, from 0 to 1."""
         least, here, most = self.to_place(numpy.array([self.least, time, self.most]))
         return float((here - least) / (most - least))
+
+
+def core_scale(axes: Axes, held: Sequence[float], beside: float, most_ticks: int) -> None:
+    """Cores from left to right, with such a part of their range beside them, and names at round numbers."""
+    room = (max(held) - min(held)) * beside or 0.1
+    least, most = min(held) - room, max(held) + room
+    ticks = MaxNLocator(most_ticks, steps=[1, 2, 5, 10]).tick_values(max(least, 0), most)
+    named = [it for it in ticks if max(least, 0) <= it <= most]
+    axes.set_xticks(named, [f"{it:g}" for it in named])
+    axes.set_xlim(least, most)
 
 
 class ShareScale:

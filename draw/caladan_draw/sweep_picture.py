@@ -8,14 +8,13 @@ from functools import cached_property
 from typing import Optional, Sequence
 
 from matplotlib.axes import Axes
-from matplotlib.ticker import MaxNLocator
 
 from .colours import Palette
 from .curves import STYLES, grid, look, sample_rows, samples
 from .numbers import RANKS, Cell, Sweep, SweptRun
 from .paper import SMALL, Paper, heading, wrapped
 from .refusal import Refusal
-from .scales import TimeScale
+from .scales import TimeScale, core_scale
 
 MARGIN, AXIS, PLOT, BAND = 14, 76, 300, 16
 # The part of the cost plot's width on each side that is kept for the loads at the ends of a line.
@@ -174,13 +173,9 @@ class CostPlot:
         self.scene, self.left, self.across = scene, left, across
 
     def limits(self, axes: Axes) -> None:
-        """The same cores for the curves and for what is pending, with ticks at none below 0."""
-        every = [it for it in map(self.scene.best_effort, self.scene.sweep.runs) if math.isfinite(it)]
-        least, most = min(every), max(every)
-        room = (most - least) * ENDS or 0.1
-        ticks = MaxNLocator(5, steps=[1, 2, 5, 10]).tick_values(max(least - room, 0), most + room)
-        axes.set_xticks([it for it in ticks if 0 <= it <= most + room])
-        axes.set_xlim(least - room, most + room)
+        """The same cores for the curves and for what is pending."""
+        held = [it for it in map(self.scene.best_effort, self.scene.sweep.runs) if math.isfinite(it)]
+        core_scale(axes, held, ENDS, 5)
 
     def pending(self, paper: Paper, top: float) -> None:
         """At the height of its band above the loads, what is pending at the rank."""
