@@ -116,7 +116,8 @@ def answer(words: Sequence[str]) -> int:
     try:
         from . import drawing
     except ImportError as missing:
-        raise Refusal(f"{missing.name} is not installed; on Debian: apt-get install python3-matplotlib") from None
+        name = missing.name or "matplotlib"
+        raise Refusal(f"{name} is not installed; on Debian: apt-get install python3-matplotlib") from None
     return drawing.draw(space)
 
 
