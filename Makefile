@@ -6,7 +6,7 @@
 # make needs           installs the Debian packages that make test and make check use, as root; else lists them
 # make files           docs/FILES.md, a list of every file with what it is for
 # make wrong_bodies    docs/WRONG_BODIES.md, a list of every wrong body with the clause that refuses it
-# make install PREFIX=/usr/local      programs, C library, headers, pkg-config, manual pages and completions
+# make install PREFIX=/usr/local      programs, caladan_draw, C library, headers, pkg-config, manual pages, completions
 # make install_library PREFIX=..      the C library, its headers and the files for pkg-config and CMake alone
 # make dist            a release in out/release: packages, a prefix, the sources, and PROOF of what the gate keeps
 # What is proved is kept in crates/*/out, so make goes on where it was ended.
@@ -51,7 +51,10 @@ install: $(programs) caladan_c
 	tools/install_c_library $(PREFIX)
 	mkdir -p $(PREFIX)/bin
 	for each in $(programs); do install -m 755 crates/$$each/out/$$each $(PREFIX)/bin || exit; done
-	tools/manual $(share) $(PREFIX)/bin/caladan_sim $(PREFIX)/bin/caladan_view
+	install -m 755 caladan_draw $(PREFIX)/bin
+	install -D -m 644 -t $(share)/caladan_draw/caladan_draw draw/caladan_draw/*.py
+	tools/manual $(share) $(PREFIX)/bin/caladan_sim $(PREFIX)/bin/caladan_view \
+		$(if $(wildcard /usr/bin/python3),$(PREFIX)/bin/caladan_draw)
 	tools/doc_pages $(share)/man
 
 install_library: $(archive)

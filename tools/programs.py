@@ -69,7 +69,7 @@ def help_of(program, *words):
 def listed(text, head):
     """The names under a heading of a help text, and what each is for."""
     part = re.search(rf"^{head}:\n((?:  .*\n|\n(?=  ))*)", text + "\n", re.M)
-    return dict(re.findall(r"^ +(?:-\w, )?([\w-]+)(?: +(\S.*))?$", part[1] if part else "", re.M))
+    return dict(re.findall(r"^ +(?:-\w(?: [A-Z]+)?, )?([\w-]+)(?: +(\S.*))?$", part[1] if part else "", re.M))
 
 
 def words_of(program):

@@ -77,13 +77,15 @@ def compressed(at):
 
 
 def programs(at, made):
-    """caladan_sim and caladan_view, stripped, with their manual pages and completions, the pages of docs/ and the
-    examples."""
+    """caladan_sim and caladan_view, stripped, and caladan_draw, with their manual pages and completions, the pages of
+    docs/ and the examples."""
     man = os.path.normpath(f"{at.root}/{at.prefix}/share")
     for name in ("caladan_sim", "caladan_view"):
         program = write(at, f"{at.prefix}/bin/{name}", None, 0o755, made.programs[name])
         tool("strip", "--strip-all", program)
-    tool(f"{TOP}/tools/manual", man, *(os.path.normpath(f"{at.root}/{at.prefix}/bin/{it}") for it in made.programs))
+    drawing(at)
+    names = (*made.programs, "caladan_draw")
+    tool(f"{TOP}/tools/manual", man, *(os.path.normpath(f"{at.root}/{at.prefix}/bin/{it}") for it in names))
     if at.zsh != share(at, "zsh/site-functions"):
         os.renames(f"{man}/zsh/site-functions", f"{at.root}/{at.zsh}")
     tool(f"{TOP}/tools/doc_pages", f"{man}/man")
@@ -92,6 +94,14 @@ def programs(at, made):
     for file in tracked("examples") + tracked("docs/pictures"):
         if not file.startswith("examples/c/"):
             write(at, share(at, f"doc/doranjei/{file}"), None, 0o644, f"{TOP}/{file}")
+
+
+def drawing(at):
+    """caladan_draw: its program, its modules where that looks for them, and its page."""
+    put(at, f"{at.prefix}/bin", f"{TOP}/caladan_draw", 0o755)
+    for file in tracked("draw/caladan_draw"):
+        put(at, share(at, "caladan_draw/caladan_draw"), f"{TOP}/{file}")
+    write(at, share(at, "doc/doranjei/draw/README.md"), None, 0o644, f"{TOP}/draw/README.md")
 
 
 def shared_object(at, made, archive, heap):

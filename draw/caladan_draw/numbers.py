@@ -1,0 +1,131 @@
+"""The rows of `caladan_view compare --csv` and `sweep --csv`."""
+from __future__ import annotations
+
+import csv
+import io
+from dataclasses import dataclass
+from typing import Optional
+
+from .facts import kind_of
+from .refusal import Refusal
+
+TIMES = ("p50", "p90", "p99", "p99.9", "mean")
+COLUMNS = ("came", "later", "left out", "served", "mean cores", "best-effort share")
+RANKS = {"p50": "response median", "p90": "response 90 of 100", "p99": "response 99 of 100",
+         "p99.9": "response 99.9 of 100", "max": "response greatest"}
+FIRST_MEASURE = "requests given"
+EXPECTED = {
+    "compare": "not the CSV of `caladan_view compare --csv`, whose first line is measure or a key,LABEL,LABEL bound,"
+               "LABEL of and so on, with four columns for each further table",
+    "sweep": "not the CSV of `caladan_view sweep --csv`, whose first line is load,(a key,)p50,p50 bound,p50 of and so "
+             "on, to best-effort share",
+}
+
+
+@dataclass(frozen=True)
+class Cell:
+    """A number: None where there is nothing to measure; whether it is that of a request that is pending, for so long;
+    and of how many times it is, where these are too few for its rank."""
+
+    value: Optional[float]
+    pending: bool = False
+    of: Optional[int] = None
+
+
+@dataclass(frozen=True)
+class Comparison:
+    """What came of tasks with each table: the tables by their labels, the tasks by their names, and the cells of each
+    row, a cell for each table."""
+
+    tables: tuple[str, ...]
+    tasks: tuple[str, ...]
+    rows: dict[str, tuple[Cell, ...]]
+
+    def cells(self, task: str, measure: str) -> tuple[Cell, ...]:
+        return self.rows.get(f"{task} {measure}", tuple(Cell(None) for _ in self.tables))
+
+
+@dataclass(frozen=True)
+class SweptRun:
+    """A run of a sweep: its load, the value that is varied, its times by rank, and its counts by column."""
+
+    load: float
+    value: str
+    times: dict[str, Cell]
+    counts: dict[str, Optional[float]]
+
+
+@dataclass(frozen=True)
+class Sweep:
+    """The runs of a sweep, the key that is varied, if any, and the task that is swept where it has a name."""
+
+    task: str
+    key: str
+    runs: tuple[SweptRun, ...]
+
+    @property
+    def values(self) -> list[str]:
+        """The values that are varied, each once, in their order."""
+        return list(dict.fromkeys(it.value for it in self.runs))
+
+    def label(self, value: str) -> str:
+        return f"{self.key}={value}" if self.key else "the table"
+
+
+def number(text: str, where: str) -> Optional[float]:
+    """A number, or None for a dash."""
+    try:
+        return None if text in ("-", "") else float(text)
+    except ValueError:
+        raise Refusal(f"{where}: `{text}`; wanted: a number or -") from None
+
+
+def cell(texts: list[str], where: str) -> Cell:
+    """A number with its bound and its count."""
+    value, bound, of = texts
+    if bound not in ("", ">"):
+        raise Refusal(f"{where}: `{bound}`; wanted: > or nothing")
+    few = number(of, where)
+    return Cell(number(value, where), bound == ">", None if few is None else int(few))
+
+
+def lines_of(text: str, name: str, kind: str) -> tuple[list[str], list[tuple[str, list[str]]]]:
+    """The head of a CSV of this kind, and its rows, each with where it stands."""
+    if kind_of(text) != kind:
+        raise Refusal(f"{name}: {EXPECTED[kind]}")
+    head, *rows = [it for it in csv.reader(io.StringIO(text)) if it]
+    for line, row in enumerate(rows, 2):
+        if len(row) != len(head):
+            raise Refusal(f"{name}: line {line} has {len(row)} fields, and its head has {len(head)}")
+    return head, [(f"{name}: line {line}", row) for line, row in enumerate(rows, 2)]
+
+
+def read_comparison(text: str, name: str) -> Comparison:
+    """A comparison; its tables are the columns beside which a bound stands."""
+    head, lines = lines_of(text, name, "compare")
+    places = [n for n, it in enumerate(head[:-1]) if n and head[n + 1] == f"{it} bound"]
+    rows = {row[0]: tuple(cell(row[n:n + 3], where) for n in places) for where, row in lines}
+    given = f" {FIRST_MEASURE}"
+    tasks = tuple(it[:-len(given)] for it in rows if it.endswith(given))
+    key = "" if head[0] == "measure" else f"{head[0]}="
+    return Comparison(tuple(key + head[n] for n in places), tasks, rows)
+
+
+def read_sweep(text: str, name: str) -> Sweep:
+    """A sweep; a column between its load and its times is of the key that is varied."""
+    head, lines = lines_of(text, name, "sweep")
+    missing = [it for it in (*TIMES, *COLUMNS) if it not in head]
+    if missing:
+        raise Refusal(f"{name}: {EXPECTED['sweep']}: it has no column {missing[0]}")
+    key = head[1] if head[1] != "p50" else ""
+    runs = []
+    for where, row in lines:
+        times = {it: cell(row[head.index(it):head.index(it) + 3], where) for it in TIMES}
+        counts = {it: number(row[head.index(it)], where) for it in COLUMNS}
+        load = number(row[0], where)
+        if load is None:
+            raise Refusal(f"{where}: its load is `{row[0]}`; wanted: a number")
+        runs.append(SweptRun(load, row[1] if key else "", times, counts))
+    if not runs:
+        raise Refusal(f"{name}: it has no runs below its head")
+    return Sweep(head[0].partition("load of ")[2], key, tuple(runs))

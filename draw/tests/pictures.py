@@ -1,0 +1,25 @@
+"""The pictures of docs/pictures, each with the words that draw it, but for host.svg: that is of a record of a machine.
+
+    PYTHONPATH=draw /usr/bin/python3 draw/tests/pictures.py     draws them anew; `tools/draw_tests --write` runs it"""
+from __future__ import annotations
+
+from given import DELAYS, TOP, as_csv, drawn, example, file, text_of
+
+FOLDER = f"{TOP}/docs/pictures"
+
+
+def pictures() -> dict[str, list[str]]:
+    """The words that draw each picture. The sweep takes a minute, so it is drawn of what its example prints."""
+    swept = file("sweep_rising.csv", as_csv(text_of(example("sweep/rising", "output"))))
+    return {
+        "tour": ["run", example("decide/tour")],
+        "lockstep_tour": ["run", example("lockstep/tour")],
+        "compare_tour": ["compare", "--vary", DELAYS, example("lockstep/tour")],
+        "sweep_rising": ["sweep", swept, "--table", example("sweep/rising"), "--slo", "task.0.p99=250"],
+    }
+
+
+if __name__ == "__main__":
+    from caladan_draw.saving import save
+    for name, words in pictures().items():
+        save(drawn(*words), f"{FOLDER}/{name}.svg")
