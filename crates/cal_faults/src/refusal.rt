@@ -97,7 +97,7 @@ impl TraceKind {
                 "`caladan_sim lockstep` and `sim`, `caladan_view measure`, `compare` and `timeline`"
             }
             TraceKind::History => {
-                "`caladan_sim audit`, `caladan_view measure`, `picture`, `timeline` and `explain`"
+                "`caladan_sim audit`, `caladan_view measure`, `timeline` and `explain`"
             }
         }
     }

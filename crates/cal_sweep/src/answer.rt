@@ -9,11 +9,9 @@ ghost use Rattle.cal_tables.specs.Joining.{table_part};
 
 use crate::fault::SweepFault;
 use crate::job::SweepJob;
-use crate::picture::picture_of;
 use crate::runs::{Sweep, swept};
 use crate::table::ShownSweep;
 use crate::verdict::{say_misses, status_of_sweep};
-use crate::words::SweepForm;
 use cal_input::RunFault;
 use cal_tables::ComparisonFault;
 use std::alloc::AllocError;
@@ -22,18 +20,14 @@ use std::thread::Threads;
 
 /// What is written of a sweep, in memory.
 fn text_of(job: &SweepJob<'_>, sweep: &Sweep) -> Result<String, AllocError> {
-    match job.asked.form {
-        SweepForm::Numbers(form) => {
-            let shown = ShownSweep {
-                sweep,
-                task: job.asked.task(),
-                names: job.names,
-                form,
-            };
-            shown.sheet(job.alloc)?.written(job.alloc, form)
-        }
-        SweepForm::Picture => picture_of(job, sweep),
-    }
+    let form = job.asked.form;
+    let shown = ShownSweep {
+        sweep,
+        task: job.asked.task(),
+        names: job.names,
+        form,
+    };
+    shown.sheet(job.alloc)?.written(job.alloc, form)
 }
 
 /// Writes the sweep that a job asked for, and answers the exit status: 1 where one of the runs of

@@ -11,7 +11,7 @@ pub struct SweepJob<'a> {
     pub alloc: Global,
     /// The input. What follows a separator line in it is not read.
     pub input: &'a [u8],
-    /// Which runs are made, and as what they are shown.
+    /// Which runs are made, and in which form their numbers are written.
     pub asked: &'a Asked<'a>,
     /// What the tables, the tasks and the clock ticks are called.
     pub names: SweepNames<'a>,

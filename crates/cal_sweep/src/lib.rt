@@ -1,10 +1,9 @@
 //! How far may the load rise? Runs of a task table, or of each that it gives with some values at a
 //! key, on arrivals that are made for one load after the other, with what came of a task in each,
-//! and an objective that its requests may keep or miss: as a table, as CSV or as a picture.
+//! and an objective that its requests may keep or miss: as a table, or as CSV.
 //!
 //! That each run is one of its table, and by which numbers the objective is missed, is proved
-//! (`swept`, `answer_sweep`). Which arrivals are made, and how all is written and drawn, is only
-//! tested.
+//! (`swept`, `answer_sweep`). Which arrivals are made, and how all is written, is only tested.
 #![tactic(auto)]
 
 mod answer;
@@ -12,7 +11,6 @@ mod fault;
 mod job;
 mod naming;
 mod objective;
-mod picture;
 mod runs;
 mod shares;
 mod table;
@@ -26,4 +24,4 @@ pub use naming::SweepNames;
 pub use objective::{Objective, objective_of};
 pub use runs::{Sweep, SweptLoad, SweptRun, swept};
 pub use verdict::{is_missed, status_of_sweep};
-pub use words::{Asked, SweepForm, SweepWords, asked_of};
+pub use words::{Asked, SweepWords, asked_of};

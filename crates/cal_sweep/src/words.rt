@@ -9,15 +9,6 @@ use cal_load::{LoadFault, LoadWords, TaskLoad, Timing, Why, refused, stepped_loa
 use cal_tables::NumberForm;
 use std::alloc::{AllocError, Global};
 
-/// As what a sweep is shown.
-#[derive(Clone, Copy, Debug, PartialEq, Eq)]
-pub enum SweepForm {
-    /// As numbers, a row for each run.
-    Numbers(NumberForm),
-    /// As one SVG.
-    Picture,
-}
-
 /// What words ask for, each as it was given.
 #[derive(Debug, Drop)]
 pub struct SweepWords<'a> {
@@ -27,8 +18,8 @@ pub struct SweepWords<'a> {
     pub vary: Option<&'a str>,
     /// The objective.
     pub slo: Option<&'a str>,
-    /// As what it is shown.
-    pub form: SweepForm,
+    /// In which form its numbers are written.
+    pub form: NumberForm,
 }
 
 /// What a sweep is of.
@@ -50,8 +41,8 @@ pub struct Asked<'a> {
     pub word: &'a str,
     /// The words of the tasks.
     pub named: Vec<&'a str>,
-    /// As what it is shown.
-    pub form: SweepForm,
+    /// In which form its numbers are written.
+    pub form: NumberForm,
 }
 
 /// The objective of a word, of one of the tasks to which requests come.

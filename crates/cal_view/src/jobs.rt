@@ -1,9 +1,9 @@
-//! What the words of the program ask for: a history recorded, drawn or compared, or arrivals made.
+//! What the words of the program ask for: an input checked, explained or measured, runs compared, a
+//! history or arrivals made.
 
 pub mod arriving;
 pub mod checking;
 pub mod comparing;
-pub mod drawing;
 pub mod explaining;
 pub mod input;
 pub mod measuring;

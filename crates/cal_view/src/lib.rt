@@ -1,9 +1,9 @@
 //! What the program `caladan_view` does between its input and its output, which are the standard ones
-//! or files by name: it says what an input is, explains passes, makes histories, arrivals, pictures
-//! and trace events, and tells the numbers of runs, of several tables and of a load that rises.
+//! or files by name: it says what an input is, explains passes, makes histories, arrivals and trace
+//! events, and tells the numbers of runs, of several tables and of a load that rises.
 //!
-//! Pictures and trace events are those of `cal_picture`, numbers those of `cal_tables` and
-//! `cal_sweep`. How they are drawn and written is only tested.
+//! Trace events are those of `cal_timeline`, numbers those of `cal_tables` and `cal_sweep`. How they
+//! are written is only tested.
 #![tactic(auto)]
 
 mod command_words;

@@ -11,7 +11,6 @@ use crate::edge::sources::{open_named, read_tables, said_of_reading};
 use crate::jobs::arriving::Arriving;
 use crate::jobs::checking::answer_check;
 use crate::jobs::comparing::answer_compare;
-use crate::jobs::drawing::answer_picture;
 use crate::jobs::explaining::answer_explain;
 use crate::jobs::input::JobInput;
 use crate::jobs::measuring::answer_measure;
@@ -21,8 +20,8 @@ use crate::jobs::sweeping::Sweeping;
 use crate::refusing::{end_refusal, refused_input};
 use cal_engine::{refuse_words, words_after_first};
 use cal_input::{RunFault, read_input};
-use cal_picture::write_timeline;
 use cal_tables::Labels;
+use cal_timeline::write_timeline;
 use std::alloc::Global;
 use std::io::{BufWriter, Read, Write};
 use std::rt::Files;
@@ -288,7 +287,6 @@ fn answer_read<W: Write, E: Write>(
         Job::Explain { asked } => answer_explain(input, *asked, output, errors),
         Job::Compare { asked } => answer_compare(input, *asked, output, errors),
         Job::Measure { form } => answer_measure(input, *form, output, errors),
-        Job::Picture { shown } => answer_picture(input, *shown, output, errors),
         job => {
             do_job(job, input, output)?;
             Ok(0)
@@ -305,10 +303,10 @@ fn do_job<W: Write>(job: &Job<'_>, input: &JobInput<'_>, output: &mut W) -> Resu
     };
     match job {
         Job::History { front } => record(alloc, bytes, *front, &mut buffer)?,
-        Job::Timeline => write_timeline(alloc, input.labelled(), &mut buffer)?,
+        Job::Timeline => write_timeline(alloc, bytes, input.labels, &mut buffer)?,
         // (the calls above do these)
         Job::Arrivals { .. } | Job::Check | Job::Compare { .. } | Job::Explain { .. } => {}
-        Job::Measure { .. } | Job::Picture { .. } | Job::Sweep { .. } | Job::Help => {}
+        Job::Measure { .. } | Job::Sweep { .. } | Job::Help => {}
     }
     match buffer.flush() {
         Ok(()) => Ok(()),

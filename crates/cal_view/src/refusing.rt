@@ -70,7 +70,6 @@ pub fn refuse_word<E: Write>(fault: &WordFault<'_>, errors: &mut E) -> u8
 fn traces_of(job: &Job<'_>) -> &'static [TraceKind] {
     match job {
         Job::History { .. } => &[TraceKind::Signals],
-        Job::Picture { .. } => &[TraceKind::History],
         Job::Measure { .. } | Job::Timeline => &[TraceKind::Arrivals, TraceKind::History],
         Job::Compare { .. } => &[TraceKind::Arrivals],
         Job::Explain { .. } => &[TraceKind::Signals, TraceKind::History],

@@ -6,7 +6,6 @@ use crate::command_words::sweep_words::{sweep_word, sweep_words};
 use crate::jobs::explaining::Asked;
 use crate::jobs::naming::LabelWords;
 use cal_engine::{Front, VERSION};
-use cal_picture::Shown;
 use cal_sweep::SweepWords;
 use cal_tables::NumberForm;
 use clap::error::ErrorKind;
@@ -21,11 +20,6 @@ pub enum Job<'a> {
         /// What goes in front.
         front: Front,
     },
-    /// Draw passes of a history.
-    Picture {
-        /// Which passes, and what of them.
-        shown: Shown,
-    },
     /// Write a history, or the run that arrivals make, as trace events.
     Timeline,
     /// Make a run on arrivals, and write its numbers, or those of a history.
@@ -33,9 +27,9 @@ pub enum Job<'a> {
         /// As what they are written.
         form: NumberForm,
     },
-    /// Make runs of several tables on the same arrivals, and show them side by side.
+    /// Make runs of several tables on the same arrivals, and write their numbers side by side.
     Compare {
-        /// Which tables, and as what the runs are shown.
+        /// Which tables, and what is written of the runs.
         asked: CompareWords<'a>,
     },
     /// Explain a pass of a history or of signals, or the first illegal one.
@@ -65,17 +59,15 @@ pub struct CompareWords<'a> {
     /// The key of a table and the values that make several tables of it, as `KEY=V1,V2`; without
     /// it the input has the tables.
     pub vary: Option<&'a str>,
-    /// As what the runs are shown.
+    /// What is written of the runs.
     pub form: Form,
 }
 
-/// As what several runs are shown.
+/// What is written of several runs.
 #[derive(Clone, Copy, Debug, PartialEq, Eq)]
 pub enum Form {
-    /// Numbers.
+    /// Their numbers.
     Numbers(NumberForm),
-    /// A picture.
-    Picture,
     /// In place of the runs the input of the one of this table, from 0.
     Input(usize),
 }
@@ -97,12 +89,12 @@ pub struct Request<'a> {
 
 /// What the words after the program's name ask for; no words are `Job::Help`.
 ///
-/// The error is clap's own. A word that is not in the table is refused; CSV and a picture at once
-/// are an error of the kind `ArgumentConflict`, and so is a key to vary of several tables; a key
-/// with no values is one of the kind `ValueValidation`; several files without one of arrivals, or
-/// one of arrivals alone, of the kind `MissingRequiredArgument`; a request for help is an error of
-/// the kind `DisplayHelp`, one for the version of the kind `DisplayVersion`, whose texts go to the
-/// standard output; out of memory has the kind `OutOfMemory`.
+/// The error is clap's own. A word that is not in the table is refused; a key to vary of several
+/// tables is an error of the kind `ArgumentConflict`; a key with no values is one of the kind
+/// `ValueValidation`; several files without one of arrivals, or one of arrivals alone, of the kind
+/// `MissingRequiredArgument`; a request for help is an error of the kind `DisplayHelp`, one for the
+/// version of the kind `DisplayVersion`, whose texts go to the standard output; out of memory has
+/// the kind `OutOfMemory`.
 pub fn words<'a>(alloc: Global, words: &'a [&'a str]) -> Result<Request<'a>, Error> {
     let matches = program(alloc)?.try_get_matches_from(words)?;
     let job = match asked_job(alloc, &matches)? {
@@ -126,8 +118,6 @@ pub fn words<'a>(alloc: Global, words: &'a [&'a str]) -> Result<Request<'a>, Err
 /// What is wrong with words of `compare` that stand in the table one by one.
 #[derive(Clone, Copy, Debug, PartialEq, Eq)]
 enum Mistake {
-    /// The runs are to be shown as CSV and as a picture at once.
-    TwoForms,
     /// The key that is varied has no values.
     NoValues,
     /// There are several files, and none of arrivals.
@@ -141,10 +131,6 @@ enum Mistake {
 /// The error of a mistake. Fails only when out of memory.
 fn refused(alloc: Global, mistake: Mistake) -> Result<Error, AllocError> {
     let (kind, said) = match mistake {
-        Mistake::TwoForms => (
-            ErrorKind::ArgumentConflict,
-            "the argument '--csv' cannot be used with '--picture'",
-        ),
         Mistake::NoValues => (
             ErrorKind::ValueValidation,
             "the value of '--vary <KEY=V1,V2,..>' has no '='",
@@ -176,7 +162,6 @@ pub fn help(alloc: Global) -> Result<String, AllocError> {
 fn program<'a>(alloc: Global) -> Result<Command<'a>, AllocError> {
     let program = bare_program(alloc)?;
     let program = program.subcommand(history_word(alloc)?)?;
-    let program = program.subcommand(drawn_word(alloc)?)?;
     let program = program.subcommand(timeline_word(alloc)?)?;
     let program = program.subcommand(measure_word(alloc)?)?;
     let program = program.subcommand(compare_word(alloc)?)?;
@@ -210,19 +195,6 @@ fn history_word<'a>(alloc: Global) -> Result<Command<'a>, AllocError> {
         .after_long_help(help_texts::HISTORY)
         .arg(input_word(alloc))?
         .arg(table_word(alloc))?
-        .arg(output_word(alloc))
-}
-
-fn drawn_word<'a>(alloc: Global) -> Result<Command<'a>, AllocError> {
-    Command::new(alloc, "picture")
-        .about("Draw a history as one SVG")
-        .after_long_help(help_texts::PICTURE)
-        .arg(input_word(alloc))?
-        .arg(from_word(alloc))?
-        .arg(passes_word(alloc))?
-        .arg(number_word(alloc, "task", "TASK", "Draw this task alone"))?
-        .arg(names_word(alloc))?
-        .arg(tick_word(alloc))?
         .arg(output_word(alloc))
 }
 
@@ -288,7 +260,6 @@ fn compare_word<'a>(alloc: Global) -> Result<Command<'a>, AllocError> {
         .arg(arrivals_word(alloc))?
         .arg(vary_word(alloc))?
         .arg(csv_word(alloc))?
-        .arg(picture_word(alloc))?
         .arg(names_word(alloc))?
         .arg(tick_word(alloc))?
         .arg(write_input_word(alloc)?)?
@@ -315,9 +286,7 @@ pub fn tick_word<'a>(alloc: Global) -> Arg<'a> {
 
 fn write_input_word<'a>(alloc: Global) -> Result<Arg<'a>, AllocError> {
     let help = "Write the input of table N's run instead, from 0";
-    number_word(alloc, "write-input", "N", help)
-        .conflicts_with("csv")?
-        .conflicts_with("picture")
+    number_word(alloc, "write-input", "N", help).conflicts_with("csv")
 }
 
 /// The file of the input.
@@ -370,14 +339,6 @@ pub fn csv_word<'a>(alloc: Global) -> Arg<'a> {
         .help("Write the numbers as CSV")
 }
 
-/// Whether a picture is drawn.
-pub fn picture_word<'a>(alloc: Global) -> Arg<'a> {
-    Arg::new(alloc, "picture")
-        .long("picture")
-        .action(ArgAction::SetTrue)
-        .help("Draw the runs as one SVG, in place of their numbers")
-}
-
 /// A key of the table, and its values.
 pub fn vary_word<'a>(alloc: Global) -> Arg<'a> {
     Arg::new(alloc, "vary")
@@ -385,24 +346,6 @@ pub fn vary_word<'a>(alloc: Global) -> Arg<'a> {
         .action(ArgAction::Set)
         .value_name("KEY=V1,V2,..")
         .help("Vary one table by these values at a key")
-}
-
-fn from_word<'a>(alloc: Global) -> Arg<'a> {
-    Arg::new(alloc, "from")
-        .long("from")
-        .action(ArgAction::Set)
-        .value_name("PASS")
-        .value_parser(clap::value_parser!(u64))
-        .help("The first pass that is shown [default: 0]")
-}
-
-fn passes_word<'a>(alloc: Global) -> Arg<'a> {
-    Arg::new(alloc, "passes")
-        .long("passes")
-        .action(ArgAction::Set)
-        .value_name("N")
-        .value_parser(clap::value_parser!(u64).range(1..=1000))
-        .help("How many are shown, 1 to 1000 [default: those that fit]")
 }
 
 /// The job of a parsed command line, or what is wrong with it. Fails only when out of memory.
@@ -428,9 +371,6 @@ fn job_of<'a>(matches: &ArgMatches<'a>) -> Result<Job<'a>, Mistake> {
     let job = match matches.subcommand() {
         Some((name, own)) if name == "history" => Job::History {
             front: front_of(own.get_flag("table")),
-        },
-        Some((name, own)) if name == "picture" => Job::Picture {
-            shown: shown_of(own),
         },
         Some((name, _)) if name == "timeline" => Job::Timeline,
         Some((name, own)) if name == "measure" => Job::Measure {
@@ -553,20 +493,11 @@ fn comparison_of<'a>(matches: &ArgMatches<'a>) -> Result<CompareWords<'a>, Mista
     let vary = matches.get_str("vary");
     let form = match number(matches, "write-input") {
         Some(table) => Form::Input(table),
-        None => form_of(matches.get_flag("csv"), matches.get_flag("picture"))?,
+        None => Form::Numbers(number_form_of(matches.get_flag("csv"))),
     };
     match vary {
         Some(vary) if !vary.contains('=') => Err(Mistake::NoValues),
         _ => Ok(CompareWords { vary, form }),
-    }
-}
-
-/// What the options of `picture` ask for.
-fn shown_of(matches: &ArgMatches<'_>) -> Shown {
-    Shown {
-        from: number(matches, "from"),
-        passes: number(matches, "passes"),
-        task: number(matches, "task"),
     }
 }
 
@@ -590,15 +521,6 @@ pub fn number_form_of(csv: bool) -> NumberForm {
         NumberForm::Csv
     } else {
         NumberForm::Columns
-    }
-}
-
-/// What the flags `--csv` and `--picture` ask for; not both.
-fn form_of(csv: bool, picture: bool) -> Result<Form, Mistake> {
-    match (csv, picture) {
-        (true, true) => Err(Mistake::TwoForms),
-        (false, true) => Ok(Form::Picture),
-        (_, false) => Ok(Form::Numbers(number_form_of(csv))),
     }
 }
 

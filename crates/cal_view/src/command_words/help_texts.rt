@@ -9,7 +9,7 @@ Each subcommand reads one input, a file or the standard input: a task table
 (TOML), the line ---, and signals, a history or arrivals (CSV). With -o its
 answer goes to a file, which is there only once the answer is whole.
 `caladan_view SUBCOMMAND --help` says what is read and written, with a whole
-input to copy; `man caladan-formats` has all of it.
+input to copy; `man caladan-formats` has all of it. caladan_draw draws runs.
 
 Exit status: 0 done, 1 an illegal history explained or an objective missed, 2
 bad arguments or rejected input, 3 memory or output was refused. A fault has one
@@ -21,7 +21,7 @@ pub const HISTORY: &str = help_with_a_run!(
 Input: a task table (TOML), the line ---, and signals (CSV), as
 `caladan_sim decide` reads.
 Output: the history that they lead to; with --table an input of
-`picture`, of `timeline` and of `caladan_sim audit`.
+`timeline` and of `caladan_sim audit`.
 Exit status: 0 done, 2 rejected input, 3 memory or output was refused.",
     "caladan_view history",
     "\
@@ -38,25 +38,6 @@ pass,111,0
 whole,0,1,1,0,0,1,100,0,0,105,0,0
 grant,0,0,3
 end,1"
-);
-
-/// Of the subcommand `picture`.
-pub const PICTURE: &str = help_with_a_run!(
-    "\
-Input: a task table (TOML), the line ---, and a history (CSV).
-Output: one SVG, which any browser opens.
-Exit status: 0 done, 2 rejected input or no such pass or task, 3 memory or
-output was refused.",
-    "caladan_view picture > picture.svg",
-    "\
-caladan-history,2
-pass,111,0
-whole,0,1,1,0,0,1,100,0,0,105,0,0
-grant,0,0,3
-pass,121,0
-whole,0,1,2,1,1,0,0,112,0,112,0,0
-end,2
-END"
 );
 
 /// Of the subcommand `timeline`.
@@ -195,11 +176,7 @@ the named one has the arrivals; no line --- is needed.
 Output: the numbers that `caladan_view measure` gives of each table's
 run on the arrivals, a column for each table; beside each column but the first
 how much it is above or below the first; with --csv as CSV. A missing task, and
-a change that cannot be computed, is shown as a dash. With --picture it is one
-SVG in place of the numbers: for each task the share of its requests answered
-within a time, and the cores that it held, table by table. The run below as a
-picture: `caladan_view compare --picture > runs.svg <<'END'` in place of its
-first line.
+a change that cannot be computed, is shown as a dash.
 With --vary the input is that of `measure`, or one table with --arrivals, and
 there is a column for each value: the table with that value at the key. Keys are
 cores, bandwidth_limit, and of task 1 task.1.kind, task.1.guaranteed,
@@ -390,7 +367,7 @@ cores held; and which part of the machine best-effort tasks held. Each run is on
 the arrivals that `arrivals` makes with these words, and its numbers are those
 of `measure`. One task has the loads; each other --task has one.
 With --vary a row for each value, as in `compare`, on arrivals made for the
-table that it gives. With --picture one SVG: ranks over load.
+table that it gives.
 --slo is an objective for a task: p50, p90, p99, p99.9 or max, in ticks.
 Exit status: 0 done, 1 a run of the last load misses the objective, or nothing
 is answered at its rank, 2 rejected input or a word that it refuses, which is

@@ -2,11 +2,10 @@
 
 use crate::command_words::arrival_words::{load_word, load_words, task_word, with_run_words};
 use crate::command_words::command_line::{
-    csv_word, input_word, names_word, number_form_of, output_word, picture_word, tick_word,
-    vary_word,
+    csv_word, input_word, names_word, number_form_of, output_word, tick_word, vary_word,
 };
 use crate::command_words::help_texts;
-use cal_sweep::{SweepForm, SweepWords};
+use cal_sweep::SweepWords;
 use clap::{Arg, ArgAction, ArgMatches, Command};
 use std::alloc::{AllocError, Global};
 
@@ -22,7 +21,6 @@ pub fn sweep_word<'a>(alloc: Global) -> Result<Command<'a>, AllocError> {
         .arg(vary_word(alloc))?
         .arg(slo_word(alloc))?
         .arg(csv_word(alloc))?
-        .arg(picture_word(alloc).conflicts_with("csv")?)?
         .arg(names_word(alloc))?
         .arg(tick_word(alloc))?
         .arg(output_word(alloc))
@@ -41,15 +39,10 @@ pub fn sweep_words<'a>(
     alloc: Global,
     matches: &ArgMatches<'a>,
 ) -> Result<SweepWords<'a>, AllocError> {
-    let form = if matches.get_flag("picture") {
-        SweepForm::Picture
-    } else {
-        SweepForm::Numbers(number_form_of(matches.get_flag("csv")))
-    };
     Ok(SweepWords {
         load: load_words(alloc, matches)?,
         vary: matches.get_str("vary"),
         slo: matches.get_str("slo"),
-        form,
+        form: number_form_of(matches.get_flag("csv")),
     })
 }

@@ -8,7 +8,7 @@ use crate::jobs::checking::guarantees::least_before;
 use cal_faults::is_table_alone;
 use cal_input::{RunFault, read_parts, split_input};
 use cal_machine::Config;
-use cal_picture::count_passes;
+use cal_timeline::count_passes;
 use cal_trace::{FaultKind, read_arrivals, read_signals};
 use std::alloc::{AllocError, Global};
 use std::fmt::Write as _;

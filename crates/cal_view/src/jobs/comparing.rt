@@ -1,10 +1,9 @@
-//! The runs of an input compared, as numbers or as a picture.
+//! The runs of an input compared.
 
 use crate::command_words::command_line::{CompareWords, Form};
 use crate::command_words::variation::{values_of, variation_of};
 use crate::fault::RefusedRuns;
 use crate::jobs::input::JobInput;
-use cal_compared::draw_comparison;
 use cal_input::RunFault;
 use cal_tables::{ComparedInput, ComparisonFault, NumberStyle, Variation, compare, write_input};
 use std::io::{BufWriter, Write};
@@ -48,7 +47,6 @@ fn write_comparison<W: Write>(
     };
     match form {
         Form::Numbers(form) => compare(alloc, compared, NumberStyle { labels, form }, &mut buffer)?,
-        Form::Picture => draw_comparison(alloc, compared, labels, &mut buffer)?,
         Form::Input(table) => write_input(alloc, compared, table, &mut buffer)?,
     }
     match buffer.flush() {

@@ -1,6 +1,5 @@
 //! What a job is done on.
 
-use cal_picture::LabelledInput;
 use cal_refusals::RefusedInput;
 use cal_tables::Labels;
 use std::alloc::Global;
@@ -20,13 +19,5 @@ impl<'a> JobInput<'a> {
     /// The bytes of the input.
     pub fn bytes(&self) -> &'a [u8] {
         self.read.input
-    }
-
-    /// The input, as it is drawn from.
-    pub fn labelled(&self) -> LabelledInput<'a> {
-        LabelledInput {
-            bytes: self.bytes(),
-            labels: self.labels,
-        }
     }
 }

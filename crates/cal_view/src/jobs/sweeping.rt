@@ -1,4 +1,4 @@
-//! The runs of a table at one load after the other, as numbers or as a picture.
+//! The runs of a table at one load after the other.
 
 use crate::command_words::variation::{values_of, variation_of};
 use crate::fault::RefusedRuns;

@@ -1,8 +1,0 @@
--- When a walk over a history goes by a table.
-use Rattle.cal_machine.specs.Table.{Table}
-use Rattle.cal_policy.specs.State.{IsReady}
-use Rattle.cal_picture.specs.declared.story.walk.Walk.{Walk}
-
--- the board that the walk keeps is ready for the table
-abbrev pub IsWalkOf : Table → Walk → Type 0
-IsWalkOf table walk = IsReady table walk.standing.board
