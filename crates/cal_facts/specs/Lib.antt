@@ -6,7 +6,7 @@ pub mod Series
 pub mod PassAt
 pub mod Runs
 pub mod Served
-pub mod Requests
+pub mod RequestRows
 pub mod Asking
 pub mod RunAsked
 pub mod Telling

@@ -9,7 +9,7 @@ use Rattle.cal_policy.specs.declared.history.entry.PassEntry.{PassEntry}
 use Rattle.cal_run.specs.Outcome.{IsRun}
 use Rattle.cal_run.specs.declared.outcome.Outcome.{Outcome}
 use Rattle.cal_tables.specs.Asked.{Subject, of_history, of_run}
-use Rattle.cal_facts.specs.Requests.{requests_text}
+use Rattle.cal_facts.specs.RequestRows.{requests_text}
 
 -- a run on these arrivals came to some outcome, and this is the text of its history
 pub record IsRunText (text : Table → List PassEntry → List ℕ) (input : RunInput)

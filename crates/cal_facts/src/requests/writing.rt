@@ -7,8 +7,8 @@ ghost use Rattle.cal_machine.specs.TableTasks.{threads_of_table};
 ghost use Rattle.cal_measure.specs.Clocks.{clock_of};
 ghost use Rattle.cal_trace.specs.Arrivals.FitsTable.{FitsTable};
 ghost use Rattle.cal_facts.specs.Served.{AreServed};
-ghost use Rattle.cal_facts.specs.Requests.{arrival_text, request_columns, request_line};
-ghost use Rattle.cal_facts.specs.Requests.{served_text, text_of_requests};
+ghost use Rattle.cal_facts.specs.RequestRows.{arrival_text, request_columns, request_line};
+ghost use Rattle.cal_facts.specs.RequestRows.{served_text, text_of_requests};
 ghost use Rattle.cal_facts.specs.declared.requests.served.Served.{Served as ServedOf};
 
 use crate::cells::{Cell, task_in};

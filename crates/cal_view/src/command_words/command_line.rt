@@ -4,8 +4,8 @@ use crate::command_words::arrival_words::{ArrivalWords, arrival_word, arrival_wo
 use crate::command_words::help_texts;
 use crate::command_words::sweep_words::{sweep_word, sweep_words};
 use crate::jobs::explaining::Asked;
-use crate::jobs::telling::Facts;
 use crate::jobs::naming::LabelWords;
+use crate::jobs::telling::Facts;
 use cal_engine::{Front, VERSION};
 use cal_picture::Shown;
 use cal_sweep::SweepWords;

@@ -1,0 +1,5 @@
+pub mod MoveLemmas
+pub mod ServedLemmas
+pub mod PointLemmas
+pub mod RangeLemmas
+pub mod WrittenLemmas
