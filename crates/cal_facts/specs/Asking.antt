@@ -1,9 +1,6 @@
 -- What was read of an input.
-use Rattle.std.specs.Prelude.{◌≡◌, List, Result, Ok}
-use Rattle.cal_input.specs.Recorded.{Run}
+use Rattle.std.specs.Prelude.{◌≡◌, Result, Ok}
 use Rattle.cal_input.specs.declared.fault.RunFault.{RunFault}
-use Rattle.cal_machine.specs.Table.{Table}
-use Rattle.cal_policy.specs.declared.history.entry.PassEntry.{PassEntry}
 use Rattle.cal_tables.specs.Asked.{Subject, of_history, of_run}
 use Rattle.cal_trace.specs.Arrivals.FitsTable.{FitsTable}
 use Rattle.cal_trace.specs.History.Ranges.{IsInRange}
@@ -20,10 +17,6 @@ subject_of (asked.History config history) =
 -- it is what is asked for
 abbrev pub IsReadAs : Result Subject RunFault → Asked → Type 0
 IsReadAs subject read = subject ≡ Ok (subject_of read)
-
--- this is the history that was recorded for a table
-abbrev pub IsRecordedAs : Table → Result Run RunFault → List PassEntry → Type 0
-IsRecordedAs table recorded history = recorded ≡ Ok (record { table = table; history = history })
 
 -- arrivals that were read fit their table, and a history is in the range of its
 abbrev pub IsAcceptable : Asked → Type 0

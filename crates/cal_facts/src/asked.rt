@@ -3,8 +3,8 @@
 ghost use Rattle.std.specs.Prelude.{◌≡◌, Err, IfErr, IfOk};
 ghost use Rattle.cal_input.specs.Answers.{Decided};
 ghost use Rattle.cal_input.specs.Recorded.{recorded_in};
-ghost use Rattle.cal_facts.specs.Asking.{IsAcceptable, IsReadAs, IsRecordedAs};
-ghost use Rattle.cal_tables.specs.Asked.{asked_of};
+ghost use Rattle.cal_facts.specs.Asking.{IsAcceptable, IsReadAs};
+ghost use Rattle.cal_tables.specs.Asked.{asked_history, asked_of};
 
 use cal_input::{RunFault, read_parts};
 use cal_machine::Config;
@@ -42,21 +42,18 @@ pub(crate) fn read_asked(alloc: Global, input: &[u8]) -> Result<Asked, RunFault>
     let (config, trace) = read_parts(alloc, input)?;
     match read_arrivals(alloc, &config, trace) {
         Ok(arrivals) => Ok(Asked::Run { config, arrivals }),
-        Err(fault) if fault.kind == FaultKind::Header => {
-            let history = recorded(alloc, &config, trace)?;
-            Ok(Asked::History { config, history })
-        }
+        Err(fault) if fault.kind == FaultKind::Header => recorded(alloc, config, trace),
         Err(fault) => Err(RunFault::from(fault)),
     }
 }
 
-/// The history that a text after a table records.
-fn recorded(alloc: Global, config: &Config, trace: &[u8]) -> Result<Vec<PassEntry>, RunFault>
-    ensures history { IfOk result (λ history.
-        IsRecordedAs config.now (recorded_in config.now trace.now) history.items) }
+/// The history that a text after a table records, and the table.
+fn recorded(alloc: Global, config: Config, trace: &[u8]) -> Result<Asked, RunFault>
+    ensures exact { IfOk result (IsReadAs (asked_history (recorded_in config trace.now))) }
+    ensures accepted { IfOk result IsAcceptable }
     ensures fault { IfErr result (λ fault.
-        Decided fault (recorded_in config.now trace.now ≡ Err fault)) }
+        Decided fault (recorded_in config trace.now ≡ Err fault)) }
 {
-    let history = read_history(alloc, config, trace)?;
-    Ok(history)
+    let history = read_history(alloc, &config, trace)?;
+    Ok(Asked::History { config, history })
 }
