@@ -152,8 +152,8 @@ Output: CSV with a row for each request, in the order of the arrivals: its id,
 its task and the thread to which it comes, the clock at which it does, and how
 many turns of work it takes. Where it was answered: by which thread, when it was
 begun and when answered, and for how long it was worked at. Where it is pending:
-for how long it has waited by the run's last clock. `measure` says when a request
-is begun and answered.
+for how long it has waited by the run's last clock. `measure` says when a
+request is begun and answered.
 Exit status: 0 done, 2 rejected input, 3 memory or output was refused.",
     "caladan_view requests",
     "\
