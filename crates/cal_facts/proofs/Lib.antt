@@ -1,3 +1,4 @@
+pub mod LineLemmas
 pub mod MoveLemmas
 pub mod ServedLemmas
 pub mod PointLemmas
