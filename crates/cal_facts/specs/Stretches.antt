@@ -1,5 +1,5 @@
 -- Who had which core from when to when, and which cores were banned: the rows of the word `spans`.
-use Rattle.std.specs.Prelude.{◌≡◌, ◌++◌, ℕ, List, [], ◌∷◌, codes, decimal, map, slice_index_or}
+use Rattle.std.specs.Prelude.{◌≡◌, ◌++◌, ℕ, List, [], ◌∷◌, codes, decimal, slice_index_or}
 use Rattle.std.specs.Prelude.{Option, Some, None, option_map}
 use Rattle.std.specs.List.{concat, flat_map}
 use Rattle.cal_machine.specs.Table.{Table}
@@ -53,11 +53,6 @@ banned_stretch ban = record {
   from = ban.from;
   to = ban.to;
 }
-
--- the stretches of a history: those of its spans, and then its bans
-abbrev pub stretches_in : ℕ → List PassEntry → List Stretch
-stretches_in cores history =
-    flat_map stretches_of (spans_of cores history) ++ map banned_stretch (bans_of cores history)
 
 -- the clock of a pass
 abbrev pub clock_of : List ℕ → ℕ → ℕ
