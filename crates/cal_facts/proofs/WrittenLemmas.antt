@@ -16,7 +16,7 @@ use Rattle.cal_facts.specs.RequestRows.{requests_text, text_of_requests}
 use Rattle.cal_facts.specs.RunAsked.{IsAskedRun}
 use Rattle.cal_facts.specs.Runs.{IsSeriesOfRun}
 use Rattle.cal_facts.specs.Served.{AreServed, served_from}
-use Rattle.cal_facts.specs.Series.{series_text, text_of_series}
+use Rattle.cal_facts.specs.Series.{series_of, series_text, text_of_series}
 use Rattle.cal_facts.specs.Stretches.{AreSpanFacts, IsRunOfSpans, spans_text, text_of_facts, text_of_spans}
 use Rattle.cal_facts.specs.Telling.{IsAskedRequests, IsAskedText, IsRunText}
 use Rattle.cal_facts.specs.declared.requests.served.Served.{Served}
@@ -30,11 +30,15 @@ text_is_asked text (Err f) written h = absurd h
 text_is_asked text (Ok subject) written h = refl
 
 -- the text of spans and bans
-pub spans_written : (table : Table) (history : List PassEntry) (facts : SpanFacts) → AreSpanFacts table.cores history facts → text_of_facts table facts ≡ spans_text table history
+spans_written : (table : Table) (history : List PassEntry) (facts : SpanFacts) → AreSpanFacts table.cores history facts → text_of_facts table facts ≡ spans_text table history
 spans_written table history facts are =
     ap (λ (clocks : List ℕ). text_of_spans table clocks facts.spans.items facts.bans.items) are.clocks
     ∙ ap (λ (spans : List Span). text_of_spans table (clocks_of history) spans facts.bans.items) are.spans
     ∙ ap (λ (bans : List BanSpan). text_of_spans table (clocks_of history) (spans_of table.cores history) bans) are.bans
+
+-- of the history that was walked over
+pub spans_of_history : (table : Table) (walked history : List PassEntry) (facts : SpanFacts) → walked ≡ history → AreSpanFacts table.cores walked facts → text_of_facts table facts ≡ spans_text table history
+spans_of_history table walked history facts same are = spans_written table walked facts are ∙ ap (λ (h : List PassEntry). spans_text table h) same
 
 pub spans_of_run : (table : Table) (arrivals : Arrivals) (facts : SpanFacts) → IsRunOfSpans table arrivals facts
     → IsRunText spans_text (record { table = table; arrivals = arrivals }) (text_of_facts table facts)
@@ -52,6 +56,10 @@ series_of_run table arrivals points of = record {
   run = of.run;
   same = ap (λ (l : List Point). text_of_series table l) of.are;
 }
+
+pub series_of_history : (table : Table) (walked history : List PassEntry) (points : List Point) → walked ≡ history → points ≡ series_of table walked → text_of_series table points ≡ series_text table history
+series_of_history table walked history points same are =
+    ap (λ (l : List Point). text_of_series table l) are ∙ ap (λ (h : List PassEntry). series_text table h) same
 
 -- what a run served that is asked for
 pub served_asked : (asked : Result RunInput RunFault) (run : RunRequests) → IsAskedRun asked run

@@ -32,18 +32,6 @@ stretch_of span state from to = record {
   to = to;
 }
 
--- the stretches of a span that was left so: it is held until the pass that revoked it, and being
--- left from then on; where none did, it is held all the time
-abbrev pub stretches_left : Span → Option Left → List Stretch
-stretches_left span None = stretch_of span (Held span.class) span.from span.to ∷ []
-stretches_left span (Some left) =
-    stretch_of span (Held span.class) span.from (Some left.pass)
-    ∷ stretch_of span (Leaving span.class left.cause) left.pass span.to ∷ []
-
--- the stretches of a span
-abbrev pub stretches_of : Span → List Stretch
-stretches_of span = stretches_left span span.left
-
 -- the stretch of a ban
 abbrev pub banned_stretch : BanSpan → Stretch
 banned_stretch ban = record {
@@ -75,9 +63,19 @@ time_text clocks s =
 abbrev pub stretch_line : Table → List ℕ → Stretch → List ℕ
 stretch_line table clocks s = place_text table s ++ time_text clocks s
 
+-- the rows of a span that was left so: it is held until the pass that revoked it, and being left
+-- from then on; where none did, it is held all the time
+abbrev pub span_lines_left : Table → List ℕ → Span → Option Left → List ℕ
+span_lines_left table clocks span None =
+    stretch_line table clocks (stretch_of span (Held span.class) span.from span.to)
+span_lines_left table clocks span (Some left) =
+    stretch_line table clocks (stretch_of span (Held span.class) span.from (Some left.pass))
+    ++ stretch_line table clocks
+    (stretch_of span (Leaving span.class left.cause) left.pass span.to)
+
 -- the rows of a span, and of a ban
 abbrev pub span_lines : Table → List ℕ → Span → List ℕ
-span_lines table clocks span = flat_map (stretch_line table clocks) (stretches_of span)
+span_lines table clocks span = span_lines_left table clocks span span.left
 
 abbrev pub ban_line : Table → List ℕ → BanSpan → List ℕ
 ban_line table clocks ban = stretch_line table clocks (banned_stretch ban)

@@ -45,7 +45,8 @@ fn series_asked(alloc: Global, input: &[u8]) -> Result<(Config, Vec<Point>), Run
         IsAskedText series_text (asked_of input.now) (text_of_series told.0 told.1.items)) }
     ensures fault { IfErr result (λ fault. Decided fault (asked_of input.now ≡ Err fault)) }
 {
-    match read_asked(alloc, input)? {
+    let asked = read_asked(alloc, input)?;
+    match asked {
         Asked::Run { config, arrivals } => {
             let points = series_of_run(alloc, &config, &arrivals)?;
             Ok((config, points))

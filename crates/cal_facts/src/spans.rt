@@ -45,7 +45,8 @@ fn spans_asked(alloc: Global, input: &[u8]) -> Result<(Config, SpanFacts), RunFa
         IsAskedText spans_text (asked_of input.now) (text_of_facts told.0 told.1)) }
     ensures fault { IfErr result (λ fault. Decided fault (asked_of input.now ≡ Err fault)) }
 {
-    match read_asked(alloc, input)? {
+    let asked = read_asked(alloc, input)?;
+    match asked {
         Asked::Run { config, arrivals } => {
             let facts = SpanFacts::of_run(alloc, &config, &arrivals)?;
             Ok((config, facts))
