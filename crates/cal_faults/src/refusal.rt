@@ -94,10 +94,12 @@ impl TraceKind {
         match self {
             TraceKind::Signals => "`caladan_sim decide`, `caladan_view history` and `explain`",
             TraceKind::Arrivals => {
-                "`caladan_sim lockstep` and `sim`, `caladan_view measure`, `compare` and `timeline`"
+                "`caladan_sim lockstep` and `sim`, `caladan_view measure`, `compare`, `timeline`, \
+                 `spans`, `series` and `requests`"
             }
             TraceKind::History => {
-                "`caladan_sim audit`, `caladan_view measure`, `timeline` and `explain`"
+                "`caladan_sim audit`, `caladan_view measure`, `timeline`, `spans`, `series` and \
+                 `explain`"
             }
         }
     }

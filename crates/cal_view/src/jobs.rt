@@ -10,3 +10,4 @@ pub mod measuring;
 pub mod naming;
 pub mod recording;
 pub mod sweeping;
+pub mod telling;

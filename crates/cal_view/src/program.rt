@@ -17,6 +17,7 @@ use crate::jobs::measuring::answer_measure;
 use crate::jobs::naming::{names_of, refuse_count, refuse_words_of_labels};
 use crate::jobs::recording::record;
 use crate::jobs::sweeping::Sweeping;
+use crate::jobs::telling::tell;
 use crate::refusing::{end_refusal, refused_input};
 use cal_engine::{refuse_words, words_after_first};
 use cal_input::{RunFault, read_input};
@@ -304,6 +305,7 @@ fn do_job<W: Write>(job: &Job<'_>, input: &JobInput<'_>, output: &mut W) -> Resu
     match job {
         Job::History { front } => record(alloc, bytes, *front, &mut buffer)?,
         Job::Timeline => write_timeline(alloc, bytes, input.labels, &mut buffer)?,
+        Job::Facts { facts } => tell(alloc, bytes, *facts, &mut buffer)?,
         // (the calls above do these)
         Job::Arrivals { .. } | Job::Check | Job::Compare { .. } | Job::Explain { .. } => {}
         Job::Measure { .. } | Job::Sweep { .. } | Job::Help => {}

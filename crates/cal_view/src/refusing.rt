@@ -3,6 +3,7 @@
 ghost use Rattle.std.specs.Prelude.{◌≡◌, IfErr, IfOk};
 
 use crate::command_words::command_line::{Job, Request};
+use crate::jobs::telling::Facts;
 use cal_faults::TraceKind;
 use cal_input::RunFault;
 use cal_load::WordFault;
@@ -71,10 +72,19 @@ fn traces_of(job: &Job<'_>) -> &'static [TraceKind] {
     match job {
         Job::History { .. } => &[TraceKind::Signals],
         Job::Measure { .. } | Job::Timeline => &[TraceKind::Arrivals, TraceKind::History],
+        Job::Facts { facts } => facts_of(*facts),
         Job::Compare { .. } => &[TraceKind::Arrivals],
         Job::Explain { .. } => &[TraceKind::Signals, TraceKind::History],
         Job::Check => &[TraceKind::Signals, TraceKind::Arrivals, TraceKind::History],
         Job::Arrivals { .. } | Job::Sweep { .. } | Job::Help => &[],
+    }
+}
+
+/// The traces of which there are these facts.
+fn facts_of(facts: Facts) -> &'static [TraceKind] {
+    match facts {
+        Facts::Spans | Facts::Series => &[TraceKind::Arrivals, TraceKind::History],
+        Facts::Requests => &[TraceKind::Arrivals],
     }
 }
 

@@ -5,6 +5,7 @@ use crate::command_words::help_texts;
 use crate::command_words::sweep_words::{sweep_word, sweep_words};
 use crate::jobs::explaining::Asked;
 use crate::jobs::naming::LabelWords;
+use crate::jobs::telling::Facts;
 use cal_engine::{Front, VERSION};
 use cal_sweep::SweepWords;
 use cal_tables::NumberForm;
@@ -22,6 +23,11 @@ pub enum Job<'a> {
     },
     /// Write a history, or the run that arrivals make, as trace events.
     Timeline,
+    /// Write facts of a history, or of the run that arrivals make, as CSV.
+    Facts {
+        /// Which facts.
+        facts: Facts,
+    },
     /// Make a run on arrivals, and write its numbers, or those of a history.
     Measure {
         /// As what they are written.
@@ -163,6 +169,9 @@ fn program<'a>(alloc: Global) -> Result<Command<'a>, AllocError> {
     let program = bare_program(alloc)?;
     let program = program.subcommand(history_word(alloc)?)?;
     let program = program.subcommand(timeline_word(alloc)?)?;
+    let program = program.subcommand(spans_word(alloc)?)?;
+    let program = program.subcommand(series_word(alloc)?)?;
+    let program = program.subcommand(requests_word(alloc)?)?;
     let program = program.subcommand(measure_word(alloc)?)?;
     let program = program.subcommand(compare_word(alloc)?)?;
     let program = program.subcommand(explain_word(alloc)?)?;
@@ -205,6 +214,30 @@ fn timeline_word<'a>(alloc: Global) -> Result<Command<'a>, AllocError> {
         .arg(input_word(alloc))?
         .arg(names_word(alloc))?
         .arg(tick_word(alloc))?
+        .arg(output_word(alloc))
+}
+
+fn spans_word<'a>(alloc: Global) -> Result<Command<'a>, AllocError> {
+    Command::new(alloc, "spans")
+        .about("Write who had which core from when to when, and the bans, as CSV")
+        .after_long_help(help_texts::SPANS)
+        .arg(input_word(alloc))?
+        .arg(output_word(alloc))
+}
+
+fn series_word<'a>(alloc: Global) -> Result<Command<'a>, AllocError> {
+    Command::new(alloc, "series")
+        .about("Write what each pass finds of each task and leaves it with, as CSV")
+        .after_long_help(help_texts::SERIES)
+        .arg(input_word(alloc))?
+        .arg(output_word(alloc))
+}
+
+fn requests_word<'a>(alloc: Global) -> Result<Command<'a>, AllocError> {
+    Command::new(alloc, "requests")
+        .about("Write what came of each request of a run, as CSV")
+        .after_long_help(help_texts::REQUESTS)
+        .arg(input_word(alloc))?
         .arg(output_word(alloc))
 }
 
@@ -373,6 +406,15 @@ fn job_of<'a>(matches: &ArgMatches<'a>) -> Result<Job<'a>, Mistake> {
             front: front_of(own.get_flag("table")),
         },
         Some((name, _)) if name == "timeline" => Job::Timeline,
+        Some((name, _)) if name == "spans" => Job::Facts {
+            facts: Facts::Spans,
+        },
+        Some((name, _)) if name == "series" => Job::Facts {
+            facts: Facts::Series,
+        },
+        Some((name, _)) if name == "requests" => Job::Facts {
+            facts: Facts::Requests,
+        },
         Some((name, own)) if name == "measure" => Job::Measure {
             form: number_form_of(own.get_flag("csv")),
         },

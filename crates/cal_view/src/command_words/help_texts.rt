@@ -62,6 +62,101 @@ end,2
 END"
 );
 
+/// Of the subcommand `spans`.
+pub const SPANS: &str = help_with_a_run!(
+    "\
+Input: a task table (TOML), the line ---, and arrivals (CSV), as
+`caladan_sim lockstep` reads; or a history (CSV), as `caladan_sim audit` does.
+Output: CSV with a row for each stretch of passes in which a core is `held`,
+`leaving` or `banned`: the core; the thread that has it, or for which it is
+banned, and its task; the class of its grant; of a core that is being left the
+cause, `ban`, `bandwidth` or `preempt`, and by which core or for which task; of
+a ban when the request was begun that it is for; from which pass to which, and
+their clocks. A stretch holds after its first pass, until before the other one;
+where it goes on at the end there is none. First come the spans that ended, as
+they did, and then those that go on, by core; and so the bans.
+Exit status: 0 done, 2 rejected input, 3 memory or output was refused.",
+    "caladan_view spans",
+    "\
+caladan-arrivals,1
+pass,100,0
+pass,120,0
+turn,105
+turn,125
+request,0,0,1,1,0
+end,5
+END
+
+It writes, with its first two lines as one:
+
+core,thread,task,class,state,cause,by core,for task,started [ticks],
+from pass,to pass,from clock [ticks],to clock [ticks]
+0,0,0,3,held,,,,,1,,120,"
+);
+
+/// Of the subcommand `series`.
+pub const SERIES: &str = help_with_a_run!(
+    "\
+Input: a task table (TOML), the line ---, and arrivals (CSV), as
+`caladan_sim lockstep` reads; or a history (CSV), as `caladan_sim audit` does.
+Output: CSV with a row for each pass and task: the pass, its clock, its
+bandwidth figure and the table's limit; the task, its delay as the pass finds
+it, and whether that is above its threshold (1) or not (0); after the actions of
+the pass how many cores it holds, is leaving, and both together, and of a
+best-effort task its cap; and its limit.
+Exit status: 0 done, 2 rejected input, 3 memory or output was refused.",
+    "caladan_view series",
+    "\
+caladan-arrivals,1
+pass,100,0
+pass,120,0
+turn,105
+turn,125
+request,0,0,1,1,0
+end,5
+END
+
+It writes, with its first two lines as one:
+
+pass,clock [ticks],bandwidth,bandwidth limit,task,delay [ticks],congested,
+held [cores],leaving [cores],booked [cores],cap [cores],limit [cores]
+0,100,0,1000,0,0,0,0,0,0,,1
+1,120,0,1000,0,15,1,1,0,1,,1"
+);
+
+/// Of the subcommand `requests`.
+pub const REQUESTS: &str = help_with_a_run!(
+    "\
+Input: a task table (TOML), the line ---, and arrivals (CSV), as
+`caladan_sim lockstep` reads. A history has no requests.
+Output: CSV with a row for each request, in the order of the arrivals: its id,
+its task and the thread to which it comes, the clock at which it does, and how
+many turns of work it takes. Where it was answered: by which thread, when it was
+begun and when answered, and for how long it was worked at. Where it is pending:
+for how long it has waited by the run's last clock. `measure` says when a
+request is begun and answered.
+Exit status: 0 done, 2 rejected input, 3 memory or output was refused.",
+    "caladan_view requests",
+    "\
+caladan-arrivals,1
+pass,100,0
+pass,120,0
+turn,105
+turn,125
+turn,145
+request,0,0,1,1,0
+request,0,2,2,5,0
+end,7
+END
+
+It writes, with its first two lines as one:
+
+id,task,thread,arrived [ticks],work [turns],by thread,begun [ticks],
+answered [ticks],worked [ticks],pending [ticks]
+1,0,0,105,1,0,125,145,20,
+2,0,0,145,5,,,,,0"
+);
+
 /// Of the subcommand `measure`.
 pub const MEASURE: &str = help_with_a_run!(
     "\

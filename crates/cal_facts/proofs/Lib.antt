@@ -1,0 +1,6 @@
+pub mod LineLemmas
+pub mod MoveLemmas
+pub mod ServedLemmas
+pub mod PointLemmas
+pub mod RangeLemmas
+pub mod WrittenLemmas

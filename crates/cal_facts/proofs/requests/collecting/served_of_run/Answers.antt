@@ -1,0 +1,16 @@
+use Rattle.std.proofs.Common.{List, subst, sym}
+use Rattle.cal_measure.specs.Clocks.{run_end}
+use Rattle.cal_measure.specs.ThreadWork.{AreTotalsOfEach}
+use Rattle.cal_measure.specs.declared.thread_work.totals.ThreadTotals.{ThreadTotals}
+use Rattle.cal_facts.proofs.requests.collecting.served_of_run.Goals as goal
+
+pub returns-clause-served : goal.returns-clause-served
+returns-clause-served c =
+    let run = c.in_ok-left.ensures.run in
+    let last = run_end c.args.arrivals.now in
+    let totals = c.in_ok-ended.ensures.threads run.outcome.journals run.collected in record {
+      outcome = run.outcome;
+      run = run.run;
+      are = c.in_ok-of.ensures last run.outcome.journals
+          (subst (λ (l : List ThreadTotals). AreTotalsOfEach last run.outcome.journals l) (sym c.as_slice.ensures.value) totals);
+    }

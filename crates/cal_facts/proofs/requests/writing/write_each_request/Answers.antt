@@ -1,0 +1,13 @@
+use Rattle.std.proofs.Common.{◌≡◌, ◌∙◌, ℕ, List, take, length, ap, subst, arith}
+use Rattle.std.proofs.Math.Seq.{take-length}
+use Rattle.std.specs.Io.KnownBytes.{Appends}
+use Rattle.std.specs.List.{flat_map}
+use Rattle.cal_trace.specs.declared.arrivals.Arrival.{Arrival}
+use Rattle.cal_facts.proofs.LineLemmas.{one_more_line}
+use Rattle.cal_facts.specs.RequestRows.{request_line}
+use Rattle.cal_facts.proofs.requests.writing.write_each_request.Goals as goal
+
+pub loop-arrival-preserved : goal.loop-arrival-preserved
+loop-arrival-preserved g c = λ all are.
+    one_more_line (request_line c.args.run.now.config c.args.run.now.arrivals all) _ _ _ c.args.requests.now c.loop-arrival.arrival-index _ c.loop-arrival-test.true
+    (c.loop-arrival.invariant all are) (c.in_ok-write_request.ensures all are)

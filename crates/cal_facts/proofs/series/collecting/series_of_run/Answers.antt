@@ -1,0 +1,12 @@
+use Rattle.std.proofs.Common.{◌∙◌, ap}
+use Rattle.cal_machine.specs.Table.{Table}
+use Rattle.cal_facts.specs.Series.{series_of}
+use Rattle.cal_facts.proofs.series.collecting.series_of_run.Goals as goal
+
+pub returns-clause-points : goal.returns-clause-points
+returns-clause-points c =
+    let run = c.in_ok-lockstep_collected.ensures.run in record {
+      outcome = run.outcome;
+      run = run.run;
+      are = run.collected ∙ ap (λ (t : Table). series_of t run.outcome.history) c.in_ok-lockstep_collected.ensures.suits;
+    }

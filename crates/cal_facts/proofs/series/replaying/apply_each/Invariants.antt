@@ -1,0 +1,11 @@
+use Rattle.std.proofs.Common.{◌≡◌, ◌++◌, List, take}
+use Rattle.cal_policy.specs.State.{Agrees, IsReady}
+use Rattle.cal_policy.specs.declared.history.action.Action.{Action}
+use Rattle.cal_facts.proofs.series.replaying.apply_each.Given as goal
+
+abbrev pub invariant-loop-action : goal.invariant-loop-action
+invariant-loop-action l = record {
+  agrees : (x : List Action) → Agrees l.fn.board x → Agrees l.board (x ++ take l.action-index l.actions);
+  ready : IsReady l.config l.board;
+  keeping : l.board.keeping ≡ l.fn.board.keeping;
+}

@@ -1,0 +1,11 @@
+use Rattle.std.proofs.Common.{◌≡◌, take}
+use Rattle.cal_policy.specs.State.{IsReady, IsStateAfter}
+use Rattle.cal_facts.specs.Series.{series_of}
+use Rattle.cal_facts.proofs.series.replaying.series_of_history.Given as goal
+
+abbrev pub invariant-loop-pass : goal.invariant-loop-pass
+invariant-loop-pass l = record {
+  ready : IsReady l.config l.board;
+  state : IsStateAfter l.board (take l.pass l.history);
+  points : l.points.items ≡ series_of l.config (take l.pass l.history);
+}

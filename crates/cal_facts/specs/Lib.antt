@@ -1,0 +1,12 @@
+pub mod Cells
+pub mod Bans
+pub mod StateCells
+pub mod Stretches
+pub mod Series
+pub mod PassAt
+pub mod Runs
+pub mod Served
+pub mod RequestRows
+pub mod Asking
+pub mod RunAsked
+pub mod Telling
