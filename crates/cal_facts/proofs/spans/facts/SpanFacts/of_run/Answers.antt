@@ -9,7 +9,7 @@ pub returns-clause-facts : goal.returns-clause-facts
 returns-clause-facts c =
     let run = c.in_ok-lockstep_collected.ensures.run in
     let h = run.outcome.history in
-    let cores = c.cores.ensures ∙ c.machine.ensures.machine in
+    let cores = c.cores.ensures.value ∙ c.machine.ensures.machine in
     record {
       outcome = run.outcome;
       run = run.run;
