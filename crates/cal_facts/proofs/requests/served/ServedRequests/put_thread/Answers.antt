@@ -1,6 +1,5 @@
 use Rattle.std.proofs.Common.{◌≡◌, ◌++◌, ◌∷◌, ◌∙◌, ◌<◌, ◌+◌, [], ℕ, nat_eq, cond, List, Option, Some, map, take, get_or, length, sym, ap, subst, append_assoc}
 use Rattle.std.proofs.lemmas.List.{map-append, take_more}
-use Rattle.std.specs.HashMap.{get}
 use Rattle.cal_policy.proofs.ListLemmas.OneMore.{last_of_push, or_if}
 use Rattle.cal_policy.specs.History.Lists.{last_of}
 use Rattle.cal_measure.specs.declared.services.Service.{Service}

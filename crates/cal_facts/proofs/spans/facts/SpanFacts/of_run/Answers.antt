@@ -1,4 +1,4 @@
-use Rattle.std.proofs.Common.{◌≡◌, ◌∙◌, ℕ, List, map, ap, sym}
+use Rattle.std.proofs.Common.{◌∙◌, ℕ, List, map, ap, sym}
 use Rattle.cal_measure.specs.Spans.{moves_of, spans_of}
 use Rattle.cal_tables.proofs.PassClocks.{clocks_given}
 use Rattle.cal_trace.specs.declared.arrivals.GivenPass.{GivenPass}
