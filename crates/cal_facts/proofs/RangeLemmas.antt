@@ -1,5 +1,5 @@
 -- What a history that a file can hold names, the table has.
-use Rattle.std.proofs.Common.{◌≡◌, ◌<◌, ◌≤◌, ℕ, List, Some, length, slice_get, get_or, arith}
+use Rattle.std.proofs.Common.{List, get_or, arith}
 use Rattle.std.specs.List.{All}
 use Rattle.std.proofs.lemmas.Option.{slice_get-get_or}
 use Rattle.cal_machine.specs.Table.{Table, IsTable}

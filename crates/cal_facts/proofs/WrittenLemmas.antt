@@ -10,9 +10,8 @@ use Rattle.cal_measure.specs.declared.spans.span.Span.{Span}
 use Rattle.cal_policy.specs.declared.history.entry.PassEntry.{PassEntry}
 use Rattle.cal_tables.specs.Asked.{Subject}
 use Rattle.cal_trace.specs.declared.arrivals.Arrivals.{Arrivals}
-use Rattle.cal_facts.specs.Bans.{bans_of}
 use Rattle.cal_facts.specs.Cells.{clocks_of}
-use Rattle.cal_facts.specs.RequestRows.{requests_text, text_of_requests}
+use Rattle.cal_facts.specs.RequestRows.{text_of_requests}
 use Rattle.cal_facts.specs.RunAsked.{IsAskedRun}
 use Rattle.cal_facts.specs.Runs.{IsSeriesOfRun}
 use Rattle.cal_facts.specs.Served.{AreServed, served_from}

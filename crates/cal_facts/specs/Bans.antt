@@ -1,5 +1,5 @@
 -- The bans of a history, as a list.
-use Rattle.std.specs.Prelude.{◌≡◌, ℕ, zero, suc, List, [], ◌++◌}
+use Rattle.std.specs.Prelude.{ℕ, zero, suc, List, [], ◌++◌}
 use Rattle.cal_measure.specs.Spans.Bans.{ban_at, lifted_by}
 use Rattle.cal_measure.specs.Spans.{Move, moves_of}
 use Rattle.cal_measure.specs.Turns.{one_of}

@@ -1,5 +1,5 @@
 -- What each pass of a history found of each task and left it with: the rows of the word `series`.
-use Rattle.std.specs.Prelude.{◌≡◌, ◌-◌, ◌++◌, ℕ, zero, suc, List, [], ◌∷◌, codes, decimal, length}
+use Rattle.std.specs.Prelude.{◌-◌, ◌++◌, ℕ, zero, suc, List, [], ◌∷◌, codes, decimal, length}
 use Rattle.std.specs.Prelude.{Option, Some, None, if◌then◌else◌}
 use Rattle.std.specs.List.{concat, flat_map}
 use Rattle.cal_machine.specs.Table.{Table}

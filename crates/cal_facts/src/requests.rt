@@ -31,8 +31,8 @@ pub fn write_requests<W: Write>(alloc: Global, input: &[u8], writer: &mut W) -> 
         (W.contents writer.old) (W.contents writer.new) }
     ensures untouched { IfErr result (λ fault. fault ≢ RunFault.Write → writer.new ≡ writer.old) }
 {
-    let run = requests_asked(alloc, input)?;
-    match write_request_rows(&run, writer) {
+    let asked = requests_asked(alloc, input)?;
+    match write_request_rows(&asked, writer) {
         Ok(()) => Ok(()),
         Err(_) => Err(RunFault::Write),
     }

@@ -44,11 +44,11 @@ fn write_columns<W: Write>(writer: &mut W) -> io::Result<()>
     ensures { OnOk result (Appends (W.contents writer.old) (W.contents writer.new)
         request_columns) }
 {
-    write!(
+    writeln!(
         writer,
-        "id,task,thread,arrived [ticks],work [turns],by thread,begun [ticks],"
-    )?;
-    writeln!(writer, "answered [ticks],worked [ticks],pending [ticks]")
+        "id,task,thread,arrived [ticks],work [turns],by thread,begun [ticks],\
+         answered [ticks],worked [ticks],pending [ticks]"
+    )
 }
 
 fn write_each_request<W: Write>(

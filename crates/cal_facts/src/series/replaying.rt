@@ -18,6 +18,18 @@ use cal_policy::{Action, PassEntry};
 use cal_trace::GivenPass;
 use std::alloc::{AllocError, Global};
 
+/// Brings a state up to one more action, which names the table's cores, threads and tasks.
+fn apply_one(config: &Config, board: &mut Board, action: Action)
+    requires ready { IsReady config.now board.old }
+    requires names { NamesTable config.now action }
+    ensures agrees { (x : List Action) → Agrees board.old x → Agrees board.new (x ++ action ∷ []) }
+    ensures ready { IsReady config.now board.new }
+    ensures keeping { board.new.keeping ≡ board.old.keeping }
+{
+    config.limits();
+    board.apply(config, action);
+}
+
 /// Brings a state up to more actions, each of which names the table's cores, threads and tasks.
 fn apply_each(config: &Config, board: &mut Board, actions: &[Action])
     requires ready { IsReady config.now board.old }
@@ -26,9 +38,8 @@ fn apply_each(config: &Config, board: &mut Board, actions: &[Action])
     ensures ready { IsReady config.now board.new }
     ensures keeping { board.new.keeping ≡ board.old.keeping }
 {
-    config.limits();
     for action in actions {
-        board.apply(config, *action);
+        apply_one(config, board, *action);
     }
 }
 

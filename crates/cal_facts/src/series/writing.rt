@@ -29,13 +29,10 @@ fn write_columns<W: Write>(writer: &mut W) -> io::Result<()>
     ensures { OnOk result (Appends (W.contents writer.old) (W.contents writer.new)
         series_columns) }
 {
-    write!(
-        writer,
-        "pass,clock [ticks],bandwidth,bandwidth limit,task,delay [ticks],congested,"
-    )?;
     writeln!(
         writer,
-        "held [cores],leaving [cores],booked [cores],cap [cores],limit [cores]"
+        "pass,clock [ticks],bandwidth,bandwidth limit,task,delay [ticks],congested,\
+         held [cores],leaving [cores],booked [cores],cap [cores],limit [cores]"
     )
 }
 

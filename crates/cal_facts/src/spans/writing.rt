@@ -33,13 +33,10 @@ fn write_columns<W: Write>(writer: &mut W) -> io::Result<()>
     ensures { OnOk result (Appends (W.contents writer.old) (W.contents writer.new)
         span_columns) }
 {
-    write!(
-        writer,
-        "core,thread,task,class,state,cause,by core,for task,started [ticks],"
-    )?;
     writeln!(
         writer,
-        "from pass,to pass,from clock [ticks],to clock [ticks]"
+        "core,thread,task,class,state,cause,by core,for task,started [ticks],\
+         from pass,to pass,from clock [ticks],to clock [ticks]"
     )
 }
 
@@ -68,9 +65,22 @@ fn write_each_ban<W: Write>(
         (flat_map (ban_line config.now clocks.now) bans.now)) }
 {
     for ban in bans {
-        write_stretch(config, clocks, banned_stretch(ban), writer)?;
+        write_ban(config, clocks, ban, writer)?;
     }
     Ok(())
+}
+
+/// Writes the row of a ban.
+fn write_ban<W: Write>(
+    config: &Config,
+    clocks: &[u64],
+    ban: &BanSpan,
+    writer: &mut W,
+) -> io::Result<()>
+    ensures { OnOk result (Appends (W.contents writer.old) (W.contents writer.new)
+        (ban_line config.now clocks.now ban.now)) }
+{
+    write_stretch(config, clocks, banned_stretch(ban), writer)
 }
 
 /// Writes the rows of a span: while its thread holds the core, and while it leaves it.

@@ -6,14 +6,14 @@ use Rattle.cal_facts.specs.Series.{series_text, text_of_series}
 use Rattle.cal_facts.specs.Telling.{IsAskedText}
 use Rattle.cal_facts.proofs.series.series_asked.Goals as goal
 
-pub returns-in-Run-clause-points : goal.returns-in-Run-clause-points
-returns-in-Run-clause-points c =
-    let points = c.in_ok-points.points.items in
+pub returns-in_ok-points-in-Run-clause-points : goal.returns-in_ok-points-in-Run-clause-points
+returns-in_ok-points-in-Run-clause-points c =
+    let points = c.in_ok-points-in-Run.points.items in
     subst (λ (o : Result Subject RunFault). IsAskedText series_text o (text_of_series c.in-Run.config points)) (sym (rw c.in-Run.is at c.in_ok-asked.ensures.exact))
-    (series_of_run c.in-Run.config c.in-Run.arrivals points c.in_ok-points.ensures.points)
+    (series_of_run c.in-Run.config c.in-Run.arrivals points c.in_ok-points-in-Run.ensures.points)
 
-pub returns-in-History-clause-points : goal.returns-in-History-clause-points
-returns-in-History-clause-points c =
+pub returns-in_ok-points-in-History-clause-points : goal.returns-in_ok-points-in-History-clause-points
+returns-in_ok-points-in-History-clause-points c =
     let points = c.in_ok-points-in-History.points.items in
     subst (λ (o : Result Subject RunFault). IsAskedText series_text o (text_of_series c.in-History.config points)) (sym (rw c.in-History.is at c.in_ok-asked.ensures.exact))
     (series_of_history c.in-History.config _ c.in-History.history.items points c.as_slice.ensures.value c.in_ok-points-in-History.ensures)

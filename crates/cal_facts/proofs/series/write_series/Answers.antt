@@ -1,8 +1,10 @@
-use Rattle.std.proofs.Common.{◌≡◌, Err, rules}
+use Rattle.std.proofs.Common.{◌≡◌, Err, List, rules, subst}
+use Rattle.std.specs.Io.KnownBytes.{Appends}
 use Rattle.cal_input.proofs.WholeInput.{failed}
 use Rattle.cal_tables.specs.Asked.{asked_of}
 use Rattle.cal_facts.proofs.WrittenLemmas.{text_is_asked}
 use Rattle.cal_facts.specs.Series.{series_text, text_of_series}
+use Rattle.cal_facts.specs.declared.series.point.Point.{Point}
 use Rattle.cal_facts.proofs.series.write_series.Goals as goal
 
 pub returns-in_err-config-clause-exact : goal.returns-in_err-config-clause-exact
@@ -14,8 +16,10 @@ pub returns-in-Ok-clause-exact : goal.returns-in-Ok-clause-exact
 returns-in-Ok-clause-exact g c = record {
   written = text_of_series c.in_ok-config.config c.in_ok-config.points.items;
   is_text = c.in_ok-config.ensures.points;
-  appended = c.in-Ok.ensures;
+  appended = subst
+      (λ (l : List Point). Appends (g.W.Write.contents c.args.writer.now) (g.W.Write.contents c.write_series_rows.new.writer) (text_of_series c.in_ok-config.config l))
+      c.as_slice.ensures.value c.in-Ok.ensures;
 }
 
-pub returns-in-Err-clause-exact : goal.returns-in-Err-clause-exact
-returns-in-Err-clause-exact g c = text_is_asked series_text (asked_of c.args.input.now) (text_of_series c.in_ok-config.config c.in_ok-config.points.items) c.in_ok-config.ensures.points
+pub returns-clause-exact : goal.returns-clause-exact
+returns-clause-exact g c = text_is_asked series_text (asked_of c.args.input.now) (text_of_series c.in_ok-config.config c.in_ok-config.points.items) c.in_ok-config.ensures.points

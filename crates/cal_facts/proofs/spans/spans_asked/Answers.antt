@@ -6,14 +6,14 @@ use Rattle.cal_facts.specs.Stretches.{spans_text, text_of_facts}
 use Rattle.cal_facts.specs.Telling.{IsAskedText}
 use Rattle.cal_facts.proofs.spans.spans_asked.Goals as goal
 
-pub returns-in-Run-clause-facts : goal.returns-in-Run-clause-facts
-returns-in-Run-clause-facts c =
-    let facts = c.in_ok-facts.facts in
+pub returns-in_ok-facts-in-Run-clause-facts : goal.returns-in_ok-facts-in-Run-clause-facts
+returns-in_ok-facts-in-Run-clause-facts c =
+    let facts = c.in_ok-facts-in-Run.facts in
     subst (λ (o : Result Subject RunFault). IsAskedText spans_text o (text_of_facts c.in-Run.config facts)) (sym (rw c.in-Run.is at c.in_ok-asked.ensures.exact))
-    (spans_of_run c.in-Run.config c.in-Run.arrivals facts c.in_ok-facts.ensures.facts)
+    (spans_of_run c.in-Run.config c.in-Run.arrivals facts c.in_ok-facts-in-Run.ensures.facts)
 
-pub returns-in-History-clause-facts : goal.returns-in-History-clause-facts
-returns-in-History-clause-facts c =
+pub returns-in_ok-facts-in-History-clause-facts : goal.returns-in_ok-facts-in-History-clause-facts
+returns-in_ok-facts-in-History-clause-facts c =
     let facts = c.in_ok-facts-in-History.facts in
     subst (λ (o : Result Subject RunFault). IsAskedText spans_text o (text_of_facts c.in-History.config facts)) (sym (rw c.in-History.is at c.in_ok-asked.ensures.exact))
     (spans_of_history c.in-History.config _ c.in-History.history.items facts c.as_slice.ensures.value c.in_ok-facts-in-History.ensures)

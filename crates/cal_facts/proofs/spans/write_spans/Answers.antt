@@ -17,5 +17,5 @@ returns-in-Ok-clause-exact g c = record {
   appended = c.in-Ok.ensures;
 }
 
-pub returns-in-Err-clause-exact : goal.returns-in-Err-clause-exact
-returns-in-Err-clause-exact g c = text_is_asked spans_text (asked_of c.args.input.now) (text_of_facts c.in_ok-config.config c.in_ok-config.facts) c.in_ok-config.ensures.facts
+pub returns-clause-exact : goal.returns-clause-exact
+returns-clause-exact g c = text_is_asked spans_text (asked_of c.args.input.now) (text_of_facts c.in_ok-config.config c.in_ok-config.facts) c.in_ok-config.ensures.facts

@@ -1,8 +1,3 @@
-use Rattle.std.proofs.Common.{◌≡◌, ◌∙◌, ℕ, List, take, length, ap, subst, arith}
-use Rattle.std.proofs.Math.Seq.{take-length}
-use Rattle.std.specs.Io.KnownBytes.{Appends}
-use Rattle.std.specs.List.{flat_map}
-use Rattle.cal_trace.specs.declared.arrivals.Arrival.{Arrival}
 use Rattle.cal_facts.proofs.LineLemmas.{one_more_line}
 use Rattle.cal_facts.specs.RequestRows.{request_line}
 use Rattle.cal_facts.proofs.requests.writing.write_each_request.Goals as goal

@@ -12,7 +12,7 @@ loop-thread-preserved c =
     let ts = c.args.threads.now in
     let k = c.loop-thread.thread in
     let d = c.index-threads-thread.result in
-    let same : c.as_slice.result.now ≡ (get_or ts k d).services.items = c.as_slice.ensures.value ∙ ap (λ (t : ThreadTotals). t.services.items) c.index-threads-thread.is in
+    let same : c.as_slice.result.now ≡ (get_or ts k d).services.items = c.as_slice.ensures.value in
     let more : totals_from 0 (take (k + 1) ts) ≡ totals_from 0 (take k ts) ++ map (served_by k) c.as_slice.result.now =
     totals_more ts k d c.loop-thread-test.true ∙ ap (λ (l : List Service). totals_from 0 (take k ts) ++ map (served_by k) l) (sym same) in
     subst (λ (l : List Served). AreServed l c.put_thread.new.self) (sym more) (c.in_ok-put_thread.ensures (totals_from 0 (take k ts)) c.loop-thread.invariant)

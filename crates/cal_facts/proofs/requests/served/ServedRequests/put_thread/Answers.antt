@@ -1,11 +1,11 @@
 use Rattle.std.proofs.Common.{◌≡◌, ◌++◌, ◌∷◌, ◌∙◌, ◌<◌, ◌+◌, [], ℕ, nat_eq, cond, List, Option, Some, map, take, get_or, length, sym, ap, subst, append_assoc}
 use Rattle.std.proofs.lemmas.List.{map-append, take_more}
-use Rattle.std.specs.HashMap.{get}
 use Rattle.cal_policy.proofs.ListLemmas.OneMore.{last_of_push, or_if}
 use Rattle.cal_policy.specs.History.Lists.{last_of}
 use Rattle.cal_measure.specs.declared.services.Service.{Service}
 use Rattle.cal_facts.specs.Served.{AreServed, served_by, service_of, told_of}
 use Rattle.cal_facts.specs.declared.requests.served.Served.{Served}
+use Rattle.cal_facts.specs.declared.requests.served.ServedRequests.{ServedRequests}
 use Rattle.cal_facts.proofs.requests.served.ServedRequests.put_thread.Goals as goal
 
 told_more : (id : ℕ) (all : List Served) (one : Served) (was new : Option Served) → was ≡ service_of all id
@@ -27,5 +27,6 @@ loop-service-preserved c = λ all was.
     let i = c.loop-service.service-index in
     let thread = c.args.thread in
     let before = all ++ map (served_by thread) (take i services) in
-    subst (λ (l : List Served). AreServed l c.insert.new.self) (sym (grown all thread services i _ c.loop-service-test.true))
+    let now : ServedRequests = record { by_id = c.insert.new.self } in
+    subst (λ (l : List Served). AreServed l now) (sym (grown all thread services i _ c.loop-service-test.true))
     (record { same = λ id. told_more id before _ _ _ ((c.loop-service.invariant all was).same id) (c.in_ok-insert.ensures.updates.0 id) })

@@ -1,4 +1,4 @@
-use Rattle.std.proofs.Common.{◌≡◌, ◌++◌, ◌∷◌, ◌∙◌, [], ℕ, List, length, get_or, slice_get, subst, sym, ap}
+use Rattle.std.proofs.Common.{◌≡◌, ◌++◌, ◌∷◌, ◌∙◌, [], List, length, get_or, slice_get, subst, sym, ap}
 use Rattle.std.proofs.lemmas.Option.{get_or_from_slice_get}
 use Rattle.cal_machine.specs.Table.{Table}
 use Rattle.cal_policy.proofs.ListLemmas.OneMore.{each_of_push}
@@ -10,7 +10,6 @@ use Rattle.cal_trace.specs.declared.arrivals.GivenPass.{GivenPass}
 use Rattle.cal_facts.proofs.MoveLemmas.{passed_count}
 use Rattle.cal_facts.specs.PassAt.{IsPassAt}
 use Rattle.cal_facts.specs.Series.{points_of, series_of}
-use Rattle.cal_facts.specs.declared.series.point.MadePass.{MadePass}
 use Rattle.cal_facts.specs.declared.series.point.Point.{Point}
 use Rattle.cal_facts.proofs.series.collecting.OpenSeriesCollector.make_pass.Goals as goal
 

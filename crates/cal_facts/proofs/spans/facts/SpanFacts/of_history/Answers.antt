@@ -30,7 +30,7 @@ returns c =
     let all : c.loop-pass.pass ≡ length h = omega (arith, past, end) in
     let whole : take c.loop-pass.pass h ≡ h = ap (λ (n : ℕ). take n h) all ∙ take-length h in
     let gathers : Gathers c.loop-pass.gathering (moves_of h) = subst (λ (l : List PassEntry). Gathers c.loop-pass.gathering (moves_of l)) whole c.loop-pass.invariant in
-    let cores = c.cores.ensures ∙ c.machine.ensures.machine in
+    let cores = c.cores.ensures.value ∙ c.machine.ensures.machine in
     record {
       spans = c.in_ok-spans.ensures.spans (moves_of h) gathers ∙ ap (λ (n : ℕ). spans_of n h) cores;
       bans = c.in_ok-spans.ensures.bans (moves_of h) gathers ∙ ap (λ (n : ℕ). bans_of n h) cores;

@@ -1,4 +1,4 @@
-use Rattle.std.proofs.Common.{◌≡◌, ◌∙◌, ℕ, List, map, ap, sym}
+use Rattle.std.proofs.Common.{◌∙◌, ℕ, List, map, ap, sym}
 use Rattle.cal_measure.specs.Spans.{moves_of, spans_of}
 use Rattle.cal_tables.proofs.PassClocks.{clocks_given}
 use Rattle.cal_trace.specs.declared.arrivals.GivenPass.{GivenPass}
@@ -9,7 +9,7 @@ pub returns-clause-facts : goal.returns-clause-facts
 returns-clause-facts c =
     let run = c.in_ok-lockstep_collected.ensures.run in
     let h = run.outcome.history in
-    let cores = c.cores.ensures ∙ c.machine.ensures.machine in
+    let cores = c.cores.ensures.value ∙ c.machine.ensures.machine in
     record {
       outcome = run.outcome;
       run = run.run;
