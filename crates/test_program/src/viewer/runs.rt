@@ -1,6 +1,6 @@
 //! Whole runs of the program: what it writes on its two outputs, and its exit status.
 
-use crate::viewer::worked_histories::{DISORDERLY, HISTORY, TABLE};
+use crate::viewer::worked_histories::{HISTORY, TABLE};
 use cal_view::run_program;
 use serde_json::Value;
 use std::process::Abort;
@@ -56,35 +56,6 @@ fn count(text: &[u8], word: &[u8]) -> usize {
 }
 
 #[test]
-fn a_picture_tells_each_span_once(rt: HostRuntime) -> Result<(), Fail> {
-    let input = format!(in rt.alloc(); "{TABLE}---\n{HISTORY}")?;
-    let ran = run(&rt, &["picture"], input.as_str())?;
-    let text = ran.output.as_slice();
-    assert_eq!(rt; ran.status, 0);
-    assert!(rt; text.starts_with(b"<svg ") && text.ends_with(b"</svg>\n"));
-    assert_eq!(rt; count(text, b": granted in pass "), 3);
-    let span = b"in pass 0 at 100, class 3; revoked in pass 1 at 110 for task 0; freed in pass 2";
-    assert_eq!(rt; count(text, span), 1);
-    assert_eq!(rt; count(text, b"; still held"), 2);
-    let end = b" At the end: task 0 lc held 1 leaving 0; task 1 be held 1 leaving 0. The report ";
-    assert_eq!(rt; count(text, end), 1);
-    Ok(())
-}
-
-// In the heading, and in what the picture is in words.
-#[test]
-fn a_picture_tells_where_order_ends(rt: HostRuntime) -> Result<(), Fail> {
-    for (history, times) in [(HISTORY, 0), (DISORDERLY, 2)] {
-        let input = format!(in rt.alloc(); "{TABLE}---\n{history}")?;
-        let ran = run(&rt, &["picture"], input.as_str())?;
-        assert_eq!(rt; ran.status, 0);
-        let told = b" Not orderly from pass 1 on";
-        assert_eq!(rt; count(ran.output.as_slice(), told), times);
-    }
-    Ok(())
-}
-
-#[test]
 fn a_timeline_is_json(rt: HostRuntime) -> Result<(), Fail> {
     let input = format!(in rt.alloc(); "{TABLE}---\n{HISTORY}")?;
     let ran = run(&rt, &["timeline"], input.as_str())?;
@@ -98,39 +69,37 @@ fn a_timeline_is_json(rt: HostRuntime) -> Result<(), Fail> {
 
 #[test]
 fn faults_have_the_program_in_front(rt: HostRuntime) -> Result<(), Fail> {
-    let ran = run(&rt, &["picture"], TABLE)?;
+    let ran = run(&rt, &["history"], TABLE)?;
     assert_eq!(rt; ran.status, 2);
     assert_eq!(rt;
         ran.errors.as_slice(),
         b"caladan_view: no separator
   no line is ---
   wanted: a task table, a line ---, and a trace that begins with
-    `caladan-history,2` or `caladan-history,1`
+    `caladan-signals,2` or `caladan-signals,1`
 "
             .as_slice()
     );
     assert_eq!(rt; ran.output.len(), 0);
-    let ran = run(&rt, &["picture", "--passes", "0"], TABLE)?;
+    let ran = run(&rt, &["explain", "--pass", "x"], TABLE)?;
     assert_eq!(rt; ran.status, 2);
     Ok(())
 }
 
-// What is wrong stands after all passes, which could have been drawn.
+// What is wrong stands after all passes, which could have been written.
 #[test]
-fn nothing_is_drawn_of_a_refused_history(rt: HostRuntime) -> Result<(), Fail> {
+fn no_timeline_of_a_refused_history(rt: HostRuntime) -> Result<(), Fail> {
     let input = format!(in rt.alloc(); "{TABLE}---\n{HISTORY}end,3\n")?;
-    for word in ["picture", "timeline"] {
-        let ran = run(&rt, &[word], input.as_str())?;
-        assert_eq!(rt; ran.status, 2, "{word}");
-        assert!(rt; ran.output.is_empty() && !ran.errors.is_empty());
-    }
+    let ran = run(&rt, &["timeline"], input.as_str())?;
+    assert_eq!(rt; ran.status, 2);
+    assert!(rt; ran.output.is_empty() && !ran.errors.is_empty());
     Ok(())
 }
 
 // Help and the version are answers, and no word at all is none.
 #[test]
 fn help_and_the_version(rt: HostRuntime) -> Result<(), Fail> {
-    for words in [["--version"].as_slice(), ["picture", "--help"].as_slice()] {
+    for words in [["--version"].as_slice(), ["timeline", "--help"].as_slice()] {
         let ran = run(&rt, words, "")?;
         assert_eq!(rt; ran.status, 0, "{words:?}");
         assert!(rt; !ran.output.is_empty() && ran.errors.is_empty());
