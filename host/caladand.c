@@ -4,7 +4,6 @@
 #define _GNU_SOURCE
 #include "caladand.h"
 #include <errno.h>
-#include <stdarg.h>
 #include <stdlib.h>
 #include <string.h>
 
@@ -15,15 +14,6 @@
 void fail(const char *what, const char *why) {
     fprintf(stderr, "caladand: %s: %s\n", what, why);
     exit(2);
-}
-
-void complain(const char *format, ...) {
-    va_list rest;
-    char line[512];
-    va_start(rest, format);
-    vsnprintf(line, sizeof line, format, rest);
-    va_end(rest);
-    fprintf(stderr, "caladand: %s\n", line);
 }
 
 /* Once: ends as it should. Twice: waits for nobody. Three times: at once. What comes within a tenth of a second is one:
@@ -60,6 +50,7 @@ static void begin(scheduler *s) {
     open_tasks(s);
     if (s->options.folder) s->record = record_open(s->options.folder, s->options.name, s->table, s->options.bytes, s->machine.threads, &s->others);
     if (s->record) printf("record: %s\n", record_path(s->record)), fflush(stdout);
+    if (!begin_lines(&s->others) || !begin_metrics(s)) fail("a clerk", "no thread can be begun");
     tell_ready();
 }
 
@@ -68,10 +59,8 @@ static void begin(scheduler *s) {
 /* What cannot be written any more is no record: the run goes on without. */
 static void look_after_record(scheduler *s) {
     if (s->record == NULL) return;
-    if (record_keeps_up(s->record)) return (void)fflush(record_file(s->record));
-    record_end_piece(s->record, s->passes);
-    record_close(s->record);
-    s->record = NULL;
+    if (record_keeps_up(s->record)) fflush(record_file(s->record)); /* into memory */
+    else s->record = NULL;
 }
 
 static void keep_house(scheduler *s, uint64_t now) {
@@ -81,7 +70,7 @@ static void keep_house(scheduler *s, uint64_t now) {
     if (now - s->metrics_at < FLUSH) return;
     s->metrics_at = now;
     look_after_record(s);
-    write_metrics(s);
+    hand_metrics(s);
 }
 
 static bool is_over(const scheduler *s) { return stop_signals() || (s->options.seconds && now_of(s) >= s->options.seconds * 1000000000u); }
@@ -112,8 +101,10 @@ int main(int count, char **words) {
     s.options = read_options(count, words);
     begin(&s);
     while (!is_over(&s)) run_piece(&s);
-    print_summary(&s);
     close_tasks(&s);
     if (s.record) record_close(s.record);
+    print_summary(&s);
+    end_metrics();
+    end_lines();
     return fflush(stdout) ? 2 : 0;
 }

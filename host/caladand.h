@@ -56,6 +56,7 @@ typedef struct leaving {
 
 typedef struct counts {
     uint64_t passes, pieces, attached, ended, given_up, killed, written_off, refused, foreign_tids, unpinned, jumped, worn, punched;
+    uint64_t longest_gap; /* between two passes, in nanoseconds */
     uint64_t judged[CALADAN_WORD_FELL + 1], actions[CALADAN_GRANT + 1];
 } counts;
 
@@ -83,15 +84,24 @@ typedef struct scheduler {
     bool is_closing;
     record *record; /* NULL: nothing is recorded */
     uint64_t passes; /* of this piece */
-    uint64_t metrics_at;
+    uint64_t passed_at, metrics_at;
     latency latency;
     counts counts;
 } scheduler;
 
 static inline uint64_t now_of(const scheduler *s) { return host_clock() - s->epoch; }
 void fail(const char *what, const char *why) __attribute__((noreturn));
-void complain(const char *format, ...) __attribute__((format(printf, 1, 2))); /* a line on standard error */
 unsigned stop_signals(void); /* how often it was told to end */
+
+/* clerks.c */
+#define CLERKS_LAST ((uint64_t)1000000000) /* how long a clerk is waited for at the end, in nanoseconds */
+typedef void clerk_work(void *with);
+bool start_clerk(clerk_work *work, void *with, const cpu_set_t *where); /* on these processors, if there are any */
+bool wait_for_clerk(bool is_idle(void), uint64_t most);                  /* false: it was not idle in so long */
+void complain(const char *format, ...) __attribute__((format(printf, 1, 2))); /* a line on standard error; it waits for nobody */
+bool begin_lines(const cpu_set_t *where); /* until then, who complains writes the line himself */
+void end_lines(void);
+uint64_t lost_lines(void);
 
 /* options.c */
 options read_options(int count, char **words);
@@ -135,5 +145,7 @@ void end_piece(scheduler *s);
 
 /* counters.c */
 void print_summary(scheduler *s);
-void write_metrics(scheduler *s); /* into its folder, once a second */
+bool begin_metrics(const scheduler *s);
+void hand_metrics(const scheduler *s); /* to the clerk who writes them into the scheduler's folder, unless he is at work */
+void end_metrics(void);
 #endif

@@ -1,7 +1,10 @@
-/* counters.c: what a run came to: a summary at its end, and counters that can be read while it runs. */
+/* counters.c: what a run came to: a summary at its end, and counters that can be read while it runs. A clerk writes these
+ * as text, which any reader knows. In place, in a file that is mapped, a store would wait as well where the file is on a
+ * disk: the kernel lets nobody write to a page that it is about to write out. */
 #define _GNU_SOURCE
 #include <errno.h>
 #include <inttypes.h>
+#include <semaphore.h>
 #include <stdlib.h>
 #include "caladand.h"
 
@@ -16,6 +19,7 @@ void print_summary(scheduler *s) {
     for (int k = CALADAN_FREE; k <= CALADAN_GRANT; k++) printf("%s %s %" PRIu64, k > 1 ? "," : "", kinds[k], c->actions[k]);
     printf("\nprocesses: attached %" PRIu64 ", ended %" PRIu64 ", left %" PRIu64 ", refused %" PRIu64 ", killed %" PRIu64 ", written off %" PRIu64
            ", punched %" PRIu64 "\n", c->attached, c->ended, c->given_up, c->refused, c->killed, c->written_off, c->punched);
+    printf("longest gap between passes %" PRIu64 " ns, lines lost %" PRIu64 "\n", c->longest_gap, lost_lines());
     printf("threads: not the process's own %" PRIu64 ", not pinned %" PRIu64 ", worn out %" PRIu64 "\n", c->foreign_tids, c->unpinned, c->worn);
     latency_print(&s->latency, stdout);
 }
@@ -35,6 +39,11 @@ static void put_each(FILE *out, const char *name, const char *label, const char 
     }
 }
 
+static void put_one(FILE *out, const char *name, const char *type, uint64_t value) {
+    fprintf(out, "# TYPE caladan_%s %s\n", name, type);
+    put(out, name, "", value);
+}
+
 static void put_counts(FILE *out, const counts *c) {
     const struct {
         const char *name;
@@ -43,51 +52,105 @@ static void put_counts(FILE *out, const counts *c) {
                 {"left_total", c->given_up}, {"refused_total", c->refused}, {"killed_total", c->killed}, {"written_off_total", c->written_off},
                 {"punched_total", c->punched}, {"places_too_far_total", c->jumped}, {"foreign_threads_total", c->foreign_tids},
                 {"unpinned_total", c->unpinned}};
-    for (size_t i = 0; i < sizeof each / sizeof *each; i++) {
-        fprintf(out, "# TYPE caladan_%s counter\n", each[i].name);
-        put(out, each[i].name, "", each[i].value);
-    }
+    for (size_t i = 0; i < sizeof each / sizeof *each; i++) put_one(out, each[i].name, "counter", each[i].value);
 }
 
-static void put_latency(FILE *out, const char *step, const histogram *h) {
+static void put_shares(FILE *out, const char *name, const char *step, const histogram *h) {
     static const char *const shares[] = {"0.5", "0.9", "0.99", "0.999"};
-    char labels[64];
+    char labels[64], count[64];
     for (int i = 0; i < 4; i++) {
         snprintf(labels, sizeof labels, "{step=\"%s\",quantile=\"%s\"}", step, shares[i]);
-        put(out, "latency_nanoseconds", labels, latency_quantile(h, atof(shares[i])));
+        put(out, name, labels, latency_quantile(h, atof(shares[i])));
     }
+    snprintf(count, sizeof count, "%s_count", name);
     snprintf(labels, sizeof labels, "{step=\"%s\"}", step);
-    put(out, "latency_nanoseconds_count", labels, h->count);
+    put(out, count, labels, h->count);
 }
 
-static void put_all(FILE *out, scheduler *s) {
+/* What a clerk writes is a copy, which the passes do not touch. */
+typedef struct tally {
+    counts counts;
+    latency latency;
+    unsigned tasks;
+    bool is_attached[HOST_TASKS], is_recorded;
+    uint64_t lost_lines;
+} tally;
+
+static struct {
+    int folder;
+    tally tally;
+    sem_t bell;
+    atomic_bool is_busy; /* the tally is the clerk's */
+} desk;
+
+static void put_each_task(FILE *out, const tally *t) {
     char labels[32];
-    put_counts(out, &s->counts);
-    put_each(out, "looks_total", "judged", judgements, s->counts.judged, CALADAN_KEPT, CALADAN_WORD_FELL);
-    put_each(out, "actions_total", "kind", kinds, s->counts.actions, CALADAN_FREE, CALADAN_GRANT);
     fputs("# TYPE caladan_attached gauge\n", out);
-    for (unsigned t = 0; t < s->machine.tasks; t++) {
-        snprintf(labels, sizeof labels, "{task=\"%u\"}", t);
-        put(out, "attached", labels, s->task[t].is_attached);
+    for (unsigned i = 0; i < t->tasks; i++) {
+        snprintf(labels, sizeof labels, "{task=\"%u\"}", i);
+        put(out, "attached", labels, t->is_attached[i]);
     }
-    fputs("# TYPE caladan_recording gauge\n", out);
-    put(out, "recording", "", s->record != NULL);
+}
+
+static void put_all(FILE *out, const tally *t) {
+    put_counts(out, &t->counts);
+    put_each(out, "looks_total", "judged", judgements, t->counts.judged, CALADAN_KEPT, CALADAN_WORD_FELL);
+    put_each(out, "actions_total", "kind", kinds, t->counts.actions, CALADAN_FREE, CALADAN_GRANT);
+    put_one(out, "lost_lines_total", "counter", t->lost_lines);
+    put_one(out, "longest_gap_nanoseconds", "gauge", t->counts.longest_gap);
+    put_each_task(out, t);
+    put_one(out, "recording", "gauge", t->is_recorded);
     fputs("# TYPE caladan_latency_nanoseconds summary\n", out);
-    put_latency(out, "leave", &s->latency.leaving);
-    put_latency(out, "start", &s->latency.starting);
-    put_latency(out, "move", &s->latency.moving);
-    put_latency(out, "wait", &s->latency.waiting);
+    put_shares(out, "latency_nanoseconds", "leave", &t->latency.leaving);
+    put_shares(out, "latency_nanoseconds", "free", &t->latency.freeing);
+    put_shares(out, "latency_nanoseconds", "start", &t->latency.starting);
+    put_shares(out, "latency_nanoseconds", "move", &t->latency.moving);
+    put_shares(out, "latency_nanoseconds", "wait", &t->latency.waiting);
+    fputs("# TYPE caladan_passes_taken summary\n", out);
+    put_shares(out, "passes_taken", "free", &t->latency.freeing_passes);
+    fputs("# TYPE caladan_most_nanoseconds gauge\n", out);
+    put(out, "most_nanoseconds", "{step=\"free\"}", t->latency.freeing.most);
+    fputs("# TYPE caladan_most_passes gauge\n", out);
+    put(out, "most_passes", "{step=\"free\"}", t->latency.freeing_passes.most);
 }
 
 /* A reader finds a whole file, this one or the one before. One that cannot be written is not: nothing depends on it. */
-void write_metrics(scheduler *s) {
-    int file = openat(s->folder, "metrics.new", O_WRONLY | O_CREAT | O_TRUNC | O_NOFOLLOW | O_CLOEXEC, 0600);
+static void write_metrics(const tally *t) {
+    int file = openat(desk.folder, "metrics.new", O_WRONLY | O_CREAT | O_TRUNC | O_NOFOLLOW | O_CLOEXEC, 0600);
     FILE *out = file < 0 ? NULL : fdopen(file, "w");
     if (out == NULL) {
         if (file >= 0) close(file);
         return;
     }
-    put_all(out, s);
+    put_all(out, t);
     bool is_whole = !ferror(out);
-    if (fclose(out) == 0 && is_whole) renameat(s->folder, "metrics.new", s->folder, "metrics");
+    if (fclose(out) == 0 && is_whole) renameat(desk.folder, "metrics.new", desk.folder, "metrics");
 }
+
+static void write_each(void *with) {
+    (void)with;
+    for (;;) {
+        while (sem_wait(&desk.bell)) {}
+        write_metrics(&desk.tally);
+        atomic_store(&desk.is_busy, false);
+    }
+}
+
+bool begin_metrics(const scheduler *s) {
+    desk.folder = s->folder;
+    sem_init(&desk.bell, 0, 0);
+    return start_clerk(write_each, NULL, &s->others);
+}
+
+void hand_metrics(const scheduler *s) {
+    tally *t = &desk.tally;
+    if (atomic_load(&desk.is_busy)) return;
+    t->counts = s->counts, t->latency = s->latency;
+    t->tasks = s->machine.tasks, t->is_recorded = s->record != NULL, t->lost_lines = lost_lines();
+    for (unsigned i = 0; i < t->tasks; i++) t->is_attached[i] = s->task[i].is_attached;
+    atomic_store(&desk.is_busy, true);
+    sem_post(&desk.bell);
+}
+
+static bool is_idle(void) { return !atomic_load(&desk.is_busy); }
+void end_metrics(void) { wait_for_clerk(is_idle, CLERKS_LAST); }

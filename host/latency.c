@@ -10,6 +10,7 @@ static void add(histogram *h, uint64_t ns) {
         place = (power - 2) * 8 + (ns >> (power - 3)) % 8;
     }
     h->count++;
+    if (ns > h->most) h->most = ns;
     h->bucket[place < LATENCY_BUCKETS ? place : LATENCY_BUCKETS - 1]++;
 }
 
@@ -52,6 +53,7 @@ static void decided_grant(latency *l, uint64_t now, const latency_thread *thread
 static void decided_revoke(latency *l, uint64_t now, const caladan_action *a) {
     bool for_task = a->cause == CALADAN_FOR_TASK;
     l->revoked[a->core] = now;
+    l->revoked_in[a->core] = l->passes;
     l->revoked_for[a->core] = for_task ? a->task : 255;
     if (for_task && l->asked[a->task] == 0) l->asked[a->task] = now;
 }
@@ -69,6 +71,8 @@ static void decided_free(latency *l, uint64_t now, uint8_t core, const latency_t
     uint8_t task = l->revoked_for[core];
     if (from == 0) return;
     if (stamp <= now) add(&l->leaving, stamp > from ? stamp - from : 0);
+    add(&l->freeing, now - from);
+    add(&l->freeing_passes, l->passes - l->revoked_in[core]);
     l->revoked[core] = 0;
     if (task == 255 || is_granted_to(threads, task, actions, made)) return;
     l->asked[task] = 0;
@@ -76,6 +80,7 @@ static void decided_free(latency *l, uint64_t now, uint8_t core, const latency_t
 }
 
 void latency_decided(latency *l, uint64_t now, const latency_thread *threads, size_t count, const caladan_action *actions, size_t made) {
+    l->passes++;
     for (size_t i = 0; i < made; i++) {
         const caladan_action *a = &actions[i];
         if (a->kind == CALADAN_FREE) decided_free(l, now, a->core, threads, actions, made);
@@ -97,12 +102,17 @@ void latency_looked(latency *l, uint64_t now, const latency_thread *threads, siz
     }
 }
 
+static void print_shares(const char *name, const char *unit, const histogram *h, FILE *out) {
+    fprintf(out, "%s: %" PRIu64 " times; %s p50 %" PRIu64 ", p90 %" PRIu64 ", p99 %" PRIu64 ", p99.9 %" PRIu64 ", most %" PRIu64 "\n", name,
+            h->count, unit, latency_quantile(h, 0.5), latency_quantile(h, 0.9), latency_quantile(h, 0.99), latency_quantile(h, 0.999), h->most);
+}
+
 static void print_one(const char *name, const histogram *h, FILE *out) {
     static const uint64_t up_to[] = {2, 4, 8, 16, 32, 64, 128, 1000, 10000};
     uint64_t before = 0, sum = 0;
     unsigned i = 0;
-    fprintf(out, "%s: %" PRIu64 " times; ns p50 %" PRIu64 ", p90 %" PRIu64 ", p99 %" PRIu64 ", p99.9 %" PRIu64 "\n  of 1000, by microseconds:",
-            name, h->count, latency_quantile(h, 0.5), latency_quantile(h, 0.9), latency_quantile(h, 0.99), latency_quantile(h, 0.999));
+    print_shares(name, "ns", h, out);
+    fputs("  of 1000, by microseconds:", out);
     for (size_t u = 0; u < sizeof up_to / sizeof *up_to; u++) {
         while (i < LATENCY_BUCKETS && least_of(i) < up_to[u] * 1000) sum += h->bucket[i++];
         fprintf(out, " <%" PRIu64 " %.1f", up_to[u], 1000.0 * (double)(sum - before) / (double)(h->count + !h->count));
@@ -113,6 +123,8 @@ static void print_one(const char *name, const histogram *h, FILE *out) {
 
 void latency_print(const latency *l, FILE *out) {
     print_one("revocation to the record that shows it left", &l->leaving, out);
+    print_one("revocation to the pass that frees the core", &l->freeing, out);
+    print_shares("  the same", "passes", &l->freeing_passes, out);
     print_one("grant to the thread at work", &l->starting, out);
     print_one("decision to the thread at work", &l->moving, out);
     print_one("arrival to the thread at work", &l->waiting, out);

@@ -152,9 +152,16 @@ static void wait_for_answer(scheduler *s, host_thread *thread, uint64_t until) {
     thread->is_mute = false;
 }
 
+static void note_gap(scheduler *s, uint64_t now) {
+    uint64_t gap = s->passed_at ? now - s->passed_at : 0;
+    if (gap > s->counts.longest_gap) s->counts.longest_gap = gap;
+    s->passed_at = now;
+}
+
 void make_pass(scheduler *s) {
     look_at_each(s);
     uint64_t now = now_of(s), figure = bandwidth(s, now);
+    note_gap(s, now);
     size_t count = s->machine.threads;
     uint8_t answer = caladan_pass_each(&s->handle, now, figure, s->look, count, s->judged, HOST_THREADS, s->action, CALADAN_MOST_ACTIONS, &s->made);
     if (answer != CALADAN_DONE) fail("a pass", caladan_answer_text(answer));

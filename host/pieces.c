@@ -46,7 +46,7 @@ void begin_piece(scheduler *s) {
     s->passes = 0;
     s->is_closing = false;
     s->counts.pieces++;
-    if (s->record && !record_begin_piece(s->record, s->counts.pieces)) record_close(s->record), s->record = NULL;
+    if (s->record && !record_begin_piece(s->record, s->counts.pieces)) s->record = NULL;
     set_phase(s, (uint32_t)s->counts.pieces * 2);
 }
 
@@ -108,6 +108,6 @@ void end_piece(scheduler *s) {
         make_pass(s);
         if (passes >= RECORD_END_PASSES || (s->options.patience == 0 && s->clock - clock >= patience)) break;
     }
-    if (s->record && !record_end_piece(s->record, s->passes)) record_close(s->record), s->record = NULL;
+    if (s->record && !record_end_piece(s->record, s->passes)) s->record = NULL;
     caladan_close(&s->handle);
 }

@@ -1,37 +1,46 @@
-/* record.c: a piece is a stream into memory, beside which a thread writes. */
+/* record.c: two buffers: passes write a piece into one of them, while a clerk writes it to its file, and the piece before
+ * it from the other. */
 #define _GNU_SOURCE
 #include "record.h"
 #include <errno.h>
 #include <fcntl.h>
-#include <pthread.h>
 #include <semaphore.h>
 #include <stdatomic.h>
 #include <stdlib.h>
 #include <string.h>
 #include <stdio_ext.h>
+#include <sys/mman.h>
 #include <sys/stat.h>
 #include <time.h>
 #include <unistd.h>
 #include "caladand.h"
 
 #define OFTEN 250000000 /* how often what is new is written, in nanoseconds */
+#define LAST ((uint64_t)5000000000) /* how long the disk is waited for when the run has ended, in nanoseconds */
 enum { ROW = 256, ACTION = 64 }; /* more bytes than the longest look and the longest action have */
+enum { IS_FREE, GROWS, IS_WHOLE };
 
-struct record {
+typedef struct piece {
+    record *of;
+    char *room;
+    FILE *out;
+    uint64_t number;
+    atomic_size_t filled;
+    _Atomic int state; /* free is set by the clerk, the others by the passes */
+} piece;
+
+/* A process has one. */
+static struct record {
     char path[HOST_PATH];
     int folder;
     uint64_t full; /* bytes of a piece that is to end */
-    char *room;    /* RECORD_MOST bytes */
-    FILE *out;
-    uint64_t number;
-    int file;
-    cpu_set_t writers;
-    pthread_t writer;
+    size_t size;   /* and of its room */
+    piece piece[2], *now;
     sem_t bell;
-    atomic_size_t filled;
-    atomic_bool is_whole;
+    atomic_bool is_over, is_done; /* no other piece is begun; the clerk has written those that were */
+    _Atomic uint64_t failed;      /* the piece that the clerk could not write, and why; known when `error` is */
     atomic_int error;
-};
+} the_record;
 
 /* ---- the folder ---- */
 
@@ -54,113 +63,147 @@ static void make_folder(record *r, const char *folder, const char *name) {
     close(above);
 }
 
+/* ---- a buffer ---- */
+
+static ssize_t into_memory(void *to, const char *from, size_t length) {
+    piece *it = to;
+    size_t filled = atomic_load(&it->filled);
+    if (length > it->of->size - filled) length = it->of->size - filled;
+    memcpy(it->room + filled, from, length);
+    atomic_store(&it->filled, filled + length);
+    return (ssize_t)length;
+}
+
+static void make_buffer(record *r, piece *it) {
+    static const cookie_io_functions_t functions = {.write = into_memory};
+    it->of = r;
+    it->room = mmap(NULL, r->size, PROT_READ | PROT_WRITE, MAP_PRIVATE | MAP_ANONYMOUS | MAP_POPULATE, -1, 0); /* no pass is to wait for memory */
+    it->out = fopencookie(it, "w", functions);
+    if (it->room == MAP_FAILED || it->out == NULL || setvbuf(it->out, NULL, _IOFBF, 1 << 16)) fail("-r", strerror(ENOMEM));
+}
+
+/* ---- its clerk ---- */
+
+static void name_of(uint64_t number, const char *end, char name[64]) { snprintf(name, 64, "piece-%06llu%s", (unsigned long long)number, end); }
+
+static void wait_a_while(record *r) {
+    struct timespec until;
+    clock_gettime(CLOCK_MONOTONIC, &until);
+    until.tv_nsec += OFTEN;
+    if (until.tv_nsec >= 1000000000) until.tv_nsec -= 1000000000, until.tv_sec++;
+    sem_clockwait(&r->bell, CLOCK_MONOTONIC, &until);
+}
+
+static int write_all(const piece *it, int file, size_t *written, size_t filled) {
+    while (*written < filled) {
+        ssize_t did = write(file, it->room + *written, filled - *written);
+        if (did < 0 && errno == EINTR) continue;
+        if (did <= 0) return did < 0 ? errno : EIO;
+        *written += (size_t)did;
+    }
+    return 0;
+}
+
+/* What is new, again and again. */
+static int write_growing(record *r, piece *it, int file) {
+    for (size_t written = 0;;) {
+        bool is_over = atomic_load(&r->is_over), is_whole = atomic_load(&it->state) == IS_WHOLE;
+        int error = write_all(it, file, &written, atomic_load(&it->filled));
+        if (error || is_whole) return error;
+        if (is_over) return ECANCELED;
+        wait_a_while(r);
+    }
+}
+
+static int write_piece(record *r, piece *it) {
+    char part[64], whole[64];
+    name_of(it->number, ".part", part);
+    name_of(it->number, ".history", whole);
+    int file = openat(r->folder, part, O_WRONLY | O_CREAT | O_EXCL | O_NOFOLLOW | O_CLOEXEC, 0600);
+    if (file < 0) return errno;
+    int error = write_growing(r, it, file);
+    if (close(file) && error == 0) error = errno;
+    if (error == 0 && renameat(r->folder, part, r->folder, whole)) error = errno;
+    return error;
+}
+
+static bool is_begun(record *r, piece *it) {
+    for (;;) {
+        bool is_over = atomic_load(&r->is_over);
+        if (atomic_load(&it->state) != IS_FREE) return true;
+        if (is_over) return false;
+        wait_a_while(r);
+    }
+}
+
+static void write_pieces(void *with) {
+    record *r = with;
+    int error = 0;
+    for (size_t i = 0; error == 0 && is_begun(r, &r->piece[i % 2]); i++) {
+        piece *it = &r->piece[i % 2];
+        error = write_piece(r, it);
+        if (error) atomic_store(&r->failed, it->number), atomic_store(&r->error, error);
+        else atomic_store(&it->state, IS_FREE);
+    }
+    atomic_store(&r->is_done, true);
+}
+
+/* ---- what passes see of it ---- */
+
 record *record_open(const char *folder, const char *name, const char *table, uint64_t bytes, unsigned threads, const cpu_set_t *writers) {
-    uint64_t pass = ROW + (uint64_t)threads * ROW + CALADAN_MOST_ACTIONS * ACTION;
-    uint64_t most = RECORD_MOST - strlen(table) - ROW - (RECORD_END_PASSES + 1) * pass;
-    record *r = calloc(1, sizeof *r);
-    if (r == NULL || (r->room = malloc(RECORD_MOST)) == NULL) fail("-r", strerror(errno));
-    memset(r->room, 0, RECORD_MOST); /* no pass is to wait for memory */
+    uint64_t pass = ROW + (uint64_t)threads * ROW + CALADAN_MOST_ACTIONS * ACTION, end = ROW + (RECORD_END_PASSES + 1) * pass;
+    uint64_t most = RECORD_MOST - strlen(table) - end;
+    record *r = &the_record;
     r->full = bytes < most ? bytes : most;
-    r->writers = *writers;
+    r->size = r->full + end;
+    for (int i = 0; i < 2; i++) make_buffer(r, &r->piece[i]);
     make_folder(r, folder, name);
     write_table(r, table);
+    sem_init(&r->bell, 0, 0);
+    if (!start_clerk(write_pieces, r, writers)) fail("-r", "no thread can be begun");
     return r;
 }
 
 const char *record_path(const record *r) { return r->path; }
-FILE *record_file(record *r) { return r->out; }
-bool record_is_full(const record *r) { return atomic_load(&r->filled) + __fpending(r->out) >= r->full; }
-bool record_keeps_up(const record *r) { return atomic_load(&r->error) == 0; }
+FILE *record_file(record *r) { return r->now->out; }
+bool record_is_full(const record *r) { return atomic_load(&r->now->filled) + __fpending(r->now->out) >= r->full; }
 
-/* ---- the stream and its writer ---- */
-
-static ssize_t into_memory(void *to, const char *from, size_t length) {
-    record *r = to;
-    size_t filled = atomic_load(&r->filled);
-    if (length > RECORD_MOST - filled) length = RECORD_MOST - filled;
-    memcpy(r->room + filled, from, length);
-    atomic_store(&r->filled, filled + length);
-    return (ssize_t)length;
-}
-
-static bool write_all(record *r, size_t *written, size_t filled) {
-    while (*written < filled) {
-        ssize_t did = write(r->file, r->room + *written, filled - *written);
-        if (did < 0 && errno == EINTR) continue;
-        if (did <= 0) return false;
-        *written += (size_t)did;
-    }
-    return true;
-}
-
-static void *write_on(void *argument) {
-    record *r = argument;
-    sigset_t all;
-    sigfillset(&all);
-    pthread_sigmask(SIG_BLOCK, &all, NULL);
-    if (CPU_COUNT(&r->writers)) sched_setaffinity(0, sizeof r->writers, &r->writers);
-    for (size_t written = 0; ;) {
-        bool is_whole = atomic_load(&r->is_whole);
-        if (!write_all(r, &written, atomic_load(&r->filled))) return atomic_store(&r->error, errno ? errno : EIO), NULL;
-        if (is_whole) return NULL;
-        struct timespec until;
-        clock_gettime(CLOCK_REALTIME, &until);
-        until.tv_nsec += OFTEN;
-        if (until.tv_nsec >= 1000000000) until.tv_nsec -= 1000000000, until.tv_sec++;
-        sem_timedwait(&r->bell, &until);
-    }
-}
-
-/* ---- pieces ---- */
-
-static void name_of(const record *r, const char *end, char name[64]) {
-    snprintf(name, 64, "piece-%06llu%s", (unsigned long long)r->number, end);
-}
-
-static bool give_in(record *r, int error) {
-    complain("%s/piece-%06llu: %s: nothing is recorded any more", r->path, (unsigned long long)r->number, strerror(error));
-    if (r->file >= 0) close(r->file);
+/* No other piece is begun. What is whole is still written, if it can be. */
+static bool give_in(record *r, uint64_t number, const char *why) {
+    complain("%s/piece-%06llu: %s: nothing is recorded any more", r->path, (unsigned long long)number, why);
+    atomic_store(&r->is_over, true);
+    sem_post(&r->bell);
     return false;
 }
 
+bool record_keeps_up(record *r) {
+    int error = atomic_load(&r->error);
+    return error == 0 ? true : give_in(r, atomic_load(&r->failed), strerror(error));
+}
+
 bool record_begin_piece(record *r, uint64_t number) {
-    static const cookie_io_functions_t functions = {.write = into_memory};
-    char name[64];
-    r->number = number;
-    name_of(r, ".part", name);
-    atomic_store(&r->filled, 0);
-    atomic_store(&r->is_whole, false);
-    r->file = openat(r->folder, name, O_WRONLY | O_CREAT | O_EXCL | O_NOFOLLOW | O_CLOEXEC, 0600);
-    if (r->file < 0) return give_in(r, errno);
-    r->out = fopencookie(r, "w", functions);
-    if (r->out == NULL || setvbuf(r->out, NULL, _IOFBF, 1 << 16)) return give_in(r, ENOMEM);
-    sem_init(&r->bell, 0, 0);
-    int error = pthread_create(&r->writer, NULL, write_on, r);
-    if (error == 0) return caladan_history_begin(r->out), true;
-    fclose(r->out);
-    return give_in(r, error);
+    piece *it = r->now == &r->piece[0] ? &r->piece[1] : &r->piece[0];
+    if (!record_keeps_up(r)) return false;
+    if (atomic_load(&it->state) != IS_FREE) return give_in(r, number, "the disk is too slow for it");
+    r->now = it;
+    it->number = number;
+    atomic_store(&it->filled, 0);
+    atomic_store(&it->state, GROWS);
+    sem_post(&r->bell);
+    return caladan_history_begin(it->out);
 }
 
 bool record_end_piece(record *r, uint64_t passes) {
-    char part[64], whole[64];
-    caladan_history_end(r->out, passes);
-    bool fits = fclose(r->out) == 0;
-    atomic_store(&r->is_whole, true);
+    if (!caladan_history_end(r->now->out, passes)) return give_in(r, r->now->number, strerror(EFBIG));
+    atomic_store(&r->now->state, IS_WHOLE);
     sem_post(&r->bell);
-    pthread_join(r->writer, NULL);
-    sem_destroy(&r->bell);
-    int error = atomic_load(&r->error);
-    if (error) return give_in(r, error);
-    if (!fits) return give_in(r, EFBIG);
-    name_of(r, ".part", part);
-    name_of(r, ".history", whole);
-    bool is_closed = close(r->file) == 0;
-    r->file = -1;
-    return is_closed && renameat(r->folder, part, r->folder, whole) == 0 ? true : give_in(r, errno);
+    return true;
 }
 
+static bool is_done(void) { return atomic_load(&the_record.is_done); }
 void record_close(record *r) {
-    close(r->folder);
-    free(r->room);
-    free(r);
+    atomic_store(&r->is_over, true);
+    sem_post(&r->bell);
+    if (!wait_for_clerk(is_done, stop_signals() > 1 ? CLERKS_LAST : LAST)) give_in(r, r->now ? r->now->number : 0, "the disk has not taken it in time");
+    else record_keeps_up(r);
 }

@@ -1,5 +1,6 @@
-/* record.h: the record of a run, in pieces, each a file. All of a piece is in memory too, and a thread writes what is
- * new to the file, so that no pass waits for a disk; what it could not write ends the record, and not the run. */
+/* record.h: the record of a run, in pieces, each a file. A piece is a stream into memory, and a thread writes what is new
+ * to the file, so that no pass waits for a disk: the next piece begins at once, in a second buffer. What could not be
+ * written, or not before the piece after the next began, ends the record, and not the run. */
 #ifndef RECORD_H
 #define RECORD_H
 #include <sched.h>
@@ -17,11 +18,11 @@ typedef struct record record;
  * cannot be begun. */
 record *record_open(const char *folder, const char *name, const char *table, uint64_t bytes, unsigned threads, const cpu_set_t *writers);
 const char *record_path(const record *r);
-/* False: it cannot be written any more, which is said. */
-bool record_begin_piece(record *r, uint64_t number);
 FILE *record_file(record *r);
 bool record_is_full(const record *r);
-bool record_keeps_up(const record *r); /* what was written so far could be */
+/* Each of these: false, and it is said, where nothing is recorded any more. */
+bool record_begin_piece(record *r, uint64_t number);
 bool record_end_piece(record *r, uint64_t passes);
-void record_close(record *r);
+bool record_keeps_up(record *r);
+void record_close(record *r); /* waits until it is written, some seconds at most */
 #endif

@@ -24,9 +24,14 @@ needs_audit() { [ "${sim[0]}" = "$build/audit" ]; }
 # is_legal TABLE HISTORY
 is_legal() { [ "$({ cat "$1"; echo ---; cat "$2"; } | "${sim[@]}" 2> /dev/null | tail -n 1)" = legal ]; }
 
-# The schedulers of a run have their folders in one of the run's own.
-export CALADAN_FOLDER=$build/run
+# The schedulers of a run have their folders in one of the run's own, in memory: a disk would hold up whoever counts there.
+in_memory=
+for each in "${XDG_RUNTIME_DIR-}" /dev/shm; do
+    [ -z "$in_memory" ] && [ -w "$each" ] && [ "$(stat -f -c %T "$each")" = tmpfs ] && in_memory=$(mktemp -d "$each/caladan.XXXXXX")
+done
+export CALADAN_FOLDER=${in_memory:-$build}/run
 [ -d "$CALADAN_FOLDER" ] || mkdir -m 700 "$CALADAN_FOLDER"
+leave_memory() { [ -z "$in_memory" ] || rm -rf "$in_memory"; }
 
 # is_there NAME: a scheduler of that name listens, or was killed.
 is_there() { [ -S "$CALADAN_FOLDER/$1/task-0" ]; }

@@ -1,0 +1,107 @@
+/* clerks.c: threads that write, so that no pass waits for a disk, or for who reads standard error: and the lines of one. */
+#define _GNU_SOURCE
+#include <errno.h>
+#include <pthread.h>
+#include <semaphore.h>
+#include <stdarg.h>
+#include <stdlib.h>
+#include <string.h>
+#include "caladand.h"
+
+enum { LINES = 64, LINE = 512 };
+
+/* ---- any clerk ---- */
+
+typedef struct clerk {
+    clerk_work *work;
+    void *with;
+    cpu_set_t where;
+} clerk;
+
+static void *live(void *argument) {
+    clerk it = *(clerk *)argument;
+    sigset_t all;
+    free(argument);
+    sigfillset(&all);
+    pthread_sigmask(SIG_BLOCK, &all, NULL);
+    if (CPU_COUNT(&it.where)) sched_setaffinity(0, sizeof it.where, &it.where);
+    it.work(it.with);
+    return NULL;
+}
+
+bool start_clerk(clerk_work *work, void *with, const cpu_set_t *where) {
+    clerk *it = malloc(sizeof *it);
+    pthread_t thread;
+    if (it == NULL) return false;
+    *it = (clerk){work, with, *where};
+    if (pthread_create(&thread, NULL, live, it)) return free(it), false;
+    pthread_detach(thread);
+    return true;
+}
+
+bool wait_for_clerk(bool is_idle(void), uint64_t most) {
+    struct timespec moment = {0, 2000000};
+    for (uint64_t from = host_clock(); !is_idle();) {
+        if (host_clock() - from >= most) return false;
+        nanosleep(&moment, NULL);
+    }
+    return true;
+}
+
+/* ---- lines on standard error ---- */
+
+/* One thread puts lines here, the scheduler's, and one writes them. A line that does not fit is counted and lost. */
+static struct {
+    char line[LINES][LINE];
+    atomic_size_t put, written; /* how many so far */
+    _Atomic uint64_t lost;
+    sem_t bell;
+    atomic_bool has_clerk;
+} lines;
+
+static void write_line(const char *line) {
+    for (size_t length = strnlen(line, LINE); length;) {
+        ssize_t did = write(STDERR_FILENO, line, length);
+        if (did < 0 && errno == EINTR) continue;
+        if (did <= 0) return (void)atomic_fetch_add(&lines.lost, 1);
+        line += did, length -= (size_t)did;
+    }
+}
+
+static void write_lines(void *with) {
+    (void)with;
+    for (;;) {
+        size_t next = atomic_load(&lines.written);
+        if (next == atomic_load(&lines.put)) {
+            while (sem_wait(&lines.bell)) {}
+            continue;
+        }
+        write_line(lines.line[next % LINES]);
+        atomic_store(&lines.written, next + 1);
+    }
+}
+
+bool begin_lines(const cpu_set_t *where) {
+    sem_init(&lines.bell, 0, 0);
+    atomic_store(&lines.has_clerk, start_clerk(write_lines, NULL, where));
+    return atomic_load(&lines.has_clerk);
+}
+
+void complain(const char *format, ...) {
+    va_list rest;
+    char text[LINE - 16], line[LINE];
+    va_start(rest, format);
+    vsnprintf(text, sizeof text, format, rest);
+    va_end(rest);
+    snprintf(line, sizeof line, "caladand: %s\n", text);
+    if (!atomic_load(&lines.has_clerk)) return write_line(line);
+    size_t next = atomic_load(&lines.put);
+    if (next - atomic_load(&lines.written) == LINES) return (void)atomic_fetch_add(&lines.lost, 1);
+    memcpy(lines.line[next % LINES], line, sizeof line);
+    atomic_store(&lines.put, next + 1);
+    sem_post(&lines.bell);
+}
+
+uint64_t lost_lines(void) { return atomic_load(&lines.lost); }
+static bool are_written(void) { return atomic_load(&lines.written) == atomic_load(&lines.put); }
+void end_lines(void) { wait_for_clerk(are_written, CLERKS_LAST); }

@@ -1,0 +1,38 @@
+/* lines_test.c: lines on a standard error that nobody reads hold nobody up; each is written in its order, or counted as lost. */
+#define _GNU_SOURCE
+#include <stdlib.h>
+#include <string.h>
+#include "caladand.h"
+
+enum { LINES = 2000 };
+
+static void check(bool is, const char *why) {
+    if (is) return;
+    printf("%s\n", why);
+    exit(1);
+}
+
+int main(void) {
+    int ends[2];
+    cpu_set_t anywhere;
+    char text[1024];
+    CPU_ZERO(&anywhere);
+    check(pipe(ends) == 0 && dup2(ends[1], STDERR_FILENO) == STDERR_FILENO, "no pipe");
+    close(ends[1]);
+    fcntl(STDERR_FILENO, F_SETPIPE_SZ, 4096);
+    check(begin_lines(&anywhere), "no clerk");
+    for (int i = 0; i < LINES; i++) complain("line %d %0200d", i, 0); /* it would wait here for ever */
+    uint64_t lost = lost_lines();
+    check(lost > LINES - 200 && lost < LINES, "not most of them were lost");
+    FILE *in = fdopen(ends[0], "r");
+    int last = -1, number;
+    for (uint64_t read = 0; read < LINES - lost; read++) {
+        check(fgets(text, sizeof text, in) && sscanf(text, "caladand: line %d ", &number) == 1 && number > last, "a line is not in its order");
+        check(strlen(text) == strlen("caladand: line ") + strlen(" \n") + 200 + (number > 999 ? 4 : number > 99 ? 3 : number > 9 ? 2 : 1), "a line is cut");
+        last = number;
+    }
+    complain("the last");
+    check(fgets(text, sizeof text, in) && !strcmp(text, "caladand: the last\n"), "a line more came than was counted");
+    end_lines();
+    return 0;
+}

@@ -1,0 +1,97 @@
+# slow.sh: nothing that a scheduler writes holds its passes up: neither a disk that sleeps, nor a reader who does not read.
+
+# can_sleep FOLDER MS: sets wrap, so that the next scheduler's calls on files of FOLDER take so long.
+can_sleep() {
+    "$bin/slow" "$1" "$2" true 2> /dev/null || { skip "$what, for want of seccomp"; return 1; }
+    wrap=("$bin/slow" "$1" "$2")
+}
+# is_within FILE MS: the longest time of a request of a latency-critical load
+is_within() { awk -v most="$2" -v at="$(grep -oE '"max": [0-9]+' "$1" | grep -oE '[0-9]+')" 'BEGIN { exit !(at != "" && at <= most * 1000) }'; }
+within() { is_within "$@"; note $? "$what: a request waited for more than $2 ms: $(head -n 3 "$1")"; }
+
+slow_record() { # a disk that cannot follow ends the record, and no pass waits for it
+    what="a record on a disk that takes three seconds for each call"
+    can_sleep "$build/record" 3000 || return
+    begin -k 2000 -g 100000 -p 3000
+    wrap=()
+    go 30 "$bin/load" be -n "$name" -u 1 -k 200 -s 15
+    wait_for 20 child_of $last
+    lc -s 6 > "$build/process.lc" 2>&1
+    served "$build/process.lc"
+    within "$build/process.lc" 2000
+    stop $last
+    says "piece-00000[0-9]: the disk is too slow for it: nothing is recorded any more"
+    says "passes [0-9]+ in [2-9] pieces"
+}
+
+slow_but_follows() { # the next piece begins while the last one is written, and each is whole
+    what="a record on a disk that takes half a second for each call"
+    can_sleep "$build/record" 500 || return
+    begin -k 2000 -g 200000 -p 15000
+    wrap=()
+    go 60 "$bin/load" be -n "$name" -u 1 -k 200 -s 50
+    wait_for 60 has_pieces 2; note $? "$what: there are no two pieces: $(cat "$build/said")"
+    end $last
+    ! grep -q "nothing is recorded" "$build/said"; note $? "$what: $(cat "$build/said")"
+    between_pieces 1000
+}
+between_pieces() { # between_pieces MS: passes of one piece and of the next are not further apart than that
+    local each
+    for each in "$record"/*.history; do grep '^pass,' "$each" | sed -n '1s/^/first,/p;$s/^/last,/p'; done \
+        | awk -F , -v most="$1" '$1 == "first" && last && $3 - last > most * 1000000 { bad = 1 } $1 == "last" { last = $3; n++ } END { exit bad || n < 2 }'
+    note $? "$what: no pass for more than $1 ms"
+}
+
+slow_counters() { # they are read, and written to a disk that sleeps, and passes go on
+    local reader
+    what="counters on a disk that takes a second for each call"
+    can_sleep "$CALADAN_FOLDER" 1000 || return
+    begin -k 2000 -g 200000
+    wrap=()
+    while :; do cat "$CALADAN_FOLDER/$name/metrics"; done > /dev/null 2>&1 &
+    reader=$!
+    go 30 "$bin/load" be -n "$name" -u 1 -k 200 -s 20
+    wait_for 20 child_of $last
+    lc -s 4 > "$build/process.lc" 2>&1
+    within "$build/process.lc" 900
+    wait_for 20 counts passes_total 1; note $? "$what: they are not there"
+    wait_for 20 counts longest_gap_nanoseconds 1; note $? "$what: the longest gap is not among them"
+    kill $reader
+    end $last
+    within_passes 900
+}
+within_passes() { # within_passes MS: two passes of a piece are not further apart than that
+    local each
+    for each in "$record"/*.history; do
+        awk -F , -v most="$1" '/^pass,/ { if (last && $2 - last > most * 1000000) bad = 1; last = $2 } END { exit bad || !last }' "$each"
+        note $? "$what: no pass for more than $1 ms in $(basename "$each")"
+    done
+}
+
+unread_lines() { # nobody reads standard error, and it is full: a process that does not leave is killed, and others are served
+    what="a scheduler whose standard error nobody reads"
+    name=check$$-unread
+    mkfifo "$build/unread"
+    exec 8<> "$build/unread"
+    dd if=/dev/zero of="$build/unread" bs=4096 oflag=nonblock 2> /dev/null
+    timeout -k 5 100 "$bin/caladand" -n "$name" -t "$table" -c "$managed" "${own[@]}" -k 200 -g 100000 > "$build/said" 2>&8 &
+    scheduler=$!
+    running+=($scheduler)
+    wait_for 20 is_there "$name"
+    go 20 "$bin/misbehave" "$name" 1 15 deaf
+    deaf=$last
+    wait_for 20 child_of $deaf
+    lc -s 2 > "$build/process.lc" 2>&1
+    served "$build/process.lc"
+    wait_for 20 counts killed_total 1; note $? "$what: nobody was killed"
+    wait $deaf
+    works
+    stop
+    exec 8<&-
+    rm "$build/unread"
+} 2> /dev/null
+
+lines_lost() { # the queue is bounded: see host/tests/lines_test.c
+    what="lines that nobody reads"
+    timeout 60 "$bin/lines_test" > "$build/process.lines" 2>&1; note $? "$what: $(cat "$build/process.lines")"
+}
