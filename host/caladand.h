@@ -21,7 +21,6 @@ typedef struct host_task {
     unsigned first, limit; /* its kernel threads */
     bool is_critical;
     int listener, memory;  /* memory -1: there was none, the segment is of the scheduler's own memory and is handed to nobody */
-    bool is_locked;        /* its pages are pinned in memory */
     host_segment *segment;
     pid_t pid;             /* 0: nobody has the segment */
     bool is_attached;      /* it said that it has mapped the segment */
@@ -44,7 +43,7 @@ typedef struct host_thread {
     bool is_doubted;      /* its last look was refused: it is granted nothing until one is kept */
     bool is_mute;         /* it did not answer in time: nobody waits for it again until it does */
     bool by_hand;         /* its page cannot show that it is gone: `gone` itself is given to the passes of this piece */
-    caladan_look gone;
+    caladan_look gone;    /* what its page shows where nobody has published on it */
 } host_thread;
 
 /* A core whose thread was sent Park and is to leave it. */
@@ -55,7 +54,7 @@ typedef struct leaving {
 } leaving;
 
 typedef struct counts {
-    uint64_t passes, pieces, attached, ended, given_up, killed, written_off, refused, foreign_tids, unpinned, jumped, worn, punched;
+    uint64_t passes, pieces, attached, ended, given_up, killed, written_off, refused, foreign_tids, unpinned, jumped, worn;
     uint64_t longest_gap; /* between two passes, in nanoseconds */
     uint64_t judged[CALADAN_WORD_FELL + 1], actions[CALADAN_GRANT + 1];
 } counts;
@@ -116,7 +115,7 @@ void tell_ready(void); /* to whom started it, where NOTIFY_SOCKET says */
 bool make_segment(scheduler *s, host_task *task);
 void drop_segment(host_task *task);
 void give_up(scheduler *s, host_task *task); /* nobody has the task any more: its threads are gone, on a new segment */
-bool is_punched(const host_task *task);
+bool close_segment(const host_task *task); /* false: who was handed it has sealed it otherwise */
 
 /* tasks.c */
 void open_tasks(scheduler *s);

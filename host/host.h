@@ -3,7 +3,7 @@
  * THIS C IS NOT PROVED. host/README.md says what of the host is.
  *
  * Each task has a segment of its own, which nobody else maps, and which has no name: a process that attaches
- * is handed it over a socket, sealed, so that it cannot be made shorter. What different sides write lies on
+ * is handed it over a socket, sealed, so that it cannot be made shorter, nor have a hole. What different sides write lies on
  * lines of its own. The scheduler reads the pages, the thread numbers and the phases in it, and believes none.
  */
 #ifndef HOST_H
@@ -22,11 +22,12 @@
 
 /* Rises when what lies in a segment or what is said over the socket changes; pages have a version of their own. */
 #ifndef HOST_LAYOUT
-#define HOST_LAYOUT 2
+#define HOST_LAYOUT 3
 #endif
 #define HOST_VERSION ((uint64_t)HOST_LAYOUT << 32 | CALADAN_PAGES_VERSION)
 #define HOST_SIGNAL SIGURG /* by default it is ignored: a thread that has no handler for it takes no harm */
-#define HOST_SEALS (F_SEAL_SHRINK | F_SEAL_GROW | F_SEAL_SEAL)
+#define HOST_SEALS (F_SEAL_SHRINK | F_SEAL_GROW)
+#define HOST_LAST_SEALS (F_SEAL_FUTURE_WRITE | F_SEAL_SEAL) /* once it is mapped: from then on no page can be punched out of it */
 enum { HOST_CORES = CALADAN_MOST_CORES, HOST_TASKS = 16, HOST_THREADS = CALADAN_MOST_THREADS, HOST_LIMIT = 16 };
 
 /* The words of a record that a runtime fills, by their places. */

@@ -13,7 +13,7 @@
  *   visits   connects, says nothing and closes; it lives on
  *   closes   is given a core, closes its connection, and works on
  *   mixed    becomes nobody by half, as root alone can: its scheduler may not signal it
- *   punches  takes the pages out of its segment again and again */
+ *   punches  would take the pages out of its segment again and again */
 #define _GNU_SOURCE
 #include <errno.h>
 #include <pthread.h>
@@ -90,8 +90,12 @@ static void talk(host_slot *slot) {
     for (; host_clock() < until; usleep(200)) caladan_publish(&publisher, words);
 }
 
+/* It waits until it is refused, and ends with status 7 where it is not from then on. */
 static void punch(void) {
-    while (host_clock() < until) madvise(segment, sizeof *segment, MADV_REMOVE);
+    while (host_clock() < until && madvise(segment, sizeof *segment, MADV_REMOVE) == 0) {}
+    if (host_clock() >= until) exit(7);
+    for (; host_clock() < until; usleep(100))
+        if (madvise(segment, sizeof *segment, MADV_REMOVE) == 0) exit(7);
 }
 
 static int visit(const char *name, unsigned task) {

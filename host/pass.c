@@ -27,13 +27,18 @@ static bool is_too_far(const host_thread *thread, const caladan_look *look, uint
     return place > thread->place && place - thread->place > now - thread->from;
 }
 
+/* Whose page nobody may have published on: it shows what it showed when it was handed out. It is not looked at, since
+ * pages can still be punched out of it until the process says that it has mapped it. */
+static bool is_blank(const host_task *task) { return task->pid && !task->is_attached; }
+
 /* `now` is when the pass began; the clock is asked again only where that is too long ago. */
 static void look_at(scheduler *s, size_t k, uint64_t now) {
     host_thread *thread = &s->thread[k];
     caladan_look *look = &s->look[k];
-    if (thread->by_hand) *look = thread->gone;
+    bool is_known = thread->by_hand || is_blank(&s->task[thread->task]);
+    if (is_known) *look = thread->gone;
     else caladan_observe(&thread->slot->page, look);
-    if (thread->by_hand || !is_too_far(thread, look, now) || !is_too_far(thread, look, now_of(s))) return;
+    if (is_known || !is_too_far(thread, look, now) || !is_too_far(thread, look, now_of(s))) return;
     *look = (caladan_look){.busy = 1, .number = 1, .second = 1};
     thread->is_doubted = true;
     s->counts.jumped++;

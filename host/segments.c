@@ -15,8 +15,7 @@ static host_segment *share(host_task *task) {
     host_segment *segment = MAP_FAILED;
     if (ftruncate(task->memory, (off_t)size) == 0 && fcntl(task->memory, F_ADD_SEALS, HOST_SEALS) == 0)
         segment = mmap(NULL, size, PROT_READ | PROT_WRITE, MAP_SHARED | MAP_POPULATE, task->memory, 0);
-    task->is_locked = segment != MAP_FAILED && mlock(segment, size) == 0;
-    if (segment != MAP_FAILED) return segment;
+    if (segment != MAP_FAILED) return mlock(segment, size), segment; /* where it may not be, it is in memory as long as it is looked at */
     close(task->memory);
     task->memory = -1;
     return NULL;
@@ -40,15 +39,10 @@ void drop_segment(host_task *task) {
     task->memory = -1;
 }
 
-/* Every page of a segment is in memory from the first, and pinned there: one that is not was punched out of it by a process
- * that has the file, so that each pass must fetch it. Where it cannot be pinned, nothing is said. */
-bool is_punched(const host_task *task) {
-    unsigned char in_memory[(sizeof(host_segment) + 4095) / 4096 + 1];
-    size_t size = sizeof *task->segment, pages = (size + (size_t)sysconf(_SC_PAGESIZE) - 1) / (size_t)sysconf(_SC_PAGESIZE);
-    if (task->memory < 0 || !task->is_locked || mincore(task->segment, size, in_memory)) return false;
-    for (size_t i = 0; i < pages; i++)
-        if ((in_memory[i] & 1) == 0) return true;
-    return false;
+/* From here on the kernel maps the file to nobody else for writing, and punches no page out of it. */
+bool close_segment(const host_task *task) {
+    int seals = fcntl(task->memory, F_ADD_SEALS, HOST_LAST_SEALS) == 0 ? fcntl(task->memory, F_GET_SEALS) : 0;
+    return (seals & HOST_LAST_SEALS) == HOST_LAST_SEALS;
 }
 
 /* ---- nobody has it any more ---- */

@@ -186,7 +186,7 @@ static void hear_owner(scheduler *s, host_task *task) {
     int heard = hear(task->connection, &word, &sender);
     bool is_late = !task->is_attached && s->clock - task->handed_at >= GREETING;
     if (heard == 0 && !is_late) return;
-    if (heard > 0 && word.word == HOST_MAPPED && sender == task->pid && !task->is_attached && !has_ended(task)) {
+    if (heard > 0 && word.word == HOST_MAPPED && sender == task->pid && !task->is_attached && !has_ended(task) && close_segment(task)) {
         task->is_attached = true;
         s->counts.attached++;
         return;
@@ -220,16 +220,7 @@ void admit_each(scheduler *s) {
 
 /* ---- who ended ---- */
 
-static void give_up_punched(scheduler *s, host_task *task) {
-    s->counts.punched++;
-    complain("process %d of task %u has punched its segment away", task->pid, number_of(s, task));
-    if (s->options.patience) kill_process(s, task, "it punched its segment away");
-    give_up(s, task);
-}
-
 void bury_each(scheduler *s) {
-    for (unsigned t = 0; t < s->machine.tasks; t++) {
+    for (unsigned t = 0; t < s->machine.tasks; t++)
         if (has_ended(&s->task[t])) bury(s, &s->task[t]);
-        else if (s->task[t].pid && is_punched(&s->task[t])) give_up_punched(s, &s->task[t]);
-    }
 }
