@@ -64,8 +64,7 @@ static void look_after_record(scheduler *s) {
 }
 
 static void keep_house(scheduler *s, uint64_t now) {
-    bury_each(s);
-    admit_each(s);
+    tend_each(s);
     kill_the_deaf(s);
     if (now - s->metrics_at < FLUSH) return;
     s->metrics_at = now;

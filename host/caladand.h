@@ -16,6 +16,14 @@ typedef struct options {
     uint64_t seconds, gap, window, passes, bytes, patience, wait; /* times in nanoseconds, but for seconds */
 } options;
 
+enum { HOST_GUESTS = 8 };
+
+/* A connection of whom nothing is known yet, and since when, by the scheduler's own clock. */
+typedef struct host_guest {
+    int connection;
+    uint64_t at;
+} host_guest;
+
 /* A task: its segment, the process that is attached as it, if any, and who wants to be. Files are -1 where there is none. */
 typedef struct host_task {
     unsigned first, limit; /* its kernel threads */
@@ -26,8 +34,7 @@ typedef struct host_task {
     bool is_attached;      /* it said that it has mapped the segment */
     int file, connection;  /* of the process */
     uint64_t handed_at, killed_at; /* by the scheduler's own clock; 0: not */
-    int guest;             /* a connection of whom nothing is known yet */
-    uint64_t guest_at;
+    host_guest guest[HOST_GUESTS];
 } host_task;
 
 /* A kernel thread, as the scheduler knows it. */
@@ -65,6 +72,7 @@ typedef struct scheduler {
     uint64_t epoch;
     cpu_set_t others; /* the processors that it may use and does not manage */
     int folder;       /* its own */
+    int events;       /* an epoll of all sockets, and of the files of processes */
     caladan handle;
     caladan_machine machine;
     host_task task[HOST_TASKS];
@@ -120,8 +128,7 @@ bool close_segment(const host_task *task); /* false: who was handed it has seale
 /* tasks.c */
 void open_tasks(scheduler *s);
 void close_tasks(scheduler *s);
-void admit_each(scheduler *s); /* who wants to attach, and who left */
-void bury_each(scheduler *s);  /* tasks whose process ended */
+void tend_each(scheduler *s); /* who wants to attach, who left, who ended */
 bool is_own_thread(const host_task *task, pid_t tid);
 void interrupt(const host_task *task, const host_slot *slot);
 unsigned number_of(const scheduler *s, const host_task *task);

@@ -11,6 +11,7 @@
  *   last_one the same on one of its threads alone
  *   wordy    publishes records of the longest numbers, and never leaves
  *   visits   connects, says nothing and closes; it lives on
+ *   silent   connects twelve times at once, says nothing, and comes again where it is sent away
  *   closes   is given a core, closes its connection, and works on
  *   mixed    becomes nobody by half, as root alone can: its scheduler may not signal it
  *   punches  would take the pages out of its segment again and again */
@@ -98,16 +99,37 @@ static void punch(void) {
         if (madvise(segment, sizeof *segment, MADV_REMOVE) == 0) exit(7);
 }
 
-static int visit(const char *name, unsigned task) {
+static int open_folder(const char *name) {
     char base[HOST_PATH], path[HOST_PATH + HOST_NAME + 2];
-    struct sockaddr_un address;
-    if (!host_base(base)) return 2;
+    if (!host_base(base)) exit(2);
     snprintf(path, sizeof path, "%s/%s", base, name);
-    int folder = host_open_folder(AT_FDCWD, path), visitor = socket(AF_UNIX, SOCK_SEQPACKET, 0);
+    return host_open_folder(AT_FDCWD, path);
+}
+
+static int visit(const char *name, unsigned task) {
+    struct sockaddr_un address;
+    int folder = open_folder(name), visitor = socket(AF_UNIX, SOCK_SEQPACKET, 0);
     socklen_t length = host_address(&address, folder, task);
     if (connect(visitor, (struct sockaddr *)&address, length)) return perror("misbehave"), 2;
     close(visitor);
     while (host_clock() < until) usleep(1000);
+    return 0;
+}
+
+/* Twelve connections that say nothing; where one is closed, there is another. */
+static int say_nothing(const char *name, unsigned task) {
+    struct sockaddr_un address;
+    int silent[12], folder = open_folder(name);
+    char byte;
+    socklen_t length = host_address(&address, folder, task);
+    for (int i = 0; i < 12; i++) silent[i] = -1;
+    for (; host_clock() < until; usleep(1000))
+        for (int i = 0; i < 12; i++) {
+            if (silent[i] >= 0 && recv(silent[i], &byte, 1, MSG_DONTWAIT) < 0 && errno == EAGAIN) continue;
+            if (silent[i] >= 0) close(silent[i]);
+            silent[i] = socket(AF_UNIX, SOCK_SEQPACKET | SOCK_NONBLOCK, 0);
+            if (connect(silent[i], (struct sockaddr *)&address, length)) close(silent[i]), silent[i] = -1;
+        }
     return 0;
 }
 
@@ -136,6 +158,7 @@ int main(int count, char **words) {
     until = host_clock() + strtoull(words[3], NULL, 10) * 1000000000u;
     how = words[4];
     if (!strcmp(how, "visits")) return visit(words[1], (unsigned)atoi(words[2]));
+    if (!strcmp(how, "silent")) return say_nothing(words[1], (unsigned)atoi(words[2]));
     if (!strcmp(how, "mixed") && setresuid(0, 65534, 0)) return perror("misbehave"), 3;
     segment = host_attach(words[1], (unsigned)atoi(words[2]), &connection);
     if (segment == NULL) return fprintf(stderr, "misbehave: %s\n", host_why(errno)), 2;

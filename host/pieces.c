@@ -102,8 +102,7 @@ void end_piece(scheduler *s) {
     for (unsigned passes = 1; !have_all_left(s); passes++) {
         bool at_once = passes >= RECORD_END_PASSES - 8 || stop_signals() > 1;
         wait_some(s, from);
-        bury_each(s);
-        admit_each(s);    /* who closes its connection has left; who comes is handed a segment of this phase, and waits */
+        tend_each(s);     /* who closes its connection has left; who comes is handed a segment of this phase, and waits */
         kill_the_deaf(s); /* who was killed and does not end */
         if (at_once || s->clock - clock >= patience) part_with_each(s, at_once);
         make_pass(s);

@@ -3,6 +3,7 @@
 #include <errno.h>
 #include <poll.h>
 #include <string.h>
+#include <sys/epoll.h>
 #include <sys/socket.h>
 #include "caladand.h"
 
@@ -10,6 +11,7 @@
 #define SO_PEERPIDFD 77
 #endif
 #define GREETING ((uint64_t)4000000000) /* how long who connects may take to say who it is, and that it has mapped its segment */
+#define MANNERS ((uint64_t)100000000)   /* and to say who it is, where others wait */
 
 unsigned number_of(const scheduler *s, const host_task *task) { return (unsigned)(task - s->task); }
 
@@ -27,6 +29,12 @@ void interrupt(const host_task *task, const host_slot *slot) {
 
 /* ---- beginning and end ---- */
 
+/* Until the file is closed, what happens to it has its task tended. */
+static bool watch(const scheduler *s, const host_task *task, int file) {
+    struct epoll_event event = {.events = EPOLLIN, .data.u32 = number_of(s, task)};
+    return epoll_ctl(s->events, EPOLL_CTL_ADD, file, &event) == 0;
+}
+
 static int listen_for(const scheduler *s, unsigned t) {
     struct sockaddr_un address;
     char name[32];
@@ -34,7 +42,8 @@ static int listen_for(const scheduler *s, unsigned t) {
     int on = 1, listener = socket(AF_UNIX, SOCK_SEQPACKET | SOCK_CLOEXEC | SOCK_NONBLOCK, 0);
     snprintf(name, sizeof name, "task-%u", t);
     if (listener < 0 || bind(listener, (struct sockaddr *)&address, length)) fail(name, strerror(errno));
-    if (setsockopt(listener, SOL_SOCKET, SO_PASSCRED, &on, sizeof on) || listen(listener, 8)) fail(name, strerror(errno));
+    if (setsockopt(listener, SOL_SOCKET, SO_PASSCRED, &on, sizeof on) || listen(listener, HOST_GUESTS)) fail(name, strerror(errno));
+    if (!watch(s, &s->task[t], listener)) fail(name, strerror(errno));
     return listener;
 }
 
@@ -43,7 +52,8 @@ static void open_task(scheduler *s, unsigned t) {
     caladan_table_row row;
     caladan_table_task(&s->handle, t, &row);
     *task = (host_task){.first = row.first_thread, .limit = row.limit, .is_critical = row.kind == CALADAN_LATENCY_CRITICAL};
-    task->memory = task->file = task->connection = task->guest = -1;
+    task->memory = task->file = task->connection = -1;
+    for (int i = 0; i < HOST_GUESTS; i++) task->guest[i].connection = -1;
     for (unsigned k = task->first; k < task->first + task->limit; k++) {
         s->thread[k].task = t;
         s->shown[k].task = (uint8_t)t;
@@ -55,7 +65,14 @@ static void open_task(scheduler *s, unsigned t) {
 
 /* The first task's socket is the last: who sees it finds the others. */
 void open_tasks(scheduler *s) {
+    s->events = epoll_create1(EPOLL_CLOEXEC);
+    if (s->events < 0) fail("epoll", strerror(errno));
     for (unsigned t = s->machine.tasks; t-- > 0;) open_task(s, t);
+}
+
+static void send_away(host_guest *guest) {
+    if (guest->connection >= 0) close(guest->connection);
+    guest->connection = -1;
 }
 
 void close_tasks(scheduler *s) {
@@ -64,8 +81,9 @@ void close_tasks(scheduler *s) {
         drop_segment(task);
         close(task->listener);
         if (task->file >= 0) close(task->file), close(task->connection);
-        if (task->guest >= 0) close(task->guest);
+        for (int i = 0; i < HOST_GUESTS; i++) send_away(&task->guest[i]);
     }
+    close(s->events);
 }
 
 /* ---- what is said over a connection ---- */
@@ -123,18 +141,17 @@ static bool have_rights(int file, pid_t pid) {
     return sched_getaffinity(pid, sizeof cpus, &cpus) == 0 && (sched_setaffinity(pid, sizeof cpus, &cpus) == 0 || errno != EPERM);
 }
 
-static uint32_t judge(const host_task *task, const host_word *word, pid_t sender, struct ucred *peer) {
+static uint32_t judge(const host_task *task, int connection, const host_word *word, pid_t sender, struct ucred *peer) {
     socklen_t length = sizeof *peer;
-    if (getsockopt(task->guest, SOL_SOCKET, SO_PEERCRED, peer, &length)) return HOST_NO_RIGHTS;
+    if (getsockopt(connection, SOL_SOCKET, SO_PEERCRED, peer, &length)) return HOST_NO_RIGHTS;
     if (peer->uid != geteuid()) return HOST_OTHER_USER;
     if (peer->pid <= 0 || word->process != peer->pid || sender != peer->pid) return HOST_OTHER_NAMESPACE;
     return task->pid ? HOST_TAKEN : HOST_DONE;
 }
 
-static void dismiss(scheduler *s, host_task *task, uint32_t status) {
-    answer(task->guest, status, -1);
-    close(task->guest);
-    task->guest = -1;
+static void dismiss(scheduler *s, host_guest *guest, uint32_t status) {
+    answer(guest->connection, status, -1);
+    send_away(guest);
     s->counts.refused++;
 }
 
@@ -149,34 +166,33 @@ static void bury(scheduler *s, host_task *task) {
 }
 
 /* Hands over the segment. Until the other end says that it has mapped it, its threads are granted nothing. */
-static void hand_over(scheduler *s, host_task *task, const host_word *word, pid_t sender) {
+static void hand_over(scheduler *s, host_task *task, host_guest *guest, const host_word *word, pid_t sender) {
     struct ucred peer = {0, 0, 0};
+    bool is_hello = word->version == HOST_VERSION && word->word == HOST_HELLO;
     if (has_ended(task)) bury(s, task); /* its predecessor, which may have ended since we looked */
-    uint32_t status = word->version == HOST_VERSION && word->word == HOST_HELLO ? judge(task, word, sender, &peer) : HOST_NO_RIGHTS;
+    uint32_t status = is_hello ? judge(task, guest->connection, word, sender, &peer) : HOST_NO_RIGHTS;
     if (status == HOST_DONE && task->memory < 0) { /* there was no memory; there may be some now */
         give_up(s, task);
         status = task->memory < 0 ? HOST_NO_MEMORY : HOST_DONE;
     }
-    if (status != HOST_DONE) return dismiss(s, task, status);
-    int file = file_of_peer(task->guest, peer.pid);
-    if (file < 0 || !have_rights(file, peer.pid)) {
+    if (status != HOST_DONE) return dismiss(s, guest, status);
+    int file = file_of_peer(guest->connection, peer.pid);
+    if (file < 0 || !have_rights(file, peer.pid) || !watch(s, task, file)) {
         if (file >= 0) close(file);
-        return dismiss(s, task, HOST_NO_RIGHTS);
+        return dismiss(s, guest, HOST_NO_RIGHTS);
     }
-    task->pid = peer.pid, task->file = file, task->connection = task->guest;
-    task->guest = -1;
+    task->pid = peer.pid, task->file = file, task->connection = guest->connection;
+    guest->connection = -1;
     task->handed_at = s->clock + !s->clock;
     answer(task->connection, HOST_DONE, task->memory);
 }
 
-static void hear_guest(scheduler *s, host_task *task) {
+static void hear_guest(scheduler *s, host_task *task, host_guest *guest) {
     host_word word;
     pid_t sender;
-    int heard = hear(task->guest, &word, &sender);
-    if (heard > 0) return hand_over(s, task, &word, sender);
-    if (heard == 0 && s->clock - task->guest_at < GREETING) return;
-    close(task->guest); /* it only looked in */
-    task->guest = -1;
+    int heard = hear(guest->connection, &word, &sender);
+    if (heard > 0) return hand_over(s, task, guest, &word, sender);
+    if (heard < 0 || s->clock - guest->at >= GREETING) send_away(guest); /* it only looked in */
 }
 
 /* The process that has the segment says that it has mapped it, or closes the connection. */
@@ -196,31 +212,48 @@ static void hear_owner(scheduler *s, host_task *task) {
     else give_up(s, task);
 }
 
+/* A place for who comes next: one that is free, or that of a guest who was silent for long enough. */
+static host_guest *place_of_next(const scheduler *s, host_task *task) {
+    host_guest *place = &task->guest[0];
+    for (int i = 0; i < HOST_GUESTS; i++) {
+        host_guest *guest = &task->guest[i];
+        if (guest->connection < 0) return guest;
+        if (guest->at < place->at) place = guest;
+    }
+    return s->clock - place->at >= MANNERS ? place : NULL;
+}
+
 static void welcome(scheduler *s, host_task *task) {
-    if (task->guest < 0) task->guest = accept4(task->listener, NULL, NULL, SOCK_CLOEXEC | SOCK_NONBLOCK), task->guest_at = s->clock;
-    if (task->guest >= 0) hear_guest(s, task);
+    for (host_guest *guest; (guest = place_of_next(s, task));) {
+        int connection = accept4(task->listener, NULL, NULL, SOCK_CLOEXEC | SOCK_NONBLOCK);
+        if (connection < 0) break;
+        send_away(guest);
+        *guest = (host_guest){connection, s->clock};
+        if (!watch(s, task, connection)) send_away(guest);
+    }
+    for (int i = 0; i < HOST_GUESTS; i++)
+        if (task->guest[i].connection >= 0) hear_guest(s, task, &task->guest[i]);
+}
+
+static void tend(scheduler *s, host_task *task) {
+    if (has_ended(task)) bury(s, task);
     if (task->connection >= 0) hear_owner(s, task);
+    welcome(s, task);
 }
 
-void admit_each(scheduler *s) {
-    struct pollfd files[3 * HOST_TASKS];
-    for (unsigned t = 0; t < s->machine.tasks; t++) {
-        const host_task *task = &s->task[t];
-        files[3 * t] = (struct pollfd){task->guest < 0 ? task->listener : -1, POLLIN, 0};
-        files[3 * t + 1] = (struct pollfd){task->guest, POLLIN, 0};
-        files[3 * t + 2] = (struct pollfd){task->connection, POLLIN, 0};
-    }
-    int some = poll(files, 3u * s->machine.tasks, 0);
-    for (unsigned t = 0; t < s->machine.tasks; t++) {
-        const host_task *task = &s->task[t];
-        bool waits = task->guest >= 0 || (task->pid && !task->is_attached);
-        if (waits || (some > 0 && (files[3 * t].revents || files[3 * t + 2].revents))) welcome(s, &s->task[t]);
-    }
+/* Something is to come from it in time. */
+static bool is_awaited(const host_task *task) {
+    bool some = task->pid && !task->is_attached;
+    for (int i = 0; i < HOST_GUESTS; i++) some |= task->guest[i].connection >= 0;
+    return some;
 }
 
-/* ---- who ended ---- */
-
-void bury_each(scheduler *s) {
+/* One call asks for all of them. */
+void tend_each(scheduler *s) {
+    struct epoll_event events[64];
+    bool is_due[HOST_TASKS] = {false};
+    int some = epoll_wait(s->events, events, sizeof events / sizeof *events, 0);
+    for (int i = 0; i < some; i++) is_due[events[i].data.u32] = true;
     for (unsigned t = 0; t < s->machine.tasks; t++)
-        if (has_ended(&s->task[t])) bury(s, &s->task[t]);
+        if (is_due[t] || is_awaited(&s->task[t])) tend(s, &s->task[t]);
 }

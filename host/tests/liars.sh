@@ -61,6 +61,19 @@ visitors() { # to connect is not to attach, and to close is to leave
     above 1 left
 }
 
+silent_guests() { # who says nothing keeps nobody waiting, however often it comes
+    what="who connects again and again, and says nothing"
+    start -k 2000 -g 100000
+    go 60 "$bin/misbehave" "$name" 1 50 silent
+    wait_for 20 only_child_of $last && visitor=$child
+    sleep 0.5
+    works
+    kill -9 "$visitor"
+    stop
+    above 1 attached
+    exactly 0 killed
+}
+
 punched() { # memory that is taken out of a segment would be fetched again by each pass: the kernel refuses it
     what="a process that would punch its segment away"
     begin -k 2000 -g 20000
