@@ -84,7 +84,8 @@ typedef struct scheduler {
     size_t made, sent;
     uint8_t on_core[HOST_CORES]; /* the thread that a core was granted to last */
     leaving leaving[HOST_CORES];
-    uint64_t clock, looks, ticked; /* patience.c: the time in which pages were looked at, how often, and when last */
+    uint64_t clock, ticked; /* patience.c: the time in which the scheduler worked, and when it was counted last */
+    uint64_t looks;         /* how often all pages were looked at */
     uint64_t complained;
     uint64_t figure, figure_misses, figure_at;
     uint32_t phase;
@@ -134,7 +135,8 @@ void interrupt(const host_task *task, const host_slot *slot);
 unsigned number_of(const scheduler *s, const host_task *task);
 
 /* patience.c */
-void tick(scheduler *s, uint64_t now); /* pages are looked at */
+enum { LEAST_LOOKS = 16 }; /* the least number of looks at a process's pages before it is killed for what they show */
+void tick(scheduler *s, uint64_t now);
 void note_leaving(scheduler *s, unsigned core, uint8_t thread);
 void forget_leaving(scheduler *s, const host_task *task);
 void kill_the_deaf(scheduler *s); /* processes with a thread that does not leave its core in time */

@@ -46,6 +46,7 @@ static void look_at(scheduler *s, size_t k, uint64_t now) {
 
 static void look_at_each(scheduler *s) {
     uint64_t now = now_of(s);
+    s->looks++;
     for (size_t k = 0; k < s->machine.threads; k++) {
         caladan_thread_state state = {0, 0, 0};
         look_at(s, k, now);

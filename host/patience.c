@@ -7,15 +7,13 @@
 
 #define STEP ((uint64_t)1000000)          /* the most that passes on the clock from one look to the next, in nanoseconds */
 #define LAST ((uint64_t)1000000000)       /* how long a process that was killed may take to end */
-enum { LOOKS = 16 };                      /* and the least number of looks at its pages before it is killed */
 
-/* The scheduler's own clock goes on while it looks. Where it, or the machine, stood still, that is one step: a thread that
+/* The scheduler's own clock goes on while it works. Where it, or the machine, stood still, that is one step: a thread that
  * could not run either loses nothing by it. */
 void tick(scheduler *s, uint64_t now) {
     uint64_t step = s->options.gap > STEP ? s->options.gap : STEP;
     s->clock += now - s->ticked < step ? now - s->ticked : step;
     s->ticked = now;
-    s->looks++;
 }
 
 void note_leaving(scheduler *s, unsigned core, uint8_t thread) {
@@ -55,7 +53,7 @@ static void kill_late(scheduler *s, unsigned core) {
         it->again = true; /* a signal may have come while the thread could not take it */
         interrupt(task, s->thread[it->thread].slot);
     }
-    if (s->options.patience == 0 || waited < s->options.patience || s->looks - it->looks < LOOKS) return;
+    if (s->options.patience == 0 || waited < s->options.patience || s->looks - it->looks < LEAST_LOOKS) return;
     snprintf(why, sizeof why, "thread %u did not leave core %u in %llu ms", it->thread, core, (unsigned long long)waited / 1000000);
     kill_process(s, task, why);
 }

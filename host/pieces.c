@@ -94,7 +94,7 @@ static void wait_some(scheduler *s, uint64_t from) {
 /* It ends: after the patience who stays is killed, and a second later written off. Without a patience nobody is killed, and
  * what has not left in a second stays: then there is no record, and the run ends here. */
 void end_piece(scheduler *s) {
-    uint64_t from = now_of(s), clock = s->clock, patience = s->options.patience ? s->options.patience : PATIENCE;
+    uint64_t from = now_of(s), clock = s->clock, looks = s->looks, patience = s->options.patience ? s->options.patience : PATIENCE;
     s->is_closing = true;
     set_phase(s, s->phase | 1);
     interrupt_each(s);
@@ -102,10 +102,11 @@ void end_piece(scheduler *s) {
     for (unsigned passes = 1; !have_all_left(s); passes++) {
         bool at_once = passes >= RECORD_END_PASSES - 8 || stop_signals() > 1;
         wait_some(s, from);
-        tend_each(s);     /* who closes its connection has left; who comes is handed a segment of this phase, and waits */
-        kill_the_deaf(s); /* who was killed and does not end */
-        if (at_once || s->clock - clock >= patience) part_with_each(s, at_once);
-        make_pass(s);
+        tend_each(s);     /* who closes its connection has left; who comes waits for the next piece */
+        make_pass(s);     /* who left since the last look is not parted with */
+        kill_the_deaf(s); /* and who was killed and does not end */
+        bool is_late = s->clock - clock >= patience && s->looks - looks >= LEAST_LOOKS;
+        if (at_once || is_late) part_with_each(s, at_once);
         if (passes >= RECORD_END_PASSES || (s->options.patience == 0 && s->clock - clock >= patience)) break;
     }
     if (s->record && !record_end_piece(s->record, s->passes)) s->record = NULL;

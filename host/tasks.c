@@ -238,7 +238,7 @@ static void welcome(scheduler *s, host_task *task) {
 static void tend(scheduler *s, host_task *task) {
     if (has_ended(task)) bury(s, task);
     if (task->connection >= 0) hear_owner(s, task);
-    welcome(s, task);
+    if (!s->is_closing) welcome(s, task); /* or one after the other would keep a piece open */
 }
 
 /* Something is to come from it in time. */
