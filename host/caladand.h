@@ -46,7 +46,7 @@ typedef struct host_thread {
     pid_t pinned;         /* which kernel thread was pinned last, and to which core's processor; 0: none */
     unsigned pinned_to;
     uint64_t retry_at;    /* it could not be pinned, and is granted nothing until then */
-    uint64_t place, from; /* the place that its page had at a time, since when it can have published once a nanosecond */
+    uint64_t place, misses, from; /* what its page had at a time, since when it can have published, and missed, once a nanosecond */
     bool is_doubted;      /* its last look was refused: it is granted nothing until one is kept */
     bool is_mute;         /* it did not answer in time: nobody waits for it again until it does */
     bool by_hand;         /* its page cannot show that it is gone: `gone` itself is given to the passes of this piece */
@@ -61,7 +61,7 @@ typedef struct leaving {
 } leaving;
 
 typedef struct counts {
-    uint64_t passes, pieces, attached, ended, given_up, killed, written_off, refused, foreign_tids, unpinned, jumped, worn;
+    uint64_t passes, pieces, attached, ended, given_up, killed, written_off, refused, foreign_tids, unpinned, jumped, outran, worn;
     uint64_t longest_gap; /* between two passes, in nanoseconds */
     uint64_t judged[CALADAN_WORD_FELL + 1], actions[CALADAN_GRANT + 1];
 } counts;

@@ -15,7 +15,7 @@ void print_summary(scheduler *s) {
     const counts *c = &s->counts;
     printf("passes %" PRIu64 " in %" PRIu64 " pieces, one each %" PRIu64 " ns\nlooks:", c->passes, c->pieces, now_of(s) / (c->passes + !c->passes));
     for (int j = CALADAN_KEPT; j <= CALADAN_WORD_FELL; j++) printf("%s %s %" PRIu64, j > 1 ? "," : "", judgements[j], c->judged[j]);
-    printf(", place too far %" PRIu64 "\nactions:", c->jumped);
+    printf(", place too far %" PRIu64 ", misses too many %" PRIu64 "\nactions:", c->jumped, c->outran);
     for (int k = CALADAN_FREE; k <= CALADAN_GRANT; k++) printf("%s %s %" PRIu64, k > 1 ? "," : "", kinds[k], c->actions[k]);
     printf("\nprocesses: attached %" PRIu64 ", ended %" PRIu64 ", left %" PRIu64 ", refused %" PRIu64 ", killed %" PRIu64 ", written off %" PRIu64 "\n",
            c->attached, c->ended, c->given_up, c->refused, c->killed, c->written_off);
@@ -50,7 +50,8 @@ static void put_counts(FILE *out, const counts *c) {
         uint64_t value;
     } each[] = {{"passes_total", c->passes}, {"pieces_total", c->pieces}, {"attached_total", c->attached}, {"ended_total", c->ended},
                 {"left_total", c->given_up}, {"refused_total", c->refused}, {"killed_total", c->killed}, {"written_off_total", c->written_off},
-                {"places_too_far_total", c->jumped}, {"foreign_threads_total", c->foreign_tids}, {"unpinned_total", c->unpinned}};
+                {"places_too_far_total", c->jumped}, {"misses_too_many_total", c->outran},
+                {"foreign_threads_total", c->foreign_tids}, {"unpinned_total", c->unpinned}};
     for (size_t i = 0; i < sizeof each / sizeof *each; i++) put_one(out, each[i].name, "counter", each[i].value);
 }
 

@@ -9,6 +9,7 @@
  *   foreign  hands over the thread number of another process, its parent, as its own
  *   last     shows the last place that a page has, and ends
  *   last_one the same on one of its threads alone
+ *   misses   shows as many misses as a record may have on each of its threads, and ends
  *   wordy    publishes records of the longest numbers, and never leaves
  *   visits   connects, says nothing and closes; it lives on
  *   silent   connects twelve times at once, says nothing, and comes again where it is sent away
@@ -80,15 +81,26 @@ static void work(host_slot *slot, caladan_publisher *publisher, uint64_t words[C
     }
 }
 
-/* The longest records that are kept. */
+/* The longest records that are kept: of misses, one a nanosecond. */
 static void talk(host_slot *slot) {
+    caladan_publisher publisher;
+    uint64_t words[CALADAN_WORDS], from = host_clock();
+    caladan_adopt(&publisher, &slot->page, words);
+    uint64_t misses = words[MISSES];
+    for (int i = 0; i < CALADAN_WORDS; i++) words[i] = UINT64_MAX;
+    words[TAKEN] = words[RUNNING] = 0;
+    for (; host_clock() < until; usleep(200)) {
+        words[MISSES] = misses + (host_clock() - from);
+        caladan_publish(&publisher, words);
+    }
+}
+
+static void miss(host_slot *slot) {
     caladan_publisher publisher;
     uint64_t words[CALADAN_WORDS];
     caladan_adopt(&publisher, &slot->page, words);
-    for (int i = 0; i < CALADAN_WORDS; i++) words[i] = UINT64_MAX;
-    words[TAKEN] = words[RUNNING] = 0;
     words[MISSES] = (uint64_t)1 << 56;
-    for (; host_clock() < until; usleep(200)) caladan_publish(&publisher, words);
+    for (int i = 0; i < 100; i++, usleep(2000)) caladan_publish(&publisher, words);
 }
 
 /* It waits until it is refused, and ends with status 7 where it is not from then on. */
@@ -141,6 +153,7 @@ static void *live(void *argument) {
     atomic_store(&slot->tid, (int32_t)(strcmp(how, "foreign") ? syscall(SYS_gettid) : getppid()));
     if (!strcmp(how, "noise")) return lie(slot), NULL;
     if (!strcmp(how, "wordy")) return talk(slot), NULL;
+    if (!strcmp(how, "misses")) return miss(slot), NULL;
     if (!strcmp(how, "punches")) return punch(), NULL;
     if (!strcmp(how, "last_one") && slot != segment->slot) return sleep(1), NULL;
     if (!strncmp(how, "last", 4)) return atomic_store(&slot->page.version, UINT64_MAX - 1), sleep(1), NULL;

@@ -27,6 +27,16 @@ static bool is_too_far(const host_thread *thread, const caladan_look *look, uint
     return place > thread->place && place - thread->place > now - thread->from;
 }
 
+/* Nor does a thread miss more than a line a nanosecond. A page that shows more is taken in the same way: its successor,
+ * which goes on from the misses that were kept, can still count. */
+static bool are_too_many(const host_thread *thread, const caladan_look *look, uint64_t now) {
+    return !look->busy && look->misses > thread->misses && look->misses - thread->misses > now - thread->from;
+}
+
+static bool is_beyond(const host_thread *thread, const caladan_look *look, uint64_t now) {
+    return is_too_far(thread, look, now) || are_too_many(thread, look, now);
+}
+
 /* Whose page nobody may have published on: it shows what it showed when it was handed out. It is not looked at, since
  * pages can still be punched out of it until the process says that it has mapped it. */
 static bool is_blank(const host_task *task) { return task->pid && !task->is_attached; }
@@ -38,10 +48,11 @@ static void look_at(scheduler *s, size_t k, uint64_t now) {
     bool is_known = thread->by_hand || is_blank(&s->task[thread->task]);
     if (is_known) *look = thread->gone;
     else caladan_observe(&thread->slot->page, look);
-    if (is_known || !is_too_far(thread, look, now) || !is_too_far(thread, look, now_of(s))) return;
+    if (is_known || !is_beyond(thread, look, now) || !is_beyond(thread, look, now = now_of(s))) return;
+    if (is_too_far(thread, look, now)) s->counts.jumped++;
+    else s->counts.outran++;
     *look = (caladan_look){.busy = 1, .number = 1, .second = 1};
     thread->is_doubted = true;
-    s->counts.jumped++;
 }
 
 static void look_at_each(scheduler *s) {

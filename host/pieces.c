@@ -32,7 +32,7 @@ static void begin_thread(scheduler *s, size_t k) {
     thread->by_hand = thread->is_doubted = thread->is_mute = false;
     thread->core = 0;
     thread->gone = (caladan_look){0};
-    thread->place = 0;
+    thread->place = thread->misses = 0;
     thread->from = now_of(s);
     memset(&s->shown[k].shown, 0, sizeof s->shown[k].shown);
 }

@@ -61,6 +61,7 @@ static void bury_thread(scheduler *s, size_t k) {
     atomic_store(&slot->ring.sent, thread->sender.sent);
     atomic_store(&slot->ring.taken, thread->sender.sent);
     thread->place = atomic_load(&slot->page.version) / 2;
+    thread->misses = thread->gone.misses;
     thread->from = now_of(s);
     s->counts.worn += thread->by_hand;
 }

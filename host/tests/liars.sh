@@ -41,6 +41,23 @@ last_places() { # no liar ends a piece for the others
     above 4 "place too far"
 }
 
+misses_of_another() { # who shows all the misses that a record may have, and ends: its successor still counts its own
+    local before
+    what="the successor of a process that showed too many misses"
+    sed 's/^bandwidth_limit.*/bandwidth_limit = 100/' "$top/host/tables/mix.toml" > "$build/narrow.toml"
+    table=$build/narrow.toml
+    start -k 2000 -g 100000 -w 1000000
+    "$bin/misbehave" "$name" 1 5 misses > "$build/process.liar" 2>&1
+    wait_for 20 counts ended_total 1; note $? "$what: its predecessor is not seen as ended"
+    sleep 0.6
+    before=$(metric 'actions_total{kind="cap"}')
+    go 30 "$bin/load" be -n "$name" -u 1 -k 200 -s 10 -b
+    wait_for 20 counts 'actions_total{kind="cap"}' $((${before:-0} + 4)); note $? "$what: its misses do not count"
+    stop $last
+    above 1 "misses too many"
+    table=$top/host/tables/mix.toml
+}
+
 visitors() { # to connect is not to attach, and to close is to leave
     what="who connects and closes"
     begin -k 2000 -g 100000 -p 5000
