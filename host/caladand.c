@@ -66,6 +66,7 @@ static void look_after_record(scheduler *s) {
 static void keep_house(scheduler *s, uint64_t now) {
     tend_each(s);
     kill_the_deaf(s);
+    look_after_pin(s);
     if (now - s->metrics_at < FLUSH) return;
     s->metrics_at = now;
     look_after_record(s);

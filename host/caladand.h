@@ -45,6 +45,7 @@ typedef struct host_thread {
     unsigned core;        /* which it holds or leaves, plus one; or 0 */
     pid_t pinned;         /* which kernel thread was pinned last, and to which core's processor; 0: none */
     unsigned pinned_to;
+    int unpinned_for;     /* the errno with which it could not be, or 0 where it was no thread of the process */
     uint64_t retry_at;    /* it could not be pinned, and is granted nothing until then */
     uint64_t place, misses, from; /* what its page had at a time, since when it can have published, and missed, once a nanosecond */
     bool is_doubted;      /* its last look was refused: it is granted nothing until one is kept */
@@ -61,7 +62,7 @@ typedef struct leaving {
 } leaving;
 
 typedef struct counts {
-    uint64_t passes, pieces, attached, ended, given_up, killed, written_off, refused, foreign_tids, unpinned, jumped, outran, worn;
+    uint64_t passes, pieces, attached, ended, given_up, killed, written_off, refused, foreign_tids, unpinned, strayed, jumped, outran, worn;
     uint64_t longest_gap; /* between two passes, in nanoseconds */
     uint64_t judged[CALADAN_WORD_FELL + 1], actions[CALADAN_GRANT + 1];
 } counts;
@@ -87,6 +88,7 @@ typedef struct scheduler {
     uint64_t clock, ticked; /* patience.c: the time in which the scheduler worked, and when it was counted last */
     uint64_t looks;         /* how often all pages were looked at */
     uint64_t complained;
+    uint8_t looked_after; /* the thread whose pin was looked at last */
     uint64_t figure, figure_misses, figure_at;
     uint32_t phase;
     bool is_closing;
@@ -145,6 +147,7 @@ void write_off(scheduler *s, host_task *task);
 
 /* pass.c */
 void make_pass(scheduler *s);
+void look_after_pin(scheduler *s); /* of one thread, in turn */
 
 /* pieces.c */
 void begin_piece(scheduler *s);

@@ -20,7 +20,8 @@ void print_summary(scheduler *s) {
     printf("\nprocesses: attached %" PRIu64 ", ended %" PRIu64 ", left %" PRIu64 ", refused %" PRIu64 ", killed %" PRIu64 ", written off %" PRIu64 "\n",
            c->attached, c->ended, c->given_up, c->refused, c->killed, c->written_off);
     printf("longest gap between passes %" PRIu64 " ns, lines lost %" PRIu64 "\n", c->longest_gap, lost_lines());
-    printf("threads: not the process's own %" PRIu64 ", not pinned %" PRIu64 ", worn out %" PRIu64 "\n", c->foreign_tids, c->unpinned, c->worn);
+    printf("threads: not the process's own %" PRIu64 ", not pinned %" PRIu64 ", strayed %" PRIu64 ", worn out %" PRIu64 "\n", c->foreign_tids, c->unpinned,
+           c->strayed, c->worn);
     latency_print(&s->latency, stdout);
 }
 
@@ -51,7 +52,8 @@ static void put_counts(FILE *out, const counts *c) {
     } each[] = {{"passes_total", c->passes}, {"pieces_total", c->pieces}, {"attached_total", c->attached}, {"ended_total", c->ended},
                 {"left_total", c->given_up}, {"refused_total", c->refused}, {"killed_total", c->killed}, {"written_off_total", c->written_off},
                 {"places_too_far_total", c->jumped}, {"misses_too_many_total", c->outran},
-                {"foreign_threads_total", c->foreign_tids}, {"unpinned_total", c->unpinned}};
+                {"foreign_threads_total", c->foreign_tids}, {"unpinned_total", c->unpinned},
+                {"strayed_total", c->strayed}};
     for (size_t i = 0; i < sizeof each / sizeof *each; i++) put_one(out, each[i].name, "counter", each[i].value);
 }
 

@@ -96,12 +96,14 @@ static void send_command(scheduler *s, uint8_t k, uint64_t command) {
     s->sent_to[s->sent++] = k;
 }
 
-static void say_unpinned(scheduler *s, uint8_t k, unsigned core, pid_t tid, int error) {
+static void say_unpinned(scheduler *s, uint8_t k, unsigned core, const char *then) {
+    const host_thread *thread = &s->thread[k];
     uint64_t now = now_of(s);
     if (s->complained && now - s->complained < SELDOM) return;
     s->complained = now;
-    complain("thread %u (%d of process %d, task %u) cannot be pinned to processor %d, and is parked again: %s", k, tid,
-             s->task[s->thread[k].task].pid, s->thread[k].task, s->options.cpu[core], error ? strerror(error) : "it is no thread of that process");
+    complain("thread %u (%d of process %d, task %u) cannot be pinned to processor %d, and %s: %s", k, atomic_load(&thread->slot->tid),
+             s->task[thread->task].pid, thread->task, s->options.cpu[core], then,
+             thread->unpinned_for ? strerror(thread->unpinned_for) : "it is no thread of that process");
 }
 
 /* The thread sleeps, and so wakes on the core's processor. False: it is not pinned there. */
@@ -109,16 +111,30 @@ static bool pin(scheduler *s, uint8_t k, unsigned core) {
     host_thread *thread = &s->thread[k];
     pid_t tid = atomic_load(&thread->slot->tid);
     cpu_set_t cpus;
-    int error = 0;
     if (thread->pinned == tid && thread->pinned_to == core && tid != 0) return true;
     thread->pinned = 0;
+    thread->unpinned_for = 0;
     CPU_ZERO(&cpus);
     CPU_SET((size_t)s->options.cpu[core], &cpus);
     if (!is_own_thread(&s->task[thread->task], tid)) s->counts.foreign_tids++;
-    else if (sched_setaffinity(tid, sizeof cpus, &cpus)) error = errno, s->counts.unpinned++;
+    else if (sched_setaffinity(tid, sizeof cpus, &cpus)) thread->unpinned_for = errno, s->counts.unpinned++;
     else thread->pinned = tid, thread->pinned_to = core;
-    if (thread->pinned == 0) say_unpinned(s, k, core, tid, error);
     return thread->pinned != 0;
+}
+
+/* What was pinned is not so for ever: a cpuset grows narrower, a processor goes away, a process moves its threads. A thread
+ * without a core is pinned again when it is granted one; one that has a core at once, or it is said. */
+void look_after_pin(scheduler *s) {
+    uint8_t k = s->looked_after = (uint8_t)((s->looked_after + 1u) % s->machine.threads);
+    host_thread *thread = &s->thread[k];
+    cpu_set_t cpus;
+    if (thread->pinned == 0 || sched_getaffinity(thread->pinned, sizeof cpus, &cpus)) return;
+    if (CPU_COUNT(&cpus) == 1 && CPU_ISSET((size_t)s->options.cpu[thread->pinned_to], &cpus)) return;
+    s->counts.strayed++;
+    thread->pinned = 0;
+    if (thread->core == 0 || pin(s, k, thread->core - 1)) return;
+    thread->retry_at = now_of(s) + RETRY;
+    say_unpinned(s, k, thread->core - 1, "runs elsewhere");
 }
 
 /* Who cannot be pinned is sent Park in place of Run: when it has taken that, its core is free. */
@@ -129,6 +145,7 @@ static void move_in(scheduler *s, const caladan_action *a) {
     if (pin(s, a->thread, a->core)) {
         send_command(s, a->thread, a->core + 1u);
     } else {
+        say_unpinned(s, a->thread, a->core, "is parked again");
         thread->retry_at = now_of(s) + RETRY;
         send_command(s, a->thread, CALADAN_PARK);
         note_leaving(s, a->core, a->thread);

@@ -101,6 +101,23 @@ punched() { # memory that is taken out of a segment would be fetched again by ea
     end
 }
 
+strays() { # a thread that is moved from its processor is pinned there again, while it has its core too
+    local tid
+    what="threads that are moved elsewhere while they work"
+    command -v taskset > /dev/null || { skip "$what, for want of taskset"; return; }
+    start -k 2000 -g 100000
+    rm -f "$build/counter"
+    go 30 "$bin/load" be -n "$name" -u 1 -k 200 -s 25 -c "$build/counter"
+    wait_for 20 child_of $last
+    wait_for 20 counts_on 0; note $? "$what: it never worked"
+    for tid in $(pinned_threads "$child"); do taskset -pc "$(IFS=,; echo "${allowed[*]}")" "$tid" > /dev/null 2>&1; done
+    wait_for 20 has_pinned "$child" 2; note $? "$what: they were left where they are"
+    stop $last
+    above 2 strayed
+}
+pinned_threads() { grep -lE "^Cpus_allowed_list:[[:space:]]*(${managed//,/|})$" "/proc/$1/task/"*/status 2> /dev/null | cut -d/ -f5; }
+has_pinned() { [ "$(pinned_threads "$1" | wc -l)" -ge "$2" ]; } # has_pinned PID NUMBER
+
 unpinned() { # the kernel pins nobody: then nobody runs, and it is said
     what="threads that cannot be pinned"
     can_deny pin || return
