@@ -76,6 +76,26 @@ told_twice() { # the second signal waits for nobody
     no_reports
 } 2> /dev/null
 
+late_guests() { # who comes while a piece ends is not let in: one after the other would keep it open
+    what="a process that attaches while a piece ends"
+    start -k 2000 -g 50000
+    only_child_of $scheduler && daemon=$child
+    go 60 "$bin/misbehave" "$name" 1 50 deaf
+    wait_for 20 counts 'actions_total{kind="grant"}' 1; note $? "$what: nothing was granted"
+    kill -TERM "$daemon"
+    sleep 0.3
+    refuses "there is no scheduler of that name" "$bin/load" lc -n "$name" -u 0 -k 200
+    wait $scheduler; note $? "$what: its status"
+    exactly 1 attached
+    wait
+    no_reports
+} 2> /dev/null
+
+ends_of_pieces() { # see host/tests/ends_test.c
+    what="the end of a piece"
+    timeout 60 "$bin/ends_test" > "$build/process.ends" 2>&1; note $? "$what: $(cat "$build/process.ends")"
+}
+
 hang_up() { # SIGHUP is SIGTERM: the piece is whole
     what="a scheduler whose terminal hangs up"
     begin -k 1000 -g 100000
