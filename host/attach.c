@@ -126,16 +126,11 @@ static host_segment *greet(int connection) {
     else if (answered) segment = map(file);
     int error = errno;
     if (file >= 0) close(file);
-    if (segment && !say(connection, HOST_MAPPED)) {
-        error = errno;
-        munmap(segment, sizeof *segment);
-        segment = NULL;
-    }
     errno = error;
     return segment;
 }
 
-host_segment *host_attach(const char *name, unsigned task, int *connection) {
+host_segment *host_meet(const char *name, unsigned task, int *connection) {
     int folder = open_folder(name);
     *connection = folder < 0 ? -1 : connect_to(folder, task);
     int error = errno;
@@ -148,4 +143,18 @@ host_segment *host_attach(const char *name, unsigned task, int *connection) {
     close(*connection);
     errno = error;
     return NULL;
+}
+
+bool host_take(host_segment *segment, int connection) {
+    if (say(connection, HOST_MAPPED)) return true;
+    int error = errno;
+    munmap(segment, sizeof *segment);
+    close(connection);
+    errno = error;
+    return false;
+}
+
+host_segment *host_attach(const char *name, unsigned task, int *connection) {
+    host_segment *segment = host_meet(name, task, connection);
+    return segment && host_take(segment, *connection) ? segment : NULL;
 }

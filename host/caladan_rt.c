@@ -15,6 +15,7 @@
 #define MOST_MISSES ((uint64_t)1 << 56) /* what a record may count */
 #define NAP 200000                      /* between two looks for work where there is no scheduler, in nanoseconds */
 enum { QUEUE = 1 << 13 };
+enum { GATHER = 3000 }; /* how long kernel threads may hold their Park off when they are to wait, in milliseconds: less than a scheduler waits */
 enum { NOT_YET, BEGUN, GIVEN_UP }; /* whether kernel threads may begin */
 
 typedef struct kernel_thread {
@@ -64,7 +65,11 @@ static _Thread_local kernel_thread *self __attribute__((tls_model("initial-exec"
 
 uint64_t caladan_rt_now(const caladan_rt *rt) { return host_clock() - rt->epoch; }
 unsigned caladan_rt_threads(const caladan_rt *rt) { return rt->threads; }
-const char *caladan_rt_why(int error) { return error == EDOM ? "the scheduler's table has another limit of the task" : host_why(error); }
+const char *caladan_rt_why(int error) {
+    if (error == EDOM) return "the scheduler's table has another limit of the task";
+    if (error == EEXIST) return "the process has a handler of SIGURG already";
+    return host_why(error);
+}
 bool caladan_rt_is_over(const caladan_rt *rt) { return atomic_load(&rt->is_over); }
 void caladan_rt_after(caladan_rt *rt, int what) { atomic_store(&rt->after, what); }
 
@@ -362,8 +367,8 @@ static bool gather(caladan_rt *rt) {
     struct timespec moment = {0, 1000000};
     atomic_store(&rt->is_waiting, true);
     for (unsigned tries = 0; !all_wait(rt); tries++) {
-        if (tries == 5000) return false;
-        if (tries % 100 == 50) interrupt_each(rt); /* most have been told when the scheduler ended */
+        if (tries == GATHER) return false;
+        if (tries % 50 == 0) interrupt_each(rt); /* who waits already has been told when the scheduler ended */
         nanosleep(&moment, NULL);
     }
     return true;
@@ -378,16 +383,15 @@ static void change_segment(caladan_rt *rt, host_segment *segment, int connection
     for (unsigned i = 0; i < rt->threads; i++) rt->thread[i].slot = &segment->slot[i];
 }
 
-static bool attach_gathered(caladan_rt *rt) {
-    int connection;
-    host_segment *segment = host_attach(rt->name, rt->task, &connection);
-    if (segment == NULL) return false;
-    if (segment->threads != rt->threads) {
+/* All wait, or the segment is given back. */
+static bool take(caladan_rt *rt, host_segment *segment, int connection) {
+    if (!gather(rt)) {
         munmap(segment, sizeof *segment);
         close(connection);
-        errno = EDOM;
+        errno = ETIMEDOUT;
         return false;
     }
+    if (!host_take(segment, connection)) return false;
     while (atomic_load(&rt->is_watched)) sched_yield();
     change_segment(rt, segment, connection);
     atomic_store(&rt->is_over, false);
@@ -396,11 +400,20 @@ static bool attach_gathered(caladan_rt *rt) {
     return false;
 }
 
+/* Threads go on while it asks for a scheduler, and wait only once there is one. */
 bool caladan_rt_attach_again(caladan_rt *rt) {
+    int connection;
     errno = EISCONN;
     if (!atomic_load(&rt->is_over)) return false;
-    errno = ETIMEDOUT;
-    bool attached = gather(rt) && attach_gathered(rt);
+    host_segment *segment = host_meet(rt->name, rt->task, &connection);
+    if (segment == NULL) return false;
+    if (segment->threads != rt->threads) {
+        munmap(segment, sizeof *segment);
+        close(connection);
+        errno = EDOM;
+        return false;
+    }
+    bool attached = take(rt, segment, connection);
     int error = errno;
     go_on(rt);
     errno = error;
@@ -517,8 +530,18 @@ static caladan_rt *start_threads(caladan_rt *rt) {
     return rt;
 }
 
+/* Whoever has a handler counts on it: it is not replaced. */
+static bool is_free(int signal) {
+    struct sigaction there;
+    if (sigaction(signal, NULL, &there)) return false;
+    if ((there.sa_flags & SA_SIGINFO) == 0 && there.sa_handler == on_signal) return true;
+    return (there.sa_flags & SA_SIGINFO) == 0 && (there.sa_handler == SIG_DFL || there.sa_handler == SIG_IGN);
+}
+
 caladan_rt *caladan_rt_start(const char *name, unsigned task, uint64_t idle_ns, caladan_serve *serve, void *with) {
     int connection;
+    errno = EEXIST;
+    if (!is_free(HOST_SIGNAL)) return NULL;
     host_segment *segment = host_attach(name, task, &connection);
     if (segment == NULL) return NULL;
     caladan_rt *rt = make_rt(segment);

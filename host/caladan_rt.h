@@ -14,6 +14,13 @@
  * What blocks in the kernel may come back from it with EINTR when the thread had to leave meanwhile: the handler is
  * one that lets calls go on (SA_RESTART), which poll, nanosleep and futex waits do not heed.
  *
+ * The runtime has the signal SIGURG to itself: caladan_rt_start refuses where the process has a handler of it already, and a
+ * handler that comes later takes the runtime's word away. (Go's runtime has one, so no process of cgo can attach.)
+ *
+ * A child that is forked has no kernel threads and no segment: it may call none of these functions, but exec or exit. A process
+ * that closes all its files (closefrom, as daemons do) closes the connection too, and so gives its task up: it does that before
+ * caladan_rt_start.
+ *
  * A process leaves by ending: then its cores are free, and another may attach as its task. When the scheduler ends, or
  * gives the task up, threads leave their processors within milliseconds, as caladan_rt_after says; caladan_rt_attach_again
  * goes on with the next scheduler of the name.
@@ -49,9 +56,9 @@ enum { CALADAN_RT_WAIT, CALADAN_RT_RUN };
 void caladan_rt_after(caladan_rt *rt, int what);
 
 /* Attaches to the next scheduler of that name, as the same task: requests go on. To be called by one thread at a time,
- * which is no kernel thread; it lasts as long as kernel threads hold their Park off, at most five seconds. False: errno
- * says why, and caladan_rt_why in words (ECONNREFUSED, ENOENT: there is none yet; EISCONN: the first is not over), and
- * threads are as they were. */
+ * which is no kernel thread; it lasts as long as a scheduler takes to answer, at most ten seconds twice, in which kernel threads
+ * go on; and then as long as these hold their Park off, at most three seconds. False: errno says why, and caladan_rt_why in
+ * words (ECONNREFUSED, ENOENT: there is none yet; EISCONN: the first is not over), and threads are as they were. */
 bool caladan_rt_attach_again(caladan_rt *rt);
 
 /* Hands a request to a kernel thread, from any thread of the process, but not from a signal handler. False: its queue

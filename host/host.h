@@ -112,5 +112,9 @@ static inline void ring_bell(host_slot *slot) {
 /* Attaches as that task, and maps its segment. NULL: errno says why, and host_why in words. *connection stays
  * open as long as the scheduler runs and the task is this process's; closing it gives the task up. */
 host_segment *host_attach(const char *name, unsigned task, int *connection);
+/* The same in two steps: the task is this process's, and its threads are granted cores, only after the second one, for which
+ * there are four seconds. False: errno says why, and the connection is closed. */
+host_segment *host_meet(const char *name, unsigned task, int *connection);
+bool host_take(host_segment *segment, int connection);
 const char *host_why(int error);
 #endif

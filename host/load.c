@@ -10,8 +10,8 @@
  * does not count as work. With -x whoever hands requests in spins on that processor, else he sleeps. The first half
  * second is not measured. be: work without end, in pieces of 10 microseconds, which are counted in the file COUNTER;
  * -b: each piece reads 64 KiB of 256 MiB; -h: no core is left within a chunk of 100 pieces; -e: when the scheduler is over, its
- * threads wait, run, or attach again (wait, run, again), and the process goes on. Both: -a: the main thread has all signals
- * blocked. lc reads that file, and says how many pieces were done meanwhile. */
+ * threads wait, run, or attach again (wait, run, again; seek: run until it has attached again), and the process goes on. Both:
+ * -a: the main thread has all signals blocked; -g: the process has a handler of SIGURG. lc reads that file, and says how many pieces were done meanwhile. */
 #define _GNU_SOURCE
 #include "caladan_rt.h"
 #include <errno.h>
@@ -40,7 +40,7 @@ static struct {
     unsigned task;
     double turns, microseconds, rate, seconds;
     int cpu;
-    bool bytes, holds, blocks;
+    bool bytes, holds, blocks, handles;
     const char *after;
     uint64_t idle_ns;
 } options = {.microseconds = 20, .rate = 10000, .seconds = 1, .cpu = -1, .idle_ns = 5000};
@@ -82,10 +82,13 @@ static double turns_of_a_microsecond(void) {
     return 200000 * 1e3 / best;
 }
 
+static void heed(int signal) { (void)signal; }
+
 static void start(caladan_serve *serve) {
     sigset_t all;
     sigfillset(&all);
     if (options.blocks) sigprocmask(SIG_BLOCK, &all, NULL);
+    if (options.handles) signal(SIGURG, heed);
     rt = caladan_rt_start(options.name, options.task, options.idle_ns, serve, NULL);
     char task[64];
     snprintf(task, sizeof task, "task %u", options.task);
@@ -207,7 +210,7 @@ static void serve_chunk(void *with, unsigned thread, caladan_request request) {
 /* Where the process is to go on when the scheduler is over. */
 static bool goes_on(void) {
     if (!caladan_rt_is_over(rt)) return true;
-    if (options.after && !strcmp(options.after, "again")) caladan_rt_attach_again(rt);
+    if (options.after && (!strcmp(options.after, "again") || !strcmp(options.after, "seek"))) caladan_rt_attach_again(rt);
     return options.after != NULL;
 }
 
@@ -221,7 +224,7 @@ static int best_effort(void) {
     start(serve_chunk);
     for (unsigned i = 0; i < caladan_rt_threads(rt); i++) caladan_rt_submit(rt, i, (caladan_request){caladan_rt_now(rt), i});
     uint64_t until = caladan_rt_now(rt) + (uint64_t)(options.seconds * 1e9);
-    if (options.after && !strcmp(options.after, "run")) caladan_rt_after(rt, CALADAN_RT_RUN);
+    if (options.after && (!strcmp(options.after, "run") || !strcmp(options.after, "seek"))) caladan_rt_after(rt, CALADAN_RT_RUN);
     while (caladan_rt_now(rt) < until && goes_on()) usleep(20000);
     _exit(0);
 }
@@ -240,6 +243,7 @@ static void read_option(int option) {
     case 'b': options.bytes = true; break;
     case 'h': options.holds = true; break;
     case 'a': options.blocks = true; break;
+    case 'g': options.handles = true; break;
     case 'e': options.after = optarg; break;
     default: exit(2);
     }
@@ -248,7 +252,7 @@ static void read_option(int option) {
 int main(int count, char **words) {
     const char *word = count > 1 ? words[1] : "";
     if (!strcmp(word, "spin")) return printf("%.2f\n", turns_of_a_microsecond()), 0;
-    for (int c; count > 1 && (c = getopt(count - 1, words + 1, "n:u:k:c:x:m:q:s:i:bhae:")) != -1;) read_option(c);
+    for (int c; count > 1 && (c = getopt(count - 1, words + 1, "n:u:k:c:x:m:q:s:i:bhage:")) != -1;) read_option(c);
     if ((strcmp(word, "lc") && strcmp(word, "be")) || options.name == NULL) die("usage", "load spin | lc | be -n NAME -u TASK ..");
     if (options.turns == 0) options.turns = turns_of_a_microsecond();
     int file = options.counter ? open(options.counter, O_RDWR | O_CREAT, 0600) : -1;

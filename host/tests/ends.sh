@@ -142,6 +142,15 @@ orphans() {
     wait_for 20 is_unpinned "$runtime"; note $? "$what: it is still pinned"
     wait_for 20 counts_on; note $? "$what: it does not work"
     end_endless
+    what="a runtime that asks for the next scheduler, which does not answer"
+    begin_endless seek
+    wait_for 20 is_unpinned "$runtime"; note $? "$what: it is still pinned"
+    rm -f "$CALADAN_FOLDER/$name/"*
+    "$bin/impostor" "$name" silent 1 > "$build/silent" 2>&1 &
+    wait_for 20 grep -q silent "$build/silent"; note $? "$what: it does not ask"
+    sleep 1
+    wait_for 4 counts_on "$(counter)"; note $? "$what: its threads stand still meanwhile"
+    end_endless
     what="a runtime that attaches to the next scheduler"
     begin_endless again
     wait_for 20 is_asleep "$runtime"; note $? "$what: it runs on without one"

@@ -1,8 +1,8 @@
 /* impostor.c: poses as a scheduler, and hands out what is no segment, to see that no runtime is harmed.
  *
- *   impostor NAME unsealed|short|version|threads
+ *   impostor NAME unsealed|short|version|threads|silent [TASK]
  *
- * It listens in CALADAN_FOLDER/NAME for task 0, serves one process, and ends after ten seconds at the latest. */
+ * It listens in CALADAN_FOLDER/NAME for task 0, or TASK, serves one process, and ends after ten seconds at the latest. */
 #define _GNU_SOURCE
 #include <errno.h>
 #include <stdlib.h>
@@ -49,14 +49,18 @@ static void hand_out(int connection, int file) {
 
 int main(int count, char **words) {
     struct sockaddr_un address;
-    if (count != 3) return 2;
+    if (count != 3 && count != 4) return 2;
+    unsigned task = count == 4 ? (unsigned)atoi(words[3]) : 0;
+    char socket_name[32];
+    snprintf(socket_name, sizeof socket_name, "task-%u", task);
     alarm(10);
     int folder = make_folder(words[1]), file = false_segment(words[2]);
     int listener = socket(AF_UNIX, SOCK_SEQPACKET, 0);
-    socklen_t length = host_address(&address, folder, 0);
+    socklen_t length = host_address(&address, folder, task);
     if (folder < 0 || file < 0 || bind(listener, (struct sockaddr *)&address, length) || listen(listener, 1)) return perror("impostor"), 2;
     int connection = accept(listener, NULL, NULL);
-    if (connection >= 0) hand_out(connection, file);
-    unlinkat(folder, "task-0", 0);
+    if (connection >= 0 && !strcmp(words[2], "silent")) printf("silent\n"), fflush(stdout), sleep(8);
+    else if (connection >= 0) hand_out(connection, file);
+    unlinkat(folder, socket_name, 0);
     return 0;
 }

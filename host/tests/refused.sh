@@ -21,6 +21,7 @@ words() {
     refuses "a name has 1 to 64 letters" $(name=.a daemon 0,1)
     refuses "there is no scheduler of that name" "$bin/load" lc -n "$name" -u 0
     refuses "there is no scheduler of that name" "$bin/load" lc -n ../run -u 0
+    refuses "the process has a handler of SIGURG already" "$bin/load" lc -n "$name" -u 0 -g
     [ "$("$bin/caladand" --version)" = "caladand $(cat "$top/VERSION")" ]; note $? "caladand --version"
     "$bin/caladand" --help | grep -q '^usage: caladand -n NAME'; note $? "caladand --help"
 }
