@@ -44,7 +44,7 @@ last_places() { # no liar ends a piece for the others
 misses_of_another() { # who shows all the misses that a record may have, and ends: its successor still counts its own
     local before
     what="the successor of a process that showed too many misses"
-    sed 's/^bandwidth_limit.*/bandwidth_limit = 100/' "$top/host/tables/mix.toml" > "$build/narrow.toml"
+    sed 's/^bandwidth_limit.*/bandwidth_limit = 1/' "$top/host/tables/mix.toml" > "$build/narrow.toml"
     table=$build/narrow.toml
     start -k 2000 -g 100000 -w 1000000
     "$bin/misbehave" "$name" 1 5 misses > "$build/process.liar" 2>&1
