@@ -14,8 +14,8 @@
 
 #define MOST_MISSES ((uint64_t)1 << 56) /* what a record may count */
 #define NAP 200000                      /* between two looks for work where there is no scheduler, in nanoseconds */
+#define GATHER ((uint64_t)3000000000)   /* how long threads that are to wait may hold their Park off, in nanoseconds: less than a scheduler waits */
 enum { QUEUE = 1 << 13 };
-enum { GATHER = 3000 }; /* how long kernel threads may hold their Park off when they are to wait, in milliseconds: less than a scheduler waits */
 enum { NOT_YET, BEGUN, GIVEN_UP }; /* whether kernel threads may begin */
 
 typedef struct kernel_thread {
@@ -365,9 +365,10 @@ static bool all_wait(caladan_rt *rt) {
 /* Who is in a request stops there. False: one does not come for seconds, since it holds its Park off. */
 static bool gather(caladan_rt *rt) {
     struct timespec moment = {0, 1000000};
+    uint64_t from = host_clock();
     atomic_store(&rt->is_waiting, true);
     for (unsigned tries = 0; !all_wait(rt); tries++) {
-        if (tries == GATHER) return false;
+        if (host_clock() - from >= GATHER) return false;
         if (tries % 50 == 0) interrupt_each(rt); /* who waits already has been told when the scheduler ended */
         nanosleep(&moment, NULL);
     }
@@ -397,6 +398,7 @@ static bool take(caladan_rt *rt, host_segment *segment, int connection) {
     atomic_store(&rt->is_over, false);
     if ((errno = begin_to_watch(rt)) == 0) return true;
     atomic_store(&rt->is_over, true);
+    shutdown(connection, SHUT_RDWR); /* so the task is given up, and can be asked for again */
     return false;
 }
 

@@ -65,7 +65,8 @@ bool caladan_rt_attach_again(caladan_rt *rt);
  * is full, or there is no such kernel thread. */
 bool caladan_rt_submit(caladan_rt *rt, unsigned thread, caladan_request request);
 
-/* Adds to the calling kernel thread's count of cache misses, and shows it; the count stays at 2^56. */
+/* Adds to the calling kernel thread's count of cache misses, and shows it; the count stays at 2^56. A scheduler believes one a
+ * nanosecond, since a piece of its record began, and no more: so misses are told as they come, and not a second's at once. */
 void caladan_rt_missed(uint64_t misses);
 
 /* Holds off that the calling kernel thread's core is taken away. May be nested. */

@@ -47,10 +47,10 @@ static void begin(scheduler *s) {
     take_signals();
     take_processors(s);
     take_folder(s);
-    open_tasks(s);
     if (s->options.folder) s->record = record_open(s->options.folder, s->options.name, s->table, s->options.bytes, s->machine.threads, &s->others);
     if (s->record) printf("record: %s\n", record_path(s->record)), fflush(stdout);
     if (!begin_lines(&s->others) || !begin_metrics(s)) fail("a clerk", "no thread can be begun");
+    open_tasks(s); /* now that passes alone are to come: who finds a socket waits for no disk */
     tell_ready();
 }
 
@@ -102,7 +102,7 @@ int main(int count, char **words) {
     begin(&s);
     while (!is_over(&s)) run_piece(&s);
     close_tasks(&s);
-    if (s.record) record_close(s.record);
+    if (s.options.folder) record_close();
     print_summary(&s);
     end_metrics();
     end_lines();

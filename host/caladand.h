@@ -104,7 +104,7 @@ void fail(const char *what, const char *why) __attribute__((noreturn));
 unsigned stop_signals(void); /* how often it was told to end */
 
 /* clerks.c */
-#define CLERKS_LAST ((uint64_t)1000000000) /* how long a clerk is waited for at the end, in nanoseconds */
+#define CLERKS_LAST ((uint64_t)1000000000) /* how long a clerk is waited for at the end, in nanoseconds, at least */
 typedef void clerk_work(void *with);
 bool start_clerk(clerk_work *work, void *with, const cpu_set_t *where); /* on these processors, if there are any */
 bool wait_for_clerk(bool is_idle(void), uint64_t most);                  /* false: it was not idle in so long */

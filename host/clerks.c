@@ -1,6 +1,7 @@
 /* clerks.c: threads that write, so that no pass waits for a disk, or for who reads standard error: and the lines of one. */
 #define _GNU_SOURCE
 #include <errno.h>
+#include <poll.h>
 #include <pthread.h>
 #include <semaphore.h>
 #include <stdarg.h>
@@ -8,7 +9,7 @@
 #include <string.h>
 #include "caladand.h"
 
-enum { LINES = 64, LINE = 512 };
+enum { LINES = 64, LINE = HOST_PATH + 512 }; /* a line has room for a path, and for what is said of it */
 
 /* ---- any clerk ---- */
 
@@ -39,12 +40,11 @@ bool start_clerk(clerk_work *work, void *with, const cpu_set_t *where) {
     return true;
 }
 
+/* A second signal waits for no clerk longer than the least. */
 bool wait_for_clerk(bool is_idle(void), uint64_t most) {
     struct timespec moment = {0, 2000000};
-    for (uint64_t from = host_clock(); !is_idle();) {
-        if (host_clock() - from >= most) return false;
-        nanosleep(&moment, NULL);
-    }
+    for (uint64_t from = host_clock(); !is_idle(); nanosleep(&moment, NULL))
+        if (host_clock() - from >= (stop_signals() > 1 ? CLERKS_LAST : most)) return false;
     return true;
 }
 
@@ -59,10 +59,12 @@ static struct {
     atomic_bool has_clerk;
 } lines;
 
+/* Whoever shares standard error may have told it to wait for nobody: then its clerk waits himself. */
 static void write_line(const char *line) {
-    for (size_t length = strnlen(line, LINE); length;) {
+    struct pollfd out = {STDERR_FILENO, POLLOUT, 0};
+    for (size_t length = strlen(line); length;) {
         ssize_t did = write(STDERR_FILENO, line, length);
-        if (did < 0 && errno == EINTR) continue;
+        if (did < 0 && (errno == EINTR || (errno == EAGAIN && poll(&out, 1, -1) > 0))) continue;
         if (did <= 0) return (void)atomic_fetch_add(&lines.lost, 1);
         line += did, length -= (size_t)did;
     }
@@ -87,17 +89,22 @@ bool begin_lines(const cpu_set_t *where) {
     return atomic_load(&lines.has_clerk);
 }
 
+/* The text, cut where it is too long, as a line. */
+static void put_line(char line[LINE], const char *format, va_list rest) {
+    static const char head[] = "caladand: ";
+    memcpy(line, head, sizeof head);
+    vsnprintf(line + sizeof head - 1, LINE - sizeof head, format, rest);
+    strcat(line, "\n"); /* there is room for one byte more */
+}
+
 void complain(const char *format, ...) {
     va_list rest;
-    char text[LINE - 16], line[LINE];
-    va_start(rest, format);
-    vsnprintf(text, sizeof text, format, rest);
-    va_end(rest);
-    snprintf(line, sizeof line, "caladand: %s\n", text);
-    if (!atomic_load(&lines.has_clerk)) return write_line(line);
     size_t next = atomic_load(&lines.put);
     if (next - atomic_load(&lines.written) == LINES) return (void)atomic_fetch_add(&lines.lost, 1);
-    memcpy(lines.line[next % LINES], line, sizeof line);
+    va_start(rest, format);
+    put_line(lines.line[next % LINES], format, rest);
+    va_end(rest);
+    if (!atomic_load(&lines.has_clerk)) return write_line(lines.line[next % LINES]);
     atomic_store(&lines.put, next + 1);
     sem_post(&lines.bell);
 }

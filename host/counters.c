@@ -80,9 +80,12 @@ typedef struct tally {
 
 static struct {
     int folder;
+    char text[1 << 15]; /* some times what all counters take */
+    FILE *out;          /* to it */
     tally tally;
     sem_t bell;
     atomic_bool is_busy; /* the tally is the clerk's */
+    atomic_bool is_over; /* nothing is written any more */
 } desk;
 
 static void put_each_task(FILE *out, const tally *t) {
@@ -116,22 +119,28 @@ static void put_all(FILE *out, const tally *t) {
     put(out, "most_passes", "{step=\"free\"}", t->latency.freeing_passes.most);
 }
 
-/* A reader finds a whole file, this one or the one before. One that cannot be written is not: nothing depends on it. */
-static void write_metrics(const tally *t) {
+/* All of the text goes to the file at once, from memory: no stream waits for the disk, at which the end of the process would
+ * wait too. */
+static bool write_text(const char *text, size_t length) {
     int file = openat(desk.folder, "metrics.new", O_WRONLY | O_CREAT | O_TRUNC | O_NOFOLLOW | O_CLOEXEC, 0600);
-    FILE *out = file < 0 ? NULL : fdopen(file, "w");
-    if (out == NULL) {
-        if (file >= 0) close(file);
-        return;
-    }
-    put_all(out, t);
-    bool is_whole = !ferror(out);
-    if (fclose(out) == 0 && is_whole) renameat(desk.folder, "metrics.new", desk.folder, "metrics");
+    if (file < 0) return false;
+    bool is_whole = write(file, text, length) == (ssize_t)length;
+    return close(file) == 0 && is_whole;
+}
+
+/* A reader finds a whole file, this one or the one before. One that cannot be written is not: nothing depends on it. Nor is
+ * one that came too late: the folder is being emptied. */
+static void write_metrics(const tally *t) {
+    rewind(desk.out);
+    put_all(desk.out, t);
+    if (fflush(desk.out) || ferror(desk.out)) return clearerr(desk.out);
+    if (write_text(desk.text, (size_t)ftell(desk.out)) && !atomic_load(&desk.is_over))
+        renameat(desk.folder, "metrics.new", desk.folder, "metrics");
 }
 
 static void write_each(void *with) {
     (void)with;
-    for (;;) {
+    while (!atomic_load(&desk.is_over)) {
         while (sem_wait(&desk.bell)) {}
         write_metrics(&desk.tally);
         atomic_store(&desk.is_busy, false);
@@ -140,8 +149,9 @@ static void write_each(void *with) {
 
 bool begin_metrics(const scheduler *s) {
     desk.folder = s->folder;
+    desk.out = fmemopen(desk.text, sizeof desk.text, "w");
     sem_init(&desk.bell, 0, 0);
-    return start_clerk(write_each, NULL, &s->others);
+    return desk.out && start_clerk(write_each, NULL, &s->others);
 }
 
 void hand_metrics(const scheduler *s) {
@@ -155,4 +165,7 @@ void hand_metrics(const scheduler *s) {
 }
 
 static bool is_idle(void) { return !atomic_load(&desk.is_busy); }
-void end_metrics(void) { wait_for_clerk(is_idle, CLERKS_LAST); }
+void end_metrics(void) {
+    atomic_store(&desk.is_over, true);
+    wait_for_clerk(is_idle, CLERKS_LAST);
+}

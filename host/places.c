@@ -27,9 +27,11 @@ static void empty_folder(void) {
     else if (again >= 0) close(again);
 }
 
+/* A clerk that was not waited for may put a last file there. */
 static void leave_folder(void) {
-    empty_folder();
-    unlinkat(place.above, place.name, AT_REMOVEDIR);
+    int tries = 0;
+    do empty_folder();
+    while (unlinkat(place.above, place.name, AT_REMOVEDIR) && errno == ENOTEMPTY && tries++ < 8);
 }
 
 static int open_or_fail(int at, const char *path) {
@@ -59,14 +61,23 @@ void take_folder(scheduler *s) {
 
 /* ---- the processors ---- */
 
-/* Held as long as the process lives. Every scheduler on the machine meets there, whoever runs it. */
+static int locked[HOST_CORES]; /* the files of the processors that are locked */
+static unsigned locks;
+
+/* Held until the process ends. Every scheduler on the machine meets there, whoever runs it. */
 static void lock_processor(int cpu) {
     char path[64], word[64];
     snprintf(path, sizeof path, "/sys/devices/system/cpu/cpu%d", cpu);
     snprintf(word, sizeof word, "processor %d", cpu);
     int file = open(path, O_RDONLY | O_DIRECTORY | O_CLOEXEC);
-    if (file < 0) complain("%s: it cannot be locked: %s", word, strerror(errno));
-    else if (flock(file, LOCK_EX | LOCK_NB)) fail(word, "another scheduler manages it (or has its lock: lslocks says who)");
+    if (file < 0) return complain("%s: it cannot be locked: %s", word, strerror(errno));
+    if (flock(file, LOCK_EX | LOCK_NB)) fail(word, "another scheduler manages it (or has its lock: lslocks says who)");
+    locked[locks++] = file;
+}
+
+/* A clerk that waits for a disk which never answers would keep the files open, and so the locks. */
+static void unlock_processors(void) {
+    while (locks) flock(locked[--locks], LOCK_UN);
 }
 
 /* Each core has a processor of its own that this process may use, and none is the scheduler's. */
@@ -101,6 +112,7 @@ void take_processors(scheduler *s) {
     s->others = allowed;
     if (CPU_COUNT(&own) == 0) complain("no processor is left for the scheduler: it runs on those that it manages");
     else if (sched_setaffinity(0, sizeof own, &own)) fail("-o", strerror(errno));
+    atexit(unlock_processors);
     for (unsigned i = 0; i < o->cpus; i++) lock_processor(o->cpu[i]);
 }
 

@@ -38,6 +38,7 @@ static struct record {
     piece piece[2], *now;
     sem_t bell;
     atomic_bool is_over, is_done; /* no other piece is begun; the clerk has written those that were */
+    bool is_given_up;             /* and it is said why */
     _Atomic uint64_t failed;      /* the piece that the clerk could not write, and why; known when `error` is */
     atomic_int error;
 } the_record;
@@ -171,6 +172,7 @@ bool record_is_full(const record *r) { return atomic_load(&r->now->filled) + __f
 /* No other piece is begun. What is whole is still written, if it can be. */
 static bool give_in(record *r, uint64_t number, const char *why) {
     complain("%s/piece-%06llu: %s: nothing is recorded any more", r->path, (unsigned long long)number, why);
+    r->is_given_up = true;
     atomic_store(&r->is_over, true);
     sem_post(&r->bell);
     return false;
@@ -190,7 +192,7 @@ bool record_begin_piece(record *r, uint64_t number) {
     atomic_store(&it->filled, 0);
     atomic_store(&it->state, GROWS);
     sem_post(&r->bell);
-    return caladan_history_begin(it->out);
+    return caladan_history_begin(it->out) || give_in(r, number, strerror(EFBIG));
 }
 
 bool record_end_piece(record *r, uint64_t passes) {
@@ -201,9 +203,12 @@ bool record_end_piece(record *r, uint64_t passes) {
 }
 
 static bool is_done(void) { return atomic_load(&the_record.is_done); }
-void record_close(record *r) {
+void record_close(void) {
+    record *r = &the_record;
     atomic_store(&r->is_over, true);
     sem_post(&r->bell);
-    if (!wait_for_clerk(is_done, stop_signals() > 1 ? CLERKS_LAST : LAST)) give_in(r, r->now ? r->now->number : 0, "the disk has not taken it in time");
-    else record_keeps_up(r);
+    bool is_in_time = wait_for_clerk(is_done, LAST);
+    if (r->is_given_up) return;
+    if (is_in_time) record_keeps_up(r);
+    else give_in(r, r->now ? r->now->number : 0, "the disk has not taken it in time");
 }

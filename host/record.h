@@ -24,5 +24,5 @@ bool record_is_full(const record *r);
 bool record_begin_piece(record *r, uint64_t number);
 bool record_end_piece(record *r, uint64_t passes);
 bool record_keeps_up(record *r);
-void record_close(record *r); /* waits until it is written, some seconds at most */
+void record_close(void); /* waits until all whole pieces are written, also of a record that has ended before; some seconds at most */
 #endif

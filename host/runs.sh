@@ -24,13 +24,17 @@ needs_audit() { [ "${sim[0]}" = "$build/audit" ]; }
 # is_legal TABLE HISTORY
 is_legal() { [ "$({ cat "$1"; echo ---; cat "$2"; } | "${sim[@]}" 2> /dev/null | tail -n 1)" = legal ]; }
 
-# The schedulers of a run have their folders in one of the run's own, in memory: a disk would hold up whoever counts there.
+# The schedulers of a run have their folders in one of the run's own, in memory, and so has a load its counter: a disk would
+# hold up whoever counts there.
 in_memory=
 for each in "${XDG_RUNTIME_DIR-}" /dev/shm; do
     [ -z "$in_memory" ] && [ -w "$each" ] && [ "$(stat -f -c %T "$each")" = tmpfs ] && in_memory=$(mktemp -d "$each/caladan.XXXXXX")
 done
 export CALADAN_FOLDER=${in_memory:-$build}/run
 [ -d "$CALADAN_FOLDER" ] || mkdir -m 700 "$CALADAN_FOLDER"
+counter=$CALADAN_FOLDER/counter
+# where: what the folder lies on, in words
+where() { [ -n "$in_memory" ] && echo "sockets and counters are in memory, below ${in_memory%/*}" || echo "sockets and counters are on a disk, which may hold loads up: there is no /dev/shm to write to"; }
 leave_memory() { [ -z "$in_memory" ] || rm -rf "$in_memory"; }
 
 # is_there NAME: a scheduler of that name listens, or was killed.

@@ -225,6 +225,7 @@ static host_guest *place_of_next(const scheduler *s, host_task *task) {
 
 static void welcome(scheduler *s, host_task *task) {
     for (host_guest *guest; (guest = place_of_next(s, task));) {
+        if (guest->connection >= 0) hear_guest(s, task, guest); /* it may have said something since */
         int connection = accept4(task->listener, NULL, NULL, SOCK_CLOEXEC | SOCK_NONBLOCK);
         if (connection < 0) break;
         send_away(guest);

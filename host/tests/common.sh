@@ -77,11 +77,11 @@ are_legal() { # each piece of the record is whole and legal
 }
 end() { stop "$@"; are_legal; }
 
-counter() { od -A n -v -t u8 "$build/counter" 2> /dev/null | awk '{ for (i = 1; i <= NF; i++) sum += $i } END { print sum + 0 }'; }
+counter() { od -A n -v -t u8 "$counter" 2> /dev/null | awk '{ for (i = 1; i <= NF; i++) sum += $i } END { print sum + 0 }'; }
 counts_on() { local before=${1:-$(counter)}; [ "$(counter)" -gt "$before" ]; }
 works() { # works: a best-effort process of its own gets cores, and does something with them
-    rm -f "$build/counter"
-    "$bin/load" be -n "$name" -u 1 -k 200 -s 1.5 -c "$build/counter" > "$build/process.works" 2>&1
+    rm -f "$counter"
+    "$bin/load" be -n "$name" -u 1 -k 200 -s 1.5 -c "$counter" > "$build/process.works" 2>&1
     [ "$(counter)" -gt 0 ]; note $? "$what: a successor got no core: $(cat "$build/process.works")"
 }
 # is_served FILE [OF]: more than one of OF requests of a latency-critical load, of which there were some, were served.

@@ -5,9 +5,9 @@ crowd() { # crowd SECONDS
     local seconds=$1 loops=() honest
     what="$1 seconds of ill-doers beside honest processes"
     table=$top/host/tables/crowd.toml
-    rm -f "$build/counter" "$build/enough"
+    rm -f "$counter" "$build/enough"
     begin -k 2000 -g 500000 -p 10000
-    go $((seconds + 60)) "$bin/load" be -n "$name" -u 1 -k 200 -s $((seconds - 2)) -c "$build/counter"
+    go $((seconds + 60)) "$bin/load" be -n "$name" -u 1 -k 200 -s $((seconds - 2)) -c "$counter"
     honest=$last
     ill 2 noise half last_one visits & loops+=($!)
     ill 3 deaf last punches noise & loops+=($!)

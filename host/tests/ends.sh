@@ -22,6 +22,7 @@ stand_still() {
     stop $last $be
     exactly 0 killed
     above 1 revoke
+    above 1100000000 "longest gap between passes"
 }
 
 # A deaf process is to leave a core. The scheduler stands still; the process ends meanwhile, and its successor attaches first.
@@ -120,10 +121,10 @@ is_unpinned() { # no thread of the process is pinned
     for each in "/proc/$1/task/"*/status; do [ "$(grep -s Cpus_allowed_list "$each")" = "$(processors_of $$)" ] || return 1; done
 }
 begin_endless() { # begin_endless WHAT: a best-effort process that outlives its scheduler, which is killed
-    rm -f "$build/counter"
+    rm -f "$counter"
     start -k 1000 -g 20000
     only_child_of $scheduler && daemon=$child
-    go 60 "$bin/load" be -n "$name" -u 1 -k 200 -s 50 -c "$build/counter" -e "$1"
+    go 60 "$bin/load" be -n "$name" -u 1 -k 200 -s 50 -c "$counter" -e "$1"
     wait_for 20 child_of $last && runtime=$child
     wait_for 20 counts_on 0; note $? "$what: it never worked"
     kill -9 "$daemon"
@@ -150,6 +151,7 @@ orphans() {
     wait_for 20 grep -q silent "$build/silent"; note $? "$what: it does not ask"
     sleep 1
     wait_for 4 counts_on "$(counter)"; note $? "$what: its threads stand still meanwhile"
+    kill $!
     end_endless
     what="a runtime that attaches to the next scheduler"
     begin_endless again

@@ -14,8 +14,14 @@ bad() { # bad HOW STATUS WORDS NUMBER: an ill-behaved best-effort process beside
     [ "$2" = 0 ] || [ $status = "$2" ]; note $? "$what: it ended with $status, not $2"
     [ "$2" = 0 ] || says "caladand: process [0-9]+ of task 1 is killed: "
     works
+    [ "$1" != deaf ] || late_leaver
     end
     above "$4" "$3"
+}
+late_leaver() { # how long the core was not left is counted, in time and in passes, of which a second has 10,000 at most
+    wait_for 5 counts 'most_nanoseconds{step="free"}' 1000000000; note $? "$what: $(metric 'most_nanoseconds{step="free"}') ns to leave a core"
+    counts 'most_passes{step="free"}' 100; note $? "$what: $(metric 'most_passes{step="free"}') passes to leave a core"
+    counts 'latency_nanoseconds_count{step="free"}' 1; note $? "$what: no core is counted as left"
 }
 processors_of() { grep Cpus_allowed_list "/proc/$1/status"; }
 
@@ -106,8 +112,8 @@ strays() { # a thread that is moved from its processor is pinned there again, wh
     what="threads that are moved elsewhere while they work"
     command -v taskset > /dev/null || { skip "$what, for want of taskset"; return; }
     start -k 2000 -g 100000
-    rm -f "$build/counter"
-    go 30 "$bin/load" be -n "$name" -u 1 -k 200 -s 25 -c "$build/counter"
+    rm -f "$counter"
+    go 30 "$bin/load" be -n "$name" -u 1 -k 200 -s 25 -c "$counter"
     wait_for 20 child_of $last
     wait_for 20 counts_on 0; note $? "$what: it never worked"
     for tid in $(pinned_threads "$child"); do taskset -pc "$(IFS=,; echo "${allowed[*]}")" "$tid" > /dev/null 2>&1; done

@@ -36,6 +36,17 @@ start_limited() {
     wait_for 20 is_there "$name"
 }
 
+set_back() { # the wall clock goes back by an hour, and the record is written on
+    local bin=$build/plain # what is preloaded must not come before a sanitizer
+    what="a record while the wall clock is set back"
+    wrap=(env LD_PRELOAD="$bin/later.so")
+    begin -k 1000 -g 100000
+    wrap=()
+    wait_for 5 has_passes 5000; note $? "$what: it has $(grep -c '^pass,' "$record/piece-000001.part") passes after five seconds"
+    end
+}
+has_passes() { [ "$(grep -cs '^pass,' "$record/piece-000001.part")" -ge "$1" ]; } # in its file, of the first piece
+
 killed_midway() { # what was recorded up to the last second is there
     local part passes
     what="the record of a scheduler that is killed"

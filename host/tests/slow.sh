@@ -10,18 +10,37 @@ is_within() { awk -v most="$2" -v at="$(grep -oE '"max": [0-9]+' "$1" | grep -oE
 within() { is_within "$@"; note $? "$what: a request waited for more than $2 ms: $(head -n 3 "$1")"; }
 
 slow_record() { # a disk that cannot follow ends the record, and no pass waits for it
-    what="a record on a disk that takes three seconds for each call"
-    can_sleep "$build/record" 3000 || return
+    what="a record on a disk that takes one and a half seconds for each call"
+    can_sleep "$build/record" 1500 || return
     begin -k 2000 -g 100000 -p 3000
     wrap=()
+    wait_for 20 counts passes_total 1; note $? "$what: there are no passes"
     go 30 "$bin/load" be -n "$name" -u 1 -k 200 -s 15
     wait_for 20 child_of $last
-    lc -s 6 > "$build/process.lc" 2>&1
+    lc -s 3 > "$build/process.lc" 2>&1
     served "$build/process.lc"
     within "$build/process.lc" 2000
+    only_child_of $scheduler && daemon=$child
+    kill -TERM "$daemon"
+    sleep 0.5
+    kill -TERM "$daemon"
+    wait_for 3 is_gone "$daemon"; note $? "$what: told twice to end, it waits for the disk"
     stop $last
     says "piece-00000[0-9]: the disk is too slow for it: nothing is recorded any more"
     says "passes [0-9]+ in [2-9] pieces"
+} 2> /dev/null
+is_gone() { ! kill -0 "$1" 2> /dev/null; }
+
+whole_pieces() { # what was whole when the disk could not follow is still written
+    local each
+    what="whole pieces of a record whose disk cannot follow"
+    can_sleep "$build/record" 400 || return
+    begin -k 2000 -g 100000 -p 300
+    wrap=()
+    wait_for 20 grep -q "piece-000003: the disk is too slow for it" "$build/said"; note $? "$what: it could: $(cat "$build/said")"
+    stop
+    [ "$(pieces)" = 2 ]; note $? "$what: they are not there: $(ls "$record")"
+    for each in "$record"/*.history; do is_legal "$table" "$each"; note $? "$what: $(basename "$each") is not legal"; done
 }
 
 slow_but_follows() { # the next piece begins while the last one is written, and each is whole
@@ -44,15 +63,15 @@ between_pieces() { # between_pieces MS: passes of one piece and of the next are 
 
 slow_counters() { # they are read, and written to a disk that sleeps, and passes go on
     local reader
-    what="counters on a disk that takes a second for each call"
-    can_sleep "$CALADAN_FOLDER" 1000 || return
+    what="counters on a disk that takes six tenths of a second for each call"
+    can_sleep "$CALADAN_FOLDER" 600 || return
     begin -k 2000 -g 200000
     wrap=()
     while :; do cat "$CALADAN_FOLDER/$name/metrics"; done > /dev/null 2>&1 &
     reader=$!
     go 30 "$bin/load" be -n "$name" -u 1 -k 200 -s 20
     wait_for 20 child_of $last
-    lc -s 4 > "$build/process.lc" 2>&1
+    lc -s 3 > "$build/process.lc" 2>&1
     within "$build/process.lc" 900
     wait_for 20 counts passes_total 1; note $? "$what: they are not there"
     wait_for 20 counts longest_gap_nanoseconds 1; note $? "$what: the longest gap is not among them"
@@ -94,4 +113,25 @@ unread_lines() { # nobody reads standard error, and it is full: a process that d
 lines_lost() { # the queue is bounded: see host/tests/lines_test.c
     what="lines that nobody reads"
     timeout 60 "$bin/lines_test" > "$build/process.lines" 2>&1; note $? "$what: $(cat "$build/process.lines")"
+    timeout 60 "$bin/lines_test" unwaited > "$build/process.lines" 2>&1; note $? "$what, and which waits for nobody: $(cat "$build/process.lines")"
+}
+
+calls() { # the scheduler's own thread opens, writes and renames nothing, and one call a millisecond asks for all processes
+    local task loads=()
+    what="the calls that a scheduler makes in a second"
+    command -v strace > /dev/null || { skip "$what, for want of strace"; return; }
+    table=$top/host/tables/crowd.toml
+    begin -k 2000 -g 1000000
+    for task in 0 2; do go 20 "$bin/load" lc -n "$name" -u $task -k 200 -q 10 -s 15; loads+=($last); done
+    wait_for 20 counts attached_total 2; note $? "$what: two did not attach"
+    only_child_of $scheduler
+    timeout -s INT 2 strace -c -o "$build/calls" -p "$child" 2> /dev/null
+    if grep -q epoll_wait "$build/calls"; then
+        ! grep -qE ' (open|openat|write|pwrite64|writev|close|fsync|rename|renameat|renameat2|poll|ppoll|mincore)$' "$build/calls"
+        note $? "$what: $(cat "$build/calls")"
+    else
+        skip "$what, for want of rights"
+    fi
+    stop "${loads[@]}"
+    table=$top/host/tables/mix.toml
 }
