@@ -486,6 +486,12 @@ void caladan_rt_missed(uint64_t misses) {
     release(k);
 }
 
+int caladan_rt_processor(void) {
+    kernel_thread *k = self;
+    uint64_t core = k ? k->words[RUNNING] : CALADAN_PARK; /* which the thread itself alone changes */
+    return core - 1 < HOST_CORES ? k->rt->segment->processor[core - 1] : -1;
+}
+
 /* ---- the start ---- */
 
 static caladan_rt *make_rt(host_segment *segment) {

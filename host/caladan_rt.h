@@ -69,6 +69,10 @@ bool caladan_rt_submit(caladan_rt *rt, unsigned thread, caladan_request request)
  * nanosecond, since a piece of its record began, and no more: so misses are told as they come, and not a second's at once. */
 void caladan_rt_missed(uint64_t misses);
 
+/* The processor of the core that the calling kernel thread has; -1: it has none now, or is no kernel thread. It is still so
+ * only until the core is taken away: see caladan_rt_hold. */
+int caladan_rt_processor(void);
+
 /* Holds off that the calling kernel thread's core is taken away. May be nested. */
 void caladan_rt_hold(void);
 void caladan_rt_release(void);

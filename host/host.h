@@ -47,6 +47,7 @@ typedef struct host_segment {
     uint64_t version; /* HOST_VERSION */
     uint64_t epoch;   /* tick 0 of the clock, in nanoseconds of CLOCK_MONOTONIC */
     uint32_t threads; /* 1 to HOST_LIMIT */
+    int32_t processor[HOST_CORES]; /* of each core */
     _Alignas(CALADAN_LINE) _Atomic uint32_t phase;
     host_slot slot[HOST_LIMIT];
 } host_segment;

@@ -11,7 +11,11 @@
  * second is not measured. be: work without end, in pieces of 10 microseconds, which are counted in the file COUNTER;
  * -b: each piece reads 64 KiB of 256 MiB; -h: no core is left within a chunk of 100 pieces; -e: when the scheduler is over, its
  * threads wait, run, or attach again (wait, run, again; seek: run until it has attached again), and the process goes on. Both:
- * -a: the main thread has all signals blocked; -g: the process has a handler of SIGURG. lc reads that file, and says how many pieces were done meanwhile. */
+ * -a: the main thread has all signals blocked; -g: the process has a handler of SIGURG. lc reads that file, and says how many
+ * pieces were done meanwhile.
+ *
+ * Each request and each piece looks whether it runs on the processor of its thread's core: two threads are never on one. The
+ * first that does not is a line on standard error, and the status is 3 then. */
 #define _GNU_SOURCE
 #include "caladan_rt.h"
 #include <errno.h>
@@ -82,6 +86,21 @@ static double turns_of_a_microsecond(void) {
     return 200000 * 1e3 / best;
 }
 
+/* ---- where a thread runs ---- */
+
+static _Atomic uint64_t strayed;
+
+/* Its core is not taken away meanwhile. */
+static void look_where_it_runs(void) {
+    caladan_rt_hold();
+    int of_core = caladan_rt_processor(), here = of_core < 0 ? -1 : sched_getcpu();
+    if (here != of_core && atomic_fetch_add(&strayed, 1) == 0)
+        fprintf(stderr, "load: task %u: a thread runs on processor %d, and has the core of processor %d\n", options.task, here, of_core);
+    caladan_rt_release();
+}
+
+_Noreturn static void leave(void) { _exit(atomic_load(&strayed) ? 3 : 0); }
+
 static void heed(int signal) { (void)signal; }
 
 static void start(caladan_serve *serve) {
@@ -99,8 +118,10 @@ static void start(caladan_serve *serve) {
 
 static void serve_request(void *with, unsigned thread, caladan_request request) {
     (void)with, (void)thread;
+    look_where_it_runs();
     spin((uint64_t)(options.turns * options.microseconds));
     took[request.what] = caladan_rt_now(rt) - request.arrived;
+    look_where_it_runs();
 }
 
 static uint64_t draw(uint64_t *state) {
@@ -179,7 +200,7 @@ static int latency_critical(void) {
     usleep(100000);
     report(arrived, first, count, work);
     fflush(stdout);
-    _exit(0);
+    leave();
 }
 
 /* ---- the best-effort task ---- */
@@ -201,6 +222,7 @@ static void serve_chunk(void *with, unsigned thread, caladan_request request) {
     for (int i = 0; i < PIECES_OF_A_CHUNK; i++) {
         if (options.bytes) read_piece(thread);
         else spin((uint64_t)(options.turns * 10));
+        look_where_it_runs();
         atomic_fetch_add_explicit(&counters[thread % COUNTERS].pieces, 1, memory_order_relaxed);
     }
     if (options.holds) caladan_rt_release();
@@ -226,7 +248,7 @@ static int best_effort(void) {
     uint64_t until = caladan_rt_now(rt) + (uint64_t)(options.seconds * 1e9);
     if (options.after && (!strcmp(options.after, "run") || !strcmp(options.after, "seek"))) caladan_rt_after(rt, CALADAN_RT_RUN);
     while (caladan_rt_now(rt) < until && goes_on()) usleep(20000);
-    _exit(0);
+    leave();
 }
 
 static void read_option(int option) {

@@ -27,6 +27,7 @@ bool make_segment(scheduler *s, host_task *task) {
     task->segment->version = HOST_VERSION;
     task->segment->epoch = s->epoch;
     task->segment->threads = task->limit;
+    for (unsigned core = 0; core < s->machine.cores; core++) task->segment->processor[core] = s->options.cpu[core];
     atomic_store(&task->segment->phase, s->phase);
     for (unsigned i = 0; i < task->limit; i++) s->thread[task->first + i].slot = &task->segment->slot[i];
     return task->memory >= 0;

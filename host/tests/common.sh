@@ -49,9 +49,9 @@ says() { grep -qE "$1" "$build/said"; note $? "$what: the scheduler did not say 
 metric() { awk -v name="caladan_$1" '$1 == name { print $2 }' "$CALADAN_FOLDER/$name/metrics" 2> /dev/null; } # metric NAME{LABELS}
 counts() { [ "$(metric "$1")" -ge "$2" ] 2> /dev/null; }
 
-no_reports() { # no sanitizer has found anything in the run, whose processes have ended
+no_reports() { # in the run, whose processes have ended, no sanitizer has found anything, and no thread another processor than its core's
     local each
-    each=$(grep -lE "Sanitizer|runtime error" "$build"/process.* "$build/said" 2> /dev/null | head -n 1)
+    each=$(grep -lE "Sanitizer|runtime error|runs on processor" "$build"/process.* "$build/said" 2> /dev/null | head -n 1)
     [ -z "$each" ]; note $? "$what: $(head -n 40 "${each:-/dev/null}")"
     rm -f "$build"/process.*
     running=()

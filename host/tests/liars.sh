@@ -107,8 +107,7 @@ punched() { # memory that is taken out of a segment would be fetched again by ea
     end
 }
 
-strays() { # a thread that is moved from its processor is pinned there again, while it has its core too
-    local tid
+strays() { # a thread that is moved from its processor sees it, and is pinned there again, while it has its core too
     what="threads that are moved elsewhere while they work"
     command -v taskset > /dev/null || { skip "$what, for want of taskset"; return; }
     start -k 2000 -g 100000
@@ -116,10 +115,16 @@ strays() { # a thread that is moved from its processor is pinned there again, wh
     go 30 "$bin/load" be -n "$name" -u 1 -k 200 -s 25 -c "$counter"
     wait_for 20 child_of $last
     wait_for 20 counts_on 0; note $? "$what: it never worked"
-    for tid in $(pinned_threads "$child"); do taskset -pc "$(IFS=,; echo "${allowed[*]}")" "$tid" > /dev/null 2>&1; done
+    wait_for 20 sees_that_it_strays "$child" "$build/process.$processes"; note $? "$what: none saw it: $(cat "$build/process.$processes")"
     wait_for 20 has_pinned "$child" 2; note $? "$what: they were left where they are"
+    rm "$build/process.$processes" # it says that one ran elsewhere
     stop $last
     above 2 strayed
+}
+sees_that_it_strays() { # sees_that_it_strays PID FILE: its threads are moved to a processor that is nobody's, and one says so in its file
+    local tid
+    for tid in $(pinned_threads "$1"); do taskset -pc "${allowed[0]}" "$tid" > /dev/null 2>&1; done
+    grep -q "runs on processor ${allowed[0]}, and has the core of processor" "$2"
 }
 pinned_threads() { grep -lE "^Cpus_allowed_list:[[:space:]]*(${managed//,/|})$" "/proc/$1/task/"*/status 2> /dev/null | cut -d/ -f5; }
 has_pinned() { [ "$(pinned_threads "$1" | wc -l)" -ge "$2" ]; } # has_pinned PID NUMBER
