@@ -12,7 +12,8 @@
 #define FLUSH 250000000u  /* how often what was recorded is handed to who writes it */
 
 void fail(const char *what, const char *why) {
-    fprintf(stderr, "caladand: %s: %s\n", what, why);
+    complain("%s: %s", what, why);
+    end_lines();
     exit(2);
 }
 

@@ -60,11 +60,11 @@ static struct {
 } lines;
 
 /* Whoever shares standard error may have told it to wait for nobody: then its clerk waits himself. */
-static void write_line(const char *line) {
+static void write_line(const char *line, bool is_clerk) {
     struct pollfd out = {STDERR_FILENO, POLLOUT, 0};
     for (size_t length = strlen(line); length;) {
         ssize_t did = write(STDERR_FILENO, line, length);
-        if (did < 0 && (errno == EINTR || (errno == EAGAIN && poll(&out, 1, -1) > 0))) continue;
+        if (did < 0 && (errno == EINTR || (errno == EAGAIN && is_clerk && poll(&out, 1, -1) > 0))) continue;
         if (did <= 0) return (void)atomic_fetch_add(&lines.lost, 1);
         line += did, length -= (size_t)did;
     }
@@ -78,7 +78,7 @@ static void write_lines(void *with) {
             while (sem_wait(&lines.bell)) {}
             continue;
         }
-        write_line(lines.line[next % LINES]);
+        write_line(lines.line[next % LINES], true);
         atomic_store(&lines.written, next + 1);
     }
 }
@@ -104,7 +104,7 @@ void complain(const char *format, ...) {
     va_start(rest, format);
     put_line(lines.line[next % LINES], format, rest);
     va_end(rest);
-    if (!atomic_load(&lines.has_clerk)) return write_line(lines.line[next % LINES]);
+    if (!atomic_load(&lines.has_clerk)) return write_line(lines.line[next % LINES], false);
     atomic_store(&lines.put, next + 1);
     sem_post(&lines.bell);
 }
