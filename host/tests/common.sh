@@ -32,7 +32,8 @@ begin() { # begin OPTION..: a scheduler that records
     record=$build/record/$name-1
 }
 go() { # go SECONDS PROGRAM WORD..: a process of the run, in the background; its number is $last
-    timeout -k 5 "$1" "${@:2}" > "$build/process.$((processes = ${processes-0} + 1))" 2>&1 &
+    processes=$((${processes-0} + 1)) # here, since what is in the background counts for itself alone
+    timeout -k 5 "$1" "${@:2}" > "$build/process.$processes" 2>&1 &
     last=$!
     running+=($last)
 }

@@ -32,14 +32,15 @@ slow_record() { # a disk that cannot follow ends the record, and no pass waits f
 is_gone() { ! kill -0 "$1" 2> /dev/null; }
 
 whole_pieces() { # what was whole when the disk could not follow is still written
-    local each
+    local each last
     what="whole pieces of a record whose disk cannot follow"
     can_sleep "$build/record" 400 || return
-    begin -k 2000 -g 100000 -p 300
+    begin -k 2000 -g 20000 -p 100
     wrap=()
-    wait_for 20 grep -q "piece-000003: the disk is too slow for it" "$build/said"; note $? "$what: it could: $(cat "$build/said")"
+    wait_for 20 grep -q "the disk is too slow for it" "$build/said"; note $? "$what: it could: $(cat "$build/said")"
+    last=$(grep -oE "piece-[0-9]+: the disk is too slow" "$build/said" | grep -oE "[1-9][0-9]*") # it could not begin any more
     stop
-    [ "$(pieces)" = 2 ]; note $? "$what: they are not there: $(ls "$record")"
+    [ "$(pieces)" = $((${last:-0} - 1)) ]; note $? "$what: up to piece $last they are not there: $(ls "$record")"
     for each in "$record"/*.history; do is_legal "$table" "$each"; note $? "$what: $(basename "$each") is not legal"; done
 }
 
