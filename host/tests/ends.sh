@@ -79,7 +79,7 @@ told_twice() { # the second signal waits for nobody
 
 late_guests() { # who comes while a piece ends is not let in: one after the other would keep it open
     what="a process that attaches while a piece ends"
-    start -k 2000 -g 50000
+    start -k 1000 -g 50000
     only_child_of $scheduler && daemon=$child
     go 60 "$bin/misbehave" "$name" 1 50 deaf
     wait_for 20 counts 'actions_total{kind="grant"}' 1; note $? "$what: nothing was granted"
