@@ -45,7 +45,7 @@ set_back() { # the wall clock goes back by an hour, and the record is written on
     wait_for 5 has_passes 5000; note $? "$what: it has $(grep -c '^pass,' "$record/piece-000001.part") passes after five seconds"
     end
 }
-has_passes() { [ "$(grep -cs '^pass,' "$record/piece-000001.part")" -ge "$1" ]; } # in its file, of the first piece
+has_passes() { [ "$(grep -cs '^pass,' "$record/piece-000001.part")" -ge "$1" ] 2> /dev/null; } # in its file, of the first piece
 
 killed_midway() { # what was recorded up to the last second is there
     local part passes
