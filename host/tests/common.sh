@@ -46,7 +46,7 @@ has_pieces() { [ "$(pieces)" -ge "$1" ]; }
 said() { grep -oE "(^|[ ,:])$1 [0-9]+" "$build/said" | head -n 1 | grep -oE '[0-9]+$'; } # said WORDS: the number after them
 above() { [ "$(said "$2")" -ge "$1" ] 2> /dev/null; note $? "$what: $2 is not at least $1: $(head -n 5 "$build/said")"; }
 exactly() { [ "$(said "$2")" = "$1" ]; note $? "$what: $2 is not $1: $(head -n 8 "$build/said")"; }
-says() { grep -qE "$1" "$build/said"; note $? "$what: the scheduler did not say '$1': $(head -n 5 "$build/said")"; }
+says() { wait_for 5 grep -qE "$1" "$build/said"; note $? "$what: the scheduler did not say '$1': $(head -n 5 "$build/said")"; } # by its clerk
 metric() { awk -v name="caladan_$1" '$1 == name { print $2 }' "$CALADAN_FOLDER/$name/metrics" 2> /dev/null; } # metric NAME{LABELS}
 counts() { [ "$(metric "$1")" -ge "$2" ] 2> /dev/null; }
 

@@ -10,7 +10,7 @@ stand_still() {
     wait_for 20 child_of $last; be=$last all="$all $child"
     go 60 "$bin/load" lc -n "$name" -u 0 -k 200 -q 300 -s 50
     wait_for 20 child_of $last; all="$all $child"
-    for ((i = 0; i < 6; i++)); do
+    for ((i = 0; i < 4; i++)); do
         sleep "0.$((RANDOM % 40 + 10))"
         kill -STOP $all
         sleep 1.2

@@ -100,7 +100,7 @@ silent_guests() { # who says nothing keeps nobody waiting, however often it come
 punched() { # memory that is taken out of a segment would be fetched again by each pass: the kernel refuses it
     what="a process that would punch its segment away"
     begin -k 2000 -g 20000
-    go 20 "$bin/misbehave" "$name" 1 4 punches
+    go 20 "$bin/misbehave" "$name" 1 2 punches
     lc -s 1 > "$build/process.honest" 2>&1; note $? "$what: the honest one: $(cat "$build/process.honest")"
     wait $last; note $? "$what: it could, or was killed: $(cat "$build/said")"
     works

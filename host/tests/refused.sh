@@ -101,7 +101,7 @@ other_users() {
     other=$!
     wait_for 20 is_there posed; note $? "$what: the impostor did not come: $(cat "$build/err")"
     refuses "is another user's" "$bin/load" lc -n posed -u 0
-    mkdir -m 700 "$base/posed" && mv "$elsewhere/base/posed/task-0" "$base/posed/"
+    mkdir -m 700 "$base/posed" && ln -s "$elsewhere/base/posed/task-0" "$base/posed/"
     CALADAN_FOLDER=$base refuses "is another user's" "$bin/load" lc -n posed -u 0
     wait $other
     rm -rf "$base/posed"
