@@ -133,6 +133,7 @@ begin_endless() { # begin_endless WHAT: a best-effort process that outlives its 
 end_endless() { kill -9 "$runtime"; wait; no_reports; rm -rf "${CALADAN_FOLDER:?}/$name"; } 2> /dev/null
 
 orphans() {
+    local before
     what="a runtime that waits when its scheduler is killed"
     begin_endless wait
     wait_for 20 is_asleep "$runtime"; note $? "$what: it runs on: $(grep -s State "/proc/$runtime/task/"*/status)"
@@ -149,9 +150,11 @@ orphans() {
     rm -f "$CALADAN_FOLDER/$name/"*
     "$bin/impostor" "$name" silent 1 > "$build/silent" 2>&1 &
     wait_for 20 grep -q silent "$build/silent"; note $? "$what: it does not ask"
-    sleep 1
-    wait_for 4 counts_on "$(counter)"; note $? "$what: its threads stand still meanwhile"
-    kill $!
+    sleep 0.5
+    before=$(counter)
+    sleep 2 # the silence lasts for eight
+    counts_on "$before"; note $? "$what: its threads stand still meanwhile"
+    kill $! 2> /dev/null
     end_endless
     what="a runtime that attaches to the next scheduler"
     begin_endless again
