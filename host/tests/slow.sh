@@ -45,9 +45,9 @@ whole_pieces() { # what was whole when the disk could not follow is still writte
 }
 
 slow_but_follows() { # the next piece begins while the last one is written, and each is whole
-    what="a record on a disk that takes half a second for each call"
-    can_sleep "$build/record" 500 || return
-    begin -k 2000 -g 400000 -p 6000
+    what="a record on a disk that takes a third of a second for each call"
+    can_sleep "$build/record" 350 || return
+    begin -k 2000 -g 400000 -p 4500
     wrap=()
     go 60 "$bin/load" be -n "$name" -u 1 -k 200 -s 50
     wait_for 60 has_pieces 2; note $? "$what: there are no two pieces: $(cat "$build/said")"
