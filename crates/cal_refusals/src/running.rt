@@ -7,10 +7,10 @@ ghost use Rattle.cal_engine.specs.Program.{exit_status, EndsJob};
 ghost use Rattle.cal_engine.specs.declared.command_words.command_line.Job.{Job as JobOf};
 ghost use Rattle.cal_refusals.specs.Explaining.{asks_why, is_option, words_without};
 
-use crate::ending::{RefusedInput, end_explained};
+use crate::ending::end_explained;
 use cal_engine::{Job, do_job, end_with, refuse_words, words};
-use cal_faults::TraceKind;
 use cal_input::{RunFault, read_input};
+use cal_why::{RefusedInput, TraceKind};
 use std::alloc::{AllocError, Global};
 use std::io::{Read, Write};
 use std::sync::Wait;
