@@ -78,7 +78,7 @@ field_word : (o : Option (List ℕ)) (n : ℕ) → option_and_then spelled_numbe
 field_word None n h = cc
 field_word (Some field) n h = number_word field n h
 
-word_at : (fields : Fields) (place : ℕ) → IsWord (number_at fields place)
+pub word_at : (fields : Fields) (place : ℕ) → IsWord (number_at fields place)
 word_at fields place = word_or (number_in fields place) (λ n e. field_word (field_at fields place) n e)
 
 -- the words of a row's record
