@@ -1,5 +1,5 @@
 -- When a run keeps an objective, and with which status a sweep ends.
-use Rattle.std.specs.Prelude.{ℕ, nat_le, Bool, false, not, List, length, ◌-◌, slice_get}
+use Rattle.std.specs.Prelude.{◌≡◌, ℕ, nat_le, Bool, false, not, List, length, ◌-◌, slice_get}
 use Rattle.std.specs.Prelude.{Option, Some, None, if◌then◌else◌}
 use Rattle.std.specs.List.{list_any}
 use Rattle.cal_measure.specs.declared.requests.TaskRequests.{TaskRequests}

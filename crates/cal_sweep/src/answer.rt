@@ -86,8 +86,8 @@ pub fn answer_sweep<'a, W: Write, E: Write>(
     errors: &mut E,
 ) -> Result<EndedSweep, SweepFault<'a>>
     ensures made { IfOk result (λ ended. IsSweep job.now.input.now
-        (varying_of job.now.names.variation) job.now.asked.now.loads.items
-        ended.sweep.tables.items ended.sweep.loads.items) }
+        (varying_of job.now.names.variation) job.now.asked.now.timing
+        job.now.asked.now.loads.items ended.sweep.tables.items ended.sweep.loads.items) }
     // The status is that of the runs of this very sweep.
     ensures status { IfOk result (λ ended. ended.status ≡
         status_of_sweep job.now.asked.now.objective ended.sweep.loads.items) }

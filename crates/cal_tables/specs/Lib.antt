@@ -10,5 +10,6 @@ pub mod Faulty
 pub mod Writing
 pub mod Laws
 pub mod Changed
+pub mod InputText
 pub mod Joining
 pub mod Rows
