@@ -27,6 +27,7 @@
  * change are the words of the texts and how fast a call answers. A higher version may have more calls,
  * numbers and fields, and says so here; the soname of libcaladan_c.so has the version.
  *
+ * Since version 3: nothing here has changed.
  * Since version 2: no pass answers CALADAN_NO_MEMORY any more, and a core may be given as any number, also
  * one above 255. New are the words of a look as one run (CALADAN_WORDS, caladan_look_words,
  * caladan_look_set_words) and CALADAN_IS_THIS_VERSION.
@@ -48,7 +49,7 @@ extern "C" {
 
 /* The version of this interface, which caladan_version answers. Whether the library that a program is linked
  * with has it, so that what this header says is said of that library: */
-#define CALADAN_VERSION 3
+#define CALADAN_VERSION 4
 #define CALADAN_IS_THIS_VERSION() (caladan_version() == CALADAN_VERSION)
 
 /* What the library takes each struct to be, in bytes: its size, and the place of each field. A compiler for
@@ -232,7 +233,7 @@ CALADAN_PLACE(caladan_counts, held, 0);
 CALADAN_PLACE(caladan_counts, booked, 1);
 CALADAN_PLACE(caladan_counts, cap, 2);
 
-/* The version: 3 [proved]. */
+/* The version: 4 [proved]. */
 uint32_t caladan_version(void);
 
 /* Opens the task table that a text spells (docs/POLICY.md), in a closed handle: DONE, or the table's

@@ -28,7 +28,7 @@ import sys
 import threading
 import warnings
 
-__version__ = "3"
+__version__ = "4"
 MOST_ACTIONS = 338
 MOST_CORES = 128
 MOST_PASSES, MOST_TEXT = 1 << 20, 1 << 26

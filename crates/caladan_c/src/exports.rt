@@ -68,7 +68,7 @@ ghost use Rattle.std.specs.Prelude.{◌≡◌};
 /// The version of this interface.
 #[unsafe(no_mangle)]
 pub extern "C" fn caladan_version() -> u32
-    ensures { result ≡ 3 }
+    ensures { result ≡ 4 }
 {
-    3
+    4
 }
