@@ -39,8 +39,8 @@ fn write_comparison<W: Write>(
     output: &mut W,
 ) -> Result<(), ComparisonFault> {
     let (alloc, labels) = (input.alloc, input.labels);
-    let reader = input.bytes();
-    let compared = ComparedInput { reader, variation };
+    let bytes = input.bytes();
+    let compared = ComparedInput { bytes, variation };
     let mut buffer = match BufWriter::new(alloc, output) {
         Ok(buffer) => buffer,
         Err(_) => return Err(ComparisonFault::from(RunFault::Memory)),
