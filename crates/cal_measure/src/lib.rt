@@ -9,7 +9,6 @@
 mod actions;
 mod clocks;
 mod cores;
-mod course;
 mod ended_run;
 mod ends;
 mod requests;
@@ -27,7 +26,6 @@ mod work;
 pub use actions::LossKind;
 pub use clocks::{ArrivalClocks, last_clock, run_end, turns_last};
 pub use cores::{MachineCores, TaskActions, TaskCores};
-pub use course::{no_courses, put_held};
 pub use ended_run::EndedRun;
 pub use ends::{TimedTurn, timed_of};
 pub use requests::TaskRequests;
