@@ -62,14 +62,18 @@ unkillable() { # nobody can be killed: a piece ends without who does not leave, 
     end $deaf $last
 }
 
-told_twice() { # the second signal waits for nobody
-    what="a scheduler that is told twice to end, beside a process that does not leave"
-    start -k 2000 -g 50000
+told_beside_deaf() { # told_beside_deaf MILLISECONDS: $daemon is told to end, beside one that does not leave in its patience
+    start -k "$1" -g 50000
     only_child_of $scheduler && daemon=$child
     go 60 "$bin/misbehave" "$name" 1 50 deaf
     wait_for 20 counts 'actions_total{kind="grant"}' 1; note $? "$what: nothing was granted"
     kill -TERM "$daemon"
     sleep 0.3
+}
+
+told_twice() { # the second signal waits for nobody
+    what="a scheduler that is told twice to end, beside a process that does not leave"
+    told_beside_deaf 2000
     kill -TERM "$daemon"
     wait $scheduler; note $? "$what: its status"
     says "of task 1 is (written off|killed)" # killed, where both signals came as one
@@ -79,12 +83,7 @@ told_twice() { # the second signal waits for nobody
 
 late_guests() { # who comes while a piece ends is not let in: one after the other would keep it open
     what="a process that attaches while a piece ends"
-    start -k 1000 -g 50000
-    only_child_of $scheduler && daemon=$child
-    go 60 "$bin/misbehave" "$name" 1 50 deaf
-    wait_for 20 counts 'actions_total{kind="grant"}' 1; note $? "$what: nothing was granted"
-    kill -TERM "$daemon"
-    sleep 0.3
+    told_beside_deaf 1000
     refuses "there is no scheduler of that name" "$bin/load" lc -n "$name" -u 0 -k 200
     wait $scheduler; note $? "$what: its status"
     exactly 1 attached
