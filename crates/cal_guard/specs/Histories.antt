@@ -3,11 +3,13 @@ use Rattle.std.specs.Prelude.{◌≡◌, ℕ, ◌≤◌, List, [], ◌∷◌, �
 use Rattle.cal_machine.specs.Table.{Table, IsTable}
 use Rattle.cal_policy.specs.declared.history.input.Input.{Input}
 use Rattle.cal_policy.specs.declared.history.entry.PassEntry.{PassEntry}
+use Rattle.cal_policy.specs.declared.policy.Policy.{Policy}
 use Rattle.cal_policy.specs.History.{actions_of}
 use Rattle.cal_policy.specs.Setting.{setting}
 use Rattle.cal_policy.specs.Judgement.Orderly.{IsOrderly}
 use Rattle.cal_policy.specs.Pass.Steady.{IsSteady}
 use Rattle.cal_policy.specs.Pass.{IsLegal}
+use Rattle.cal_policy.specs.Policies.{IsLegalBy}
 use Rattle.cal_laws.specs.Point.{Point}
 use Rattle.cal_laws.specs.Safe.{IsSafeHistory}
 use Rattle.cal_guard.specs.Permitted.{ArePermitted, IsPermittedPass, IsPermittedHistory}
@@ -38,6 +40,11 @@ PermittedIsOrderly = (table : Table) (history : List PassEntry) → IsPermittedH
 abbrev pub LegalIsPermitted : Type 0
 LegalIsPermitted = (table : Table) (history : List PassEntry) → IsTable table →
     IsLegal table history → IsPermittedHistory table history
+
+-- and so is a history of any policy
+abbrev pub EachPolicyIsPermitted : Type 0
+EachPolicyIsPermitted = (policy : Policy) (table : Table) (history : List PassEntry) →
+    IsTable table → IsLegalBy policy table history → IsPermittedHistory table history
 
 -- a pass that does nothing is permitted
 abbrev pub DoingNothingIsPermitted : Type 0

@@ -4,7 +4,7 @@ ghost use Rattle.cal_guard.specs.Gone.{PermittedGoneIsKept, GoneMayBeFreed};
 
 use crate::histories::permitted_is_orderly;
 use crate::laws::permitted_is_safe_between;
-use cal_policy::action_is_one_more;
+use cal_policy::laws::action_is_one_more;
 
 /// After a permitted history the look at the page of a thread that is gone is taken as it is, and
 /// kept.

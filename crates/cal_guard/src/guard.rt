@@ -23,8 +23,9 @@ use crate::passing::Passing;
 use crate::refusal::Refused;
 use crate::spare::{begin_both, offer_both, step_both};
 use cal_machine::Config;
+use cal_policy::laws::open_pass_fits;
 use cal_policy::state::{Board, Terms};
-use cal_policy::{Action, Input, OpenPass, open_pass_fits};
+use cal_policy::{Action, Input, OpenPass};
 use std::alloc::{AllocError, Global};
 use std::marker::Model;
 

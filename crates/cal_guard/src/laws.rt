@@ -12,7 +12,7 @@ ghost use Rattle.cal_guard.specs.Laws.{ThreadsAreSentOneCommand, PassesAreShort,
 ghost use Rattle.cal_guard.specs.Laws.{RunsStandUntilLeft, PermittedIsSafeBetween};
 
 use crate::histories::{permitted_is_safe, permitted_is_steady};
-use cal_policy::{action_is_one_more, last_thread_is_placed, look_is_one_more};
+use cal_policy::laws::{action_is_one_more, last_thread_is_placed, look_is_one_more};
 
 /// At every point a thread holds or leaves at most one core.
 pub fn threads_have_one_core()

@@ -1,6 +1,6 @@
 //! Legal histories are permitted.
 
-ghost use Rattle.cal_guard.specs.Histories.{LegalIsPermitted};
+ghost use Rattle.cal_guard.specs.Histories.{EachPolicyIsPermitted, LegalIsPermitted};
 ghost use Rattle.cal_guard.specs.Causes.{LegalIsRight};
 
 use cal_laws::{
@@ -9,7 +9,7 @@ use cal_laws::{
     passes_are_short, revocations_have_cause, revocations_leave_guarantees, tasks_keep_to_caps,
     threads_are_sent_one_command,
 };
-use cal_policy::{last_thread_is_placed, legal_is_sound};
+use cal_policy::laws::{last_thread_is_placed, legal_is_sound};
 
 /// A legal history is permitted: so the guard lets the one policy that is proved through.
 pub fn legal_is_permitted()
@@ -37,4 +37,11 @@ pub fn legal_is_right()
     bans_are_due();
     bans_end_unshown();
     caps_are_due();
+}
+
+/// A history of any policy is permitted: so the guard lets each policy that is proved through.
+pub fn each_policy_is_permitted()
+    ensures { EachPolicyIsPermitted }
+{
+    legal_is_permitted();
 }

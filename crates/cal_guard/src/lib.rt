@@ -36,6 +36,6 @@ pub use laws::{
     runs_go_to_idle_threads, runs_stand_until_left, tasks_keep_to_caps, tasks_keep_to_limits,
     threads_are_sent_one_command, threads_have_one_core,
 };
-pub use legality::{legal_is_permitted, legal_is_right};
+pub use legality::{each_policy_is_permitted, legal_is_permitted, legal_is_right};
 pub use refusal::{Refused, Why};
 pub use settled::permitted_settled_is_no_news;

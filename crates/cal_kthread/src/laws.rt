@@ -6,7 +6,6 @@ ghost use Rattle.cal_kthread.specs.Journal.Entries.{EachMayCome, FrontIsJournal,
 ghost use Rattle.cal_kthread.specs.Journal.Entries.{OthersChangeNothing, RecordShowsTaken};
 ghost use Rattle.cal_kthread.specs.End.OnePlace.{NeverIsNowhere, OnceIsInOnePlace};
 ghost use Rattle.cal_kthread.specs.Team.Turns.{TurnKeepsPlace, SamePlaceKeepsTeam};
-ghost use Rattle.cal_kthread.specs.Team.Turns.{NoEndsYet, OneEndMore, EndsAreATeam};
 ghost use Rattle.cal_kthread.specs.Turn.Turns.{OneTurnMore, TurnsAddUp};
 
 /// A turn leaves the thread its place in its team: its queue, its own end's shares of it, and its
@@ -31,24 +30,6 @@ pub fn turns_add_up()
 /// are a team still.
 pub fn same_place_keeps_team()
     ensures { SamePlaceKeepsTeam }
-{}
-
-/// No ends have the places of no threads: where the ends that come back from joins begin.
-pub fn no_ends_yet()
-    ensures { NoEndsYet }
-{}
-
-/// One thread more and its end, which has its place, go to threads and their ends: so ends that
-/// come back one by one, from joins, have the places of the threads so far.
-pub fn one_end_more()
-    ensures { OneEndMore }
-{}
-
-/// Ends that have, one by one, the places of a team's threads are a team, as `settle` asks. `end`
-/// keeps its thread's place (its clause `place`), so the ends of a team are one after any number of
-/// turns.
-pub fn ends_are_a_team()
-    ensures { EndsAreATeam }
 {}
 
 /// What one end hands out after `settle` leaves the team settled.

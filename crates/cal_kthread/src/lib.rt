@@ -24,6 +24,7 @@ mod turn;
 
 pub use bare_thread::BareThread;
 pub use cal_machine::Request;
+pub use end::ending::end_all;
 pub use end::handing_out::hand_out_all;
 pub use end::kernel_end::{BareThreadEnd, KernelEnd, ThreadEnd};
 pub use end::request_list::RequestList;

@@ -14,3 +14,4 @@ pub mod DueBans
 pub mod OldDelay
 pub mod Runs
 pub mod Ends
+pub mod Policies

@@ -8,7 +8,9 @@ ghost use Rattle.cal_laws.specs.Bans.{BansEndUnshown, BansAreShownAfterPasses};
 ghost use Rattle.cal_laws.specs.DueBans.{BansEndInEachPass, NoBanIsLeftDue};
 ghost use Rattle.cal_laws.specs.DueBans.{LongRequestsHaveBannedSiblings};
 
-use cal_policy::{action_is_one_more, chosen_is_of_least_class, legal_is_apart, legal_is_sound};
+use cal_policy::laws::{
+    action_is_one_more, chosen_is_of_least_class, legal_is_apart, legal_is_sound,
+};
 
 /// No core is granted while it is banned. (After Caladan's controller of hyperthread siblings.)
 pub fn no_banned_is_granted()

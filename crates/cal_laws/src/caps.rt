@@ -2,7 +2,7 @@
 
 ghost use Rattle.cal_laws.specs.Caps.{CapsAreDue};
 
-use cal_policy::{legal_is_sound, victim_has_most_misses};
+use cal_policy::laws::{legal_is_sound, victim_has_most_misses};
 
 /// A cap is set only for one of two reasons. Over the bandwidth limit it is one below the cores
 /// that the task holds, and no candidate has had more misses since the pass before, none with as

@@ -1,8 +1,9 @@
 //! Why each core was taken away.
 
 ghost use Rattle.cal_laws.specs.Cause.{RevocationsHaveCause};
+ghost use Rattle.cal_laws.specs.Policies.{RevocationsHaveCauseBy};
 
-use cal_policy::{
+use cal_policy::laws::{
     action_is_one_more, chosen_is_of_least_class, legal_is_sound, victim_has_most_misses,
 };
 
@@ -24,4 +25,11 @@ pub fn revocations_have_cause()
     chosen_is_of_least_class();
     victim_has_most_misses();
     action_is_one_more();
+}
+
+/// The same of each policy, by its own causes.
+pub fn revocations_have_cause_by()
+    ensures { RevocationsHaveCauseBy }
+{
+    revocations_have_cause();
 }

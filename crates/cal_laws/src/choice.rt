@@ -3,7 +3,7 @@
 ghost use Rattle.cal_laws.specs.Choice.{ClassesAreTold, GrantsAreBest, PreemptionsHaveThread};
 
 use cal_machine::laws::threads_are_of_their_task;
-use cal_policy::{chosen_has_waited_longest, chosen_is_of_least_class, legal_is_sound};
+use cal_policy::laws::{chosen_has_waited_longest, chosen_is_of_least_class, legal_is_sound};
 
 /// What a pass takes for the class of a core is the class that the core is of: 1 idle beside a core
 /// of the task, 2 idle and last granted to the task, 3 idle otherwise, 4 held by a best-effort

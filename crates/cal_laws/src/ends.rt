@@ -6,7 +6,7 @@ use crate::bans::{banned_are_empty_after_passes, no_pair_is_banned};
 use crate::exclusion::{holders_are_of_their_last_run, threads_have_one_core};
 use crate::limits::{tasks_keep_to_caps, tasks_keep_to_limits};
 use crate::runs::runs_stand_until_left;
-use cal_policy::legal_is_steady;
+use cal_policy::laws::legal_is_steady;
 
 /// A legal history that is not empty ends at a point of it: there all its actions are made, and
 /// none comes next. So each law of points is one of what stands between passes.

@@ -6,7 +6,7 @@ ghost use Rattle.cal_laws.specs.Exclusion.{ThreadsHaveOneCore, HoldersAreOfTheir
 ghost use Rattle.cal_laws.specs.Exclusion.{RunsGoToIdleThreads};
 
 use crate::safe::legal_is_safe;
-use cal_policy::{action_is_one_more, last_thread_is_placed, legal_is_sound};
+use cal_policy::laws::{action_is_one_more, last_thread_is_placed, legal_is_sound};
 
 /// At every point a thread holds or leaves at most one core.
 pub fn threads_have_one_core()

@@ -5,7 +5,7 @@
 ghost use Rattle.cal_laws.specs.Kept.{KeptRecordsAreTrue, KeptThreadsAreOnCore};
 
 use crate::safe::legal_is_safe;
-use cal_policy::{action_is_one_more, look_is_one_more};
+use cal_policy::laws::{action_is_one_more, look_is_one_more};
 
 /// At every point each thread's kept record acknowledges no more commands than were sent to the
 /// thread. Where it shows its thread on a core, that core was held or being left by the thread, by

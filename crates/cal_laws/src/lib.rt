@@ -30,7 +30,7 @@ pub use bans::{
     no_ban_is_left_due, no_banned_is_granted, no_pair_is_banned,
 };
 pub use caps::caps_are_due;
-pub use cause::revocations_have_cause;
+pub use cause::{revocations_have_cause, revocations_have_cause_by};
 pub use choice::{classes_are_told, grants_are_best, preemptions_have_thread};
 pub use ends::{ends_are_points, legal_is_safe_between};
 pub use exclusion::{

@@ -6,7 +6,7 @@ ghost use Rattle.cal_laws.specs.Limits.{TasksKeepToLimits, GrantsKeepToCaps};
 ghost use Rattle.cal_laws.specs.Limits.{TasksKeepToCaps, RevocationsLeaveGuarantees};
 
 use cal_machine::laws::threads_are_of_their_task;
-use cal_policy::{
+use cal_policy::laws::{
     action_is_one_more, chosen_has_waited_longest, chosen_is_of_least_class, legal_is_sound,
     legal_is_steady, victim_has_most_misses,
 };

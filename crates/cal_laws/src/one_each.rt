@@ -7,7 +7,7 @@ ghost use Rattle.cal_laws.specs.OneEach.{TasksAreServedOnce};
 ghost use Rattle.cal_laws.specs.OneEach.{ThreadsAreSentOneCommand, PassesAreShort};
 
 use cal_machine::laws::threads_are_of_their_task;
-use cal_policy::{
+use cal_policy::laws::{
     action_is_one_more, chosen_has_waited_longest, chosen_is_of_least_class, last_thread_is_placed,
     legal_is_short, legal_is_sound, victim_has_most_misses,
 };

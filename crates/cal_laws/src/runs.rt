@@ -5,7 +5,7 @@
 ghost use Rattle.cal_laws.specs.Runs.{RunsStandUntilLeft};
 
 use crate::safe::legal_is_safe;
-use cal_policy::action_is_one_more;
+use cal_policy::laws::action_is_one_more;
 
 /// At every point each Run that was sent is of a core of the machine; and its thread holds or
 /// leaves that core by this Run, or the core was freed at an earlier point, where the thread was on

@@ -4,3 +4,4 @@ pub mod HistoryLemmas
 pub mod PassLemmas
 pub mod JudgementLemmas
 pub mod ExplainLemmas
+pub mod PolicyLemmas

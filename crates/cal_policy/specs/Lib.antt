@@ -10,3 +10,4 @@ pub mod Book
 pub mod Verdict
 pub mod Auditor
 pub mod Explain
+pub mod Policies

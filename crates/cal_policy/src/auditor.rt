@@ -6,6 +6,7 @@ ghost use Rattle.cal_policy.specs.Auditor.{IsAuditOf, IsAuditorOf};
 ghost use Rattle.cal_policy.specs.State.{IsReady, IsStateAfter};
 ghost use Rattle.cal_policy.specs.Book.{board_in, AfterLegal};
 ghost use Rattle.cal_policy.specs.Pass.{IsPass, IsLegal};
+ghost use Rattle.cal_policy.specs.Policies.{IsAuditBy};
 ghost use Rattle.cal_policy.specs.Verdict.{IsVerdict};
 ghost use Rattle.cal_policy.specs.declared.history.entry.PassEntry.{PassEntry};
 
@@ -13,6 +14,7 @@ use crate::board::Board;
 use crate::book::Book;
 use crate::history::action_list::Actions;
 use crate::history::entry::PassEntry;
+use crate::policy::Policy;
 use crate::verdict::{Verdict, same_actions};
 use cal_machine::Config;
 use std::alloc::{AllocError, Global};
@@ -52,12 +54,20 @@ fn is_next(config: &Config, book: &mut Book, entry: &PassEntry, actions: &mut Ac
 }
 
 impl Auditor {
-    /// The audit of the empty history. Fails only when out of memory.
+    /// The audit of the empty history, by `Policy::Caladan`. Fails only when out of memory.
     pub fn open(alloc: Global, config: &Config) -> Result<Auditor, AllocError>
         ensures audits { IfOk result (λ auditor. IsAuditOf config.now [] auditor) }
         ensures of { IfOk result (λ auditor. IsAuditorOf config.now auditor) }
     {
-        let book = Book::open(alloc, config)?;
+        Auditor::open_by(alloc, config, Policy::Caladan)
+    }
+
+    /// The audit of the empty history, by this policy. Fails only when out of memory.
+    pub fn open_by(alloc: Global, config: &Config, policy: Policy) -> Result<Auditor, AllocError>
+        ensures audits { IfOk result (λ auditor. IsAuditBy policy config.now [] auditor) }
+        ensures of { IfOk result (λ auditor. IsAuditorOf config.now auditor) }
+    {
+        let book = Book::open_by(alloc, config, policy)?;
         let actions = Actions::reserved(alloc)?;
         Ok(Auditor {
             book,

@@ -10,6 +10,8 @@ ghost use Rattle.cal_policy.specs.Judgement.OpenInput.{judged_input};
 ghost use Rattle.cal_policy.specs.Judgement.Judging.{judged, IsInput};
 ghost use Rattle.cal_policy.specs.Setting.{setting};
 ghost use Rattle.cal_policy.specs.Pass.{pass_of, IsLegal};
+ghost use Rattle.cal_policy.specs.Policies.{AfterOwnOn, AfterOwnOpen, IsNextBy};
+ghost use Rattle.cal_policy.specs.declared.policy.Policy.TheVariants.{Caladan};
 ghost use Rattle.cal_policy.specs.Board.{HasSizes, KeepsBefore};
 ghost use Rattle.cal_policy.specs.State.{IsReady, IsStateAfter};
 ghost use Rattle.cal_policy.specs.Book.{board_in, AfterLegalOn, AfterLegalOpen, IsSentBy};
@@ -24,6 +26,7 @@ use crate::history::sending::command_for;
 use crate::judgement::open_input::FoundLook;
 use crate::judgement::open_pass::OpenPass;
 use crate::pass::deciding::{decide, decide_noted};
+use crate::policy::Policy;
 use cal_machine::{Command, Config};
 use cal_signal::Look;
 use std::alloc::{AllocError, Global};
@@ -37,18 +40,36 @@ use std::alloc::{AllocError, Global};
 /// every legal history with which it agrees.
 #[derive(Drop)]
 pub struct Book {
+    policy: Policy,
     board: Box<Board>,
 }
 
 impl Book {
-    /// The book of the empty history. Fails only when out of memory.
+    /// The book of the empty history, of `Policy::Caladan`. Fails only when out of memory.
     pub fn open(alloc: Global, config: &Config) -> Result<Book, AllocError>
         ensures agrees { IfOk result (λ book. IsStateAfter (board_in book) []) }
         ensures of { IfOk result (λ book. IsReady config.now (board_in book)) }
+        ensures policy { IfOk result (λ book. book.policy ≡ Caladan) }
+    {
+        Book::open_by(alloc, config, Policy::Caladan)
+    }
+
+    /// The book of the empty history, of this policy. Fails only when out of memory.
+    pub fn open_by(alloc: Global, config: &Config, policy: Policy) -> Result<Book, AllocError>
+        ensures agrees { IfOk result (λ book. IsStateAfter (board_in book) []) }
+        ensures of { IfOk result (λ book. IsReady config.now (board_in book)) }
+        ensures policy { IfOk result (λ book. book.policy ≡ policy) }
     {
         config.limits();
         let board = Box::new(alloc, Board::new())?;
-        Ok(Book { board })
+        Ok(Book { policy, board })
+    }
+
+    /// The policy that decides its passes.
+    pub fn policy(&self) -> Policy
+        ensures { result ≡ self.now.policy }
+    {
+        self.policy
     }
 
     /// The judgement of a look at thread `k` after the history.
@@ -61,8 +82,7 @@ impl Book {
     }
 
     /// The input of the next pass at this clock and bandwidth figure, from what was found of each
-    /// thread, thread 0 first. Fails only when out of memory. (`OpenInput` makes the same, look by
-    /// look, with its memory taken before the first.)
+    /// thread, thread 0 first. Fails only when out of memory.
     pub fn input(
         &self,
         alloc: Global,
@@ -131,10 +151,15 @@ impl Book {
         // The misses of the records kept before this pass's looks are kept too.
         ensures before { AfterLegalOn config.now self.old input.entry.now (λ h.
             KeepsBefore self.new.board.value.keeping (looks_of h)) }
+        // The same by the book's own policy.
+        ensures own { AfterOwnOn config.now self.old input.entry.now (λ h.
+            IsNextBy config.now self.old self.new h input.entry.now out.new) }
+        ensures policy { self.new.policy ≡ self.old.policy }
         ensures of { IsReady config.now (board_in self.new) }
     {
         config.limits();
-        decide(config, input, &mut self.board, out);
+        let policy = self.policy;
+        decide(config, policy, input, &mut self.board, out);
     }
 
     /// Appends the actions of the next pass, at this clock and bandwidth figure and on the looks
@@ -162,9 +187,14 @@ impl Book {
         // The misses of the records kept before this pass's looks are kept too.
         ensures before { AfterLegalOpen config.now self.old now bandwidth looks.entry.now
             (λ h input. KeepsBefore self.new.board.value.keeping (looks_of h)) }
+        // The same by the book's own policy.
+        ensures own { AfterOwnOpen config.now self.old now bandwidth looks.entry.now (λ h input.
+            IsNextBy config.now self.old self.new h input out.new) }
+        ensures policy { self.new.policy ≡ self.old.policy }
         ensures of { IsReady config.now (board_in self.new) }
     {
         config.limits();
-        decide_noted(config, now, bandwidth, looks, &mut self.board, out);
+        let policy = self.policy;
+        decide_noted(config, policy, now, bandwidth, looks, &mut self.board, out);
     }
 }

@@ -1,4 +1,5 @@
-//! Laws over the definitions alone, each the contract of a function that does nothing.
+//! Laws over the definitions alone, each the contract of a function that does nothing. A caller whose
+//! own contract follows from one calls it.
 
 ghost use Rattle.cal_policy.specs.Laws.{LegalIsOrderly, LegalIsSteady, LegalIsSound};
 ghost use Rattle.cal_policy.specs.Laws.{LegalIsShort, LegalIsApart, ChosenHasWaitedLongest};
@@ -7,6 +8,13 @@ ghost use Rattle.cal_policy.specs.Laws.{ActionIsOneMore, LastThreadIsPlaced, Loo
 ghost use Rattle.cal_policy.specs.Laws.{ShownIsOneMore, JudgedIsOfItsLook, WholeIsAllowed};
 ghost use Rattle.cal_policy.specs.Laws.{NothingIsLegal, PrefixesAreLegal, OnePassMoreIsLegal};
 ghost use Rattle.cal_policy.specs.Laws.{CommandsFollow, CommandsBeginAlike};
+
+pub use crate::judgement::look_laws::{
+    gone_frees_its_cores, gone_is_kept, kept_is_whole, misfits_do_not_fit, only_faults_are_refused,
+    others_count_as_given, refused_leaves_no_trace, rooms_count_as_given, settled_is_no_news,
+    taken_input_fits,
+};
+pub use crate::judgement::open_pass::open_pass_fits;
 
 /// A legal history is orderly: so what asks for an orderly history may be called on every legal
 /// one.

@@ -11,8 +11,9 @@ mod book;
 pub mod explain;
 mod history;
 mod judgement;
-mod laws;
+pub mod laws;
 mod pass;
+mod policy;
 pub mod state;
 mod verdict;
 
@@ -28,21 +29,10 @@ pub use history::input::{Input, Rooms};
 pub use history::look::{Seen, SeenList};
 pub use judgement::judging::{is_input, judge};
 pub use judgement::look_fault::LookFault;
-pub use judgement::look_laws::{
-    gone_frees_its_cores, gone_is_kept, kept_is_whole, misfits_do_not_fit, only_faults_are_refused,
-    others_count_as_given, refused_leaves_no_trace, rooms_count_as_given, settled_is_no_news,
-    taken_input_fits,
-};
 pub use judgement::one_by_one::taken_of;
-pub use judgement::open_input::{FoundLook, OpenInput};
-pub use judgement::open_pass::{OpenPass, open_pass_fits};
+pub use judgement::open_input::{FoundLook, InputLists};
+pub use judgement::open_pass::OpenPass;
 pub use judgement::orderly::orderly;
-pub use laws::{
-    action_is_one_more, chosen_has_waited_longest, chosen_is_of_least_class, commands_begin_alike,
-    commands_follow, judged_is_of_its_look, last_thread_is_placed, legal_is_apart,
-    legal_is_orderly, legal_is_short, legal_is_sound, legal_is_steady, look_is_one_more,
-    nothing_is_legal, one_pass_more_is_legal, prefixes_are_legal, shown_is_one_more,
-    victim_has_most_misses, whole_is_allowed,
-};
-pub use pass::plain::plain_pass;
-pub use verdict::{Verdict, audit, is_pass, same_actions};
+pub use pass::plain::{plain_pass, plain_pass_by};
+pub use policy::Policy;
+pub use verdict::{Verdict, audit, audit_by, is_pass, is_pass_by, same_actions};

@@ -4,15 +4,16 @@ ghost use Rattle.std.specs.Prelude.{◌≡◌, ◌↔◌, IfOk, IsTrue};
 ghost use Rattle.cal_policy.specs.Setting.{setting};
 ghost use Rattle.cal_policy.specs.Judgement.Judging.{IsInput};
 ghost use Rattle.cal_policy.specs.Judgement.Orderly.{IsOrderly};
-ghost use Rattle.cal_policy.specs.Pass.{pass_of, IsPass};
+ghost use Rattle.cal_policy.specs.Pass.{IsPass};
+ghost use Rattle.cal_policy.specs.Policies.{pass_by, IsPassBy, IsVerdictBy};
 ghost use Rattle.cal_policy.specs.Verdict.{IsVerdict};
 
 use crate::history::action::Action;
 use crate::history::action_list::Actions;
 use crate::history::entry::PassEntry;
 use crate::judgement::judging::is_input;
-use crate::laws::legal_is_orderly;
-use crate::pass::plain::plain_pass;
+use crate::pass::plain::plain_pass_by;
+use crate::policy::Policy;
 use cal_machine::Config;
 use std::alloc::{AllocError, Global};
 
@@ -33,19 +34,42 @@ pub fn same_actions(a: &[Action], b: &[Action]) -> bool
 }
 
 /// Whether the policy does these actions on the entry's input. `actions` is room to work in.
-fn does_so(config: &Config, before: &[PassEntry], entry: &PassEntry, actions: &mut Actions) -> bool
+fn does_so(
+    policy: Policy,
+    config: &Config,
+    before: &[PassEntry],
+    entry: &PassEntry,
+    actions: &mut Actions,
+) -> bool
     requires orderly { IsOrderly config.now before.now }
     requires input { IsInput config.now before.now entry.now.input }
     ensures { IsTrue result ↔ entry.now.actions
-        ≡ pass_of (setting config.now before.now entry.now.input) }
+        ≡ pass_by policy (setting config.now before.now entry.now.input) }
 {
     actions.clear();
-    plain_pass(config, before, &entry.input, actions);
+    plain_pass_by(policy, config, before, &entry.input, actions);
     same_actions(entry.actions.as_slice(), actions.as_slice())
 }
 
 /// Whether an entry is the policy's pass after those before it. `actions` is room to work in. Each
 /// call goes over all passes before; an `Auditor` goes over each once.
+pub fn is_pass_by(
+    policy: Policy,
+    config: &Config,
+    before: &[PassEntry],
+    entry: &PassEntry,
+    actions: &mut Actions,
+) -> bool
+    requires { IsOrderly config.now before.now }
+    ensures { IsTrue result ↔ IsPassBy policy config.now before.now entry.now }
+{
+    if !is_input(config, before, &entry.input) {
+        return false;
+    }
+    does_so(policy, config, before, entry, actions)
+}
+
+/// `is_pass_by` of `Policy::Caladan`.
 pub fn is_pass(
     config: &Config,
     before: &[PassEntry],
@@ -55,25 +79,33 @@ pub fn is_pass(
     requires { IsOrderly config.now before.now }
     ensures { IsTrue result ↔ IsPass config.now before.now entry.now }
 {
-    if !is_input(config, before, &entry.input) {
-        return false;
-    }
-    does_so(config, before, entry, actions)
+    is_pass_by(Policy::Caladan, config, before, entry, actions)
 }
 
-/// Whether a history is legal: `Legal` exactly where each pass may be given its input and does what
-/// the policy does on it after the passes before; else the first pass that is not so. Any history
-/// may be asked about. Fails only when out of memory.
-pub fn audit(alloc: Global, config: &Config, history: &[PassEntry]) -> Result<Verdict, AllocError>
-    ensures { IfOk result (λ verdict. IsVerdict config.now history.now verdict) }
+/// Whether a history is the policy's: `Legal` exactly where each pass may be given its input and
+/// does what the policy does on it after the passes before; else the first pass that is not so. Any
+/// history may be asked about. Fails only when out of memory.
+pub fn audit_by(
+    alloc: Global,
+    config: &Config,
+    policy: Policy,
+    history: &[PassEntry],
+) -> Result<Verdict, AllocError>
+    ensures { IfOk result (λ verdict. IsVerdictBy policy config.now history.now verdict) }
 {
     config.limits();
-    legal_is_orderly();
     let mut actions = Actions::reserved(alloc)?;
     for (p, entry) in history.iter().enumerate() {
-        if !is_pass(config, &history[..p], entry, &mut actions) {
+        if !is_pass_by(policy, config, &history[..p], entry, &mut actions) {
             return Ok(Verdict::Illegal { pass: p as u64 });
         }
     }
     Ok(Verdict::Legal)
+}
+
+/// `audit_by` of `Policy::Caladan`.
+pub fn audit(alloc: Global, config: &Config, history: &[PassEntry]) -> Result<Verdict, AllocError>
+    ensures { IfOk result (λ verdict. IsVerdict config.now history.now verdict) }
+{
+    audit_by(alloc, config, Policy::Caladan, history)
 }

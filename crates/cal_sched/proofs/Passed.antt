@@ -9,7 +9,6 @@ use Rattle.cal_signal.specs.Looks.{whole_of}
 use Rattle.cal_command.specs.Rings.{SenderView}
 use Rattle.cal_policy.specs.declared.book.Book.{Book}
 use Rattle.cal_policy.specs.declared.judgement.open_input.FoundLook.{FoundLook}
-use Rattle.cal_policy.specs.declared.history.action.Action.{Action}
 use Rattle.cal_policy.specs.declared.history.entry.PassEntry.{PassEntry}
 use Rattle.cal_policy.specs.declared.history.input.Input.{Input}
 use Rattle.cal_policy.specs.Book.{board_in}
@@ -17,8 +16,7 @@ use Rattle.cal_policy.specs.State.{IsStateAfter}
 use Rattle.cal_policy.specs.History.Found.{looks_at}
 use Rattle.cal_policy.specs.Judgement.OpenInput.{judged_input, rooms_found}
 use Rattle.cal_policy.specs.Judgement.Judging.{IsInput}
-use Rattle.cal_policy.specs.Pass.{IsLegal, pass_of}
-use Rattle.cal_policy.specs.Setting.{setting}
+use Rattle.cal_policy.specs.Pass.{IsLegal}
 use Rattle.cal_policy.proofs.PassLemmas.Legality.{legal_more}
 use Rattle.cal_sched.specs.Looking.{HasLooked}
 use Rattle.cal_sched.specs.Passing.{HasAsked, HaveFound, HaveSent, pass_on}
@@ -41,14 +39,6 @@ module _ (s : SchedulerView) (now bandwidth : ℕ) (looked : List ObserverView) 
 
   pub is_legal : IsKept s → HaveFound s.observers looked s.senders asked found → IsLegal s.table (s.history ++ pass_found ∷ [])
   is_legal kept finds = legal_more s.table s.history pass_found kept.legal (record { input = is_input kept finds; actions = refl })
-
-  -- the history with the pass that was made
-  pub pass_made : (input : Input) (acts actions : List Action) (items : List PassEntry) → input ≡ input_found → acts ≡ pass_of (setting s.table s.history input) → actions ≡ acts
-      → items ≡ s.history ++ record { input = input; actions = actions } ∷ [] → items ≡ s.history ++ pass_found ∷ []
-  pass_made input acts actions items same decided listed whole =
-      whole
-      ∙ ap (λ (l : List Action). let e : PassEntry = record { input = input; actions = l } in s.history ++ e ∷ []) (listed ∙ decided)
-      ∙ ap (λ (i : Input). s.history ++ pass_on s.table s.history i ∷ []) same
 
   -- the room that is known where the pass was told of it
   room_found : (k : ℕ) (one : FoundLook) → slice_get found k ≡ Some one → slice_index_or (rooms_found found) k false ≡ one.room

@@ -1,9 +1,13 @@
 -- The history of a scheduler, one pass more.
-use Rattle.std.proofs.Common.{◌≡◌, List, [], ◌∷◌, ◌++◌, refl}
+use Rattle.std.proofs.Common.{◌≡◌, List, [], ◌∷◌, ◌++◌, ◌⊎◌, inl, inr, length, refl, sym, ap, ◌∙◌, subst, arith, length-append}
 use Rattle.cal_machine.specs.Table.{Table}
 use Rattle.cal_policy.specs.declared.history.entry.PassEntry.{PassEntry}
 use Rattle.cal_sched.specs.declared.found_pass.FoundPass.{FoundPass}
-use Rattle.cal_sched.specs.Past.{entry_of, history_after, history_of}
+use Rattle.cal_policy.specs.declared.judgement.open_pass.OpenPass.{OpenPass}
+use Rattle.cal_policy.specs.Judgement.OpenPass.{IsOpenAt}
+use Rattle.cal_machine.specs.TableTasks.{threads_of_table}
+use Rattle.cal_sched.specs.Past.{AreLast, entry_of, history_after, history_of}
+use Rattle.cal_sched.proofs.Lists.{snoc_same}
 
 after_push : (table : Table) (before : List PassEntry) (all : List FoundPass) (made : FoundPass)
     → history_after table before (all ++ made ∷ []) ≡ history_after table before all ++ entry_of table (history_after table before all) made ∷ []
@@ -14,3 +18,42 @@ after_push table before (first ∷ more) made = after_push table (before ++ entr
 pub history_push : (table : Table) (all : List FoundPass) (made : FoundPass)
     → history_of table (all ++ made ∷ []) ≡ history_of table all ++ entry_of table (history_of table all) made ∷ []
 history_push table all made = after_push table [] all made
+
+-- a list is empty, or has a last member
+split_last : {X : Type 0} (xs : List X) → (xs ≡ []) ⊎ ((front : List X) × (last : X) × (xs ≡ front ++ last ∷ []))
+split_last [] = inl refl
+split_last {X} (y ∷ ys) = elim (split_last ys) [
+  | inl none ↦ inr ([], y, ap (λ (l : List X). y ∷ l) none)
+  | inr some ↦ inr (y ∷ some.0, some.1, ap (λ (l : List X). y ∷ l) some.2)
+]
+
+-- what the last pass of a history was made of
+pub record LastMade (table : Table) (all : List FoundPass) (before : List PassEntry) (entry : PassEntry) : Type 0 where
+  pub front : List FoundPass
+  pub made : FoundPass
+  pub whole : all ≡ front ++ made ∷ []
+  pub before_is : before ≡ history_of table front
+  pub entry_is : entry ≡ entry_of table (history_of table front) made
+
+pub last_made : (table : Table) (all : List FoundPass) (before : List PassEntry) (entry : PassEntry) → history_of table all ≡ before ++ entry ∷ [] → LastMade table all before entry
+last_made table all before entry is = elim (split_last all) [
+  | inl none ↦
+      let empty : before ++ entry ∷ [] ≡ [] = sym is ∙ ap (history_of table) none in
+      let long = length-append before (entry ∷ []) in
+      absurd (omega (arith, ap length empty, long))
+  | inr some ↦
+      let pushed : before ++ entry ∷ [] ≡ history_of table some.0 ++ entry_of table (history_of table some.0) some.1 ∷ [] = sym is ∙ ap (history_of table) some.2 ∙ history_push table some.0 some.1 in
+      let both = snoc_same before (history_of table some.0) entry (entry_of table (history_of table some.0) some.1) pushed in
+      record { front = some.0; made = some.1; whole = some.2; before_is = both.0; entry_is = both.1 }
+]
+
+-- no pass was made of nothing
+pub none_last : (table : Table) (looks : OpenPass) → AreLast table [] looks
+none_last table looks before made e = let long = length-append before (made ∷ []) in absurd (omega (arith, ap length e, long))
+
+-- one pass more, of which these looks are
+pub last_push : (table : Table) (all : List FoundPass) (made : FoundPass) (looks : OpenPass) → IsOpenAt table (history_of table all) made.found looks
+    → looks.count ≡ threads_of_table table → AreLast table (all ++ made ∷ []) looks
+last_push table all made looks opened count before other e =
+    let both = snoc_same all before made other e in
+    (subst (λ (o : FoundPass). IsOpenAt table (history_of table before) o.found looks) both.1 (subst (λ (l : List FoundPass). IsOpenAt table (history_of table l) made.found looks) both.0 opened), count)

@@ -1,8 +1,11 @@
 -- The history of a scheduler, from what each of its passes was made of.
-use Rattle.std.specs.Prelude.{List, [], ◌∷◌, ◌++◌}
+use Rattle.std.specs.Prelude.{◌≡◌, List, [], ◌∷◌, ◌++◌}
 use Rattle.cal_machine.specs.Table.{Table}
+use Rattle.cal_machine.specs.TableTasks.{threads_of_table}
 use Rattle.cal_policy.specs.declared.history.entry.PassEntry.{PassEntry}
+use Rattle.cal_policy.specs.declared.judgement.open_pass.OpenPass.{OpenPass}
 use Rattle.cal_policy.specs.Judgement.OpenInput.{judged_input}
+use Rattle.cal_policy.specs.Judgement.OpenPass.{IsOpenAt}
 use Rattle.cal_sched.specs.declared.found_pass.FoundPass.{FoundPass}
 use Rattle.cal_sched.specs.Passing.{pass_on}
 
@@ -20,3 +23,10 @@ history_after table before (made ∷ more) =
 -- the passes that were made of this, the first one first
 abbrev pub history_of : Table → List FoundPass → List PassEntry
 history_of table all = history_after table [] all
+
+-- these looks, one of each thread, are those of the last of the passes that were made of this, if
+-- any was
+abbrev pub AreLast : Table → List FoundPass → OpenPass → Type 0
+AreLast table all looks = (before : List FoundPass) (made : FoundPass) →
+    all ≡ before ++ made ∷ [] → IsOpenAt table (history_of table before) made.found looks
+    × (looks.count ≡ threads_of_table table)

@@ -1,6 +1,6 @@
 //! A scheduler that keeps no history.
 
-ghost use Rattle.std.specs.Prelude.{◌≡◌, ◌<◌, ◌≤◌, ◌↔◌, [], ◌∷◌, ◌++◌, Err, length, IfOk, IfErr};
+ghost use Rattle.std.specs.Prelude.{◌≡◌, ◌<◌, ◌≤◌, ◌↔◌, List, [], ◌∷◌, ◌++◌, Err, length, IfOk, IfErr};
 ghost use Rattle.cal_policy.specs.Board.Counts as counts;
 ghost use Rattle.cal_policy.specs.History.{actions_of, holder_of};
 ghost use Rattle.cal_machine.specs.TableTasks.{threads_of_table};
@@ -12,17 +12,15 @@ ghost use Rattle.cal_sched.specs.Passing.{IsPassed};
 ghost use Rattle.cal_sched.specs.Scheduler.{IsKept, HaveSeenNothing, HaveSentNothing};
 
 use crate::fault::PassFault;
-use crate::finding::find_each;
 use crate::found_pass::FoundPass;
 use crate::news::find_news;
 use crate::sending::send_commands;
 use cal_command::Sender;
 use cal_laws::{holders_are_of_their_last_run, threads_are_sent_one_command};
 use cal_machine::{Config, Past};
+use cal_policy::laws::settled_is_no_news;
 use cal_policy::state::Board;
-use cal_policy::{
-    Actions, Book, Holder, MOST_PASSES, OpenInput, OpenPass, PassEntry, settled_is_no_news,
-};
+use cal_policy::{Actions, Book, Holder, Input, InputLists, MOST_PASSES, OpenPass, PassEntry};
 use cal_signal::Observer;
 use std::alloc::{AllocError, Global};
 use std::marker::Model;
@@ -43,7 +41,7 @@ pub struct BareScheduler {
     past: Past<FoundPass>,
     // how many passes it has made
     passes: usize,
-    // what a step finds, in memory that each step uses again
+    // what its last pass found, in memory that each uses again
     looks: Box<OpenPass>,
     observers: Vec<Observer>,
     senders: Vec<Sender>,
@@ -53,7 +51,7 @@ impl Model for BareScheduler {
     ghost use Rattle.std.specs.Prelude.{◌≡◌, length};
     ghost use Rattle.cal_policy.specs.Book.{board_in};
     ghost use Rattle.cal_policy.specs.State.{IsReady, IsStateAfter};
-    ghost use Rattle.cal_sched.specs.Past.{history_of};
+    ghost use Rattle.cal_sched.specs.Past.{AreLast, history_of};
     ghost use Rattle.cal_sched.specs.Scheduler.{SchedulerView, IsKept};
 
     ghost Value = { SchedulerView };
@@ -72,7 +70,8 @@ impl Model for BareScheduler {
       senders = s.senders.items;
     }) × IsStateAfter (board_in s.book) (history_of s.config s.past)
         × IsReady s.config (board_in s.book)
-        × (s.passes ≡ length (history_of s.config s.past)) };
+        × (s.passes ≡ length (history_of s.config s.past))
+        × AreLast s.config s.past s.looks.value };
 }
 
 /// What `Scheduler::new` or `BareScheduler::new` was given, where memory was refused.
@@ -169,36 +168,27 @@ impl BareScheduler {
         if self.passes >= MOST_PASSES {
             return Err(PassFault::HistoryFull);
         }
-        let mut input = OpenInput::reserved(self.alloc, &self.config)?;
+        let lists = InputLists::reserved(self.alloc, &self.config)?;
         let mut actions = Actions::reserved(self.alloc)?;
-        let mut found = Past::none();
-        find_each(
-            &self.config,
-            self.book.board(),
-            self.observers.as_mut_slice(),
-            self.senders.as_mut_slice(),
-            &mut found,
-            &mut input,
-        );
-        let input = input.finish(now, bandwidth);
-        self.book.step(&self.config, &input, &mut actions);
+        self.step(now, bandwidth, &mut actions)?;
+        let input = self.last_input(lists, now, bandwidth);
         let actions = actions.list();
-        let pass = FoundPass {
-            clock: now,
-            bandwidth,
-            found,
-        };
-        send_commands(
-            &self.config,
-            &self.book,
-            &self.past,
-            &pass,
-            actions.as_slice(),
-            self.senders.as_mut_slice(),
-        );
-        self.past.note(&pass);
-        self.passes += 1;
         Ok(PassEntry { input, actions })
+    }
+
+    /// The input of its last pass, which was at this clock and bandwidth figure. It takes no
+    /// memory.
+    fn last_input(&self, lists: InputLists, now: u64, bandwidth: u64) -> Input
+        requires made { (before : List PassEntry) × (entry : PassEntry)
+            × (self.now.history ≡ before ++ entry ∷ []) }
+        requires room { lists.threads ≡ threads_of_table self.now.table }
+        requires empty { (lists.seen ≡ []) × (lists.rooms ≡ []) }
+        ensures { (before : List PassEntry) (entry : PassEntry) →
+            self.now.history ≡ before ++ entry ∷ [] → entry.input.now ≡ now →
+            entry.input.bandwidth ≡ bandwidth → result ≡ entry.input }
+    {
+        self.looks
+            .input(&self.config, self.book.board(), lists, now, bandwidth)
     }
 
     /// One pass, at this clock (in ticks) and bandwidth figure (in the unit of the table's limit),

@@ -14,7 +14,6 @@
 
 mod bare_scheduler;
 mod fault;
-mod finding;
 mod found_pass;
 mod looking;
 mod news;

@@ -18,7 +18,7 @@ use cal_guard::{
     permitted_is_steady, revocations_leave_guarantees,
 };
 use cal_laws::revocations_have_cause;
-use cal_policy::{action_is_one_more, look_is_one_more};
+use cal_policy::laws::{action_is_one_more, look_is_one_more};
 
 /// Each legal list is safe: its passes are the policy's, and those are permitted.
 pub fn legal_lists_are_safe()

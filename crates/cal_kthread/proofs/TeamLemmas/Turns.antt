@@ -1,19 +1,16 @@
 -- A turn keeps its thread's place in its team, its page and its ring: it changes no shares and no
 -- thieves.
-use Rattle.std.proofs.Common.{◌≡◌, ℕ, zero, suc, Option, Some, None, List, [], ◌∷◌, ◌++◌, map, length, length-append, sym, refl, ap, ◌∙◌, subst, arith}
-use mathlib.Core.Option.{some, some-injective, some-ne-none}
-use lib.ListN.{get_elem?}
+use Rattle.std.proofs.Common.{◌≡◌, ℕ, zero, suc, Option, Some, None, List, [], ◌∷◌, map, sym, refl, ap, ◌∙◌, subst}
 use Rattle.cal_machine.specs.declared.command.Command.{Command}
 use Rattle.cal_machine.specs.declared.request.Request.{Request}
 use Rattle.cal_command.specs.Rings.{RingId, TakerView}
 use Rattle.cal_signal.specs.Ends.{PublisherView}
 use Rattle.cal_kthread.specs.declared.turn.current.Current.{Current}
-use Rattle.cal_kthread.specs.End.Rest.{EndView}
 use Rattle.cal_kthread.specs.declared.turn.sources.Source.{Source}
 use Rattle.cal_kthread.specs.declared.queue.waiting.Waiting.{Waiting}
 use Rattle.cal_kthread.specs.Queue.{QueueId, QueueView}
-use Rattle.cal_kthread.specs.Team.{IsTeam, Place, place_of, place_of_rest, thief_place}
-use Rattle.cal_kthread.specs.Team.Turns.{TurnKeepsPlace, SamePlaceKeepsTeam, NoEndsYet, OneEndMore, EndsAreATeam}
+use Rattle.cal_kthread.specs.Team.{IsTeam, Place, place_of, thief_place}
+use Rattle.cal_kthread.specs.Team.Turns.{TurnKeepsPlace, SamePlaceKeepsTeam}
 use Rattle.cal_kthread.specs.Turn.Thread.{ThreadView, KernelView}
 use Rattle.cal_kthread.specs.Turn.{Answers, arrived, taken, robbed, provided, worked, worked_on, fronted, turned}
 use Rattle.cal_kthread.proofs.ListSums.{map-set-like}
@@ -96,35 +93,3 @@ keeps-ring now request answers k = ap (λ (z : Kept). z.2) (kept now request ans
 
 pub keeps-team : SamePlaceKeepsTeam
 keeps-team threads k before after team at same = subst IsTeam (sym (map-set-like (λ (t : KernelView). place_of t.thread) threads k before after at same)) team
-
--- lists of one length whose members agree, one by one
-same-places : {T U V : Type 0} (f : T → V) (g : U → V) (xs : List T) (ys : List U) → length ys ≡ length xs
-    → ((k : ℕ) (x : T) (y : U) → get_elem? xs k ≡ some x → get_elem? ys k ≡ some y → g y ≡ f x) → map g ys ≡ map f xs
-same-places f g [] [] long same = refl
-same-places f g [] (y ∷ ys) long same = absurd (omega (arith, long))
-same-places f g (x ∷ xs) [] long same = absurd (omega (arith, long))
-same-places f g (x ∷ xs) (y ∷ ys) long same = let here = same 0 x y refl refl in let later = same-places f g xs ys (omega (arith, long)) (λ k. same (suc k)) in λ i. here i ∷ later i
-
-pub ends-team : EndsAreATeam
-ends-team threads ends team same =
-    subst IsTeam (sym (same-places (λ (t : KernelView). place_of t.thread) (λ (e : EndView). place_of_rest e.rest) threads ends same.count same.places)) team
-
--- one more at the end of each of two lists
-push-both : {T U : Type 0} (R : T → U → Type 0) (xs : List T) (ys : List U) (x : T) (y : U) → length ys ≡ length xs
-    → ((k : ℕ) (a : T) (b : U) → get_elem? xs k ≡ some a → get_elem? ys k ≡ some b → R a b) → R x y
-    → (k : ℕ) (a : T) (b : U) → get_elem? (xs ++ x ∷ []) k ≡ some a → get_elem? (ys ++ y ∷ []) k ≡ some b → R a b
-push-both R [] [] x y long all here zero a b p q = subst (λ z. R z b) (some-injective x a p) (subst (R x) (some-injective y b q) here)
-push-both R [] [] x y long all here (suc k) a b p q = absurd (some-ne-none a (sym p))
-push-both R [] (v ∷ ys) x y long all here k a b p q = absurd (omega (arith, long))
-push-both R (u ∷ xs) [] x y long all here k a b p q = absurd (omega (arith, long))
-push-both R (u ∷ xs) (v ∷ ys) x y long all here zero a b p q = all 0 a b p q
-push-both R (u ∷ xs) (v ∷ ys) x y long all here (suc k) a b p q = push-both R xs ys x y (omega (arith, long)) (λ i. all (suc i)) here k a b p q
-
-pub no-ends-yet : NoEndsYet
-no-ends-yet = record { count = refl; places = λ k thread e here there. absurd (some-ne-none thread (sym here)) }
-
-pub one-end-more : OneEndMore
-one-end-more threads ends thread e have here = record {
-  count = let a = length-append ends (e ∷ []) in let b = length-append threads (thread ∷ []) in let c = have.count in omega (arith, a, b, c);
-  places = push-both (λ (t : KernelView) (x : EndView). place_of_rest x.rest ≡ place_of t.thread) threads ends thread e have.count have.places here;
-}

@@ -1,12 +1,11 @@
 //! A kernel thread whose turns are over.
 ghost use Rattle.std.specs.Prelude.{◌≡◌, ◌+◌, ◌++◌, [], ◌∷◌, IfSome, MatchOption, option_map};
 ghost use Rattle.cal_kthread.specs.End.Account.{KeepsItsWork};
-ghost use Rattle.cal_kthread.specs.Turn.Agreement.{held};
-ghost use Rattle.cal_kthread.specs.Journal.{IsJournal, commands_of, records_of};
+ghost use Rattle.cal_kthread.specs.End.Ended.{IsEndOf};
 ghost use Rattle.cal_kthread.specs.declared.turn.current.Current.{Current};
 ghost use Rattle.cal_kthread.specs.Queue.Rule.{queue_shares, AllTaken, TookWhatCame};
 ghost use Rattle.cal_kthread.specs.End.Rest.{HandsOut, to_hand_out};
-ghost use Rattle.cal_kthread.specs.Team.{place_of, place_of_rest};
+ghost use Rattle.cal_kthread.specs.Team.{place_of_rest};
 ghost use Rattle.cal_kthread.specs.declared.queue.waiting.Waiting.{Waiting};
 
 use crate::bare_thread::BareThread;
@@ -64,21 +63,7 @@ pub type BareThreadEnd = ThreadEnd<Past<Entry>>;
 impl KernelThread {
     /// Ends the thread after its last turn. Takes no memory.
     pub fn end(self) -> KernelEnd
-        ensures number { result.number ≡ self.number }
-        ensures journal { result.journal ≡ self.journal }
-        ensures is_journal { IsJournal result.journal }
-        ensures page { records_of result.journal ≡ result.publisher.published }
-        ensures ring { commands_of result.journal ≡ result.taker.taken }
-        ensures ends { (result.publisher ≡ self.thread.publisher)
-            × (result.taker ≡ self.thread.taker) }
-        ensures rest { result.rest ≡ record {
-          queue = self.thread.queue;
-          sources = self.thread.sources;
-          held = held self.thread;
-          left = [];
-        } }
-        ensures place { place_of_rest result.rest ≡ place_of self.thread }
-        ensures work { KeepsItsWork result }
+        ensures { IsEndOf self result }
     {
         let (bare, journal) = self.into_parts();
         let ThreadEnd {
@@ -101,21 +86,7 @@ impl KernelThread {
 impl BareThread {
     /// Ends the thread after its last turn, as of a `KernelThread`. Takes no memory.
     pub fn end(self) -> BareThreadEnd
-        ensures number { result.number ≡ self.number }
-        ensures journal { result.journal ≡ self.journal }
-        ensures is_journal { IsJournal result.journal }
-        ensures page { records_of result.journal ≡ result.publisher.published }
-        ensures ring { commands_of result.journal ≡ result.taker.taken }
-        ensures ends { (result.publisher ≡ self.thread.publisher)
-            × (result.taker ≡ self.thread.taker) }
-        ensures rest { result.rest ≡ record {
-          queue = self.thread.queue;
-          sources = self.thread.sources;
-          held = held self.thread;
-          left = [];
-        } }
-        ensures place { place_of_rest result.rest ≡ place_of self.thread }
-        ensures work { KeepsItsWork result }
+        ensures { IsEndOf self result }
     {
         let BareThread {
             number,

@@ -33,7 +33,7 @@ use Rattle.cal_policy.proofs.ListLemmas.EachAfter.{each_at}
 use Rattle.cal_policy.proofs.PassLemmas.Fits.{so_far_push}
 
 -- an action that leaves no banned core held: it bans no held core and grants no banned one
-abbrev Spares : List Action → Action → Type 0
+abbrev pub Spares : List Action → Action → Type 0
 Spares x (Free core) = Unit {0}
 Spares x (Unban core) = Unit {0}
 Spares x (Ban core thread started) = is_held (holder_of x core) ≡ false
@@ -81,16 +81,16 @@ spared x (Revoke core cause) f h c b = left_or (eqb core c) (last_placement x co
 spared x (Cap task cap) f h c b = h.empty c b
 spared x (Grant core thread class) f h c b = grant_by x core c (placed x thread) (eqb core c) h refl f b
 
-none_held_after : ActionIsOneMore → (x : List Action) (a : Action) → Spares x a → NoneHeld x → NoneHeld (x ++ a ∷ [])
+pub none_held_after : ActionIsOneMore → (x : List Action) (a : Action) → Spares x a → NoneHeld x → NoneHeld (x ++ a ∷ [])
 none_held_after more x a f h = record { empty = λ c b. ap is_held ((more x a).holder c) ∙ spared x a f h c (sym (ap is_some ((more x a).ban c)) ∙ b) }
 
 -- a ban elsewhere leaves a core as it was
-banned_before : ActionIsOneMore → (x : List Action) (d thread started c : ℕ) → eqb d c ≡ false → is_banned (x ++ Ban d thread started ∷ []) c ≡ true → is_banned x c ≡ true
+pub banned_before : ActionIsOneMore → (x : List Action) (d thread started c : ℕ) → eqb d c ≡ false → is_banned (x ++ Ban d thread started ∷ []) c ≡ true → is_banned x c ≡ true
 banned_before more x d thread started c off b =
     ban_elsewhere (eqb d c) (record { thread = thread; started = started }) (ban_of x c) off (sym (ap is_some ((more x (Ban d thread started)).ban c)) ∙ b)
 
 -- a ban of a held core, and then its revocation
-none_held_emptied : ActionIsOneMore → (x : List Action) (d thread started : ℕ) (cause : Cause) → NoneHeld x → NoneHeld ((x ++ Ban d thread started ∷ []) ++ Revoke d cause ∷ [])
+pub none_held_emptied : ActionIsOneMore → (x : List Action) (d thread started : ℕ) (cause : Cause) → NoneHeld x → NoneHeld ((x ++ Ban d thread started ∷ []) ++ Revoke d cause ∷ [])
 none_held_emptied more x d thread started cause h =
     let y = x ++ Ban d thread started ∷ [] in record {
       empty = λ c b. ap is_held ((more y (Revoke d cause)).holder c)

@@ -75,7 +75,7 @@ capped more s acts task cap t w (inr m) true e =
     let above : cap ≡ cap_of s.table x t + 1 = m.above ∙ ap (λ n. cap_of s.table x n + 1) (eqb-true task t e) in
     inl (omega (arith, held, new, above, w))
 
-granted : ActionIsOneMore → (s : Setting) (x : List Action) (core thread class t : ℕ) → is_latency_critical s.table t ≡ false → Within s.table x t → MayBookMore s.table x (owner_of s.table thread) →
+pub granted : ActionIsOneMore → (s : Setting) (x : List Action) (core thread class t : ℕ) → is_latency_critical s.table t ≡ false → Within s.table x t → MayBookMore s.table x (owner_of s.table thread) →
     (b : Bool) → eqb (owner_of s.table thread) t ≡ b → Within s.table (x ++ Grant core thread class ∷ []) t
 granted more s x core thread class t best w room false e =
     let held = held_elsewhere s.table x core thread class t e in

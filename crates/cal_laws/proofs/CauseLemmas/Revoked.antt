@@ -78,7 +78,7 @@ holds_for_owner table h p e =
     ap (is_held_for table (owner_of table p.thread)) e ∙ same
 
 -- so a best-effort task that holds a core is over
-best_effort_over : (table : Table) (x : List Action) (core : ℕ) (p : placements.Placement) → IsTable table → core < table.cores → holder_of x core ≡ holders.Held p →
+pub best_effort_over : (table : Table) (x : List Action) (core : ℕ) (p : placements.Placement) → IsTable table → core < table.cores → holder_of x core ≡ holders.Held p →
     is_latency_critical table (owner_of table p.thread) ≡ false → guaranteed_of table (owner_of table p.thread) < held_by table x (owner_of table p.thread)
 best_effort_over table x core p ok low e best =
     let some = count_some (λ c. is_held_for table (owner_of table p.thread) (holder_of x c)) core table.cores low (holds_for_owner table (holder_of x core) p e) in
@@ -150,7 +150,7 @@ for_bandwidth more most s acts core ok m takes =
     }
 
 -- a core with a class for which it may be revoked is of a best-effort task or of one that is over
-preempt_over : (table : Table) (x : List Action) (t other : ℕ) (class : CoreClass) → preempt_class table x t other ≡ Some class →
+pub preempt_over : (table : Table) (x : List Action) (t other : ℕ) (class : CoreClass) → preempt_class table x t other ≡ Some class →
     (is_latency_critical table other ≡ false) ⊎ (is_over table x other ≡ true)
 preempt_over table x t other class e = choose (is_latency_critical table other) refl e
   where

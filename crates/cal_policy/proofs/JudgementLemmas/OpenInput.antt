@@ -1,5 +1,5 @@
 -- What was found of the threads, one more.
-use Rattle.std.proofs.Common.{◌≡◌, ◌+◌, ℕ, zero, suc, List, [], ◌∷◌, ◌++◌, length, map, Some, slice_get, ap, sym, ◌∙◌, arith}
+use Rattle.std.proofs.Common.{◌≡◌, ◌+◌, ℕ, zero, suc, Bool, List, [], ◌∷◌, ◌++◌, length, map, Some, slice_get, ap, sym, ◌∙◌, arith}
 use mathlib.Core.Bool.{true≢false}
 use Rattle.std.specs.Option.{is_some, unwrap_or}
 use Rattle.std.proofs.lemmas.List.{map-append, length-map}
@@ -9,7 +9,7 @@ use Rattle.cal_machine.specs.Table.{Table}
 use Rattle.cal_policy.specs.declared.history.look.Seen.{Seen}
 use Rattle.cal_policy.specs.declared.judgement.open_input.FoundLook.{FoundLook}
 use Rattle.cal_policy.specs.declared.history.entry.PassEntry.{PassEntry}
-use Rattle.cal_policy.specs.Judgement.OpenInput.{judged_looks, rooms_found}
+use Rattle.cal_policy.specs.Judgement.OpenInput.{OpenView, IsOfFound, judged_looks, rooms_found}
 use Rattle.cal_policy.specs.History.{actions_of}
 use Rattle.cal_policy.specs.Judgement.Judging.{judged}
 use Rattle.cal_policy.specs.History.Looks.{look_of}
@@ -34,6 +34,15 @@ judged_looks-append table history looks found =
 -- one answer on room more
 pub rooms_found-append : (looks : List FoundLook) (found : FoundLook) → rooms_found (looks ++ found ∷ []) ≡ rooms_found looks ++ found.room ∷ []
 rooms_found-append looks found = map-append (λ (one : FoundLook). one.room) looks (found ∷ [])
+
+-- lists of what was found, with one look and its ring's room more
+pub found_push : (table : Table) (history : List PassEntry) (looks : List FoundLook) (found : FoundLook) (old new : OpenView) →
+    IsOfFound table history looks old → new.seen ≡ old.seen ++ judged table.cores (actions_of history) (length looks) found.look ∷ []
+    → new.rooms ≡ old.rooms ++ found.room ∷ [] → IsOfFound table history (looks ++ found ∷ []) new
+found_push table history looks found old new of seen rooms = record {
+  seen = seen ∙ ap (λ (xs : List Seen). xs ++ judged table.cores (actions_of history) (length looks) found.look ∷ []) of.seen ∙ sym (judged_looks-append table history looks found);
+  rooms = rooms ∙ ap (λ (xs : List Bool). xs ++ found.room ∷ []) of.rooms ∙ sym (rooms_found-append looks found);
+}
 
 pub length-judged_looks : (table : Table) (history : List PassEntry) (looks : List FoundLook) → length (judged_looks table history looks) ≡ length looks
 length-judged_looks table history looks =

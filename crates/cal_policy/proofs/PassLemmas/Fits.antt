@@ -104,7 +104,7 @@ ban_fits s acts core thread started table steady m =
 
 -- Revocations
 
-revoke_fits : (table : Table) (x : List Action) (core : ℕ) (cause : Cause) → core < table.cores → names_table table cause ≡ true → is_held (holder_of x core) ≡ true →
+pub revoke_fits : (table : Table) (x : List Action) (core : ℕ) (cause : Cause) → core < table.cores → names_table table cause ≡ true → is_held (holder_of x core) ≡ true →
     fits_state table x (Revoke core cause) ≡ true
 revoke_fits table x core cause lt names held =
     and_from (ltb core table.cores && names_table table cause) (is_held (holder_of x core)) (and_from (ltb core table.cores) (names_table table cause) (lt-ltb core table.cores lt) names) held
@@ -135,7 +135,7 @@ cut_held s acts victim core m =
     (there.0, held_for_held s.table victim.number (holder_of x core) both.0)
 
 -- an idle class is that of a free core, another that of a held one
-idle_low : (table : Table) (t : ℕ) (beside : Holder) (last : Option ℕ) → is_idle (idle_class table t beside last) ≡ true
+pub idle_low : (table : Table) (t : ℕ) (beside : Holder) (last : Option ℕ) → is_idle (idle_class table t beside last) ≡ true
 idle_low table t beside last = choose (is_held_for table t beside) (is_thread_for table t last)
   where
     choose : (a b : Bool) → is_idle (cond a classes.Sibling (cond b classes.RecentlyUsed classes.OtherIdle)) ≡ true
@@ -143,7 +143,7 @@ idle_low table t beside last = choose (is_held_for table t beside) (is_thread_fo
     choose false true = refl
     choose false false = refl
 
-preempt_high : (table : Table) (x : List Action) (t other : ℕ) (r : CoreClass) → preempt_class table x t other ≡ Some r → is_idle r ≡ false
+pub preempt_high : (table : Table) (x : List Action) (t other : ℕ) (r : CoreClass) → preempt_class table x t other ≡ Some r → is_idle r ≡ false
 preempt_high table x t other r e = choose (not (is_latency_critical table other)) (nat_lt (booked_by table x t) (guaranteed_of table t) && not (eqb other t) && is_over table x other) e
   where
     at : (n : CoreClass) → is_idle n ≡ false → Some n ≡ Some r → is_idle r ≡ false

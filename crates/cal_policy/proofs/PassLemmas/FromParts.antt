@@ -13,6 +13,8 @@ use Rattle.cal_policy.specs.Pass.Bandwidth.{bandwidth_part}
 use Rattle.cal_machine.specs.declared.task.Kind.TheVariants as kinds
 use Rattle.cal_policy.specs.Pass.Grants.{grants_of_kind}
 use Rattle.cal_policy.specs.Pass.{pass_of, followed}
+use Rattle.cal_policy.specs.Policies.{pass_by}
+use Rattle.cal_policy.specs.declared.policy.Policy.{Policy}
 use Rattle.cal_policy.specs.Board.{HasGranted, KeepsBefore}
 use Rattle.cal_policy.specs.State.{IsStateAfter, Stands, Agrees, KeepingAgrees}
 use Rattle.cal_policy.proofs.PassLemmas.Apart.{frees_apart}
@@ -61,10 +63,10 @@ Stands_end s b acts st =
     )
 
 -- the same said of another name of the setting
-pub decided : (s other : Setting) → s ≡ other → (b : Board) (acts : List Action) → (acts ≡ pass_of s) × Stands b s acts →
-    (acts ≡ pass_of other) × IsStateAfter b (other.history ++ record { input = other.input; actions = acts } ∷ []) × KeepsBefore b.keeping (looks_of other.history)
-decided s other e b acts r =
-    let P : Setting → Type 0 = λ one. (acts ≡ pass_of one) × IsStateAfter b (one.history ++ record { input = one.input; actions = acts } ∷ []) × KeepsBefore b.keeping (looks_of one.history) in
+pub decided : (policy : Policy) (s other : Setting) → s ≡ other → (b : Board) (acts : List Action) → (acts ≡ pass_by policy s) × Stands b s acts →
+    (acts ≡ pass_by policy other) × IsStateAfter b (other.history ++ record { input = other.input; actions = acts } ∷ []) × KeepsBefore b.keeping (looks_of other.history)
+decided policy s other e b acts r =
+    let P : Setting → Type 0 = λ one. (acts ≡ pass_by policy one) × IsStateAfter b (one.history ++ record { input = one.input; actions = acts } ∷ []) × KeepsBefore b.keeping (looks_of one.history) in
     let end = Stands_end s b acts r.1 in
     subst P e (r.0, end.0, end.1)
 

@@ -29,7 +29,7 @@ use Rattle.cal_policy.proofs.PassLemmas.Legality.{legal_upto}
 use Rattle.cal_policy.proofs.PassLemmas.Pairs.{in_turn_pairs, unban_pair_keeps, unban_lower, pair_upper, ban_lower}
 
 -- where each place has at most so many actions while P holds, and leaves P as it was
-turns_most : (P : List Action → Type 0) (f : List Action → ℕ → List Action) (most : ℕ) (before : List Action) (n : ℕ) → P before
+pub turns_most : (P : List Action → Type 0) (f : List Action → ℕ → List Action) (most : ℕ) (before : List Action) (n : ℕ) → P before
     → ((acts : List Action) (c : ℕ) → P acts → (length (f acts c) ≤ most) × P (acts ++ f acts c))
     → (length (in_turn f before n) ≤ n * most) × P (before ++ in_turn f before n)
 turns_most P f most before zero start step = (omega arith, subst P (sym (append-nil before)) start)
@@ -50,7 +50,7 @@ one_unless true a = omega arith
 one_unless false a = omega arith
 
 -- frees
-frees_most : (s : Setting) (acts : List Action) → length (frees s acts) ≤ s.table.cores
+pub frees_most : (s : Setting) (acts : List Action) → length (frees s acts) ≤ s.table.cores
 frees_most s acts = let r = turns_most (λ x. Unit {0}) (free_at s) 1 acts s.table.cores tt (λ x c h. (one_if (shows_left (kept_now s) (holder_of (so_far s x) c)) (Free c), tt)) in let few = r.0 in omega arith
 
 -- unbans
@@ -72,7 +72,7 @@ unbans_most s acts half even h =
     subst (λ (l : List Action). length l ≤ half) same few
 
 -- bans
-two_with : (a : Action) (b : Bool) (c : Action) → length (a ∷ (if b then c ∷ [] else [])) ≤ 2
+pub two_with : (a : Action) (b : Bool) (c : Action) → length (a ∷ (if b then c ∷ [] else [])) ≤ 2
 two_with a true c = omega arith
 two_with a false c = omega arith
 
@@ -108,7 +108,7 @@ two_either : (b : Bool) (l m : List Action) → length l ≤ 2 → length m ≤ 
 two_either true l m h g = h
 two_either false l m h g = g
 
-bandwidth_most : (s : Setting) (acts : List Action) → length (bandwidth_part s acts) ≤ 2
+pub bandwidth_most : (s : Setting) (acts : List Action) → length (bandwidth_part s acts) ≤ 2
 bandwidth_most s acts =
     let x = so_far s acts in
     let victim = victim_of s x in
@@ -120,12 +120,12 @@ one_either : (b : Bool) (a c : Action) → length (if b then a ∷ [] else c ∷
 one_either true a c = omega arith
 one_either false a c = omega arith
 
-chosen_one : (s : Setting) (t : ℕ) (thread : Option (Candidate ℕ)) (core : Option (Candidate CoreClass)) → length (grant_of s t thread core) ≤ 1
+pub chosen_one : (s : Setting) (t : ℕ) (thread : Option (Candidate ℕ)) (core : Option (Candidate CoreClass)) → length (grant_of s t thread core) ≤ 1
 chosen_one s t None core = omega arith
 chosen_one s t (Some thread) None = omega arith
 chosen_one s t (Some thread) (Some core) = one_either (is_idle core.rank) (Grant core.number (thread_of s.table t thread.number) (class_number core.rank)) (Revoke core.number (causes.Preempt t))
 
-one_when : (b : Bool) (l : List Action) → length l ≤ 1 → length (if b then l else []) ≤ 1
+pub one_when : (b : Bool) (l : List Action) → length l ≤ 1 → length (if b then l else []) ≤ 1
 one_when true l h = h
 one_when false l h = omega arith
 

@@ -5,6 +5,7 @@ use Rattle.cal_machine.specs.Table.{Table}
 use Rattle.cal_machine.specs.TableTasks.{threads_of_table}
 use Rattle.cal_machine.specs.ThreadSet.{has_thread}
 use Rattle.cal_machine.specs.declared.thread_set.ThreadSet.{ThreadSet}
+use Rattle.cal_policy.specs.declared.policy.Policy.{Policy}
 use Rattle.cal_policy.specs.declared.history.entry.PassEntry.{PassEntry}
 use Rattle.cal_policy.specs.declared.judgement.open_input.FoundLook.{FoundLook}
 use Rattle.cal_policy.specs.declared.judgement.open_pass.OpenPass.{OpenPass}
@@ -32,10 +33,10 @@ rooms_are full first (room ∷ rooms) at =
     rw (head, tail) refl
 
 -- what came in one by one is the input that is made of it
-pub noted_setting : (table : Table) (h : List PassEntry) (now bandwidth : ℕ) (found : List FoundLook) (pass : OpenPass) → IsOpenAt table h found pass → pass.count ≡ threads_of_table table →
-    setting_at table (record { now = now; bandwidth = bandwidth; full = pass.full }) (record { history = h; seen = judged_looks table h found })
+pub noted_setting : (policy : Policy) (table : Table) (h : List PassEntry) (now bandwidth : ℕ) (found : List FoundLook) (pass : OpenPass) → IsOpenAt table h found pass → pass.count ≡ threads_of_table table →
+    setting_at table (record { policy = policy; now = now; bandwidth = bandwidth; full = pass.full }) (record { history = h; seen = judged_looks table h found })
     ≡ setting table h (judged_input table h now bandwidth found)
-noted_setting table h now bandwidth found pass is all =
+noted_setting policy table h now bandwidth found pass is all =
     let long : threads_of_table table ≡ length (rooms_found found) = sym all ∙ is.count ∙ sym (length-map found (λ (one : FoundLook). one.room)) in
     let same : rooms_from pass.full 0 (threads_of_table table) ≡ rooms_found found =
     ap (rooms_from pass.full 0) long ∙ rooms_are pass.full 0 (rooms_found found)

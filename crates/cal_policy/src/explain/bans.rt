@@ -1,13 +1,12 @@
 //! Why the sibling of a core is banned next, or is not; and whether a ban ends.
 
-ghost use Rattle.std.specs.Prelude.{◌≡◌, ◌<◌, List, Some, None};
+ghost use Rattle.std.specs.Prelude.{◌≡◌, ◌<◌, Some, None};
 ghost use Rattle.std.specs.Option.{IfSome};
 ghost use Rattle.cal_machine.specs.TableTasks.{threads_of_table};
-ghost use Rattle.cal_policy.specs.declared.history.action.Action.{Action};
 ghost use Rattle.cal_policy.specs.Explain.Asked.{IsBanReason, due_by};
 ghost use Rattle.cal_policy.specs.Explain.Walks.{IsWalk, Walks, setting_of, actions_so_far};
-ghost use Rattle.cal_policy.specs.State.{IsOfTable, Stands};
-ghost use Rattle.cal_policy.specs.Pass.AtHand.{setting_in};
+ghost use Rattle.cal_policy.specs.State.{IsOfTable};
+ghost use Rattle.cal_policy.specs.Pass.AtHand.{Within};
 ghost use Rattle.cal_policy.specs.History.{holder_of};
 ghost use Rattle.cal_policy.specs.Pass.Bans.{too_long_on};
 ghost use Rattle.cal_policy.specs.Setting.{Begun, so_far};
@@ -45,11 +44,8 @@ impl Pass<'_> {
     fn no_long_request(&self, board: &Board, core: u8) -> BanReason
         requires at_hand { IsOfTable self.now.config.now board.now }
         requires core { core < self.now.config.now.cores }
-        ensures reason { (h : Begun) (acts : List Action) →
-            Stands board.now (setting_in self.now h) acts →
-            let s = setting_in self.now h in
-            too_long_on s core (holder_of (so_far s acts) core) ≡ None →
-            IsBanReason s (so_far s acts) core result }
+        ensures reason { Within self.now board.now (λ s acts. too_long_on s core (holder_of (so_far s acts) core) ≡ None →
+            IsBanReason s (so_far s acts) core result) }
         ensures none { due_by result ≡ None }
     {
         match board.holding.holders[core as usize] {
@@ -69,11 +65,8 @@ impl Pass<'_> {
     fn ban_of_sibling(&self, board: &Board, core: u8, thread: u8) -> BanReason
         requires at_hand { IsOfTable self.now.config.now board.now }
         requires core { core < self.now.config.now.cores }
-        ensures reason { (h : Begun) (acts : List Action) →
-            Stands board.now (setting_in self.now h) acts →
-            let s = setting_in self.now h in
-            too_long_on s core (holder_of (so_far s acts) core) ≡ Some thread →
-            IsBanReason s (so_far s acts) core result }
+        ensures reason { Within self.now board.now (λ s acts. too_long_on s core (holder_of (so_far s acts) core) ≡ Some thread →
+            IsBanReason s (so_far s acts) core result) }
         ensures thread { IfSome (due_by result) (λ k. k ≡ thread) }
     {
         self.config.limits();
@@ -93,9 +86,7 @@ impl Pass<'_> {
     fn reason_of_ban(&self, board: &Board, core: u8) -> BanReason
         requires at_hand { IsOfTable self.now.config.now board.now }
         requires core { core < self.now.config.now.cores }
-        ensures reason { (h : Begun) (acts : List Action) →
-            Stands board.now (setting_in self.now h) acts →
-            let s = setting_in self.now h in IsBanReason s (so_far s acts) core result }
+        ensures reason { Within self.now board.now (λ s acts. IsBanReason s (so_far s acts) core result) }
         ensures thread { IfSome (due_by result) (λ k.
             k < threads_of_table self.now.config.now) }
     {

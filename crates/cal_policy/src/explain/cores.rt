@@ -1,14 +1,13 @@
 //! How cores stand at a turn of a pass.
 
-ghost use Rattle.std.specs.Prelude.{◌≡◌, ◌<◌, List, length};
+ghost use Rattle.std.specs.Prelude.{◌≡◌, ◌<◌, length};
 ghost use Rattle.std.specs.Option.{IfSome};
 ghost use Rattle.cal_machine.specs.TableTasks.{threads_of_table};
-ghost use Rattle.cal_policy.specs.declared.history.action.Action.{Action};
 ghost use Rattle.cal_policy.specs.Board.{placement_of};
-ghost use Rattle.cal_policy.specs.State.{IsOfTable, Stands};
+ghost use Rattle.cal_policy.specs.State.{IsOfTable};
 ghost use Rattle.cal_policy.specs.Explain.Asked.{IsCoreState};
 ghost use Rattle.cal_policy.specs.Explain.Walks.{IsWalk, Walks, setting_of};
-ghost use Rattle.cal_policy.specs.Pass.AtHand.{setting_in};
+ghost use Rattle.cal_policy.specs.Pass.AtHand.{Within};
 ghost use Rattle.cal_policy.specs.Pass.Grants as grants;
 ghost use Rattle.cal_policy.specs.Setting.{Begun};
 
@@ -39,9 +38,7 @@ impl Pass<'_> {
     fn core_state(&self, board: &Board, core: u8) -> CoreState
         requires at_hand { IsOfTable self.now.config.now board.now }
         requires core { core < self.now.config.now.cores }
-        ensures state { (h : Begun) (acts : List Action) →
-            Stands board.now (setting_in self.now h) acts →
-            IsCoreState (setting_in self.now h) acts core result }
+        ensures state { Within self.now board.now (λ s acts. IsCoreState s acts core result) }
         ensures thread { IfSome (placement_of result.holder) (λ placement.
             placement.thread < threads_of_table self.now.config.now) }
         ensures banned_for { IfSome result.ban (λ ban.
@@ -60,9 +57,7 @@ impl Pass<'_> {
         requires at_hand { IsOfTable self.now.config.now board.now }
         requires task { task < length self.now.config.now.tasks }
         requires core { core < self.now.config.now.cores }
-        ensures { (h : Begun) (acts : List Action) →
-            Stands board.now (setting_in self.now h) acts →
-            result ≡ grants.class_of (setting_in self.now h) acts task core }
+        ensures { Within self.now board.now (λ s acts. result ≡ grants.class_of s acts task core) }
     {
         let holder = board.holding.holders[core as usize];
         self.class_by_holder(board, task, core, holder)

@@ -1,14 +1,13 @@
 //! How tasks and threads stand at a turn of a pass.
 
-ghost use Rattle.std.specs.Prelude.{◌≡◌, ◌<◌, ◌==◌, not, length, List};
+ghost use Rattle.std.specs.Prelude.{◌≡◌, ◌<◌, ◌==◌, not, length};
 ghost use Rattle.std.specs.Option.{IfSome};
 ghost use Rattle.cal_machine.specs.TableTasks.{threads_of_table, limit_of};
-ghost use Rattle.cal_policy.specs.declared.history.action.Action.{Action};
 ghost use Rattle.cal_policy.specs.Board.Counts.{cores_of_thread};
 ghost use Rattle.cal_policy.specs.Explain.Asked.{IsTaskState, IsThreadState};
 ghost use Rattle.cal_policy.specs.Explain.Walks.{IsWalk, Walks, setting_of, actions_so_far};
-ghost use Rattle.cal_policy.specs.State.{IsOfTable, Stands};
-ghost use Rattle.cal_policy.specs.Pass.AtHand.{setting_in};
+ghost use Rattle.cal_policy.specs.State.{IsOfTable};
+ghost use Rattle.cal_policy.specs.Pass.AtHand.{Within};
 ghost use Rattle.cal_policy.specs.Pass.Bandwidth as bandwidth;
 ghost use Rattle.cal_policy.specs.Pass.Grants as grants;
 ghost use Rattle.cal_policy.specs.Setting.{Begun, so_far};
@@ -60,10 +59,7 @@ impl Pass<'_> {
     fn awaits(&self, board: &Board, task: usize) -> bool
         requires at_hand { IsOfTable self.now.config.now board.now }
         requires task { task < length self.now.config.now.tasks }
-        ensures { (h : Begun) (acts : List Action) →
-            Stands board.now (setting_in self.now h) acts →
-            let s = setting_in self.now h in
-            result ≡ not (grants.none_leaves_for s (so_far s acts) task) }
+        ensures { Within self.now board.now (λ s acts. result ≡ not (grants.none_leaves_for s (so_far s acts) task)) }
     {
         let survey = survey_of(self.config, board);
         let awaits_none = survey.awaited[task] == 0;
@@ -74,10 +70,7 @@ impl Pass<'_> {
     fn has_core(&self, board: &Board, thread: usize) -> bool
         requires at_hand { IsOfTable self.now.config.now board.now }
         requires thread { thread < threads_of_table self.now.config.now }
-        ensures { (h : Begun) (acts : List Action) →
-            Stands board.now (setting_in self.now h) acts →
-            let s = setting_in self.now h in
-            result ≡ not (cores_of_thread s.table (so_far s acts) thread == 0) }
+        ensures { Within self.now board.now (λ s acts. result ≡ not (cores_of_thread s.table (so_far s acts) thread == 0)) }
     {
         let survey = survey_of(self.config, board);
         let has_none = survey.placed[thread] == 0;
@@ -88,9 +81,7 @@ impl Pass<'_> {
     fn task_state(&self, board: &Board, task: usize) -> TaskState
         requires at_hand { IsOfTable self.now.config.now board.now }
         requires task { task < length self.now.config.now.tasks }
-        ensures { (h : Begun) (acts : List Action) →
-            Stands board.now (setting_in self.now h) acts →
-            let s = setting_in self.now h in IsTaskState s (so_far s acts) task result }
+        ensures { Within self.now board.now (λ s acts. IsTaskState s (so_far s acts) task result) }
     {
         self.config.limits();
         TaskState {
@@ -108,9 +99,7 @@ impl Pass<'_> {
     fn thread_state(&self, board: &Board, thread: usize) -> ThreadState
         requires at_hand { IsOfTable self.now.config.now board.now }
         requires thread { thread < threads_of_table self.now.config.now }
-        ensures { (h : Begun) (acts : List Action) →
-            Stands board.now (setting_in self.now h) acts →
-            let s = setting_in self.now h in IsThreadState s (so_far s acts) thread result }
+        ensures { Within self.now board.now (λ s acts. IsThreadState s (so_far s acts) thread result) }
     {
         self.config.limits();
         ThreadState {
@@ -126,10 +115,7 @@ impl Pass<'_> {
     fn core_to_lose(&self, board: &Board, task: usize) -> Option<u8>
         requires at_hand { IsOfTable self.now.config.now board.now }
         requires task { task < length self.now.config.now.tasks }
-        ensures { (h : Begun) (acts : List Action) →
-            Stands board.now (setting_in self.now h) acts →
-            let s = setting_in self.now h in
-            result ≡ bandwidth.core_to_lose s (so_far s acts) task }
+        ensures { Within self.now board.now (λ s acts. result ≡ bandwidth.core_to_lose s (so_far s acts) task) }
     {
         self.config.limits();
         let highest = self.cores_to_lose(board);
@@ -139,9 +125,7 @@ impl Pass<'_> {
     /// The task that a figure above the limit costs a core, and its misses.
     fn victim_choice(&self, board: &Board) -> Option<Candidate<u128>>
         requires at_hand { IsOfTable self.now.config.now board.now }
-        ensures victim { (h : Begun) (acts : List Action) →
-            Stands board.now (setting_in self.now h) acts →
-            let s = setting_in self.now h in result ≡ bandwidth.victim_of s (so_far s acts) }
+        ensures victim { Within self.now board.now (λ s acts. result ≡ bandwidth.victim_of s (so_far s acts)) }
         ensures task { IfSome result (λ best. best.number < length self.now.config.now.tasks) }
     {
         let highest = self.cores_to_lose(board);

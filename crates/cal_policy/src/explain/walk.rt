@@ -1,17 +1,16 @@
 //! A pass made turn by turn, which can be asked at each turn how things stand.
 
-ghost use Rattle.std.specs.Prelude.{◌≡◌, ◌<◌, ◌++◌, IfOk, OnOk, List, length, option_to_list};
+ghost use Rattle.std.specs.Prelude.{◌≡◌, ◌<◌, ◌++◌, IfOk, OnOk, length, option_to_list};
 ghost use Rattle.std.specs.Option.{IfSome};
 ghost use Rattle.cal_machine.specs.Table.{Table, IsTable};
 ghost use Rattle.cal_machine.specs.declared.task.Kind.TheVariants as kinds;
-ghost use Rattle.cal_policy.specs.declared.history.action.Action.{Action};
 ghost use Rattle.cal_policy.specs.Board.{NamesTable};
 ghost use Rattle.cal_policy.specs.State.{IsReady, IsOfTable, Stands};
 ghost use Rattle.cal_policy.specs.Explain.Turns.{IsTurn, made_in, first_turn, next_turn};
 ghost use Rattle.cal_policy.specs.Explain.Walks.{IsWalk, Walks, begun_on, setting_of};
 ghost use Rattle.cal_policy.specs.Judgement.Judging.{IsInput};
 ghost use Rattle.cal_policy.specs.Judgement.Orderly.{IsOrderly};
-ghost use Rattle.cal_policy.specs.Pass.AtHand.{setting_in};
+ghost use Rattle.cal_policy.specs.Pass.AtHand.{setting_in, Within};
 ghost use Rattle.cal_policy.specs.Pass.Coupled.{both_of, BothName};
 ghost use Rattle.cal_policy.specs.Pass.Grants.{grant_of_kind_at};
 ghost use Rattle.cal_policy.specs.Setting.{Begun, Setting, setting};
@@ -98,10 +97,8 @@ impl Pass<'_> {
     fn critical_due(&self, board: &Board, task: usize) -> Option<Action>
         requires at_hand { IsOfTable self.now.config.now board.now }
         requires task { task < length self.now.config.now.tasks }
-        ensures due { (h : Begun) (acts : List Action) →
-            Stands board.now (setting_in self.now h) acts →
-            option_to_list result
-            ≡ grant_of_kind_at kinds.LatencyCritical (setting_in self.now h) acts task }
+        ensures due { Within self.now board.now (λ s acts. option_to_list result
+            ≡ grant_of_kind_at kinds.LatencyCritical s acts task) }
         ensures names { IfSome result (NamesTable self.now.config.now) }
     {
         if self.config.is_latency_critical(task) {
@@ -115,10 +112,8 @@ impl Pass<'_> {
     fn best_effort_due(&self, board: &Board, task: usize) -> Option<Action>
         requires at_hand { IsOfTable self.now.config.now board.now }
         requires task { task < length self.now.config.now.tasks }
-        ensures due { (h : Begun) (acts : List Action) →
-            Stands board.now (setting_in self.now h) acts →
-            option_to_list result
-            ≡ grant_of_kind_at kinds.BestEffort (setting_in self.now h) acts task }
+        ensures due { Within self.now board.now (λ s acts. option_to_list result
+            ≡ grant_of_kind_at kinds.BestEffort s acts task) }
         ensures names { IfSome result (NamesTable self.now.config.now) }
     {
         if self.config.is_latency_critical(task) {
@@ -132,9 +127,7 @@ impl Pass<'_> {
     fn due_in(&self, board: &Board, turn: Turn) -> Coupled
         requires at_hand { IsOfTable self.now.config.now board.now }
         requires turn { IsTurn self.now.config.now turn }
-        ensures due { (h : Begun) (acts : List Action) →
-            Stands board.now (setting_in self.now h) acts →
-            both_of result ≡ made_in (setting_in self.now h) acts turn }
+        ensures due { Within self.now board.now (λ s acts. both_of result ≡ made_in s acts turn) }
         ensures names { BothName self.now.config.now result }
     {
         match turn {

@@ -1,7 +1,7 @@
 //! How the state after a history judges looks: what each is, which input the next pass makes of
 //! them, and why one is refused where looks are taken one by one.
 
-ghost use Rattle.std.specs.Prelude.{◌≡◌, ℕ, ◌<◌, ◌↔◌, List, length, IfOk, IsTrue};
+ghost use Rattle.std.specs.Prelude.{◌≡◌, ◌<◌, ◌↔◌, List, length, IfOk, IsTrue};
 ghost use Rattle.cal_machine.specs.TableTasks.{threads_of_table};
 ghost use Rattle.cal_policy.specs.declared.history.entry.PassEntry.{PassEntry};
 ghost use Rattle.cal_policy.specs.declared.judgement.open_input.FoundLook.{FoundLook};
@@ -19,7 +19,7 @@ use crate::history::look::Seen;
 use crate::judgement::judging::{each_as_judged, judged_by, looks_fit};
 use crate::judgement::look_fault::LookFault;
 use crate::judgement::one_by_one::{fault_judged, misfit_of};
-use crate::judgement::open_input::{FoundLook, OpenInput};
+use crate::judgement::open_input::{FoundLook, InputLists};
 use cal_machine::Config;
 use cal_signal::Look;
 use std::alloc::{AllocError, Global};
@@ -37,8 +37,7 @@ impl Board {
     }
 
     /// The input of the next pass at this clock and bandwidth figure, from what was found of each
-    /// thread, thread 0 first. Fails only when out of memory. (`OpenInput` makes the same, look by
-    /// look, with its memory taken before the first.)
+    /// thread, thread 0 first. Fails only when out of memory.
     pub fn input(
         &self,
         alloc: Global,
@@ -52,11 +51,11 @@ impl Board {
             input ≡ judged_input config.now h now bandwidth found.now) }
         ensures sizes { IfOk result (HasSizes config.now) }
     {
-        let mut open = OpenInput::reserved(alloc, config)?;
+        let mut lists = InputLists::reserved(alloc, config)?;
         for one in found {
-            open.look(config, self, *one);
+            lists.take(config, self, *one);
         }
-        Ok(open.finish(now, bandwidth))
+        Ok(lists.finish(now, bandwidth))
     }
 
     /// Whether the next pass may be given this input.
@@ -70,18 +69,6 @@ impl Board {
             return false;
         }
         each_as_judged(self, config.machine().cores(), input.seen.as_slice())
-    }
-
-    /// Whether the next pass may be given an input that was made of what was found, by this state
-    /// as it stands: `fits`, but no look is judged again.
-    pub fn made_fits(&self, config: &Config, input: &Input) -> bool
-        ensures fits { (h : List PassEntry) (now bandwidth : ℕ) (found : List FoundLook) →
-            IsStateAfter self.now h →
-            input.entry.now ≡ judged_input config.now h now bandwidth found →
-            IsTrue result ↔ IsInput config.now h input.entry.now }
-        ensures sizes { IsTrue result → HasSizes config.now input.entry.now }
-    {
-        looks_fit(&self.keeping, config, input)
     }
 
     /// Why a look at thread `k` does not fit what was shown of the thread before.

@@ -1,4 +1,4 @@
-//! What was found of the threads, and the input that a pass makes of it.
+//! What was found of the threads, and the lists of the input that a pass makes of it.
 
 ghost use Rattle.std.specs.Prelude.{◌≡◌, ◌+◌, ◌<◌, ◌++◌, ◌∷◌, [], List, length, IfOk};
 ghost use Rattle.cal_machine.specs.Table.{Table};
@@ -27,16 +27,16 @@ pub struct FoundLook {
     pub room: bool,
 }
 
-/// The input of a pass while its looks come in, the one at thread 0 first. Its memory is taken
-/// before the first look, so that none is asked for between that look and the pass.
+/// The lists of an input while they are filled, thread 0 first. Their memory is taken before the
+/// first look of the pass, so that none is asked for after it.
 #[derive(Drop)]
-pub struct OpenInput {
+pub struct InputLists {
     threads: usize,
     seen: Vec<Seen>,
     rooms: Vec<bool>,
 }
 
-impl Model for OpenInput {
+impl Model for InputLists {
     ghost use Rattle.std.specs.Prelude.{◌≡◌, ◌≤◌, length};
     ghost use Rattle.std.specs.Vec.{vec_capacity};
     ghost use Rattle.cal_policy.specs.Judgement.OpenInput.{OpenView};
@@ -55,51 +55,36 @@ impl Model for OpenInput {
         × (given.threads ≤ vec_capacity given.seen) × (given.threads ≤ vec_capacity given.rooms) };
 }
 
-impl OpenInput {
-    /// An input with no look yet, and with room for one look at each thread of the table. Fails
-    /// only when out of memory.
-    pub fn reserved(alloc: Global, config: &Config) -> Result<OpenInput, AllocError>
+impl InputLists {
+    /// Empty lists, with room for each thread of the table. Fails only when out of memory.
+    pub fn reserved(alloc: Global, config: &Config) -> Result<InputLists, AllocError>
         ensures threads { IfOk result (λ given. given.threads ≡ threads_of_table config.now) }
-        ensures empty { IfOk result (λ given. given.seen ≡ []) }
-        ensures found { IfOk result (λ given. (h : List PassEntry) →
-            IsOfFound config.now h [] given) }
+        ensures empty { IfOk result (λ given. (given.seen ≡ []) × (given.rooms ≡ [])) }
     {
         let threads = config.threads();
         let seen = Vec::with_capacity(alloc, threads)?;
         let rooms = Vec::with_capacity(alloc, threads)?;
-        Ok(OpenInput {
+        Ok(InputLists {
             threads,
             seen,
             rooms,
         })
     }
 
-    /// An input with no look yet, in the memory of one that is used up. It takes memory only where
-    /// that has no room for one look at each thread of the table. Fails only when out of memory.
-    pub fn again(used: Input, config: &Config) -> Result<OpenInput, AllocError>
-        ensures threads { IfOk result (λ given. given.threads ≡ threads_of_table config.now) }
-        ensures empty { IfOk result (λ given. given.seen ≡ []) }
-        ensures found { IfOk result (λ given. (h : List PassEntry) →
-            IsOfFound config.now h [] given) }
-    {
-        let threads = config.threads();
-        let Input { seen, rooms, .. } = used;
-        let mut seen = seen.into_items();
-        let mut rooms = rooms.into_items();
-        seen.clear();
-        rooms.clear();
-        seen.reserve(threads)?;
-        rooms.reserve(threads)?;
-        Ok(OpenInput {
-            threads,
-            seen,
-            rooms,
-        })
-    }
-
-    /// Takes what was found of the next thread, with the look as the state judges it. It takes no
+    /// Puts the judged look of the next thread and its ring's room into the lists. It takes no
     /// memory.
-    pub fn look(&mut self, config: &Config, board: &Board, found: FoundLook)
+    pub(crate) fn push(&mut self, seen: Seen, room: bool)
+        requires { length self.old.seen < self.old.threads }
+        ensures threads { self.new.threads ≡ self.old.threads }
+        ensures seen { self.new.seen ≡ self.old.seen ++ seen ∷ [] }
+        ensures rooms { self.new.rooms ≡ self.old.rooms ++ room ∷ [] }
+    {
+        self.seen.push_reserved(seen);
+        self.rooms.push_reserved(room);
+    }
+
+    /// Puts what was found of the next thread into the lists, with the look as the state judges it.
+    pub(crate) fn take(&mut self, config: &Config, board: &Board, found: FoundLook)
         requires table { self.old.threads ≡ threads_of_table config.now }
         requires next { length self.old.seen < self.old.threads }
         ensures threads { self.new.threads ≡ self.old.threads }
@@ -109,20 +94,18 @@ impl OpenInput {
             IsOfFound config.now h (looks ++ found ∷ []) self.new }
     {
         let seen = board.judge(config, self.seen.len(), found.look);
-        self.seen.push_reserved(seen);
-        self.rooms.push_reserved(found.room);
+        self.push(seen, found.room);
     }
 
     /// The input of these looks at this clock and bandwidth figure. It takes no memory.
-    pub fn finish(self, now: u64, bandwidth: u64) -> Input
+    pub(crate) fn finish(self, now: u64, bandwidth: u64) -> Input
         requires { length self.seen ≡ self.threads }
-        ensures looks { result.seen ≡ self.seen }
         ensures judged { (table : Table) (h : List PassEntry) (looks : List FoundLook) →
             IsOfFound table h looks self → result ≡ judged_input table h now bandwidth looks }
         ensures sizes { (table : Table) → self.threads ≡ threads_of_table table →
             HasSizes table result }
     {
-        let OpenInput { seen, rooms, .. } = self;
+        let InputLists { seen, rooms, .. } = self;
         Input {
             now,
             bandwidth,

@@ -1,20 +1,19 @@
 //! The fourth part of a pass: a best-effort task loses a core while the bandwidth is over its
 //! limit.
 
-ghost use Rattle.std.specs.Prelude.{◌≡◌, ℕ, true, ◌+◌, ◌<◌, ◌≤◌, ◌++◌, List, length};
+ghost use Rattle.std.specs.Prelude.{◌≡◌, ℕ, true, ◌+◌, ◌<◌, ◌≤◌, ◌++◌, length};
 ghost use Rattle.std.specs.Prelude.{option_to_list, slice_index_or, replicate, if◌then◌else◌};
 ghost use Rattle.std.specs.Option.{IfSome};
 ghost use Rattle.cal_policy.specs.declared.history.action_list.TheConstants.{MOST_ACTIONS};
 ghost use Rattle.cal_machine.specs.declared.task_table.TheConstants.{MOST_TASKS};
 ghost use Rattle.cal_machine.specs.declared.numbering.TheConstants.{MOST_THREADS};
-ghost use Rattle.cal_policy.specs.declared.history.action.Action.{Action};
 ghost use Rattle.cal_policy.specs.Pass.Choice.{lowest_below};
 ghost use Rattle.cal_policy.specs.Setting.{Begun, so_far};
 ghost use Rattle.cal_policy.specs.Pass.Bandwidth as rules;
 ghost use Rattle.cal_policy.specs.Board.Counts.{is_held_for};
 ghost use Rattle.cal_policy.specs.Board.{NamesTable, holder_in};
 ghost use Rattle.cal_policy.specs.State.{IsReady, IsOfTable, Stands};
-ghost use Rattle.cal_policy.specs.Pass.AtHand.{setting_in};
+ghost use Rattle.cal_policy.specs.Pass.AtHand.{setting_in, Within};
 ghost use Rattle.cal_policy.specs.Board.Losing.{HoldsCore};
 ghost use Rattle.cal_policy.specs.Pass.Coupled.{both_of, BothName};
 
@@ -52,10 +51,7 @@ impl Pass<'_> {
     fn task_that_can_lose(&self, board: &Board, core: u8) -> Option<usize>
         requires at_hand { IsOfTable self.now.config.now board.now }
         requires core { core < self.now.config.now.cores }
-        ensures lose { (h : Begun) (acts : List Action) →
-            Stands board.now (setting_in self.now h) acts →
-            let s = setting_in self.now h in
-            (t : ℕ) → rules.can_lose s (so_far s acts) t core ≡ rules.is_number t result }
+        ensures lose { Within self.now board.now (λ s acts. (t : ℕ) → rules.can_lose s (so_far s acts) t core ≡ rules.is_number t result) }
         ensures task { IfSome result (λ t. t < length self.now.config.now.tasks) }
         ensures held { IfSome result (λ t.
             is_held_for self.now.config.now t (holder_in board.now.holding core)
@@ -77,11 +73,8 @@ impl Pass<'_> {
     /// For each task the highest core that it can lose.
     pub fn cores_to_lose(&self, board: &Board) -> [Option<u8>; MOST_TASKS]
         requires at_hand { IsOfTable self.now.config.now board.now }
-        ensures lose { (h : Begun) (acts : List Action) →
-            Stands board.now (setting_in self.now h) acts →
-            let s = setting_in self.now h in
-            (t : ℕ) → t < MOST_TASKS →
-            slice_index_or result t None ≡ rules.core_to_lose s (so_far s acts) t }
+        ensures lose { Within self.now board.now (λ s acts. (t : ℕ) → t < MOST_TASKS →
+            slice_index_or result t None ≡ rules.core_to_lose s (so_far s acts) t) }
         ensures held { (t : ℕ) → t < MOST_TASKS →
             HoldsCore self.now.config.now board.now t (slice_index_or result t None) }
     {
@@ -97,9 +90,7 @@ impl Pass<'_> {
     pub fn new_misses(&self, board: &Board, thread: usize) -> u64
         requires at_hand { IsOfTable self.now.config.now board.now }
         requires thread { thread < MOST_THREADS }
-        ensures { (h : Begun) (acts : List Action) →
-            Stands board.now (setting_in self.now h) acts →
-            result ≡ rules.new_misses (setting_in self.now h) thread }
+        ensures { Within self.now board.now (λ s acts. result ≡ rules.new_misses s thread) }
     {
         let misses = board.keeping.kept[thread].misses;
         misses.saturating_sub(board.keeping.before[thread])
@@ -109,9 +100,7 @@ impl Pass<'_> {
     pub fn task_misses(&self, board: &Board, task: usize) -> u128
         requires at_hand { IsOfTable self.now.config.now board.now }
         requires task { task < length self.now.config.now.tasks }
-        ensures { (h : Begun) (acts : List Action) →
-            Stands board.now (setting_in self.now h) acts →
-            result ≡ rules.task_misses (setting_in self.now h) task }
+        ensures { Within self.now board.now (λ s acts. result ≡ rules.task_misses s task) }
     {
         let (first, count) = self.config.threads_of(task);
         let mut misses = 0u128;
@@ -130,11 +119,8 @@ impl Pass<'_> {
     ) -> Option<u128>
         requires at_hand { IsOfTable self.now.config.now board.now }
         requires task { task < length self.now.config.now.tasks }
-        ensures { (h : Begun) (acts : List Action) →
-            Stands board.now (setting_in self.now h) acts →
-            let s = setting_in self.now h in
-            slice_index_or highest.now task None ≡ rules.core_to_lose s (so_far s acts) task →
-            result ≡ rules.victim_rank s (so_far s acts) task }
+        ensures { Within self.now board.now (λ s acts. slice_index_or highest.now task None ≡ rules.core_to_lose s (so_far s acts) task →
+            result ≡ rules.victim_rank s (so_far s acts) task) }
     {
         if self.config.is_latency_critical(task) {
             return None;
@@ -152,12 +138,9 @@ impl Pass<'_> {
         highest: &[Option<u8>; MOST_TASKS],
     ) -> Option<Candidate<u128>>
         requires at_hand { IsOfTable self.now.config.now board.now }
-        ensures victim { (h : Begun) (acts : List Action) →
-            Stands board.now (setting_in self.now h) acts →
-            let s = setting_in self.now h in
-            ((t : ℕ) → t < MOST_TASKS →
+        ensures victim { Within self.now board.now (λ s acts. ((t : ℕ) → t < MOST_TASKS →
             slice_index_or highest.now t None ≡ rules.core_to_lose s (so_far s acts) t) →
-            result ≡ rules.victim_of s (so_far s acts) }
+            result ≡ rules.victim_of s (so_far s acts)) }
         ensures task { IfSome result (λ best.
             best.number < length self.now.config.now.tasks) }
     {
@@ -174,10 +157,7 @@ impl Pass<'_> {
         requires at_hand { IsOfTable self.now.config.now board.now }
         requires task { task < MOST_TASKS }
         requires core { HoldsCore self.now.config.now board.now task core }
-        ensures cut { (h : Begun) (acts : List Action) →
-            Stands board.now (setting_in self.now h) acts →
-            let s = setting_in self.now h in
-            both_of result ≡ rules.cut_at s (so_far s acts) task core }
+        ensures cut { Within self.now board.now (λ s acts. both_of result ≡ rules.cut_at s (so_far s acts) task core) }
         ensures names { BothName self.now.config.now result }
     {
         let Some(core) = core else { return neither() };
@@ -197,10 +177,7 @@ impl Pass<'_> {
     /// What the victim loses.
     fn cut_victim(&self, board: &Board) -> Coupled
         requires at_hand { IsOfTable self.now.config.now board.now }
-        ensures cut { (h : Begun) (acts : List Action) →
-            Stands board.now (setting_in self.now h) acts →
-            let s = setting_in self.now h in
-            both_of result ≡ rules.cut_of s (so_far s acts) (rules.victim_of s (so_far s acts)) }
+        ensures cut { Within self.now board.now (λ s acts. both_of result ≡ rules.cut_of s (so_far s acts) (rules.victim_of s (so_far s acts))) }
         ensures names { BothName self.now.config.now result }
     {
         let highest = self.cores_to_lose(board);
@@ -214,11 +191,8 @@ impl Pass<'_> {
     fn rise(&self, board: &Board, task: usize) -> Option<Action>
         requires at_hand { IsOfTable self.now.config.now board.now }
         requires task { task < length self.now.config.now.tasks }
-        ensures rise { (h : Begun) (acts : List Action) →
-            Stands board.now (setting_in self.now h) acts →
-            let s = setting_in self.now h in
-            option_to_list result ≡ rules.rise_of s (so_far s acts)
-            (if rules.is_capped s (so_far s acts) task then Some task else None) }
+        ensures rise { Within self.now board.now (λ s acts. option_to_list result ≡ rules.rise_of s (so_far s acts)
+            (if rules.is_capped s (so_far s acts) task then Some task else None)) }
         ensures names { IfSome result (NamesTable self.now.config.now) }
     {
         let cap = cap_of(self.config, board, task);
@@ -235,12 +209,9 @@ impl Pass<'_> {
     /// The rise of the least-numbered capped task.
     fn first_rise(&self, board: &Board) -> Option<Action>
         requires at_hand { IsOfTable self.now.config.now board.now }
-        ensures rise { (h : Begun) (acts : List Action) →
-            Stands board.now (setting_in self.now h) acts →
-            let s = setting_in self.now h in
-            option_to_list result ≡ rules.rise_of s (so_far s acts)
+        ensures rise { Within self.now board.now (λ s acts. option_to_list result ≡ rules.rise_of s (so_far s acts)
             (lowest_below (rules.is_capped s (so_far s acts))
-            (length self.now.config.now.tasks)) }
+            (length self.now.config.now.tasks))) }
         ensures names { IfSome result (NamesTable self.now.config.now) }
     {
         for t in 0..self.config.tasks() {
@@ -254,9 +225,7 @@ impl Pass<'_> {
     /// What is due for the bandwidth.
     pub fn bandwidth_due(&self, board: &Board) -> Coupled
         requires at_hand { IsOfTable self.now.config.now board.now }
-        ensures due { (h : Begun) (acts : List Action) →
-            Stands board.now (setting_in self.now h) acts →
-            both_of result ≡ rules.bandwidth_part (setting_in self.now h) acts }
+        ensures due { Within self.now board.now (λ s acts. both_of result ≡ rules.bandwidth_part s acts) }
         ensures names { BothName self.now.config.now result }
     {
         if self.terms.bandwidth > self.config.bandwidth_limit() {

@@ -1,14 +1,13 @@
 //! The third part of a pass: a core is emptied while a request on its sibling runs too long.
 
 ghost use Rattle.std.specs.Prelude.{◌≡◌, ◌*◌, ◌+◌, ◌<◌, ◌≤◌, ◌++◌, ◌∷◌, [], ℕ, false};
-ghost use Rattle.std.specs.Prelude.{List, length, option_to_list, if◌then◌else◌};
+ghost use Rattle.std.specs.Prelude.{length, option_to_list, if◌then◌else◌};
 ghost use Rattle.std.specs.Option.{IfSome, IfNone};
 ghost use Rattle.cal_machine.specs.Table.{IsTable};
 ghost use Rattle.cal_machine.specs.CoreSet.{has};
 ghost use Rattle.cal_policy.specs.declared.history.action_list.TheConstants.{MOST_ACTIONS};
 ghost use Rattle.cal_machine.specs.declared.machine.TheConstants.{MOST_CORES};
 ghost use Rattle.cal_machine.specs.TableTasks.{threads_of_table};
-ghost use Rattle.cal_policy.specs.declared.history.action.Action.{Action};
 ghost use Rattle.cal_policy.specs.declared.history.action.Action.TheVariants.{Revoke};
 ghost use Rattle.cal_policy.specs.declared.history.action.Cause.TheVariants as causes;
 ghost use Rattle.cal_policy.specs.History.Lists.{in_pair};
@@ -18,7 +17,7 @@ ghost use Rattle.cal_policy.specs.Setting.{Begun, so_far};
 ghost use Rattle.cal_policy.specs.Pass.Bans as rules;
 ghost use Rattle.cal_policy.specs.Board.{NamesTable};
 ghost use Rattle.cal_policy.specs.State.{IsReady, IsOfTable, Stands};
-ghost use Rattle.cal_policy.specs.Pass.AtHand.{setting_in};
+ghost use Rattle.cal_policy.specs.Pass.AtHand.{setting_in, Within};
 ghost use Rattle.cal_policy.specs.Pass.Coupled.{both_of, BothName};
 ghost use Rattle.cal_policy.specs.Pass.ToBan.{NoneOver, cores_to_ban};
 
@@ -45,10 +44,7 @@ impl Pass<'_> {
     pub fn too_long_on(&self, board: &Board, core: u8) -> Option<u8>
         requires at_hand { IsOfTable self.now.config.now board.now }
         requires core { core < self.now.config.now.cores }
-        ensures due { (h : Begun) (acts : List Action) →
-            Stands board.now (setting_in self.now h) acts →
-            let s = setting_in self.now h in
-            result ≡ rules.too_long_on s core (holder_of (so_far s acts) core) }
+        ensures due { Within self.now board.now (λ s acts. result ≡ rules.too_long_on s core (holder_of (so_far s acts) core)) }
         ensures thread { IfSome result (λ thread.
             thread < threads_of_table self.now.config.now) }
     {
@@ -74,10 +70,7 @@ impl Pass<'_> {
     pub fn may_be_emptied(&self, board: &Board, core: u8) -> bool
         requires at_hand { IsOfTable self.now.config.now board.now }
         requires core { core < self.now.config.now.cores }
-        ensures { (h : Begun) (acts : List Action) →
-            Stands board.now (setting_in self.now h) acts →
-            let s = setting_in self.now h in
-            result ≡ rules.may_be_emptied s (so_far s acts) (holder_of (so_far s acts) core) }
+        ensures { Within self.now board.now (λ s acts. result ≡ rules.may_be_emptied s (so_far s acts) (holder_of (so_far s acts) core)) }
     {
         match board.holding.holders[core as usize] {
             Holder::Free | Holder::Leaving(..) => true,
@@ -93,9 +86,7 @@ impl Pass<'_> {
     fn may_ban_beside(&self, board: &Board, core: u8) -> bool
         requires at_hand { IsOfTable self.now.config.now board.now }
         requires core { core < self.now.config.now.cores }
-        ensures { (h : Begun) (acts : List Action) →
-            Stands board.now (setting_in self.now h) acts →
-            let s = setting_in self.now h in result ≡ rules.may_ban_beside s (so_far s acts) core }
+        ensures { Within self.now board.now (λ s acts. result ≡ rules.may_ban_beside s (so_far s acts) core) }
     {
         let beside = self.config.machine().sibling(core);
         board.bans.bans[core as usize].is_none()
@@ -107,9 +98,7 @@ impl Pass<'_> {
     fn ban_due(&self, board: &Board, core: u8) -> Option<u8>
         requires at_hand { IsOfTable self.now.config.now board.now }
         requires core { core < self.now.config.now.cores }
-        ensures due { (h : Begun) (acts : List Action) →
-            Stands board.now (setting_in self.now h) acts →
-            let s = setting_in self.now h in result ≡ rules.ban_due s (so_far s acts) core }
+        ensures due { Within self.now board.now (λ s acts. result ≡ rules.ban_due s (so_far s acts) core) }
         ensures thread { IfSome result (λ thread.
             thread < threads_of_table self.now.config.now) }
     {
@@ -125,11 +114,9 @@ impl Pass<'_> {
     fn ban_revocation(&self, board: &Board, core: u8, by: u8) -> Option<Action>
         requires at_hand { IsOfTable self.now.config.now board.now }
         requires core { core < self.now.config.now.cores }
-        ensures due { (h : Begun) (acts : List Action) →
-            Stands board.now (setting_in self.now h) acts →
-            option_to_list result
-            ≡ (if is_held (holder_of (so_far (setting_in self.now h) acts) core)
-            then Revoke core (causes.Ban by) ∷ [] else []) }
+        ensures due { Within self.now board.now (λ s acts. option_to_list result
+            ≡ (if is_held (holder_of (so_far s acts) core)
+            then Revoke core (causes.Ban by) ∷ [] else [])) }
         ensures names { IfSome result (NamesTable self.now.config.now) }
     {
         match board.holding.holders[core as usize] {
@@ -147,9 +134,7 @@ impl Pass<'_> {
     pub fn ban_beside(&self, board: &Board, core: u8) -> Coupled
         requires at_hand { IsOfTable self.now.config.now board.now }
         requires core { core < self.now.config.now.cores }
-        ensures due { (h : Begun) (acts : List Action) →
-            Stands board.now (setting_in self.now h) acts →
-            let s = setting_in self.now h in both_of result ≡ rules.bans_at s acts core }
+        ensures due { Within self.now board.now (λ s acts. both_of result ≡ rules.bans_at s acts core) }
         ensures names { BothName self.now.config.now result }
         ensures alone { result.first ≡ None → result.second ≡ None }
     {
@@ -173,10 +158,7 @@ impl Pass<'_> {
     fn ban_in_pair(&self, board: &Board, pair: u8) -> Coupled
         requires at_hand { IsOfTable self.now.config.now board.now }
         requires pair { 2 * pair + 1 < self.now.config.now.cores }
-        ensures due { (h : Begun) (acts : List Action) →
-            Stands board.now (setting_in self.now h) acts →
-            let s = setting_in self.now h in
-            both_of result ≡ in_pair (rules.bans_at s) acts pair }
+        ensures due { Within self.now board.now (λ s acts. both_of result ≡ in_pair (rules.bans_at s) acts pair) }
         ensures names { BothName self.now.config.now result }
         ensures alone { result.first ≡ None → result.second ≡ None }
     {

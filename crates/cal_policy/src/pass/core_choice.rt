@@ -14,11 +14,11 @@ ghost use Rattle.cal_policy.specs.Pass.Grants as grants;
 ghost use Rattle.cal_policy.specs.Pass.Grants.{class_by, is_granted_in, is_thread_for};
 ghost use Rattle.cal_policy.specs.Pass.Grants.{none_leaves_for};
 ghost use Rattle.cal_policy.specs.Board.{placement_of};
-ghost use Rattle.cal_policy.specs.State.{IsOfTable, Stands, Agrees};
+ghost use Rattle.cal_policy.specs.State.{IsOfTable, Agrees};
 ghost use Rattle.cal_policy.specs.Board.Counts.{held_by, is_held_for};
 ghost use Rattle.cal_policy.specs.Pass.Choice.{best_below, lowest_below};
 ghost use Rattle.cal_policy.specs.Pass.Among.{class_among, is_beside_own, was_own_last};
-ghost use Rattle.cal_policy.specs.Pass.AtHand.{setting_in};
+ghost use Rattle.cal_policy.specs.Pass.AtHand.{setting_in, Within};
 
 use crate::board::Board;
 use crate::board::core_sets::next_core;
@@ -137,11 +137,8 @@ impl Pass<'_> {
         requires task { task < length self.now.config.now.tasks }
         requires core { core < self.now.config.now.cores }
         requires thread { thread < threads_of_table self.now.config.now }
-        ensures { (h : Begun) (acts : List Action) →
-            Stands board.now (setting_in self.now h) acts →
-            let s = setting_in self.now h in
-            result ≡ (tasks.is_latency_critical self.now.config.now task && has_room s thread
-            && not (is_granted_in acts core) && none_leaves_for s (so_far s acts) task) }
+        ensures { Within self.now board.now (λ s acts. result ≡ (tasks.is_latency_critical self.now.config.now task && has_room s thread
+            && not (is_granted_in acts core) && none_leaves_for s (so_far s acts) task)) }
     {
         if !self.may_preempt_any(board, task) {
             return false;
@@ -162,9 +159,7 @@ impl Pass<'_> {
         requires core { core < self.now.config.now.cores }
         requires holder { IfSome (placement_of holder)
             (λ placement. placement.thread < threads_of_table self.now.config.now) }
-        ensures { (h : Begun) (acts : List Action) →
-            Stands board.now (setting_in self.now h) acts →
-            result ≡ class_by (setting_in self.now h) acts task core holder }
+        ensures { Within self.now board.now (λ s acts. result ≡ class_by s acts task core holder) }
     {
         match holder {
             Holder::Free => self.free_class(board, task, core),
@@ -189,10 +184,8 @@ impl Pass<'_> {
     ) -> Option<Candidate<CoreClass>>
         requires at_hand { IsOfTable self.now.config.now board.now }
         requires task { task < length self.now.config.now.tasks }
-        ensures choice { (h : Begun) (acts : List Action) →
-            Stands board.now (setting_in self.now h) acts →
-            result ≡ best_below comes_before
-            (class_among cores.now (setting_in self.now h) acts task) self.now.config.now.cores }
+        ensures choice { Within self.now board.now (λ s acts. result ≡ best_below comes_before
+            (class_among cores.now s acts task) self.now.config.now.cores) }
         ensures below { IfSome result (λ best. best.number < self.now.config.now.cores) }
     {
         let mut best: Option<Candidate<CoreClass>> = None;
@@ -266,11 +259,9 @@ impl Pass<'_> {
     fn choose_idle(&self, board: &Board, task: usize) -> Option<Candidate<CoreClass>>
         requires at_hand { IsOfTable self.now.config.now board.now }
         requires task { task < length self.now.config.now.tasks }
-        ensures choice { (h : Begun) (acts : List Action) →
-            Stands board.now (setting_in self.now h) acts →
-            result ≡ best_below comes_before
-            (class_among board.now.open_cores.idle (setting_in self.now h) acts task)
-            self.now.config.now.cores }
+        ensures choice { Within self.now board.now (λ s acts. result ≡ best_below comes_before
+            (class_among board.now.open_cores.idle s acts task)
+            self.now.config.now.cores) }
         ensures below { IfSome result (λ best. best.number < self.now.config.now.cores) }
     {
         if let Some(beside) = self.idle_beside(board, task) {
@@ -328,10 +319,8 @@ impl Pass<'_> {
     /// Whether some task may be given a core: one is idle, or some task may lose one.
     pub fn some_core_is_open(&self, board: &Board) -> bool
         requires at_hand { IsOfTable self.now.config.now board.now }
-        ensures { result ≡ false → (h : Begun) (acts : List Action) →
-            Stands board.now (setting_in self.now h) acts →
-            (task : ℕ) → task < length self.now.config.now.tasks →
-            grants.choice_of (setting_in self.now h) acts task ≡ None }
+        ensures { result ≡ false → Within self.now board.now (λ s acts. (task : ℕ) → task < length self.now.config.now.tasks →
+            grants.choice_of s acts task ≡ None) }
     {
         match next_core(self.config, &board.open_cores.idle, 0) {
             Some(_) => true,
@@ -345,9 +334,7 @@ impl Pass<'_> {
     pub fn choose_core(&self, board: &Board, task: usize) -> Option<Candidate<CoreClass>>
         requires at_hand { IsOfTable self.now.config.now board.now }
         requires task { task < length self.now.config.now.tasks }
-        ensures choice { (h : Begun) (acts : List Action) →
-            Stands board.now (setting_in self.now h) acts →
-            result ≡ grants.choice_of (setting_in self.now h) acts task }
+        ensures choice { Within self.now board.now (λ s acts. result ≡ grants.choice_of s acts task) }
         ensures below { IfSome result (λ best. best.number < self.now.config.now.cores) }
     {
         if let Some(idle) = self.choose_idle(board, task) {

@@ -11,6 +11,7 @@ ghost use Rattle.cal_policy.specs.Judgement.OpenInput.{judged_input};
 ghost use Rattle.cal_policy.specs.Judgement.OpenPass.{IsOpenAt};
 ghost use Rattle.cal_policy.specs.Pass.Bans.{NoPairBanned};
 ghost use Rattle.cal_policy.specs.Pass.{pass_of};
+ghost use Rattle.cal_policy.specs.Policies.{pass_by};
 ghost use Rattle.cal_policy.specs.State.{IsReady, IsOfTable, IsStateAfter};
 ghost use Rattle.cal_policy.specs.State.{Stands, Agrees, KeepingAgrees};
 ghost use Rattle.cal_policy.specs.Board.{KeepsBefore, HasSizes};
@@ -22,6 +23,7 @@ use crate::history::input::Input;
 use crate::judgement::open_pass::OpenPass;
 use crate::pass::Pass;
 use crate::pass::terms::Terms;
+use crate::policy::Policy;
 use cal_machine::{Config, Kind};
 
 impl Pass<'_> {
@@ -41,31 +43,45 @@ impl Pass<'_> {
         self.grants_of_kind(board, out, Kind::LatencyCritical);
         self.grants_of_kind(board, out, Kind::BestEffort);
     }
+
+    /// Makes the pass of the policy that the terms name.
+    fn make_by(&self, board: &mut Board, out: &mut Actions)
+        requires of_table { IsOfTable self.now.config.now board.old }
+        requires empty { out.old ≡ [] }
+        ensures acts { (h : Begun) → let s = setting_in self.now h in
+            NoPairBanned (actions_of h.history) → Stands board.old s [] →
+            (out.new ≡ pass_by self.now.terms.now.policy s) × Stands board.new s out.new }
+        ensures ready { IsReady self.now.config.now board.new }
+    {
+        match self.terms.policy {
+            Policy::Caladan => self.make_parts(board, out),
+        }
+    }
 }
 
-/// Appends the actions of the next pass, on this input, which fits, to an empty list, and brings
-/// the board up to that pass: of the plain one from the board of its whole history, and of a Book's
-/// from the board that it keeps.
-pub fn decide(config: &Config, input: &Input, board: &mut Board, out: &mut Actions)
+/// Appends the actions of the policy's next pass, on this input, which fits, to an empty list, and
+/// brings the board up to that pass: of the plain one from the board of its whole history, and of a
+/// Book's from the board that it keeps.
+pub fn decide(config: &Config, policy: Policy, input: &Input, board: &mut Board, out: &mut Actions)
     requires ready { IsReady config.now board.old }
     requires sizes { HasSizes config.now input.now }
     requires empty { out.old ≡ [] }
     ensures acts { (h : List PassEntry) → NoPairBanned (actions_of h) →
         Agrees board.old (actions_of h) → KeepingAgrees board.old.keeping (looks_of h) →
         FitAfter (looks_of h) input.entry.now.seen →
-        (out.new ≡ pass_of (setting config.now h input.entry.now))
+        (out.new ≡ pass_by policy (setting config.now h input.entry.now))
         × IsStateAfter board.new (h ++ record { input = input.entry.now; actions = out.new } ∷ [])
         × KeepsBefore board.new.keeping (looks_of h) }
     ensures ready { IsReady config.now board.new }
 {
     config.limits();
-    let terms = Terms::of(config, input);
+    let terms = Terms::of(config, input).by(policy);
     let pass = Pass {
         config,
         terms: &terms,
     };
     board.begin_fit(input.seen.as_slice());
-    pass.make_parts(board, out);
+    pass.make_by(board, out);
 }
 
 /// The same, where the looks came in one by one, one of each thread, and only those that are news
@@ -73,6 +89,7 @@ pub fn decide(config: &Config, input: &Input, board: &mut Board, out: &mut Actio
 #[inline(always)]
 pub fn decide_noted(
     config: &Config,
+    policy: Policy,
     now: u64,
     bandwidth: u64,
     looks: &OpenPass,
@@ -85,7 +102,8 @@ pub fn decide_noted(
     ensures acts { (h : List PassEntry) (found : List FoundLook) → NoPairBanned (actions_of h) →
         Agrees board.old (actions_of h) → KeepingAgrees board.old.keeping (looks_of h) →
         IsOpenAt config.now h found looks.entry.now →
-        (out.new ≡ pass_of (setting config.now h (judged_input config.now h now bandwidth found)))
+        (out.new
+        ≡ pass_by policy (setting config.now h (judged_input config.now h now bandwidth found)))
         × IsStateAfter board.new (h ++ record {
           input = judged_input config.now h now bandwidth found;
           actions = out.new;
@@ -93,11 +111,11 @@ pub fn decide_noted(
     ensures ready { IsReady config.now board.new }
 {
     config.limits();
-    let terms = Terms::of_noted(config, now, bandwidth, looks);
+    let terms = Terms::of_noted(config, now, bandwidth, looks).by(policy);
     let pass = Pass {
         config,
         terms: &terms,
     };
     board.begin_noted(looks);
-    pass.make_parts(board, out);
+    pass.make_by(board, out);
 }

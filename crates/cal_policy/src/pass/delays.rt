@@ -1,11 +1,9 @@
 //! How long requests have waited, as the kept records show it.
 
-ghost use Rattle.std.specs.Prelude.{◌≡◌, ◌<◌, List, length};
+ghost use Rattle.std.specs.Prelude.{◌≡◌, ◌<◌, length};
 ghost use Rattle.cal_machine.specs.declared.numbering.TheConstants.{MOST_THREADS};
-ghost use Rattle.cal_policy.specs.declared.history.action.Action.{Action};
-ghost use Rattle.cal_policy.specs.Setting.{Begun};
-ghost use Rattle.cal_policy.specs.State.{IsOfTable, Stands};
-ghost use Rattle.cal_policy.specs.Pass.AtHand.{setting_in};
+ghost use Rattle.cal_policy.specs.State.{IsOfTable};
+ghost use Rattle.cal_policy.specs.Pass.AtHand.{Within};
 ghost use Rattle.cal_policy.specs.Pass.Grants as grants;
 
 use crate::board::Board;
@@ -39,9 +37,7 @@ impl Pass<'_> {
     pub fn thread_delay(&self, board: &Board, thread: usize) -> u64
         requires at_hand { IsOfTable self.now.config.now board.now }
         requires thread { thread < MOST_THREADS }
-        ensures { (h : Begun) (acts : List Action) →
-            Stands board.now (setting_in self.now h) acts →
-            result ≡ grants.thread_delay (setting_in self.now h) thread }
+        ensures { Within self.now board.now (λ s acts. result ≡ grants.thread_delay s thread) }
     {
         record_delay(self.terms.now, &board.keeping.kept[thread])
     }
@@ -50,9 +46,7 @@ impl Pass<'_> {
     pub fn task_delay(&self, board: &Board, task: usize) -> u64
         requires at_hand { IsOfTable self.now.config.now board.now }
         requires task { task < length self.now.config.now.tasks }
-        ensures { (h : Begun) (acts : List Action) →
-            Stands board.now (setting_in self.now h) acts →
-            result ≡ grants.task_delay (setting_in self.now h) task }
+        ensures { Within self.now board.now (λ s acts. result ≡ grants.task_delay s task) }
     {
         let (first, count) = self.config.threads_of(task);
         let mut greatest: u64 = 0;
@@ -69,9 +63,7 @@ impl Pass<'_> {
     pub fn is_congested(&self, board: &Board, task: usize) -> bool
         requires at_hand { IsOfTable self.now.config.now board.now }
         requires task { task < length self.now.config.now.tasks }
-        ensures { (h : Begun) (acts : List Action) →
-            Stands board.now (setting_in self.now h) acts →
-            result ≡ grants.is_congested (setting_in self.now h) task }
+        ensures { Within self.now board.now (λ s acts. result ≡ grants.is_congested s task) }
     {
         self.task_delay(board, task) > self.config.task(task).delay
     }

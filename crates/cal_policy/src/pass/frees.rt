@@ -9,7 +9,7 @@ ghost use Rattle.cal_policy.specs.declared.history.action.Action.{Action};
 ghost use Rattle.cal_policy.specs.Setting.{Begun, Setting, so_far, kept_now};
 ghost use Rattle.cal_policy.specs.Pass.Frees.{has_left, shows_left, free_at, frees};
 ghost use Rattle.cal_policy.specs.History.{holder_of};
-ghost use Rattle.cal_policy.specs.Pass.AtHand.{setting_in};
+ghost use Rattle.cal_policy.specs.Pass.AtHand.{setting_in, Within};
 ghost use Rattle.cal_policy.specs.Board.{BoardSound, NamesTable, kept_number};
 ghost use Rattle.cal_policy.specs.State.{IsReady, IsOfTable, Stands};
 
@@ -53,9 +53,7 @@ impl Pass<'_> {
     pub fn free_due(&self, board: &Board, core: u8) -> Option<Action>
         requires at_hand { IsOfTable self.now.config.now board.now }
         requires core { core < self.now.config.now.cores }
-        ensures due { (h : Begun) (acts : List Action) →
-            Stands board.now (setting_in self.now h) acts →
-            option_to_list result ≡ free_at (setting_in self.now h) acts core }
+        ensures due { Within self.now board.now (λ s acts. option_to_list result ≡ free_at s acts core) }
         ensures names { IfSome result (NamesTable self.now.config.now) }
     {
         if is_left(board, core) {

@@ -1,10 +1,9 @@
 //! The last part of a pass: each congested task gets a core, or has one revoked for it.
 
-ghost use Rattle.std.specs.Prelude.{◌≡◌, ◌+◌, ◌<◌, ◌≤◌, ◌++◌, List};
+ghost use Rattle.std.specs.Prelude.{◌≡◌, ◌+◌, ◌<◌, ◌≤◌, ◌++◌};
 ghost use Rattle.std.specs.Prelude.{length, option_to_list, if◌then◌else◌};
 ghost use Rattle.std.specs.Option.{IfSome};
 ghost use Rattle.cal_policy.specs.declared.history.action_list.TheConstants.{MOST_ACTIONS};
-ghost use Rattle.cal_policy.specs.declared.history.action.Action.{Action};
 ghost use Rattle.cal_machine.specs.Table.{IsTable};
 ghost use Rattle.cal_machine.specs.TableTasks.{limit_of};
 ghost use Rattle.cal_policy.specs.Setting.{Begun, so_far};
@@ -13,7 +12,7 @@ ghost use Rattle.cal_policy.specs.Pass.Grants.{grant_of, grant_at, grant_of_kind
 ghost use Rattle.cal_policy.specs.Pass.Grants.{tasks_of_kind};
 ghost use Rattle.cal_policy.specs.Board.{NamesTable};
 ghost use Rattle.cal_policy.specs.State.{IsReady, IsOfTable, Stands};
-ghost use Rattle.cal_policy.specs.Pass.AtHand.{setting_in};
+ghost use Rattle.cal_policy.specs.Pass.AtHand.{setting_in, Within};
 
 use crate::board::Board;
 use crate::board::counts::cap_of;
@@ -31,9 +30,7 @@ impl Pass<'_> {
     pub fn may_book(&self, board: &Board, task: usize) -> bool
         requires at_hand { IsOfTable self.now.config.now board.now }
         requires task { task < length self.now.config.now.tasks }
-        ensures { (h : Begun) (acts : List Action) →
-            Stands board.now (setting_in self.now h) acts →
-            let s = setting_in self.now h in result ≡ rules.may_book s (so_far s acts) task }
+        ensures { Within self.now board.now (λ s acts. result ≡ rules.may_book s (so_far s acts) task) }
     {
         let booked = survey_of(self.config, board).booked[task];
         let below_cap = self.config.is_latency_critical(task)
@@ -77,9 +74,7 @@ impl Pass<'_> {
     pub fn grant_due(&self, board: &Board, task: usize) -> Option<Action>
         requires at_hand { IsOfTable self.now.config.now board.now }
         requires task { task < length self.now.config.now.tasks }
-        ensures due { (h : Begun) (acts : List Action) →
-            Stands board.now (setting_in self.now h) acts →
-            option_to_list result ≡ grant_at (setting_in self.now h) acts task }
+        ensures due { Within self.now board.now (λ s acts. option_to_list result ≡ grant_at s acts task) }
         ensures names { IfSome result (NamesTable self.now.config.now) }
     {
         if !self.may_book(board, task) {

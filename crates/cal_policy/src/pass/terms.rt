@@ -12,12 +12,15 @@ ghost use Rattle.cal_policy.specs.Setting.{Begun, rooms_from, setting, setting_a
 
 use crate::history::input::Input;
 use crate::judgement::open_pass::OpenPass;
+use crate::policy::Policy;
 use cal_machine::{Config, ThreadSet};
 
-/// What a pass goes by beside the task table and the state: its clock, its bandwidth figure, and
-/// which rings have no room.
+/// What a pass goes by beside the task table and the state: its policy, its clock, its bandwidth
+/// figure, and which rings have no room.
 #[derive(Clone, Copy)]
 pub struct Terms {
+    /// Whose rules choose its actions.
+    pub policy: Policy,
     /// The clock, in ticks.
     pub now: u64,
     /// The bandwidth figure; more than the table's limit takes a core from a best-effort task.
@@ -41,7 +44,7 @@ fn full_rings(rooms: &[bool]) -> ThreadSet
 }
 
 impl Terms {
-    /// Those of an input.
+    /// Those of an input, of a pass of `Policy::Caladan`.
     pub fn of(config: &Config, input: &Input) -> Terms
         requires { HasSizes config.now input.now }
         ensures { (h : List PassEntry) → setting config.now h input.entry.now
@@ -49,13 +52,14 @@ impl Terms {
     {
         config.limits();
         Terms {
+            policy: Policy::Caladan,
             now: input.now,
             bandwidth: input.bandwidth,
             full: full_rings(input.rooms.as_slice()),
         }
     }
 
-    /// Those of a pass at this clock and bandwidth figure on the looks that came in, one of each
+    /// Those of such a pass at this clock and bandwidth figure on the looks that came in, one of each
     /// thread.
     pub fn of_noted(config: &Config, now: u64, bandwidth: u64, looks: &OpenPass) -> Terms
         requires all { looks.now.count ≡ threads_of_table config.now }
@@ -69,9 +73,17 @@ impl Terms {
     {
         config.limits();
         Terms {
+            policy: Policy::Caladan,
             now,
             bandwidth,
             full: looks.full,
         }
+    }
+
+    /// The same, of a pass of this policy.
+    pub fn by(self, policy: Policy) -> Terms
+        ensures { result ≡ record self { policy = policy } }
+    {
+        Terms { policy, ..self }
     }
 }

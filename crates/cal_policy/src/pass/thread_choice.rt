@@ -1,13 +1,12 @@
 //! Which thread of a task is to have the core.
 
-ghost use Rattle.std.specs.Prelude.{◌≡◌, ◌<◌, List, length};
+ghost use Rattle.std.specs.Prelude.{◌≡◌, ◌<◌, length};
 ghost use Rattle.std.specs.Option.{IfSome};
-ghost use Rattle.cal_policy.specs.declared.history.action.Action.{Action};
 ghost use Rattle.cal_machine.specs.TableTasks.{threads_of_table, limit_of};
-ghost use Rattle.cal_policy.specs.Setting.{Begun, so_far};
+ghost use Rattle.cal_policy.specs.Setting.{so_far};
 ghost use Rattle.cal_policy.specs.Pass.Grants as grants;
-ghost use Rattle.cal_policy.specs.State.{IsOfTable, Stands};
-ghost use Rattle.cal_policy.specs.Pass.AtHand.{setting_in};
+ghost use Rattle.cal_policy.specs.State.{IsOfTable};
+ghost use Rattle.cal_policy.specs.Pass.AtHand.{Within};
 
 use crate::board::Board;
 use crate::board::survey::survey_of;
@@ -20,10 +19,7 @@ impl Pass<'_> {
     fn thread_rank(&self, board: &Board, thread: usize) -> Option<u128>
         requires at_hand { IsOfTable self.now.config.now board.now }
         requires thread { thread < threads_of_table self.now.config.now }
-        ensures { (h : Begun) (acts : List Action) →
-            Stands board.now (setting_in self.now h) acts →
-            let s = setting_in self.now h in
-            result ≡ grants.thread_rank s (so_far s acts) thread }
+        ensures { Within self.now board.now (λ s acts. result ≡ grants.thread_rank s (so_far s acts) thread) }
     {
         let survey = survey_of(self.config, board);
         let has_none = survey.placed[thread] == 0;
@@ -39,10 +35,7 @@ impl Pass<'_> {
     pub fn choose_thread(&self, board: &Board, task: usize) -> Option<Candidate<u128>>
         requires at_hand { IsOfTable self.now.config.now board.now }
         requires task { task < length self.now.config.now.tasks }
-        ensures choice { (h : Begun) (acts : List Action) →
-            Stands board.now (setting_in self.now h) acts →
-            let s = setting_in self.now h in
-            result ≡ grants.thread_choice s (so_far s acts) task }
+        ensures choice { Within self.now board.now (λ s acts. result ≡ grants.thread_choice s (so_far s acts) task) }
         ensures below { IfSome result (λ best. best.number < limit_of self.now.config.now task) }
     {
         let (first, _) = self.config.threads_of(task);

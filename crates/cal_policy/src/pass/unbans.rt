@@ -10,7 +10,7 @@ ghost use Rattle.cal_policy.specs.Setting.{Begun, so_far};
 ghost use Rattle.cal_policy.specs.Pass.Bans.{NoPairBanned, still_shows, unban_at, unbans};
 ghost use Rattle.cal_policy.specs.Board.{NamesTable};
 ghost use Rattle.cal_policy.specs.State.{IsReady, IsOfTable, Stands};
-ghost use Rattle.cal_policy.specs.Pass.AtHand.{setting_in};
+ghost use Rattle.cal_policy.specs.Pass.AtHand.{setting_in, Within};
 
 use crate::board::Board;
 use crate::board::core_sets::next_core;
@@ -31,9 +31,7 @@ impl Pass<'_> {
     pub fn unban_due(&self, board: &Board, core: u8) -> Option<Action>
         requires at_hand { IsOfTable self.now.config.now board.now }
         requires core { core < self.now.config.now.cores }
-        ensures due { (h : Begun) (acts : List Action) →
-            Stands board.now (setting_in self.now h) acts →
-            option_to_list result ≡ unban_at (setting_in self.now h) acts core }
+        ensures due { Within self.now board.now (λ s acts. option_to_list result ≡ unban_at s acts core) }
         ensures names { IfSome result (NamesTable self.now.config.now) }
     {
         let beside = self.config.machine().sibling(core);

@@ -21,7 +21,8 @@ use crate::world::page::Page;
 use crate::world::sending::{make_room, none_granted, send_all};
 use crate::world::standing::Standing;
 use cal_guard::permitted_is_safe;
-use cal_policy::{PassEntry, Record, Seen, action_is_one_more, look_is_one_more};
+use cal_policy::laws::{action_is_one_more, look_is_one_more};
+use cal_policy::{PassEntry, Record, Seen};
 use std::alloc::{AllocError, Global};
 
 /// The state after the events so far, as plain data: a step goes by it and need not look back.

@@ -22,7 +22,8 @@ use crate::world::present::Present;
 use crate::world::standing::Standing;
 use cal_command::Command;
 use cal_machine::Config;
-use cal_policy::{Actions, PassEntry, Record, Seen, is_pass, later, legal_is_orderly, shaped};
+use cal_policy::laws::legal_is_orderly;
+use cal_policy::{Actions, PassEntry, Record, Seen, is_pass, later, shaped};
 use cal_signal::running_word;
 use std::alloc::{AllocError, Global};
 

@@ -8,8 +8,9 @@ ghost use Rattle.cal_policy.specs.History.{last_thread};
 ghost use Rattle.cal_world.specs.World.Sending.{AreGranted, AreSent, HaveRoom};
 
 use crate::world::outbox::Outbox;
+use cal_policy::Action;
+use cal_policy::laws::action_is_one_more;
 use cal_policy::state::{command_for, core_changed_by};
-use cal_policy::{Action, action_is_one_more};
 use std::alloc::AllocError;
 
 /// No core was granted.

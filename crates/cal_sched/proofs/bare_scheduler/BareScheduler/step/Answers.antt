@@ -11,11 +11,11 @@ use Rattle.cal_policy.specs.Judgement.Settled.{SettledAreNoNews}
 use Rattle.cal_sched.specs.Finding.{HaveFoundSo}
 use Rattle.cal_sched.specs.declared.found_pass.FoundPass.{FoundPass}
 use Rattle.cal_sched.specs.Passing.{HaveFound, HaveSent, IsPassed}
-use Rattle.cal_sched.specs.Past.{entry_of, history_of}
+use Rattle.cal_sched.specs.Past.{AreLast, entry_of, history_of}
 use Rattle.cal_sched.specs.Scheduler.{SchedulerView, IsKept}
 use Rattle.cal_sched.proofs.Lists.{written_whole}
 use Rattle.cal_sched.proofs.Passed.{may_send, kept_after}
-use Rattle.cal_sched.proofs.Past.{history_push}
+use Rattle.cal_sched.proofs.Past.{history_push, last_push}
 use Rattle.cal_sched.proofs.bare_scheduler.BareScheduler.step.Goals as goal
 use Rattle.cal_sched.proofs.bare_scheduler.BareScheduler.step.Goals.{After-as_mut_slice-3, After-drop-pass}
 
@@ -43,6 +43,7 @@ after c = (start c).history ++ entry c ∷ []
 record Decided (c : After-as_mut_slice-3) : Type 0 where
   kept : IsKept (start c)
   finds : HaveFound (start c).observers c.find_news.new.observers (start c).senders c.find_news.new.senders c.find_news.new.found
+  opened : IsOpenAt (start c).table (start c).history c.find_news.new.found c.find_news.new.pass
   acts : c.pass.new.out ≡ (entry c).actions
   agreed : IsStateAfter (board_in c.pass.new.self) (after c)
   rung : take c.self.inside.senders.len (c.find_news.new.senders ++ drop (length c.find_news.new.senders) c.self.inside.senders.items) ≡ c.find_news.new.senders
@@ -67,6 +68,7 @@ decided c =
     record {
       kept = kept;
       finds = finds;
+      opened = came;
       acts = c.pass.ensures.acts s.history found kept.legal agrees opened;
       agreed = subst (IsStateAfter (board_in c.pass.new.self)) (ap (λ (l : List Action). let e : PassEntry = record { input = judged_input s.table s.history c.args.now c.args.bandwidth found; actions = l } in s.history ++ e ∷ []) (c.pass.ensures.acts s.history found kept.legal agrees opened)) (c.pass.ensures.agrees s.history found kept.legal agrees opened);
       rung = written_whole ring_items.len asked ring_items.items ring_items.ok.0 many_rings;
@@ -143,7 +145,10 @@ invariant_of-self c =
     let s : SchedulerView = start (sending c) in
     let counted : c.self.inside.passes + 1 ≡ length (history_of c.self.inside.config c.note.new.self) =
     ap (λ n. n + 1) c.self.invariant.3 ∙ sym (length-append s.history (entry (sending c) ∷ [])) ∙ ap length (sym all.history) in
-    (kept c, rw all.history all.was.agreed, c.pass.ensures.of, counted)
+    let last : AreLast c.self.inside.config c.note.new.self c.find_news.new.pass =
+    subst (λ (l : List FoundPass). AreLast c.self.inside.config l c.find_news.new.pass) (sym c.note.ensures)
+    (last_push c.self.inside.config c.self.inside.past (made (sending c)) c.find_news.new.pass all.was.opened c.find_news.ensures.all) in
+    (kept c, rw all.history all.was.agreed, c.pass.ensures.of, counted, last)
 
 pub returns-clause-passed : goal.returns-clause-passed
 returns-clause-passed c =

@@ -1,6 +1,7 @@
 use Rattle.std.proofs.Common.{sym}
+use Rattle.cal_policy.specs.declared.policy.Policy.TheVariants.{Caladan}
 use Rattle.cal_policy.proofs.PassLemmas.Rooms.{noted_setting}
 use Rattle.cal_policy.proofs.pass.terms.Terms.of_noted.Goals as goal
 
 pub returns : goal.returns
-returns c = λ h found is. sym (noted_setting c.args.config.now h c.args.now c.args.bandwidth found c.args.looks.now is c.requires.all)
+returns c = λ h found is. sym (noted_setting Caladan c.args.config.now h c.args.now c.args.bandwidth found c.args.looks.now is c.requires.all)

@@ -1,5 +1,5 @@
 use Rattle.cal_policy.proofs.PassLemmas.Apart.{orderly_apart}
-use Rattle.cal_policy.proofs.pass.plain.plain_pass.Goals as goal
+use Rattle.cal_policy.proofs.pass.plain.plain_pass_by.Goals as goal
 
 pub returns : goal.returns
 returns c =

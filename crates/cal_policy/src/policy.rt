@@ -1,0 +1,33 @@
+//! Which policy chooses the actions of a pass.
+
+ghost use Rattle.std.specs.Prelude.{◌≡◌, Some};
+ghost use Rattle.cal_policy.specs.Policies.{policy_name, policy_named};
+
+/// Which policy chooses the actions of a pass. Each goes by the same table, looks and state.
+#[derive(Clone, Copy, Debug, PartialEq, Eq)]
+pub enum Policy {
+    /// After Caladan's core allocator and its controllers.
+    Caladan,
+}
+
+impl Policy {
+    /// Its name, as a word.
+    pub fn name(self) -> &'static str
+        ensures name { result.now ≡ policy_name self }
+        ensures found { policy_named result.now ≡ Some self }
+    {
+        match self {
+            Policy::Caladan => "caladan",
+        }
+    }
+
+    /// The policy of this name, if there is one.
+    pub fn named(name: &str) -> Option<Policy>
+        ensures { result ≡ policy_named name.now }
+    {
+        if name == "caladan" {
+            return Some(Policy::Caladan);
+        }
+        None
+    }
+}
