@@ -1,0 +1,104 @@
+-- Laws of one pass of this policy, each at its own place.
+use Rattle.std.specs.Prelude.{◌≡◌, ◌≢◌, ℕ, ◌<◌, ◌≤◌, ◌⊎◌, true, false, List, length}
+use Rattle.std.specs.Prelude.{Some, None, slice_get}
+use Rattle.cal_machine.specs.Table.{Table}
+use Rattle.cal_machine.specs.TableTasks.{owner_of, is_latency_critical}
+use Rattle.cal_policy.specs.declared.history.action.Action.{Action}
+use Rattle.cal_policy.specs.declared.history.action.Action.TheVariants.{Ban, Revoke, Grant}
+use Rattle.cal_policy.specs.declared.history.action.Cause.{Cause}
+use Rattle.cal_policy.specs.declared.history.action.Cause.TheVariants as causes
+use Rattle.cal_policy.specs.History.{holder_of, is_banned}
+use Rattle.cal_policy.specs.Board.Counts.{is_free}
+use Rattle.cal_assured.specs.Cause.{HasCause}
+use Rattle.cal_assured.specs.InFlight.{pressing, coming}
+use Rattle.cal_assured.specs.Owed.{owed_to, owed_below}
+use Rattle.cal_assured.specs.Short.{is_short, lacks, lacking, open_cores, waits}
+use Rattle.cal_assured.specs.Short.{some_waits_short}
+use Rattle.cal_assured.specs.Order.{is_later, place_of}
+use Rattle.cal_assured.specs.Taking.{open_choice}
+use Rattle.cal_assured.specs.Grants.{grants_of_first}
+use Rattle.cal_assured.specs.Pass.{unbanned_of, bounded_of, ComesTo}
+use Rattle.cal_policy.specs.Pass.{followed}
+use Rattle.cal_policy.specs.Setting.{Setting, so_far}
+
+-- a task that is not short is granted a core only where no short task waits, or more cores are open
+-- than are lacking
+abbrev pub OthersTakeWhatIsNotLacked : Type 0
+OthersTakeWhatIsNotLacked = (s : Setting) (acts : List Action) (core thread class : ℕ) →
+    ComesTo s acts (Grant core thread class) →
+    is_short s.table (so_far s acts) (owner_of s.table thread) ≡ false →
+    (some_waits_short s (so_far s acts) ≡ false)
+    ⊎ (lacking s.table (so_far s acts) < open_cores s.table (so_far s acts))
+
+-- task u does not wait; or task t is short, and u is not, or as many cores below this one are owed to
+-- u as it lacks
+abbrev pub MayTakeWhatIsOwed : Setting → List Action → ℕ → ℕ → ℕ → Type 0
+MayTakeWhatIsOwed s x t u core = (waits s x u ≡ false)
+    ⊎ ((is_short s.table x t ≡ true)
+    × ((is_short s.table x u ≡ false) ⊎ (lacks s.table x u ≤ owed_below x u core)))
+
+-- a core that is owed to a task is granted to another only so
+abbrev pub OwedCoresAreKept : Type 0
+OwedCoresAreKept = (s : Setting) (acts : List Action) (core thread class u : ℕ) →
+    ComesTo s acts (Grant core thread class) → owed_to (so_far s acts) core ≡ Some u →
+    owner_of s.table thread ≢ u →
+    MayTakeWhatIsOwed s (so_far s acts) (owner_of s.table thread) u core
+
+-- a core is revoked for a task only where more of its threads are late, and not in flight, than cores
+-- are coming to it
+abbrev pub NoCoreIsRevokedTwice : Type 0
+NoCoreIsRevokedTwice = (s : Setting) (acts : List Action) (core t : ℕ) →
+    ComesTo s acts (Revoke core (causes.Preempt t)) →
+    coming s (so_far s acts) t < pressing s (so_far s acts) t
+
+-- where a short task waits, a free core is banned only if more cores are open than are lacking
+abbrev pub BansLeaveWhatIsLacked : Type 0
+BansLeaveWhatIsLacked = (s : Setting) (acts : List Action) (core thread started : ℕ) →
+    ComesTo s acts (Ban core thread started) → is_free (holder_of (so_far s acts) core) ≡ true →
+    some_waits_short s (so_far s acts) ≡ true →
+    lacking s.table (so_far s acts) < open_cores s.table (so_far s acts)
+
+-- no free core of the machine is banned
+abbrev pub NoneFreeBanned : Table → List Action → Type 0
+NoneFreeBanned table x = (c : ℕ) → c < table.cores → is_free (holder_of x c) ≡ true →
+    is_banned x c ≡ false
+
+-- and where one waits after the second part, as many cores are open as are lacking, or no free core
+-- is banned
+abbrev pub BansEndForWhatIsLacked : Type 0
+BansEndForWhatIsLacked = (s : Setting) → some_waits_short s (so_far s (unbanned_of s)) ≡ true →
+    (lacking s.table (so_far s (unbanned_of s)) ≤ open_cores s.table (so_far s (unbanned_of s)))
+    ⊎ NoneFreeBanned s.table (so_far s (unbanned_of s))
+
+-- of two latency-critical tasks, neither short where the grants begin, u is later than t
+pub record IsLaterOf (s : Setting) (u t : ℕ) : Type 0 where
+  pub own : u < length s.table.tasks
+  pub critical : is_latency_critical s.table u ≡ true
+  pub other_critical : is_latency_critical s.table t ≡ true
+  pub not_short : is_short s.table (so_far s (bounded_of s)) u ≡ false
+  pub other_not_short : is_short s.table (so_far s (bounded_of s)) t ≡ false
+  pub later : is_later s u t ≡ true
+
+-- among these actions is no grant to a thread of task u
+abbrev pub NoneGrantedTo : Table → List Action → ℕ → Type 0
+NoneGrantedTo table acts u = (i core thread class : ℕ) →
+    slice_get acts i ≡ Some (Grant core thread class) → owner_of table thread ≢ u
+
+-- the actions of the pass before the turn of task u
+abbrev pub made_before_turn : Setting → ℕ → List Action
+made_before_turn s u =
+    followed (bounded_of s) (grants_of_first (place_of s (so_far s (bounded_of s)) u) s)
+
+-- where the less late one is granted a free core, and the later one was granted none before, then at
+-- its turn the later one did not wait, or might take no open core
+abbrev pub TheLaterComesFirst : Type 0
+TheLaterComesFirst = (s : Setting) (acts : List Action) (core thread class u : ℕ) →
+    ComesTo s acts (Grant core thread class) → IsLaterOf s u (owner_of s.table thread) →
+    NoneGrantedTo s.table acts u →
+    (waits s (so_far s (made_before_turn s u)) u ≡ false)
+    ⊎ (open_choice s (so_far s (made_before_turn s u)) u ≡ None)
+
+-- each revocation is for what its cause says
+abbrev pub RevocationsHaveCause : Type 0
+RevocationsHaveCause = (s : Setting) (acts : List Action) (core : ℕ) (cause : Cause) →
+    ComesTo s acts (Revoke core cause) → HasCause s acts core cause

@@ -1,0 +1,35 @@
+//! A second policy, `assured`, beside that of cal_policy: its definitions, and laws over them
+//! alone. No code decides by it.
+//!
+//! Under it a latency-critical task that goes on waiting below its guarantee is given a core as
+//! soon as one can have been left. It differs from the other policy in which bans end, which are
+//! made, and in its grants; all of it is Doranjei's own.
+//!
+//! Each law is the contract of a function that does nothing, its statement a definition in specs/;
+//! to cite a law, call its function.
+#![tactic(auto)]
+
+mod histories;
+mod order;
+mod passes;
+mod permitted;
+mod rings;
+mod safety;
+mod worked;
+
+pub use histories::{nothing_is_legal, one_pass_more_is_legal, prefixes_are_legal};
+pub use order::{places_have_their_task, tasks_have_their_place, turns_are_in_order};
+pub use passes::{
+    bans_end_for_what_is_lacked, bans_leave_what_is_lacked, no_core_is_revoked_twice,
+    others_take_what_is_not_lacked, owed_cores_are_kept, revocations_have_cause,
+    the_later_comes_first,
+};
+pub use permitted::passes_are_permitted;
+pub use rings::rings_have_room;
+pub use safety::{
+    banned_are_emptied_at_once, commands_go_where_is_room, freed_cores_were_left,
+    grants_keep_to_caps, no_banned_is_granted, no_pair_is_banned, passes_are_short,
+    passes_leave_safe, revocations_leave_guarantees, tasks_keep_to_caps, tasks_keep_to_limits,
+    threads_are_sent_one_command, threads_have_one_core,
+};
+pub use worked::{bans_are_as_worked, flight_is_as_worked, kept_is_as_worked, order_is_as_worked};

@@ -1,0 +1,192 @@
+-- Where a short task found nothing to take at its turn, no task holds more than it is guaranteed.
+use Rattle.std.proofs.Common.{◌≡◌, ℕ, ◌<◌, ◌≤◌, ◌⊎◌, Bool, true, false, not, ◌&&◌, cond, eqb, ltb, List, [], ◌∷◌, ◌++◌, length, Some, None, refl, ap, sym, ◌∙◌, subst, arith, inl, inr, ⊎_elim}
+use Rattle.std.proofs.lemmas.Bool.{cases_eq, cases_lt, and_from, lt-ltb, ne_eqb}
+use Rattle.std.specs.Option.{is_some, option_or}
+use Rattle.cal_machine.specs.Table.{Table, IsTable}
+use Rattle.cal_machine.specs.TableTasks.{owner_of, guaranteed_of, is_latency_critical, threads_of_table}
+use Rattle.cal_policy.specs.declared.history.action.Action.{Action}
+use Rattle.cal_policy.specs.declared.history.action.Action.TheVariants.{Free, Unban, Ban, Revoke, Cap, Grant}
+use Rattle.cal_policy.specs.declared.history.core_class.CoreClass.TheVariants as classes
+use Rattle.cal_policy.specs.declared.board.holders.Placement as placements
+use Rattle.cal_policy.specs.declared.board.holders.Holder.TheVariants as holders
+use Rattle.cal_policy.specs.History.{actions_of, holder_of, last_thread, thread_granted, placed}
+use Rattle.cal_policy.specs.History.CoreClasses.{comes_before}
+use Rattle.cal_policy.specs.Board.{placement_of}
+use Rattle.cal_policy.specs.Board.Counts.{is_held_for, held_by, booked_by, is_over}
+use Rattle.cal_policy.specs.Setting.{Setting, so_far, has_room, is_held_with_room}
+use Rattle.cal_policy.specs.Pass.Frees.{frees}
+use Rattle.cal_policy.specs.Pass.Grants.{is_granted_in, preempt_class}
+use Rattle.cal_policy.specs.Pass.Steady.{IsSteady}
+use Rattle.cal_policy.proofs.HistoryLemmas.OneMore.{last_thread_push}
+use Rattle.cal_policy.proofs.PassLemmas.Fits.{held_le_booked}
+use Rattle.cal_policy.proofs.PassLemmas.Pairs.{so_far_more}
+use Rattle.cal_assured.specs.Short.{waits_short}
+use Rattle.cal_assured.specs.Taking.{held_class, held_choice}
+use Rattle.cal_assured.specs.Pass.{bounded_of}
+use Rattle.cal_guarantee.proofs.Sums.{some_counted}
+use Rattle.cal_guarantee.proofs.Holders.{Stays, moves_revoke, moves_grant, stays_unban, stays_ban, stays_cap}
+use Rattle.cal_guarantee.proofs.Steps.{IsStep, held_of}
+use Rattle.cal_guarantee.proofs.Counts.{books_stay, books_left, short_parts}
+use Rattle.cal_guarantee.proofs.Own.{waits_parts}
+use Rattle.cal_guarantee.proofs.FewKept.{best_missing}
+use Rattle.cal_guarantee.proofs.KeptAlong.{along_acts, steady_step, revoked_last, grant_one, grant_owner}
+use Rattle.cal_guarantee.proofs.Freed.{IsFreeStep, frees_steps}
+use Rattle.cal_guarantee.proofs.Calm.{IsCalm}
+use Rattle.cal_guarantee.proofs.PassTurns.{before_turn, from_freed, turn_freed, ToShortOther, freed_steady, freed_steps, turn_state}
+
+-- task u is latency-critical and books no more than it is guaranteed
+abbrev IsWithin : Table → List Action → ℕ → Type 0
+IsWithin table x u = (is_latency_critical table u ≡ true) × (booked_by table x u ≤ guaranteed_of table u)
+
+-- so is the task of each core that is held and was granted among these actions
+abbrev AreWithin : Table → List Action → List Action → Type 0
+AreWithin table x acts = (c : ℕ) (p : placements.Placement) → holder_of x c ≡ holders.Held p → is_granted_in acts c ≡ true → IsWithin table x (owner_of table p.thread)
+
+within_same : (table : Table) (x y : List Action) (u : ℕ) → booked_by table y u ≡ booked_by table x u → IsWithin table x u → IsWithin table y u
+within_same table x y u e w = (w.0, let low = w.1 in omega (arith, e, low))
+
+within_stay : (table : Table) (x y acts more : List Action) → Stays x y → ((c : ℕ) → is_granted_in more c ≡ is_granted_in acts c) → AreWithin table x acts → AreWithin table y more
+within_stay table x y acts more m same was c p e g =
+    within_same table x y (owner_of table p.thread) ((books_stay table x y m).books (owner_of table p.thread)) (was c p (sym (m.at c) ∙ e) (sym (same c) ∙ g))
+
+granted_push : (acts : List Action) (a : Action) (c : ℕ) → thread_granted c acts a ≡ None → is_granted_in (acts ++ a ∷ []) c ≡ is_granted_in acts c
+granted_push acts a c e = ap is_some (last_thread_push acts a c ∙ ap (λ o. option_or o (last_thread acts c)) e)
+
+module _ (s : Setting) (t : ℕ) (acts : List Action) (steady : IsSteady s.table (so_far s acts)) where
+  within_step : (a : Action) → IsStep (Unit {0}) (ToShortOther s t) s acts a → AreWithin s.table (so_far s acts) acts → AreWithin s.table (so_far s acts ++ a ∷ []) (acts ++ a ∷ [])
+  within_step (Free core) q was = absurd q
+  within_step (Unban core) q was =
+      let x = so_far s acts in within_stay s.table x (x ++ Unban core ∷ []) acts (acts ++ Unban core ∷ []) (stays_unban x core) (λ c. granted_push acts (Unban core) c refl) was
+  within_step (Ban core thread started) q was =
+      let x = so_far s acts in within_stay s.table x (x ++ Ban core thread started ∷ []) acts (acts ++ Ban core thread started ∷ []) (stays_ban x core thread started)
+      (λ c. granted_push acts (Ban core thread started) c refl) was
+  within_step (Cap task cap) q was =
+      let x = so_far s acts in within_stay s.table x (x ++ Cap task cap ∷ []) acts (acts ++ Cap task cap ∷ []) (stays_cap x task cap) (λ c. granted_push acts (Cap task cap) c refl) was
+  within_step (Revoke core cause) q was = λ c p e g. go c p e g (cases_eq c core)
+    where
+      go : (c : ℕ) (p : placements.Placement) → holder_of (so_far s acts ++ Revoke core cause ∷ []) c ≡ holders.Held p → is_granted_in (acts ++ Revoke core cause ∷ []) c ≡ true →
+          (c ≡ core) ⊎ (c ≡ core → ⊥) → IsWithin s.table (so_far s acts ++ Revoke core cause ∷ []) (owner_of s.table p.thread)
+      go c p e g (inl same) =
+          let x = so_far s acts in
+          let m = moves_revoke x core cause q.loser (revoked_last s acts core q steady) in
+          let there : holder_of (x ++ Revoke core cause ∷ []) core ≡ holders.Held p = ap (holder_of (x ++ Revoke core cause ∷ [])) (sym same) ∙ e in
+          let clash : holders.Leaving q.loser cause ≡ holders.Held p = sym m.here ∙ there in cc
+      go c p e g (inr ne) =
+          let x = so_far s acts in
+          let y = x ++ Revoke core cause ∷ [] in
+          let m = moves_revoke x core cause q.loser (revoked_last s acts core q steady) in
+          within_same s.table x y (owner_of s.table p.thread) ((books_left s.table x y core q.loser cause m q.held).books (owner_of s.table p.thread))
+          (was c p (sym (m.others c ne) ∙ e) (sym (granted_push acts (Revoke core cause) c refl) ∙ g))
+  within_step (Grant core thread class) q was = λ c p e g. go c p e g (cases_eq c core)
+    where
+      mine : (u : ℕ) → u ≡ q.task → IsWithin s.table (so_far s acts ++ Grant core thread class ∷ []) u
+      mine u same =
+          let x = so_far s acts in
+          let y = x ++ Grant core thread class ∷ [] in
+          let parts = short_parts s.table x q.task q.good.1 in
+          let more = (grant_one s (ToShortOther s t) acts core thread class q).books in
+          let P : ℕ → Type 0 = λ w. IsWithin s.table y w in
+          subst P (sym same) (parts.0, let low = parts.1 in omega (arith, more, low))
+
+      theirs : (u : ℕ) → IsWithin s.table (so_far s acts) u → (u ≡ q.task) ⊎ (u ≡ q.task → ⊥) → IsWithin s.table (so_far s acts ++ Grant core thread class ∷ []) u
+      theirs u w (inl same) = mine u same
+      theirs u w (inr ne) =
+          within_same s.table (so_far s acts) (so_far s acts ++ Grant core thread class ∷ []) u ((grant_one s (ToShortOther s t) acts core thread class q).others u ne) w
+
+      go : (c : ℕ) (p : placements.Placement) → holder_of (so_far s acts ++ Grant core thread class ∷ []) c ≡ holders.Held p → is_granted_in (acts ++ Grant core thread class ∷ []) c ≡ true →
+          (c ≡ core) ⊎ (c ≡ core → ⊥) → IsWithin s.table (so_far s acts ++ Grant core thread class ∷ []) (owner_of s.table p.thread)
+      go c p e g (inl same) =
+          let x = so_far s acts in
+          let y = x ++ Grant core thread class ∷ [] in
+          let there : holder_of y core ≡ holders.Held p = ap (holder_of y) (sym same) ∙ e in
+          let both : holders.Held (placed x thread) ≡ holders.Held p = sym (moves_grant x core thread class).here ∙ there in
+          let place : placed x thread ≡ p = cc in
+          mine (owner_of s.table p.thread) (ap (λ (r : placements.Placement). owner_of s.table r.thread) (sym place) ∙ grant_owner (ToShortOther s t) s acts core thread q)
+      go c p e g (inr ne) =
+          let x = so_far s acts in
+          let old : holder_of x c ≡ holders.Held p = sym ((moves_grant x core thread class).others c ne) ∙ e in
+          let none : thread_granted c acts (Grant core thread class) ≡ None = ap (λ b. cond b (Some thread) None) (ne_eqb core c (λ same. ne (sym same))) in
+          theirs (owner_of s.table p.thread) (was c p old (sym (granted_push acts (Grant core thread class) c none) ∙ g)) (cases_eq (owner_of s.table p.thread) q.task)
+
+-- the first part grants none
+none_granted_step : (s : Setting) (acts : List Action) (a : Action) → IsFreeStep s acts a → ((c : ℕ) → is_granted_in acts c ≡ false) → (c : ℕ) → is_granted_in (acts ++ a ∷ []) c ≡ false
+none_granted_step s acts (Free core) q was c = granted_push acts (Free core) c refl ∙ was c
+none_granted_step s acts (Unban core) q was c = absurd q
+none_granted_step s acts (Ban core thread started) q was c = absurd q
+none_granted_step s acts (Revoke core cause) q was c = absurd q
+none_granted_step s acts (Cap task cap) q was c = absurd q
+none_granted_step s acts (Grant core thread class) q was c = absurd q
+
+none_granted : (s : Setting) (c : ℕ) → is_granted_in (frees s []) c ≡ false
+none_granted s = along_acts (IsFreeStep s) (λ acts. (c : ℕ) → is_granted_in acts c ≡ false) (λ acts a q was. none_granted_step s acts a q was) [] (frees s []) (frees_steps s) (λ c. refl)
+
+abbrev SteadyWithin : Setting → List Action → Type 0
+SteadyWithin s acts = IsSteady s.table (so_far s acts) × AreWithin s.table (so_far s acts) acts
+
+within_next : (s : Setting) (t : ℕ) (acts : List Action) (a : Action) → IsStep (Unit {0}) (ToShortOther s t) s acts a → SteadyWithin s acts → SteadyWithin s (acts ++ a ∷ [])
+within_next s t acts a q was =
+    let P : List Action → Type 0 = λ x. IsSteady s.table x × AreWithin s.table x (acts ++ a ∷ []) in
+    subst P (sym (so_far_more s acts (a ∷ []))) (steady_step (Unit {0}) (ToShortOther s t) s acts a q was.0, within_step s t acts was.0 a q was.1)
+
+-- a held core has a class, unless its task is within its guarantee
+preempt_some : (critical short other over : Bool) → short ≡ true → other ≡ true → over ≡ true →
+    cond (not critical) (Some classes.BestEffortBurstable) (cond (short && other && over) (Some classes.LatencyCriticalBurstable) None) ≡ None → ⊥
+preempt_some false short other over e f g is = cc
+preempt_some true short other over e f g is =
+    let all = and_from (short && other) over (and_from short other e f) g in
+    let made : Some classes.LatencyCriticalBurstable ≡ None = ap (λ b. cond b (Some classes.LatencyCriticalBurstable) None) (sym all) ∙ is in cc
+
+module _ (s : Setting) (t : ℕ) (ok : IsTable s.table) (lt : t < length s.table.tasks) (steady : IsSteady s.table (actions_of s.history))
+    (waiting : waits_short s (so_far s (bounded_of s)) t ≡ true) (rooms : (k : ℕ) → k < threads_of_table s.table → has_room s k ≡ true)
+    (nothing : held_choice s (before_turn s t) t ≡ None) where
+  all_within : AreWithin s.table (so_far s (before_turn s t)) (before_turn s t)
+  all_within =
+      let start : AreWithin s.table (so_far s (frees s [])) (frees s []) = λ c p e g. let clash : true ≡ false = sym g ∙ none_granted s c in cc in
+      let end = along_acts (IsStep (Unit {0}) (ToShortOther s t) s) (SteadyWithin s) (λ acts a q was. within_next s t acts a q was) (frees s []) (from_freed s t)
+      (freed_steps s t ok lt steady waiting) (freed_steady s t ok lt steady waiting, start) in
+      let P : List Action → Type 0 = λ now. AreWithin s.table (so_far s now) now in
+      subst P (sym (turn_freed s t)) end.1
+
+  -- a core that is held by a task that is over would have been found
+  found_over : (c : ℕ) (p : placements.Placement) → c < s.table.cores → holder_of (so_far s (before_turn s t)) c ≡ holders.Held p →
+      guaranteed_of s.table (owner_of s.table p.thread) < held_by s.table (so_far s (before_turn s t)) (owner_of s.table p.thread) → (b : Bool) → is_granted_in (before_turn s t) c ≡ b → ⊥
+  found_over c p low e over true g =
+      let x = so_far s (before_turn s t) in
+      let within = all_within c p e g in
+      let few = within.1 in
+      omega (arith, over, few, held_le_booked s.table x (owner_of s.table p.thread))
+  found_over c p low e over false g =
+      let now = before_turn s t in
+      let x = so_far s now in
+      let other = owner_of s.table p.thread in
+      let state = turn_state s t ok lt steady waiting in
+      let short = short_parts s.table x t (waits_parts s x t state.1).0 in
+      let missing = best_missing comes_before (λ k. held_class s now t k (holder_of x k)) s.table.cores c nothing low in
+      let held : held_class s now t c (holders.Held p) ≡ None = ap (held_class s now t c) (sym e) ∙ missing in
+      let room : has_room s p.thread ≡ true = rooms p.thread (state.0.threads c p (ap placement_of e)) in
+      let may : (is_held_with_room s (holders.Held p) && not (is_granted_in now c)) ≡ true = and_from (has_room s p.thread) (not (is_granted_in now c)) room (ap not g) in
+      let class : preempt_class s.table x t other ≡ None = ap (λ b. cond b (preempt_class s.table x t other) None) (sym may) ∙ held in
+      preempt_some (is_latency_critical s.table other) (ltb (booked_by s.table x t) (guaranteed_of s.table t)) (not (eqb other t)) (is_over s.table x other)
+      (lt-ltb (booked_by s.table x t) (guaranteed_of s.table t) short.1)
+      (ap not (ne_eqb other t (λ same.
+      let P : ℕ → Type 0 = λ u. guaranteed_of s.table u < held_by s.table x u in
+      let mine : P t = subst P same over in
+      let few = short.1 in
+      omega (arith, mine, few, held_le_booked s.table x t))))
+      (lt-ltb (guaranteed_of s.table other) (held_by s.table x other) over) class
+
+  pub nothing_calm : IsCalm s.table (so_far s (before_turn s t))
+  nothing_calm = record {
+    within = λ u low. ⊎_elim
+        (λ (over : guaranteed_of s.table u < held_by s.table (so_far s (before_turn s t)) u). absurd (go u over))
+        (λ (le : held_by s.table (so_far s (before_turn s t)) u ≤ guaranteed_of s.table u). le)
+        (cases_lt (guaranteed_of s.table u) (held_by s.table (so_far s (before_turn s t)) u));
+  }
+    where
+      go : (u : ℕ) → guaranteed_of s.table u < held_by s.table (so_far s (before_turn s t)) u → ⊥
+      go u over =
+          let x = so_far s (before_turn s t) in
+          let some = some_counted (λ c. is_held_for s.table u (holder_of x c)) s.table.cores (omega (arith, over)) in
+          let held = held_of s.table u (holder_of x some.0) some.2 in
+          let P : ℕ → Type 0 = λ w. guaranteed_of s.table w < held_by s.table x w in
+          found_over some.0 held.0 some.1 held.1 (subst P (sym held.2) over) (is_granted_in (before_turn s t) some.0) refl

@@ -1,0 +1,5 @@
+use Rattle.cal_guarantee.proofs.Whole.{given_to_waiting}
+use Rattle.cal_guarantee.proofs.guarantee.guarantees_are_given.Goals as goal
+
+pub returns : goal.returns
+returns c = given_to_waiting

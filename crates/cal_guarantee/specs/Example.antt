@@ -1,0 +1,91 @@
+-- A small run in which a task waits as the guarantee asks, and is granted a core no earlier than the
+-- guarantee says.
+use Rattle.std.specs.Prelude.{◌≡◌, ◌≢◌, ℕ, ◌+◌, ◌<◌, ◌≤◌, true, List, [], ◌∷◌, Some, slice_get}
+use Rattle.cal_signal.specs.declared.record.Record.{Record}
+use Rattle.cal_machine.specs.declared.task.Task.{Task}
+use Rattle.cal_machine.specs.declared.task.Kind.TheVariants as kinds
+use Rattle.cal_machine.specs.Table.{Table}
+use Rattle.cal_machine.specs.TableTasks.{owner_of}
+use Rattle.cal_policy.specs.declared.history.action.Action.{Action}
+use Rattle.cal_policy.specs.declared.history.action.Action.TheVariants.{Free, Revoke, Grant}
+use Rattle.cal_policy.specs.declared.history.action.Cause.TheVariants as causes
+use Rattle.cal_policy.specs.declared.history.entry.PassEntry.{PassEntry}
+use Rattle.cal_policy.specs.declared.history.look.Seen.{Seen}
+use Rattle.cal_policy.specs.declared.history.look.Seen.TheVariants.{Whole}
+use Rattle.cal_assured.specs.Guarantee.{WaitsThrough}
+
+-- a task that may have two cores, of which none is guaranteed to it, and one that is guaranteed one
+abbrev pub first_task : Task
+first_task =
+    record { kind = kinds.LatencyCritical; guaranteed = 0; limit = 2; delay = 0; request = 0 }
+
+abbrev pub second_task : Task
+second_task =
+    record { kind = kinds.LatencyCritical; guaranteed = 1; limit = 1; delay = 0; request = 0 }
+
+-- both on two cores
+abbrev pub two_tasks : Table
+two_tasks =
+    record { cores = 2; bandwidth_limit = 0; tasks = first_task ∷ second_task ∷ [] }
+
+-- what a thread shows that has taken so many commands, runs on no core, and has so many requests that
+-- came at tick 1
+abbrev pub shown : ℕ → ℕ → Record
+shown taken queued = record {
+  taken = taken;
+  running = 0;
+  queued = queued;
+  oldest = 1;
+  started = 0;
+  misses = 0;
+  stamp = 0;
+  paused = 0;
+  since = 0;
+}
+
+-- a pass at tick 2 whose looks found this of the three threads, with room in each ring
+abbrev pub entry_of : Seen → Seen → Seen → List Action → PassEntry
+entry_of first second third actions = record {
+  input = record {
+    now = 2;
+    bandwidth = 0;
+    seen = first ∷ second ∷ third ∷ [];
+    rooms = true ∷ true ∷ true ∷ [];
+  };
+  actions = actions;
+}
+
+-- the first task gets a core, and then the other
+abbrev pub first_pass : PassEntry
+first_pass =
+    entry_of (Whole 1 (shown 0 1)) (Whole 1 (shown 0 1)) (Whole 1 (shown 0 0)) (Grant 0 0 3 ∷ [])
+
+abbrev pub second_pass : PassEntry
+second_pass =
+    entry_of (Whole 1 (shown 0 1)) (Whole 1 (shown 0 1)) (Whole 1 (shown 0 0)) (Grant 1 1 1 ∷ [])
+
+-- the other task has a request: a core is revoked for it
+abbrev pub third_pass : PassEntry
+third_pass =
+    entry_of (Whole 1 (shown 0 1)) (Whole 1 (shown 0 1)) (Whole 2 (shown 0 1))
+    (Revoke 0 (causes.Preempt 1) ∷ [])
+
+-- the thread has left it, and the task is granted it
+abbrev pub fourth_pass : PassEntry
+fourth_pass =
+    entry_of (Whole 2 (shown 2 0)) (Whole 1 (shown 0 1)) (Whole 2 (shown 0 1))
+    (Free 0 ∷ Grant 0 2 3 ∷ [])
+
+abbrev pub four_passes : List PassEntry
+four_passes = first_pass ∷ second_pass ∷ third_pass ∷ fourth_pass ∷ []
+
+-- task t waits through the passes p to p + d, and none before the last grants it a core
+pub record WaitsToTheLast (table : Table) (history : List PassEntry) (t d p : ℕ) : Type 0 where
+  pub waits : WaitsThrough table history t d p
+  pub late : (q : ℕ) (entry : PassEntry) → p ≤ q → q < p + d → slice_get history q ≡ Some entry →
+      (place core thread class : ℕ) → slice_get entry.actions place ≡ Some (Grant core thread class) →
+      owner_of table thread ≢ t
+
+-- so the guarantee's premises can be met, and its bound is exact
+abbrev pub TheBoundIsReached : Type 0
+TheBoundIsReached = WaitsToTheLast two_tasks four_passes 1 1 2

@@ -1,0 +1,40 @@
+//! One pass: who is short and waits does so up to its own turn, and how cores come to it.
+
+ghost use Rattle.cal_guarantee.specs.OnePass.{ShortLastsToTheTurn, WaitsLastToTheGrants};
+ghost use Rattle.cal_guarantee.specs.OnePass.{WaitsLastToTheTurn, FewCoresAreKept};
+ghost use Rattle.cal_guarantee.specs.OnePass.{OpenCoresCome, OwedCoresCome};
+
+/// Whether a task is short is the same after the first part of a pass and at its own turn.
+pub fn short_lasts_to_the_turn()
+    ensures { ShortLastsToTheTurn }
+{}
+
+/// A task is short and waits after the first part of a pass exactly if it does where the grants
+/// begin: between them only tasks that hold more than they are guaranteed lose cores.
+pub fn waits_last_to_the_grants()
+    ensures { WaitsLastToTheGrants }
+{}
+
+/// A task that is short and waits where the grants begin does so at its own turn.
+pub fn waits_last_to_the_turn()
+    ensures { WaitsLastToTheTurn }
+{}
+
+/// If a short task may take no open core, then fewer cores are open than are lacking: of each other
+/// short task that waits, at most as many are kept from it as that one lacks.
+pub fn few_cores_are_kept()
+    ensures { FewCoresAreKept }
+{}
+
+/// A task is short and waits where the grants begin. If as many cores were open as were lacking
+/// after the second part of the pass, the pass grants the task one: no ban takes a core that is
+/// lacking, and neither does a task that is not short.
+pub fn open_cores_come()
+    ensures { OpenCoresCome }
+{}
+
+/// A task is short and waits where the grants begin. If a core was owed to it after the first part
+/// of the pass, the pass grants the task one.
+pub fn owed_cores_come()
+    ensures { OwedCoresCome }
+{}
