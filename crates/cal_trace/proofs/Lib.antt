@@ -3,6 +3,7 @@ pub mod SignalLemmas
 pub mod ListLemmas
 pub mod HistoryLemmas
 pub mod GivenSignals
+pub mod ArrivalLemmas
 pub mod ArrivalsFit
 pub mod Ids
 pub mod Tallies

@@ -2,6 +2,7 @@
 pub mod FitsTable
 pub mod Ids
 pub mod Reading
+pub mod Text
 use Rattle.std.specs.Prelude.{◌==◌, ◌&&◌, ◌||◌, ◌+◌, ◌-◌, not, nat_le, nat_lt, ℕ, List, [], ◌∷◌}
 use Rattle.std.specs.Prelude.{◌++◌, length, codes, slice_get, Bool, true, false, Option, Some, None}
 use Rattle.std.specs.Prelude.{Result, Ok, Err, if◌then◌else◌}

@@ -1,8 +1,13 @@
 -- Laws over the definitions alone.
 use Rattle.std.specs.Prelude.{◌≡◌, ℕ, List, Ok}
 use Rattle.cal_machine.specs.Table.{Table, IsTable}
+use Rattle.cal_machine.specs.Tasks.{threads_in}
 use Rattle.cal_policy.specs.Pass.{IsLegal}
 use Rattle.cal_policy.specs.declared.history.entry.PassEntry.{PassEntry}
+use Rattle.cal_trace.specs.Arrivals.{arrivals_of}
+use Rattle.cal_trace.specs.Arrivals.FitsTable.{FitsTable}
+use Rattle.cal_trace.specs.Arrivals.Text.{arrivals_text, AreSpelled}
+use Rattle.cal_trace.specs.declared.arrivals.Arrivals.{Arrivals}
 use Rattle.cal_trace.specs.History.{history_of}
 use Rattle.cal_trace.specs.History.Reading.{extent_of}
 use Rattle.cal_trace.specs.History.Text.{history_rows, history_text}
@@ -35,3 +40,17 @@ LegalIsReadBack =
     (table : Table) (history : List PassEntry) → IsTable table → IsLegal table history →
     IsSized history
     → history_of (extent_of table) (rows_of (history_text history)) ≡ Ok history
+
+-- the text of arrivals that fit a table is read, for that table, as these arrivals
+abbrev pub ArrivalsAreReadBack : Type 0
+ArrivalsAreReadBack =
+    (table : Table) (arrivals : Arrivals) → IsTable table → FitsTable table arrivals →
+    AreSpelled arrivals →
+    arrivals_of (threads_in table.tasks) (rows_of (arrivals_text arrivals)) ≡ Ok arrivals
+
+-- the text of arrivals that were read is read as these arrivals
+abbrev pub ReadArrivalsAreReadBack : Type 0
+ReadArrivalsAreReadBack =
+    (table : Table) (text : List ℕ) (arrivals : Arrivals) → IsTable table →
+    arrivals_of (threads_in table.tasks) (rows_of text) ≡ Ok arrivals →
+    arrivals_of (threads_in table.tasks) (rows_of (arrivals_text arrivals)) ≡ Ok arrivals

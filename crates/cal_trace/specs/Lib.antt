@@ -2,6 +2,7 @@ pub mod Rows
 pub mod Signals
 pub mod History
 pub mod Report
+pub mod RowForms
 pub mod Laws
 pub mod Limits
 pub mod WriteFault

@@ -1,5 +1,6 @@
 -- The report of a history.
 pub mod Summary
+pub mod Words
 use Rattle.std.specs.Prelude.{◌≡◌, ◌-◌, ℕ, zero, suc, List, [], ◌∷◌, ◌++◌, length, codes, decimal}
 use Rattle.std.specs.List.{concat, flat_map}
 use Rattle.cal_machine.specs.Table.{Table}
@@ -8,54 +9,15 @@ use Rattle.cal_machine.specs.declared.task.Kind.{Kind}
 use Rattle.cal_machine.specs.declared.task.Kind.TheVariants.{LatencyCritical, BestEffort}
 use Rattle.cal_policy.specs.Board.Counts.{held_by, booked_by, cap_of}
 use Rattle.cal_policy.specs.History.{actions_of}
-use Rattle.cal_policy.specs.declared.history.look.Seen.{Seen}
-use Rattle.cal_policy.specs.declared.history.look.Seen.TheVariants as seen
 use Rattle.cal_policy.specs.declared.history.action.Action.{Action}
-use Rattle.cal_policy.specs.declared.history.action.Action.TheVariants.{Free, Unban, Ban, Revoke}
-use Rattle.cal_policy.specs.declared.history.action.Action.TheVariants.{Cap, Grant}
-use Rattle.cal_policy.specs.declared.history.action.Cause.{Cause}
-use Rattle.cal_policy.specs.declared.history.action.Cause.TheVariants as causes
 use Rattle.cal_policy.specs.declared.history.entry.PassEntry.{PassEntry}
 use Rattle.cal_trace.specs.declared.report.Report.{Report}
+use Rattle.cal_trace.specs.Report.Words.{action_text, kept_lines}
 use Rattle.cal_trace.specs.Rows.Text.{numbered}
-
--- the line of a look that was not kept, and why; a whole one has none
-abbrev pub kept_line : ℕ → Seen → List ℕ
-kept_line thread (seen.Whole number rec) = []
-kept_line thread (seen.Busy first second) =
-    concat (codes "  kept " ∷ decimal thread ∷ codes " busy\n" ∷ [])
-kept_line thread (seen.Ahead number rec) =
-    concat (codes "  kept " ∷ decimal thread ∷ codes " ahead\n" ∷ [])
-kept_line thread (seen.Foreign number rec) =
-    concat (codes "  kept " ∷ decimal thread ∷ codes " foreign\n" ∷ [])
-
--- the lines of the looks that were not kept, in thread order
-abbrev pub kept_lines : List Seen → List ℕ
-kept_lines looks = concat (numbered kept_line 0 looks)
-
-abbrev pub revocation_line : ℕ → Cause → List ℕ
-revocation_line core (causes.Ban by) =
-    concat (codes "  revoke core " ∷ decimal core ∷ codes " for ban by core " ∷ decimal by ∷
-    codes "\n" ∷ [])
-revocation_line core causes.Bandwidth =
-    concat (codes "  revoke core " ∷ decimal core ∷ codes " for bandwidth\n" ∷ [])
-revocation_line core (causes.Preempt task) =
-    concat (codes "  revoke core " ∷ decimal core ∷ codes " for task " ∷ decimal task ∷ codes "\n" ∷
-    [])
 
 -- the line of an action
 abbrev pub action_line : Action → List ℕ
-action_line (Free core) = concat (codes "  free core " ∷ decimal core ∷ codes "\n" ∷ [])
-action_line (Unban core) = concat (codes "  unban core " ∷ decimal core ∷ codes "\n" ∷ [])
-action_line (Ban core thread started) =
-    concat (codes "  ban core " ∷ decimal core ∷ codes " for thread " ∷ decimal thread ∷
-    codes " started " ∷ decimal started ∷ codes "\n" ∷ [])
-action_line (Revoke core cause) = revocation_line core cause
-action_line (Cap task cap) =
-    concat (codes "  cap task " ∷ decimal task ∷ codes " at " ∷ decimal cap ∷ codes "\n" ∷ [])
-action_line (Grant core thread class) =
-    concat (codes "  grant core " ∷ decimal core ∷ codes " to thread " ∷ decimal thread ∷
-    codes " class " ∷ decimal class ∷ codes "\n" ∷ [])
+action_line action = concat (codes "  " ∷ action_text action ∷ codes "\n" ∷ [])
 
 -- the line that begins a pass
 abbrev pub pass_line : ℕ → PassEntry → List ℕ

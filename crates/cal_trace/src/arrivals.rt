@@ -3,6 +3,7 @@
 pub mod file;
 pub mod ids;
 pub mod reading;
+pub mod text;
 
 use cal_machine::{Listed, Request};
 

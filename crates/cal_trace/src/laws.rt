@@ -2,8 +2,9 @@
 
 ghost use Rattle.cal_trace.specs.Laws.{TextIsItsRows, TextIsReadBack, ReadIsReadBack};
 ghost use Rattle.cal_trace.specs.Laws.{LegalIsReadBack};
+ghost use Rattle.cal_trace.specs.Laws.{ArrivalsAreReadBack, ReadArrivalsAreReadBack};
 
-use cal_policy::{legal_is_short, legal_is_sound};
+use cal_policy::laws::{legal_is_short, legal_is_sound};
 
 /// The rows of the text of a history that is in range are the rows that it was written as.
 pub fn text_is_its_rows()
@@ -30,3 +31,14 @@ pub fn legal_is_read_back()
     legal_is_sound();
     legal_is_short();
 }
+
+/// The text of arrivals that fit a table is read, for that table, as these arrivals, where a file
+/// can hold them: their clocks, bandwidth figures and ids are below 2 to the 64.
+pub fn arrivals_are_read_back()
+    ensures { ArrivalsAreReadBack }
+{}
+
+/// Arrivals that were read and written are read back as they were.
+pub fn read_arrivals_are_read_back()
+    ensures { ReadArrivalsAreReadBack }
+{}

@@ -1,9 +1,9 @@
-//! The files of a run: signals, histories and arrivals are read; histories, reports and summaries
-//! are written.
+//! The files of a run: signals, histories and arrivals are read; histories, arrivals, reports and
+//! summaries are written.
 //!
 //! What is read is exactly what the rows say that `csv` gives of a text, or the first check that
-//! fails, with its row. What is written is exactly the text, and a history that was written is read
-//! back as it was. Arrivals that were read fit their table.
+//! fails, with its row. What is written is exactly the text, and histories and arrivals that were
+//! written are read back as they were. Arrivals that were read fit their table.
 //!
 //! Nothing here judges: whether a look or a history is the policy's is for cal_policy to say.
 #![tactic(auto)]
@@ -13,11 +13,14 @@ mod fault;
 mod history;
 mod laws;
 mod report;
+mod row_forms;
 mod rows;
 mod signals;
 mod write_fault;
 
 pub use arrivals::file::read_arrivals;
+pub use arrivals::reading::{MOST_REQUEST_MISSES, MOST_TURNS, MOST_WORK};
+pub use arrivals::text::write_arrivals;
 pub use arrivals::{Arrival, Arrivals, GivenPass};
 pub use cal_policy::MOST_PASSES;
 pub use fault::{FaultKind, TraceFault};
@@ -25,10 +28,15 @@ pub use history::file::{HistoryRows, read_history};
 pub use history::text::{
     write_history, write_history_end, write_history_header, write_history_pass,
 };
-pub use laws::{legal_is_read_back, read_is_read_back, text_is_its_rows, text_is_read_back};
+pub use laws::{
+    arrivals_are_read_back, legal_is_read_back, read_arrivals_are_read_back, read_is_read_back,
+    text_is_its_rows, text_is_read_back,
+};
 pub use report::summary::{write_summary, write_tallied_summary};
 pub use report::tally::Tally;
+pub use report::words::{write_action, write_cause, write_kept};
 pub use report::{Report, write_report};
+pub use row_forms::{ARRIVAL_ROWS, HISTORY_ROWS, SIGNAL_ROWS};
 pub use signals::file::{SignalRows, read_signals};
 pub use signals::{SignalLooks, SignalPass, SignalPasses, Signals};
 pub use write_fault::WriteFault;

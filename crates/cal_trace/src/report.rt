@@ -2,6 +2,7 @@
 
 pub mod summary;
 pub mod tally;
+pub mod words;
 
 ghost use Rattle.std.specs.Prelude.{◌<◌, ◌+◌, ◌^◌, ◌++◌, ◌∷◌, [], ℕ, List, Option, length, OnOk};
 ghost use Rattle.std.specs.List.{flat_map};
@@ -11,14 +12,14 @@ ghost use Rattle.cal_policy.specs.declared.history.entry.PassEntry.{PassEntry};
 ghost use Rattle.cal_policy.specs.State.{IsReady, Agrees};
 ghost use Rattle.cal_policy.specs.History.{actions_of};
 ghost use Rattle.cal_policy.specs.Judgement.Orderly.{IsOrderly};
-ghost use Rattle.cal_trace.specs.Report.{action_line, kept_line, kept_lines, pass_text};
-ghost use Rattle.cal_trace.specs.Report.{passes_text, report_text, revocation_line, task_line};
-ghost use Rattle.cal_trace.specs.Report.{task_lines, IsReportOf};
+ghost use Rattle.cal_trace.specs.Report.{action_line, pass_text, passes_text, report_text};
+ghost use Rattle.cal_trace.specs.Report.{task_line, task_lines, IsReportOf};
 
+use crate::report::words::{write_action, write_kept};
 use crate::write_fault::WriteFault;
 use cal_machine::{Config, Kind};
 use cal_policy::state::{Board, board_of, booked_by, cap_of, held_by};
-use cal_policy::{Action, Cause, PassEntry, Seen};
+use cal_policy::{Action, PassEntry};
 use std::io;
 use std::io::Write;
 
@@ -114,80 +115,23 @@ fn write_pass<W: Write>(pass: u64, entry: &PassEntry, writer: &mut W) -> io::Res
     write_actions(entry.actions.as_slice(), writer)
 }
 
-// The looks that left the kept record as it was.
-fn write_kept<W: Write>(seen: &[Seen], writer: &mut W) -> io::Result<()>
-    ensures { OnOk result (Appends (W.contents writer.old) (W.contents writer.new)
-        (kept_lines seen.now)) }
-{
-    for thread in 0..seen.len() {
-        write_look(thread, seen[thread], writer)?;
-    }
-    Ok(())
-}
-
-fn write_look<W: Write>(thread: usize, look: Seen, writer: &mut W) -> io::Result<()>
-    ensures { OnOk result (Appends (W.contents writer.old) (W.contents writer.new)
-        (kept_line thread look)) }
-{
-    match look {
-        Seen::Whole { .. } => Ok(()),
-        Seen::Busy { .. } => writeln!(writer, "  kept {thread} busy"),
-        Seen::Ahead { .. } => writeln!(writer, "  kept {thread} ahead"),
-        Seen::Foreign { .. } => writeln!(writer, "  kept {thread} foreign"),
-    }
-}
-
 fn write_actions<W: Write>(actions: &[Action], writer: &mut W) -> io::Result<()>
     ensures { OnOk result (Appends (W.contents writer.old) (W.contents writer.new)
         (flat_map action_line actions.now)) }
 {
     for action in actions {
-        write_action(*action, writer)?;
+        write_action_line(*action, writer)?;
     }
     Ok(())
 }
 
-fn write_action<W: Write>(action: Action, writer: &mut W) -> io::Result<()>
+fn write_action_line<W: Write>(action: Action, writer: &mut W) -> io::Result<()>
     ensures { OnOk result (Appends (W.contents writer.old) (W.contents writer.new)
         (action_line action)) }
 {
-    match action {
-        Action::Free { core } => writeln!(writer, "  free core {core}"),
-        Action::Unban { core } => writeln!(writer, "  unban core {core}"),
-        Action::Ban {
-            core,
-            thread,
-            started,
-        } => {
-            writeln!(
-                writer,
-                "  ban core {core} for thread {thread} started {started}"
-            )
-        }
-        Action::Revoke { core, cause } => write_revocation(core, cause, writer),
-        Action::Cap { task, cap } => writeln!(writer, "  cap task {task} at {cap}"),
-        Action::Grant {
-            core,
-            thread,
-            class,
-        } => {
-            writeln!(
-                writer,
-                "  grant core {core} to thread {thread} class {class}"
-            )
-        }
-    }
-}
-
-fn write_revocation<W: Write>(core: u8, cause: Cause, writer: &mut W) -> io::Result<()>
-    ensures { OnOk result (Appends (W.contents writer.old) (W.contents writer.new)
-        (revocation_line core cause)) }
-{
-    match cause {
-        Cause::Ban { by } => writeln!(writer, "  revoke core {core} for ban by core {by}"),
-        Cause::Bandwidth => writeln!(writer, "  revoke core {core} for bandwidth"),
-        Cause::Preempt { task } => writeln!(writer, "  revoke core {core} for task {task}"),
-    }
+    write!(writer, "  ")?;
+    write_action(action, writer)?;
+    writeln!(writer)
 }
 
 fn write_tasks<W: Write>(config: &Config, board: &Board, writer: &mut W) -> io::Result<()>

@@ -1,12 +1,12 @@
 -- A legal history that a file can hold is in range.
-use Rattle.std.proofs.Common.{◌≡◌, ◌<◌, ◌≤◌, ◌==◌, ◌&&◌, not, ℕ, List, length, take, Bool, true, false, Option, Some, None, MatchOption, nat_lt, nat_le, slice_get, if◌then◌else◌, subst, arith}
+use Rattle.std.proofs.Common.{◌≡◌, ◌≤◌, ◌==◌, not, ℕ, List, length, take, true, Some, nat_lt, nat_le, slice_get, arith}
 use Rattle.std.proofs.lemmas.Bool.{and_parts, ltb-true, leb-true}
 use Rattle.cal_machine.specs.Machine.{sibling_of}
 use Rattle.cal_machine.specs.Table.{Table, IsTable}
 use Rattle.cal_machine.specs.Tasks.{no_task}
-use Rattle.cal_machine.specs.TableTasks.{owner_of, is_latency_critical, guaranteed_of, limit_of, threads_of_table}
-use Rattle.cal_policy.specs.Board.Counts.{is_free, is_held, is_held_for, booked_by, cores_of_thread, is_over}
-use Rattle.cal_policy.specs.History.{holder_of, last_thread, is_banned}
+use Rattle.cal_machine.specs.TableTasks.{limit_of, threads_of_table}
+use Rattle.cal_policy.specs.Board.Counts.{is_free, is_held, cores_of_thread}
+use Rattle.cal_policy.specs.History.{holder_of, is_banned}
 use Rattle.cal_policy.specs.Judgement.Judging.{IsFitLook}
 use Rattle.cal_policy.specs.Laws.{LegalIsSound, LegalIsShort}
 use Rattle.cal_policy.specs.Pass.Made.{IsGranted}
@@ -17,8 +17,6 @@ use Rattle.cal_policy.specs.Pass.Steady.{IsSound}
 use Rattle.cal_policy.specs.History.CoreClasses.{class_number}
 use Rattle.cal_policy.specs.declared.history.core_class.CoreClass.{CoreClass}
 use Rattle.cal_policy.specs.declared.history.core_class.CoreClass.TheVariants as classes
-use Rattle.cal_policy.specs.declared.board.holders.Holder.{Holder}
-use Rattle.cal_policy.specs.declared.board.holders.Holder.TheVariants as holders
 use Rattle.cal_policy.specs.declared.history.look.Seen.{Seen}
 use Rattle.cal_policy.specs.declared.history.look.Seen.TheVariants as seen
 use Rattle.cal_signal.specs.declared.shown.Shown.{Shown}

@@ -24,10 +24,10 @@ use Rattle.cal_trace.proofs.HistoryLemmas.Extents.{IsExtent, byte_word}
 use Rattle.cal_trace.proofs.RowLemmas.LinesRead.{ArePlain, IsPlainRow, ArePlainRows, plain_rows-append, text_read}
 use Rattle.cal_trace.proofs.RowLemmas.Spelled.{IsPlain, spelled}
 
-number : (n : ℕ) → IsWord n → IsPlain (decimal n)
+pub number : (n : ℕ) → IsWord n → IsPlain (decimal n)
 number n lt = (spelled n lt).plain
 
-word : (front : ℕ) (more : List ℕ) → 44 < front → list_any (needs_byte default_writer) (front ∷ more) ≡ false → IsPlain (front ∷ more)
+pub word : (front : ℕ) (more : List ℕ) → 44 < front → list_any (needs_byte default_writer) (front ∷ more) ≡ false → IsPlain (front ∷ more)
 word front more above unmarked = record { front = front; more = more; is = refl; above = above; unmarked = unmarked }
 
 pub room_word : (room : Bool) → IsWord (room_number room)

@@ -5,7 +5,6 @@ use Rattle.std.specs.List.{range_with_len}
 use Rattle.std.proofs.lemmas.Bool.{and_parts, ltb-true, leb-true, eqb-true}
 use Rattle.csv.specs.Records.{field_at}
 use Rattle.cal_policy.specs.declared.history.look.Seen.{Seen}
-use Rattle.cal_policy.specs.declared.history.look.Seen.TheVariants as seen
 use Rattle.cal_policy.specs.declared.history.action.Action.{Action}
 use Rattle.cal_policy.specs.declared.history.action.Action.TheVariants.{Free, Unban, Ban, Revoke, Cap, Grant}
 use Rattle.cal_policy.specs.declared.history.action.Cause.TheVariants as causes
@@ -78,7 +77,7 @@ field_word : (o : Option (List ℕ)) (n : ℕ) → option_and_then spelled_numbe
 field_word None n h = cc
 field_word (Some field) n h = number_word field n h
 
-word_at : (fields : Fields) (place : ℕ) → IsWord (number_at fields place)
+pub word_at : (fields : Fields) (place : ℕ) → IsWord (number_at fields place)
 word_at fields place = word_or (number_in fields place) (λ n e. field_word (field_at fields place) n e)
 
 -- the words of a row's record

@@ -19,10 +19,10 @@ later_at P x xs first other (suc i) (suc j) y z lt e f = other.at i j y z (omega
 later_cons : {X : Type 0} (P : X → X → Type 0) (x : X) (xs : List X) → Each (P x) xs → EachLater P xs → EachLater P (x ∷ xs)
 later_cons P x xs first other = record { at = later_at P x xs first other }
 
-later_first : {X : Type 0} (P : X → X → Type 0) (x : X) (xs : List X) → EachLater P (x ∷ xs) → Each (P x) xs
+pub later_first : {X : Type 0} (P : X → X → Type 0) (x : X) (xs : List X) → EachLater P (x ∷ xs) → Each (P x) xs
 later_first P x xs h = record { at = λ k y e. h.at 0 (suc k) x y (omega arith) refl e }
 
-later_other : {X : Type 0} (P : X → X → Type 0) (x : X) (xs : List X) → EachLater P (x ∷ xs) → EachLater P xs
+pub later_other : {X : Type 0} (P : X → X → Type 0) (x : X) (xs : List X) → EachLater P (x ∷ xs) → EachLater P xs
 later_other P x xs h = record { at = λ i j y z lt e f. h.at (suc i) (suc j) y z (omega arith) e f }
 
 pub later_push : {X : Type 0} (P : X → X → Type 0) (xs : List X) (x : X) → EachLater P xs → Each (λ y. P y x) xs → EachLater P (xs ++ x ∷ [])

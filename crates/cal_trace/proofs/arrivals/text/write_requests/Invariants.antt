@@ -1,0 +1,8 @@
+use Rattle.std.proofs.Common.{take, map}
+use Rattle.std.specs.Io.KnownBytes.{Appends}
+use Rattle.cal_trace.specs.Arrivals.Text.{request_fields}
+use Rattle.cal_trace.specs.History.Text.{lines_of}
+use Rattle.cal_trace.proofs.arrivals.text.write_requests.Given as goal
+
+abbrev pub invariant-loop-arrival : goal.invariant-loop-arrival
+invariant-loop-arrival g l = Appends (g.W.Write.contents l.initial.writer) (g.W.Write.contents l.writer) (lines_of (map request_fields (take l.arrival-index l.requests)))
