@@ -8,6 +8,7 @@
  * caladan_guard_pass on the same looks and the actions that caladan_pass chose, in place of caladan_pass. */
 #define _GNU_SOURCE
 #include "caladan.h"
+#include "chance.h"
 #include <stdio.h>
 #include <stdlib.h>
 #include <string.h>
@@ -37,14 +38,6 @@ static uint64_t ns(void) {
     struct timespec t;
     clock_gettime(CLOCK_MONOTONIC, &t);
     return (uint64_t)t.tv_sec * 1000000000u + (uint64_t)t.tv_nsec;
-}
-
-static uint32_t chance(uint32_t n) {
-    static uint64_t seed = 88172645463325252u;
-    seed ^= seed << 13;
-    seed ^= seed >> 7;
-    seed ^= seed << 17;
-    return (uint32_t)(seed >> 33) % n;
 }
 
 static int less(const void *a, const void *b) {

@@ -46,6 +46,13 @@ static void rest(uint8_t room) {
 static int closed(void) {
     caladan_holder_of_core holder = {9, 9, 9, 9};
     caladan_counts counts = {9, 9, 9};
+    caladan_core_ban ban = {9, 9, 9};
+    caladan_core_last last = {9, 9, 9};
+    WANT(caladan_guard_judge(&guard, looks, THREADS, judged, THREADS), CALADAN_IS_CLOSED);
+    WANT(caladan_guard_kept(&guard, 0, &looks[0]), CALADAN_IS_CLOSED);
+    WANT(caladan_guard_ban(&guard, 0, &ban), CALADAN_IS_CLOSED);
+    WANT(caladan_guard_last(&guard, 0, &last), CALADAN_IS_CLOSED);
+    WANT(ban.banned + last.granted, 18);
     WANT(hand(NULL, 0), CALADAN_IS_CLOSED);
     WANT(refused.why, 77);
     WANT(caladan_guard_holder(&guard, 0, &holder), CALADAN_IS_CLOSED);
@@ -128,6 +135,60 @@ static int through(void) {
     return 0;
 }
 
+/* What a policy chooses by, after the passes of `through`: core 0 is banned and left by thread 2, core 3 held by thread 0. */
+static int seen(void) {
+    caladan_core_ban ban;
+    caladan_core_last last;
+    caladan_look kept;
+    WANT(caladan_guard_ban(&guard, 0, &ban), CALADAN_DONE);
+    WANT(ban.banned, 1); /* for whom, as it was chosen */
+    WANT(ban.thread, 0);
+    WANT(ban.started, 0);
+    WANT(caladan_guard_ban(&guard, 1, &ban), CALADAN_DONE);
+    WANT(ban.banned, 0);
+    WANT(caladan_guard_last(&guard, 0, &last), CALADAN_DONE);
+    WANT(last.granted, 1);
+    WANT(last.thread, 2);
+    WANT(last.task, 1);
+    WANT(caladan_guard_last(&guard, 1, &last), CALADAN_DONE);
+    WANT(last.granted, 0);
+    WANT(caladan_guard_ban(&guard, 4, &ban), CALADAN_NO_SUCH);
+    WANT(caladan_guard_ban(&guard, 256, &ban), CALADAN_NO_SUCH);
+    WANT(caladan_guard_last(&guard, 256, &last), CALADAN_NO_SUCH);
+    WANT(caladan_guard_kept(&guard, THREADS, &kept), CALADAN_NO_SUCH);
+    WANT(caladan_guard_kept(&guard, 0, &kept), CALADAN_DONE);
+    looks[0].number = 0, looks[0].room = 0;
+    WANT(memcmp(&kept, &looks[0], sizeof kept), 0);
+    looks[0].number = 1, looks[0].room = 1;
+    WANT(caladan_guard_kept(&guard, 2, &kept), CALADAN_DONE); /* its foreign record is not kept */
+    WANT(kept.taken, 0);
+    WANT(kept.running, 0);
+    return 0;
+}
+
+/* The same as a pass judges, look by look, and nothing changes by it. */
+static int foretold(void) {
+    uint8_t before[THREADS] = {77, 77, 77, 77};
+    const caladan_look as_they_were[THREADS] = {looks[0], looks[1], looks[2], looks[3]};
+    looks[0].number = 2, looks[0].stamp = 9;                      /* a word fell */
+    looks[1] = (caladan_look){.room = 1, .number = 3, .taken = 1}; /* nothing was sent */
+    looks[3] = (caladan_look){.busy = 1, .room = 1, .number = 2, .second = 2};
+    WANT(caladan_guard_judge(&guard, looks, THREADS - 1, before, THREADS), CALADAN_WRONG_COUNT);
+    WANT(caladan_guard_judge(&guard, looks, THREADS, before, THREADS - 1), CALADAN_NO_ROOM);
+    WANT(before[0], 77);
+    for (int again = 0; again < 2; again++) {
+        WANT(caladan_guard_judge(&guard, looks, THREADS, before, THREADS), CALADAN_DONE);
+        WANT(before[0], CALADAN_WORD_FELL);
+        WANT(before[1], CALADAN_AHEAD);
+        WANT(before[2], CALADAN_FOREIGN);
+        WANT(before[3], CALADAN_NO_PAIR);
+    }
+    WANT(caladan_guard_pass_each(&guard, 20, 0, looks, THREADS, judged, THREADS, NULL, 0, &refused), CALADAN_DONE);
+    WANT(memcmp(before, judged, THREADS), 0);
+    memcpy(looks, as_they_were, sizeof looks);
+    return 0;
+}
+
 /* What the policy of caladan_pass does is permitted, over made passes. */
 static int follows(void) {
     caladan handle = CALADAN_CLOSED;
@@ -154,7 +215,7 @@ static int follows(void) {
 
 int main(void) {
     rest(1);
-    if (closed() || misused() || stopped() || through()) return 1;
+    if (closed() || misused() || stopped() || through() || seen() || foretold()) return 1;
     WANT(caladan_guard_close(&guard), CALADAN_DONE);
     if (follows()) return 1;
     WANT(caladan_guard_close(&guard), CALADAN_DONE);

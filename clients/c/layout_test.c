@@ -78,6 +78,23 @@ static void try_told(caladan_guard *guard) {
     CHECK(!gone.told.running && !gone.told.queued && !gone.told.oldest && !gone.told.started && !gone.told.paused && !gone.told.since);
 }
 
+/* Core 2 was granted to the thread that leaves, and is banned for the one that stays. */
+static void try_cores(caladan_guard *guard) {
+    WATCHED(caladan_core_ban) ban;
+    WATCHED(caladan_core_last) last;
+    WATCHED(caladan_look) kept;
+    FILL(ban);
+    CHECK(caladan_guard_ban(guard, 2, &ban.told) == CALADAN_DONE && is_whole(ban.behind));
+    CHECK(ban.told.banned == 1 && ban.told.thread == STAYS && ban.told.started == 777);
+    FILL(last);
+    CHECK(caladan_guard_last(guard, 3, &last.told) == CALADAN_DONE && is_whole(last.behind));
+    CHECK(last.told.granted == 1 && last.told.thread == STAYS && last.told.task == 1);
+    FILL(kept);
+    CHECK(caladan_guard_kept(guard, LEAVES, &kept.told) == CALADAN_DONE && is_whole(kept.behind));
+    CHECK(!kept.told.busy && !kept.told.room && !kept.told.number && !kept.told.second && kept.told.taken == 1);
+    CHECK(kept.told.running == 3 && kept.told.misses == 52 && kept.told.stamp == 63 && !kept.told.queued && !kept.told.started);
+}
+
 int main(void) {
     WATCHED(caladan_guard) guard;
     FILL(guard);
@@ -86,6 +103,7 @@ int main(void) {
     try_table(&guard.told);
     try_state(&guard.told);
     try_told(&guard.told);
+    try_cores(&guard.told);
     CHECK(caladan_guard_close(&guard.told) == CALADAN_DONE && !guard.told.open && is_whole(guard.behind));
     puts(failed ? "layout_test: failed" : "layout_test: ok");
     return failed;

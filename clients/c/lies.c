@@ -419,7 +419,7 @@ static void try_calls(void) {
     caladan_action actions[CALADAN_MOST_ACTIONS];
     uint8_t judged[THREADS] = {77}, thread = 77;
     size_t made = 77, unfit = 77;
-    CHECK(caladan_version() == 3 && CALADAN_VERSION == 3);
+    CHECK(caladan_version() == 4 && CALADAN_VERSION == 4);
     CHECK(caladan_pass_each(&closed, 1, 0, looks, THREADS, judged, THREADS, actions, CALADAN_MOST_ACTIONS, &made) == CALADAN_IS_CLOSED && made == 0);
     CHECK(caladan_pass_each(&handle, 1, 0, looks, THREADS + 1, judged, THREADS, actions, CALADAN_MOST_ACTIONS, &made) == CALADAN_WRONG_COUNT);
     CHECK(caladan_pass_each(&handle, 1, 0, looks, 0, judged, THREADS, actions, CALADAN_MOST_ACTIONS, &made) == CALADAN_WRONG_COUNT);

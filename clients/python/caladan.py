@@ -4,9 +4,9 @@
     with Scheduler(ctypes.CDLL("libcaladan_c.so"), table) as scheduler:
         judged, actions = scheduler.run_each(now, bandwidth, looks)
 
-A handle is closed at the end of `with`, by close(), or when nothing refers to it any more (a ResourceWarning says so then), and
-is used on the thread that opened it. A table is bytes, or a str, which is read as UTF-8. A number that does not fit its field or
-argument is a ValueError, before anything is called.
+A handle is closed at the end of `with`, by close(), or when nothing refers to it any more (a ResourceWarning says so then). It
+may move between threads, and is used by one at a time. A table is bytes, or a str, which is read as UTF-8; of rows text_of_rows
+makes one. A number that does not fit its field or argument is a ValueError, before anything is called.
 
 As a program it reads a task table, a line ---, and a file on standard input (docs/FORMATS.md).
 
@@ -25,10 +25,9 @@ import io
 import operator
 import re
 import sys
-import threading
 import warnings
 
-__version__ = "3"
+__version__ = "4"
 MOST_ACTIONS = 338
 MOST_CORES = 128
 MOST_PASSES, MOST_TEXT = 1 << 20, 1 << 26
@@ -77,6 +76,8 @@ Machine = structure("Machine", [("cores", U8), ("tasks", U8), ("threads", U8), (
 TableTask = structure("TableTask", [*((word, U8) for word in ("kind", "guaranteed", "limit", "first_thread")), ("delay", U64), ("request", U64)])
 Thread = structure("Thread", [("task", U8), ("sent", U64), ("taken", U64)])
 Holder = structure("Holder", [(word, U8) for word in ("state", "thread", "cause", "cause_of")])
+Ban = structure("Ban", [("banned", U8), ("thread", U8), ("started", U64)])
+Last = structure("Last", [("granted", U8), ("thread", U8), ("task", U8)])
 BUSY, PLACES, LEAVING, REVOKE, CAP, GRANT, BEST_EFFORT = 2, 4, 2, 4, 5, 6, 2
 UNFIT, NO_SUCH, ILLEGAL, NOT_PERMITTED, LOST = 15, 16, 20, 18, 21
 JUDGEMENT_TEXTS = ("no judgement", "kept", "busy", "ahead: it acknowledges more commands than were sent",
@@ -133,6 +134,17 @@ class Lost(CallRefused):
         super().__init__(LOST)
 
 
+def text_of_rows(cores, bandwidth_limit, rows):
+    """The text of a table of these TableTasks, whose first_thread is not read. A refusal names its number alone."""
+    # TOML has no number above 2^63 - 1, and no key has as much
+    lines = [f"cores = {min(cores, (1 << 63) - 1)}", f"bandwidth_limit = {min(bandwidth_limit, (1 << 63) - 1)}"]
+    for row in rows:
+        kind = {1: "lc", 2: "be"}.get(row.kind, "none")
+        lines += ["[[task]]", f'kind = "{kind}"', f"guaranteed = {row.guaranteed}", f"limit = {row.limit}",
+                  *(f"{key} = {min(getattr(row, key), (1 << 63) - 1)}" for key in ("delay", "request"))]
+    return "\n".join([*lines, *([] if rows else ["task = []"]), ""])
+
+
 def taken(look, judged):
     """The look that a pass by looks taken one by one took, of the one that it was given."""
     return look if judged <= BUSY else Look(busy=1, room=look.room, number=1, second=1)
@@ -143,7 +155,7 @@ class Kept:
     prefix = "caladan_"
 
     def __init__(self, library, table):
-        self.library, self.handle, self.thread_of_handle = library, Handle(), threading.get_ident()
+        self.library, self.handle = library, Handle()
         text = table.encode() if isinstance(table, str) else bytes(memoryview(table))
         self.answered(self.call("open", text, SIZE(len(text)), where=2))
 
@@ -158,8 +170,7 @@ class Kept:
         if not getattr(self, "handle", None) or not self.handle.open:
             return
         warnings.warn(f"{type(self).__name__} was not closed", ResourceWarning, source=self)
-        if threading.get_ident() == self.thread_of_handle:
-            self.close()
+        self.close()
 
     def call(self, name, *arguments, where=0, answers=U8):
         """Calls a function, with the handle as the argument at this place."""
@@ -213,6 +224,10 @@ class Counted(Kept):
         thread = self.thread(number)
         return thread.sent - thread.taken < PLACES
 
+    def kept(self, number):
+        """The kept record of a thread, as a look in which all but the words is 0."""
+        return self.told("kept", Look, SIZE(fitting(number, SIZE)))
+
     def gone(self, number):
         """What the page of a thread must show once the thread is gone, as a look; Lost where none can."""
         look = Look()
@@ -257,6 +272,18 @@ class Scheduler(Counted):
         answer, *told = self.passed("pass_each", now, bandwidth, looks)
         self.answered(answer)
         return told
+
+    def next_clock(self, now):
+        """When to make the next pass after one at `now` that made no action, if no look, no ring's room and no side of the
+        bandwidth limit changes until then: no pass before that clock makes an action. None: at no clock. As
+        caladan_next_clock, by the table and the kept records."""
+        clocks = []
+        for row in self.table():
+            for it in (self.kept(thread) for thread in range(row.first_thread, row.first_thread + row.limit)):
+                clocks += [it.oldest + row.delay + 1] if it.queued else []
+                clocks += [it.since + row.delay + 1] if it.paused else []
+                clocks += [it.started + row.request + 1] if row.kind != BEST_EFFORT and it.running and it.started else []
+        return min((clock for clock in clocks if now < clock < (1 << 64) - 1), default=None)
 
     def passed(self, name, now, bandwidth, looks):
         judged, actions, made = (U8 * self.threads)(), (Action * MOST_ACTIONS)(), SIZE()
@@ -307,6 +334,20 @@ class Guard(Counted):
             raise NotPermitted(refused, judged)
         self.answered(answer)
         return judged
+
+    def judge(self, looks):
+        """What run_each would judge of each look now. Nothing changes."""
+        judged = (U8 * len(looks))()
+        self.answered(self.call("judge", array(Look, looks), SIZE(len(looks)), judged, SIZE(len(looks))))
+        return list(judged)
+
+    def ban(self, core):
+        """Whether a core is banned, and for whom."""
+        return self.told("ban", Ban, U8(min(fitting(core, SIZE), 255)))
+
+    def last(self, core):
+        """To which thread a core was granted last, and its task."""
+        return self.told("last", Last, U8(min(fitting(core, SIZE), 255)))
 
     def handed(self, name, now, bandwidth, looks, actions):
         judged, refused = (U8 * len(looks))(), Refused()

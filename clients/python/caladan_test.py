@@ -87,6 +87,42 @@ def guarded(library):
     it.close()
 
 
+def chosen_by(library):
+    """What a policy chooses by: core 0 is granted to the thread, and then banned for it and revoked."""
+    it = Guard(library, TABLE)
+    want((it.judge([LIE]), it.judge([WAITS])), ([MISSHAPEN], [KEPT]))
+    want((it.last(0).granted, it.ban(0).banned, it.kept(0).stamp), (0, 0, 0))
+    want(it.run_each(111, 0, [WAITS], [GRANT]), [KEPT])
+    last, kept = it.last(0), it.kept(0)
+    want((last.granted, last.thread, last.task), (1, 0, 0))
+    want((kept.number, kept.room, kept.queued, kept.oldest, kept.stamp), (0, 0, 1, 100, 105))
+    want(it.run_each(112, 0, [WAITS], [Action(kind=3, core=1, started=7)]), [KEPT])
+    ban = it.ban(1)
+    want((ban.banned, ban.thread, ban.started, it.ban(0).banned), (1, 0, 7, 0))
+    for call in (it.ban, it.last):
+        for core in (2, 256, 1 << 40):
+            want(raised(CallRefused, call, core).answer, caladan.NO_SUCH)
+        raised(ValueError, call, -1)
+    want(raised(CallRefused, it.kept, 1).answer, caladan.NO_SUCH)
+    want(raised(CallRefused, it.judge, []).answer, 13)
+    it.close()
+
+
+def rows(library):
+    """A table of rows is the table of its text; of one that is refused the number is that of caladan.h."""
+    row = caladan.TableTask(kind=1, guaranteed=1, limit=1, delay=10, request=50)
+    with Scheduler(library, caladan.text_of_rows(2, 1000, [row])) as it:
+        facts(it, 0, 0)
+        want(it.next_clock(0), None)
+        want(it.run(105, 0, [WAITS])[1], [])
+        want((it.next_clock(105), it.kept(0).oldest), (111, 100))
+        want((it.run(110, 0, [WAITS])[1], it.run(111, 0, [WAITS])[1][0].kind), ([], 6))
+    for fault, cores, limit, kinds in ((5, 3, 0, [1]), (5, 1 << 70, 0, [1]), (5, 2, 1 << 63, [1]), (5, 2, 0, []), (5, 2, 0, [0]),
+                                       (6, 2, 0, [2]), (7, 2, 0, [1] * 3), (5, 2, 0, [1] * 17)):
+        some = [caladan.TableTask(kind=kind, guaranteed=1, limit=1) for kind in kinds]
+        want(raised(CallRefused, Guard, library, caladan.text_of_rows(cores, limit, some)).answer, fault)
+
+
 def written(library):
     """Passes that took looks one by one, written as a history, are legal; with another action they are not."""
     it, rows = Scheduler(library, TABLE), []
@@ -148,7 +184,7 @@ def tables(library):
 
 
 def left_open(library):
-    """One that is dropped is closed, and says so; one that is dropped on another thread says so. `with` closes after an error."""
+    """One that is dropped is closed, and says so; so is one that is dropped on another thread. `with` closes after an error."""
     for kind in (Scheduler, Audit, Guard):
         with warnings.catch_warnings(record=True) as said:
             warnings.simplefilter("always")
@@ -171,8 +207,7 @@ def left_open(library):
         other = threading.Thread(target=dropped.clear)
         other.start()
         other.join()
-        want((handle.open, len(said)), (True, 1))
-    want(library.caladan_close(ctypes.byref(handle)), 0)
+        want((handle.open, len(said)), (False, 1))
 
 
 def layout():
@@ -184,7 +219,7 @@ def layout():
     kinds = {"caladan": caladan.Handle, "caladan_audit": caladan.Handle, "caladan_guard": caladan.Handle, "caladan_look": Look,
              "caladan_action": Action, "caladan_holder_of_core": caladan.Holder, "caladan_counts": caladan.Counts,
              "caladan_machine": caladan.Machine, "caladan_table_row": caladan.TableTask, "caladan_thread_state": caladan.Thread,
-             "caladan_refused": caladan.Refused}
+             "caladan_refused": caladan.Refused, "caladan_core_ban": caladan.Ban, "caladan_core_last": caladan.Last}
     want(sorted(name for name, _ in sizes), sorted(kinds))
     for name, size in sizes:
         places = re.findall(rf"^CALADAN_PLACE\({name}, (\w+), (\d+)\);", header, re.M)
@@ -197,6 +232,8 @@ def main():
     library = ctypes.CDLL(sys.argv[1])
     scheduled(library)
     guarded(library)
+    chosen_by(library)
+    rows(library)
     written(library)
     out_of_range(library)
     tables(library)

@@ -1,11 +1,11 @@
 //! The decisions of a core scheduler, proved: a safe wrapper of `caladan.h`, which says more.
 //!
 //! The wrapper keeps what the header asks of a caller: a handle is owned by one `Scheduler`, which is
-//! neither copied nor sent to another thread, and each slice is passed with its length.
+//! not copied, may be sent to another thread and is used by one at a time, and each slice is passed with
+//! its length.
 
 use std::error::Error;
 use std::fmt;
-use std::marker::PhantomData;
 
 /// The most actions that a pass has.
 pub const MOST_ACTIONS: usize = 338;
@@ -18,6 +18,9 @@ struct Handle {
     open: bool,
     at: *mut u8,
 }
+
+// What it points to is its alone, and no thread's own: caladan.h lets it move between threads. It is not `Sync`.
+unsafe impl Send for Handle {}
 
 /// What the look at one thread's page found, and whether the thread's command ring had room.
 #[repr(C)]
@@ -224,6 +227,41 @@ struct Holder {
     cause_of: u8,
 }
 
+/// For whom a core is banned: the thread on its sibling, and when its request was begun. `banned` is 0 where it is
+/// not, and then all is 0.
+#[repr(C)]
+#[derive(Clone, Copy, Debug, Default, PartialEq, Eq)]
+pub struct Ban {
+    pub banned: u8,
+    pub thread: u8,
+    pub started: u64,
+}
+
+/// To which thread a core was granted last, and its task. `granted` is 0 where to none so far, and then all is 0.
+#[repr(C)]
+#[derive(Clone, Copy, Debug, Default, PartialEq, Eq)]
+pub struct Last {
+    pub granted: u8,
+    pub thread: u8,
+    pub task: u8,
+}
+
+/// The text of a table of these rows, for `open`; their `first_thread` is not read. A refusal names its number alone.
+pub fn text_of_rows(cores: u64, bandwidth_limit: u64, rows: &[TableTask]) -> String {
+    let most = |number: u64| number.min(i64::MAX as u64); // TOML has no greater one, and no key has as much
+    let mut text = format!("cores = {}\nbandwidth_limit = {}\n", most(cores), most(bandwidth_limit));
+    if rows.is_empty() {
+        text += "task = []\n";
+    }
+    for row in rows {
+        let kind = ["none", "lc", "be"].get(usize::from(row.kind)).unwrap_or(&"none");
+        let TableTask { guaranteed, limit, .. } = row;
+        let (delay, request) = (most(row.delay), most(row.request));
+        text += &format!("[[task]]\nkind = \"{kind}\"\nguaranteed = {guaranteed}\nlimit = {limit}\ndelay = {delay}\nrequest = {request}\n");
+    }
+    text
+}
+
 /// What was judged of a look.
 #[derive(Clone, Copy, Debug, PartialEq, Eq)]
 pub enum Judged {
@@ -307,6 +345,7 @@ extern "C" {
     fn caladan_table_task(handle: *mut Handle, task: usize, row: *mut TableTask) -> u8;
     fn caladan_thread(handle: *mut Handle, thread: usize, state: *mut Thread) -> u8;
     fn caladan_gone(handle: *mut Handle, thread: usize, look: *mut Look) -> u8;
+    fn caladan_kept(handle: *mut Handle, thread: usize, look: *mut Look) -> u8;
     fn caladan_holder(handle: *mut Handle, core: u8, holder: *mut Holder) -> u8;
     fn caladan_open(table: *const u8, length: usize, handle: *mut Handle) -> u8;
     fn caladan_threads(handle: *mut Handle) -> usize;
@@ -373,6 +412,10 @@ extern "C" {
     fn caladan_guard_table_task(handle: *mut Handle, task: usize, row: *mut TableTask) -> u8;
     fn caladan_guard_thread(handle: *mut Handle, thread: usize, state: *mut Thread) -> u8;
     fn caladan_guard_gone(handle: *mut Handle, thread: usize, look: *mut Look) -> u8;
+    fn caladan_guard_kept(handle: *mut Handle, thread: usize, look: *mut Look) -> u8;
+    fn caladan_guard_judge(handle: *mut Handle, looks: *const Look, count: usize, judged: *mut u8, judged_room: usize) -> u8;
+    fn caladan_guard_ban(handle: *mut Handle, core: u8, ban: *mut Ban) -> u8;
+    fn caladan_guard_last(handle: *mut Handle, core: u8, last: *mut Last) -> u8;
     fn caladan_guard_holder(handle: *mut Handle, core: u8, holder: *mut Holder) -> u8;
     fn caladan_guard_task(handle: *mut Handle, task: usize, counts: *mut Counts) -> u8;
     fn caladan_guard_close(handle: *mut Handle) -> u8;
@@ -390,8 +433,6 @@ pub struct Scheduler {
     judged: Vec<u8>,
     actions: Vec<Action>,
     made: usize,
-    /// Neither `Send` nor `Sync`.
-    on_its_thread: PhantomData<*mut u8>,
 }
 
 impl Scheduler {
@@ -405,7 +446,6 @@ impl Scheduler {
             judged: vec![0; threads],
             actions: vec![Action::default(); MOST_ACTIONS],
             made: 0,
-            on_its_thread: PhantomData,
         })
     }
 
@@ -458,41 +498,22 @@ impl Scheduler {
         Ok((&self.actions[..self.made], self.judged.iter().map(|number| Judged::of(*number))))
     }
 
-    /// The first thread whose look `pass` would refuse, if there is one.
-    pub fn first_unfit(&mut self, looks: &[Look]) -> Result<Option<usize>, Refused> {
-        let mut thread = 0;
-        match unsafe { caladan_first_unfit(&mut self.handle, looks.as_ptr(), looks.len(), &mut thread) } {
-            15 => Ok(Some(thread)),
-            answer => answered(answer).map(|()| None),
+    /// When to make the next pass after one at `now` that made no action, if no look, no ring's room and no side of
+    /// the bandwidth limit changes until then: no pass before that clock makes an action. None: at no clock. It goes
+    /// by the table and the kept records, as `caladan_next_clock` does.
+    pub fn next_clock(&mut self, now: u64) -> Option<u64> {
+        let tasks: Vec<TableTask> = self.table().collect();
+        let mut clocks = Vec::new();
+        for row in tasks {
+            for thread in 0..usize::from(row.limit) {
+                let Some(kept) = self.kept(usize::from(row.first_thread) + thread) else { continue };
+                let [_, running, queued, oldest, started, _, _, paused, since] = kept.words;
+                let runs = row.kind == 1 && running != 0 && started != 0;
+                let waits = [(queued != 0, oldest, row.delay), (paused != 0, since, row.delay), (runs, started, row.request)];
+                clocks.extend(waits.iter().filter(|it| it.0).filter_map(|it| it.1.checked_add(it.2)?.checked_add(1)));
+            }
         }
-    }
-
-    /// What the table says of the machine.
-    pub fn machine(&mut self) -> Machine {
-        let mut machine = Machine::default();
-        unsafe { caladan_table(&mut self.handle, &mut machine) };
-        machine
-    }
-
-    /// What the table says of each task, in order.
-    pub fn table(&mut self) -> impl Iterator<Item = TableTask> + '_ {
-        (0..).map_while(|task| {
-            let mut row = TableTask::default();
-            answered(unsafe { caladan_table_task(&mut self.handle, task, &mut row) }).ok().map(|()| row)
-        })
-    }
-
-    /// A thread's task, the commands sent to it, and those that its kept record acknowledges.
-    pub fn thread(&mut self, thread: usize) -> Option<Thread> {
-        let mut state = Thread::default();
-        answered(unsafe { caladan_thread(&mut self.handle, thread, &mut state) }).ok().map(|()| state)
-    }
-
-    /// What the page of a thread must show once the thread is gone: 16 where there is no such thread, 21
-    /// where no page can show it.
-    pub fn gone(&mut self, thread: usize) -> Result<Look, Refused> {
-        let mut look = Look::default();
-        answered(unsafe { caladan_gone(&mut self.handle, thread, &mut look) }).map(|()| look)
+        clocks.into_iter().filter(|clock| *clock > now && *clock < u64::MAX).min()
     }
 
     /// What each action of the last pass sends, if anything, and to which thread.
@@ -507,19 +528,6 @@ impl Scheduler {
             _ => None,
         })
     }
-
-    /// What a task has, where the table has it.
-    pub fn task(&mut self, task: usize) -> Option<Counts> {
-        let mut counts = Counts::default();
-        answered(unsafe { caladan_task(&mut self.handle, task, &mut counts) }).ok()?;
-        Some(counts)
-    }
-}
-
-impl Drop for Scheduler {
-    fn drop(&mut self) {
-        unsafe { caladan_close(&mut self.handle) };
-    }
 }
 
 /// What an audit says of the passes so far.
@@ -533,8 +541,6 @@ pub enum Verdict {
 /// An audit of recorded passes, handed over one after the other.
 pub struct Audit {
     handle: Handle,
-    /// Neither `Send` nor `Sync`.
-    on_its_thread: PhantomData<*mut u8>,
 }
 
 impl Audit {
@@ -542,7 +548,7 @@ impl Audit {
     pub fn open(table: &str) -> Result<Audit, Refused> {
         let mut handle = CLOSED;
         answered(unsafe { caladan_audit_open(table.as_ptr(), table.len(), &mut handle) })?;
-        Ok(Audit { handle, on_its_thread: PhantomData })
+        Ok(Audit { handle })
     }
 
     /// Takes the next recorded pass, legal or not: its looks, what was judged of each, and its actions.
@@ -572,12 +578,6 @@ impl Audit {
     }
 }
 
-impl Drop for Audit {
-    fn drop(&mut self) {
-        unsafe { caladan_audit_close(&mut self.handle) };
-    }
-}
-
 /// Why a guard let a pass not through.
 #[derive(Clone, Copy, Debug, PartialEq, Eq)]
 pub enum NotThrough {
@@ -602,8 +602,6 @@ impl Error for NotThrough {}
 pub struct Guard {
     handle: Handle,
     judged: Vec<u8>,
-    /// Neither `Send` nor `Sync`.
-    on_its_thread: PhantomData<*mut u8>,
 }
 
 impl Guard {
@@ -611,7 +609,7 @@ impl Guard {
     pub fn open(table: &str) -> Result<Guard, Refused> {
         let mut handle = CLOSED;
         answered(unsafe { caladan_guard_open(table.as_ptr(), table.len(), &mut handle) })?;
-        Ok(Guard { handle, judged: Vec::new(), on_its_thread: PhantomData })
+        Ok(Guard { handle, judged: Vec::new() })
     }
 
     /// Lets the next pass through, where each of its actions is permitted: what was judged of each look.
@@ -675,41 +673,23 @@ impl Guard {
         self.judged.iter().map(|number| Judged::of(*number))
     }
 
-    /// The first thread whose look `pass` would refuse, if there is one.
-    pub fn first_unfit(&mut self, looks: &[Look]) -> Result<Option<usize>, Refused> {
-        let mut thread = 0;
-        match unsafe { caladan_guard_first_unfit(&mut self.handle, looks.as_ptr(), looks.len(), &mut thread) } {
-            15 => Ok(Some(thread)),
-            answer => answered(answer).map(|()| None),
-        }
+    /// What `pass_each` would judge of each look now. Nothing changes.
+    pub fn judge(&mut self, looks: &[Look]) -> Result<Vec<Judged>, Refused> {
+        let mut judged = vec![0; looks.len()];
+        answered(unsafe { caladan_guard_judge(&mut self.handle, looks.as_ptr(), looks.len(), judged.as_mut_ptr(), judged.len()) })?;
+        Ok(judged.into_iter().map(Judged::of).collect())
     }
 
-    /// What the table says of the machine.
-    pub fn machine(&mut self) -> Machine {
-        let mut machine = Machine::default();
-        unsafe { caladan_guard_table(&mut self.handle, &mut machine) };
-        machine
+    /// Whether a core is banned, and for whom, where the table has it.
+    pub fn ban(&mut self, core: u8) -> Option<Ban> {
+        let mut ban = Ban::default();
+        answered(unsafe { caladan_guard_ban(&mut self.handle, core, &mut ban) }).ok().map(|()| ban)
     }
 
-    /// What the table says of each task, in order.
-    pub fn table(&mut self) -> impl Iterator<Item = TableTask> + '_ {
-        (0..).map_while(|task| {
-            let mut row = TableTask::default();
-            answered(unsafe { caladan_guard_table_task(&mut self.handle, task, &mut row) }).ok().map(|()| row)
-        })
-    }
-
-    /// A thread's task, the commands sent to it, and those that its kept record acknowledges.
-    pub fn thread(&mut self, thread: usize) -> Option<Thread> {
-        let mut state = Thread::default();
-        answered(unsafe { caladan_guard_thread(&mut self.handle, thread, &mut state) }).ok().map(|()| state)
-    }
-
-    /// What the page of a thread must show once the thread is gone: 16 where there is no such thread, 21
-    /// where no page can show it. With this look the pass is permitted that frees its core.
-    pub fn gone(&mut self, thread: usize) -> Result<Look, Refused> {
-        let mut look = Look::default();
-        answered(unsafe { caladan_guard_gone(&mut self.handle, thread, &mut look) }).map(|()| look)
+    /// To whom a core was granted last, where the table has it.
+    pub fn last(&mut self, core: u8) -> Option<Last> {
+        let mut last = Last::default();
+        answered(unsafe { caladan_guard_last(&mut self.handle, core, &mut last) }).ok().map(|()| last)
     }
 
     /// What each of these actions, which the last pass made, sends, if anything, and to which thread.
@@ -724,20 +704,80 @@ impl Guard {
             _ => None,
         })
     }
-
-    /// What a task has, where the table has it.
-    pub fn task(&mut self, task: usize) -> Option<Counts> {
-        let mut counts = Counts::default();
-        answered(unsafe { caladan_guard_task(&mut self.handle, task, &mut counts) }).ok()?;
-        Some(counts)
-    }
 }
 
-impl Drop for Guard {
-    fn drop(&mut self) {
-        unsafe { caladan_guard_close(&mut self.handle) };
-    }
+/// What a scheduler and a guard both say.
+macro_rules! says {
+    ($Kept:ident: $first_unfit:ident $table:ident $table_task:ident $thread:ident $gone:ident $task:ident $kept:ident) => {
+        impl $Kept {
+        /// The first thread whose look `pass` would refuse, if there is one.
+        pub fn first_unfit(&mut self, looks: &[Look]) -> Result<Option<usize>, Refused> {
+            let mut thread = 0;
+            match unsafe { $first_unfit(&mut self.handle, looks.as_ptr(), looks.len(), &mut thread) } {
+                15 => Ok(Some(thread)),
+                answer => answered(answer).map(|()| None),
+            }
+        }
+
+        /// What the table says of the machine.
+        pub fn machine(&mut self) -> Machine {
+            let mut machine = Machine::default();
+            unsafe { $table(&mut self.handle, &mut machine) };
+            machine
+        }
+
+        /// What the table says of each task, in order.
+        pub fn table(&mut self) -> impl Iterator<Item = TableTask> + '_ {
+            (0..).map_while(|task| {
+                let mut row = TableTask::default();
+                answered(unsafe { $table_task(&mut self.handle, task, &mut row) }).ok().map(|()| row)
+            })
+        }
+
+        /// A thread's task, the commands sent to it, and those that its kept record acknowledges.
+        pub fn thread(&mut self, thread: usize) -> Option<Thread> {
+            let mut state = Thread::default();
+            answered(unsafe { $thread(&mut self.handle, thread, &mut state) }).ok().map(|()| state)
+        }
+
+        /// What the page of a thread must show once the thread is gone: 16 where there is no such thread, 21
+        /// where no page can show it. With this look a scheduler's pass frees its core, and a guard permits the pass that does.
+        pub fn gone(&mut self, thread: usize) -> Result<Look, Refused> {
+            let mut look = Look::default();
+            answered(unsafe { $gone(&mut self.handle, thread, &mut look) }).map(|()| look)
+        }
+
+        /// What a task has, where the table has it.
+        pub fn task(&mut self, task: usize) -> Option<Counts> {
+            let mut counts = Counts::default();
+            answered(unsafe { $task(&mut self.handle, task, &mut counts) }).ok()?;
+            Some(counts)
+        }
+
+        /// The kept record of a thread, as a look in which all but the words is 0.
+        pub fn kept(&mut self, thread: usize) -> Option<Look> {
+            let mut look = Look::default();
+            answered(unsafe { $kept(&mut self.handle, thread, &mut look) }).ok().map(|()| look)
+        }
+        }
+    };
 }
+
+says!(Scheduler: caladan_first_unfit caladan_table caladan_table_task caladan_thread caladan_gone caladan_task caladan_kept);
+says!(Guard: caladan_guard_first_unfit caladan_guard_table caladan_guard_table_task caladan_guard_thread caladan_guard_gone caladan_guard_task caladan_guard_kept);
+
+/// Each closes what it opened.
+macro_rules! closes {
+    ($($Kept:ident $close:ident),*) => {$(
+        impl Drop for $Kept {
+            fn drop(&mut self) {
+                unsafe { $close(&mut self.handle) };
+            }
+        }
+    )*};
+}
+
+closes!(Scheduler caladan_close, Audit caladan_audit_close, Guard caladan_guard_close);
 
 #[cfg(test)]
 mod tests;

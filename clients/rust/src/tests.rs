@@ -1,6 +1,6 @@
 //! The calls of the wrapper, once each.
 
-use super::{Counts, Holder, TableTask, CLOSED};
+use super::{text_of_rows, Ban, Counts, Holder, Last, TableTask, CLOSED};
 use super::{history_of_each, Action, Audit, Command, Guard, Judged, Look, Machine, NotThrough, Refused, Scheduler, Stopped, Thread, Verdict, WORDS};
 
 const TABLE: &str = "cores = 2\nbandwidth_limit = 1000\n\n[[task]]\nkind = \"lc\"\nguaranteed = 1\nlimit = 1\ndelay = 10\nrequest = 50\n";
@@ -98,6 +98,44 @@ fn one_lie_stops_no_guard() {
 }
 
 #[test]
+fn what_a_policy_chooses_by() {
+    let mut guard = Guard::open(TABLE).unwrap();
+    let lie = Look { room: 1, number: 1, words: words(&[("running", 129)]), ..Look::default() };
+    assert_eq!((guard.judge(&[lie]), guard.judge(&[waits()])), (Ok(vec![Judged::Misshapen]), Ok(vec![Judged::Kept])));
+    assert_eq!(guard.judge(&[]), Err(Refused(13)));
+    assert_eq!((guard.last(0), guard.ban(0)), (Some(Last::default()), Some(Ban::default())));
+    assert!(guard.pass_each(111, 0, &[waits()], &[grant(3)]).is_ok());
+    assert_eq!((guard.last(0), guard.last(2)), (Some(Last { granted: 1, thread: 0, task: 0 }), None));
+    assert_eq!(guard.kept(0), Some(Look { room: 0, number: 0, ..waits() }));
+    assert_eq!(guard.kept(1), None);
+    assert!(guard.pass_each(112, 0, &[waits()], &[Action { kind: 3, core: 1, started: 7, ..Action::default() }]).is_ok());
+    assert_eq!((guard.ban(1), guard.ban(2)), (Some(Ban { banned: 1, thread: 0, started: 7 }), None));
+}
+
+#[test]
+fn rows_are_the_table() {
+    let row = TableTask { kind: 1, guaranteed: 1, limit: 1, delay: 10, request: 50, ..TableTask::default() };
+    let mut scheduler = Scheduler::open(&text_of_rows(2, 1000, &[row])).unwrap();
+    assert_eq!((scheduler.machine().cores, scheduler.table().collect::<Vec<_>>()), (2, vec![row]));
+    assert_eq!(scheduler.next_clock(0), None);
+    assert_eq!(scheduler.pass(105, 0, &[waits()]).unwrap().0.len(), 0);
+    assert_eq!(scheduler.next_clock(105), Some(111));
+    assert_eq!(scheduler.pass(110, 0, &[waits()]).unwrap().0.len(), 0);
+    assert_eq!(scheduler.pass(111, 0, &[waits()]).unwrap().0.len(), 1);
+    let refused = |cores, limit, rows: &[TableTask]| Guard::open(&text_of_rows(cores, limit, rows)).err();
+    let unfair = TableTask { kind: 2, ..row };
+    assert_eq!((refused(3, 0, &[row]), refused(u64::MAX, 0, &[row]), refused(2, u64::MAX, &[row])), (Some(Refused(5)), Some(Refused(5)), Some(Refused(5))));
+    assert_eq!((refused(2, 0, &[]), refused(2, 0, &[unfair]), refused(2, 0, &[row; 3])), (Some(Refused(5)), Some(Refused(6)), Some(Refused(7))));
+}
+
+#[test]
+fn a_handle_moves_between_threads() {
+    let mut scheduler = Scheduler::open(TABLE).unwrap();
+    let made = std::thread::spawn(move || scheduler.pass(111, 0, &[waits()]).map(|it| it.0.len())).join().unwrap();
+    assert_eq!(made, Ok(1));
+}
+
+#[test]
 fn texts_and_history() {
     assert_eq!(Refused(21).to_string(), "no page can show that the thread is gone");
     assert_eq!(NotThrough::Stopped(Stopped { place: 3, why: 11, names: 1 }).to_string(), "action 3: a task is over its cap");
@@ -147,9 +185,11 @@ fn layout_is_the_headers() {
     assert_eq!(row, of_header("caladan_table_row"));
     assert_eq!(layout!(Thread::default(), task, sent, taken), of_header("caladan_thread_state"));
     assert_eq!(layout!(Stopped::default(), place, why, names), of_header("caladan_refused"));
+    assert_eq!(layout!(Ban::default(), banned, thread, started), of_header("caladan_core_ban"));
+    assert_eq!(layout!(Last::default(), granted, thread, task), of_header("caladan_core_last"));
     let (size, mut places) = layout!(Look::default(), busy, room, number, second, words);
     let words = places.pop().unwrap().1;
     places.extend(WORDS.iter().enumerate().map(|(k, word)| (word.to_string(), words + 8 * k)));
     assert_eq!((size, places), of_header("caladan_look"));
-    assert_eq!(include_str!("../../../include/caladan.h").lines().filter(|line| line.starts_with("CALADAN_SIZE(")).count(), 11);
+    assert_eq!(include_str!("../../../include/caladan.h").lines().filter(|line| line.starts_with("CALADAN_SIZE(")).count(), 13);
 }

@@ -5,3 +5,4 @@ mod OneMore
 mod NoneSuch
 mod OneByOne
 mod Walked
+mod LastGrant

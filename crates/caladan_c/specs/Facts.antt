@@ -5,6 +5,7 @@ use Rattle.cal_machine.specs.Table.{Table}
 use Rattle.cal_machine.specs.Tasks.{task_at, first_thread}
 use Rattle.cal_machine.specs.declared.task.Kind.{Kind}
 use Rattle.cal_machine.specs.declared.task.Kind.TheVariants.{LatencyCritical, BestEffort}
+use Rattle.cal_signal.specs.declared.record.Record.{Record}
 use Rattle.cal_signal.specs.declared.shown.Shown.{Shown}
 use Rattle.cal_policy.specs.declared.board.holders.Placement as placements
 use Rattle.cal_policy.specs.declared.history.action.Action.TheVariants.{Free}
@@ -58,6 +59,10 @@ state_of table history thread = record {
   sent = sent_as_u64 history thread;
   taken = (kept_by (looks_of history) thread).taken;
 }
+
+-- a kept record, as C is told: a look with its words, in which all else is 0
+abbrev pub found_kept : Record → Found
+found_kept rec = record { busy = 0; room = 0; number = 0; second = 0; rec = rec }
 
 -- a record and its place, as a look that C is told; there is no room
 abbrev pub found_shown : Shown → Found

@@ -4,9 +4,11 @@ pub mod Standing
 pub mod Facts
 pub mod Found
 pub mod Told
+pub mod Cores
 pub mod OneByOne
 pub mod Passing
 pub mod Opening
 pub mod Recorded
 pub mod AuditView
 pub mod GuardView
+pub mod Kinds

@@ -1,26 +1,32 @@
 //! What C calls: of a scheduler, of an audit and of a guard.
 
-/// Asks what a handle keeps, which it keeps on, and goes on with the answer. Of a closed handle it
-/// is what stands first.
+/// Asks what a handle keeps, which it keeps on, and goes on with the answer. Of a closed handle, and
+/// of one that keeps another kind, it is what stands first.
 macro_rules! asked {
-    ($Handle:ident: $handle:ident, $alloc:ident; $closed:expr;
+    ($Kind:ident: $handle:ident, $alloc:ident; $closed:expr;
         $kept:ident => $question:expr; $answer:ident => $then:expr) => {
         match $handle.take($alloc) {
             None => $closed,
-            Some(mut $kept) => {
-                let $answer = $question;
-                *$handle = $Handle::of($kept);
-                $then
-            }
+            Some(mut held) => match &mut *held {
+                Kept::$Kind($kept) => {
+                    let $answer = $question;
+                    *$handle = Handle::of(held);
+                    $then
+                }
+                _ => {
+                    *$handle = Handle::of(held);
+                    $closed
+                }
+            },
         }
     };
 }
 
 /// Asks it for what the table may not have, and tells what was found: 0.
 macro_rules! looked_up {
-    ($Handle:ident: $handle:ident, $alloc:ident;
+    ($Kind:ident: $handle:ident, $alloc:ident;
         $kept:ident => $question:expr; $found:ident => $told:expr) => {
-        asked!($Handle: $handle, $alloc; Refusal::Closed as u8; $kept => $question;
+        asked!($Kind: $handle, $alloc; Refusal::Closed as u8; $kept => $question;
             answer => match answer {
                 Some($found) => {
                     $told;
@@ -33,9 +39,9 @@ macro_rules! looked_up {
 
 /// Has it do what it may refuse, and tells what came of it: 0.
 macro_rules! did {
-    ($Handle:ident: $handle:ident, $alloc:ident; $kept:ident => $done:expr;
+    ($Kind:ident: $handle:ident, $alloc:ident; $kept:ident => $done:expr;
         $came:ident => $told:expr) => {
-        asked!($Handle: $handle, $alloc; Refusal::Closed as u8; $kept => $done;
+        asked!($Kind: $handle, $alloc; Refusal::Closed as u8; $kept => $done;
             answer => match answer {
                 Ok($came) => {
                     $told;
@@ -46,15 +52,41 @@ macro_rules! did {
     };
 }
 
-/// Lets go of what a handle keeps: 0.
+/// Has a closed handle keep what was opened: 0, or the table's fault.
+macro_rules! opened {
+    ($Kind:ident: $handle:ident, $alloc:ident; $opened:expr) => {
+        if $handle.is_open() {
+            Refusal::Open as u8
+        } else {
+            match $opened {
+                Ok(opened) => match Box::new($alloc, Kept::$Kind(opened)) {
+                    Ok(kept) => {
+                        *$handle = Handle::of(kept);
+                        0
+                    }
+                    Err(_) => Refusal::Memory as u8,
+                },
+                Err(fault) => fault as u8,
+            }
+        }
+    };
+}
+
+/// Lets go of what a handle keeps, where it is of this kind: 0.
 macro_rules! let_go {
-    ($handle:ident, $alloc:ident) => {
+    ($Kind:ident: $handle:ident, $alloc:ident) => {
         match $handle.take($alloc) {
             None => Refusal::Closed as u8,
-            Some(kept) => {
-                drop(kept);
-                0
-            }
+            Some(held) => match &*held {
+                Kept::$Kind(_) => {
+                    drop(held);
+                    0
+                }
+                _ => {
+                    *$handle = Handle::of(held);
+                    Refusal::Closed as u8
+                }
+            },
         }
     };
 }
@@ -68,7 +100,7 @@ ghost use Rattle.std.specs.Prelude.{◌≡◌};
 /// The version of this interface.
 #[unsafe(no_mangle)]
 pub extern "C" fn caladan_version() -> u32
-    ensures { result ≡ 3 }
+    ensures { result ≡ 4 }
 {
-    3
+    4
 }

@@ -18,8 +18,10 @@ mod table_guard;
 // what C hands in, and what it is told
 mod answer;
 mod found;
+mod gone;
 mod handed_in;
 mod input;
+mod judging;
 mod recorded;
 mod told;
 mod walk;

@@ -1,7 +1,6 @@
 //! A scheduler: its table, and the book of its passes.
 
 mod each;
-mod gone;
 
 ghost use Rattle.std.specs.Prelude.{◌≡◌, ◌≤◌, Err, IfOk, IfErr, List, OnErr, [], length};
 ghost use Rattle.cal_machine.specs.Outcome.{Gives};
@@ -16,11 +15,11 @@ use crate::handed_in::HandedIn;
 use crate::told::judgement::tell_looks;
 use crate::walk::{Basis, take_looks};
 use cal_machine::{Config, ConfigFault};
-use cal_policy::state::Board;
-use cal_policy::{
-    Action, Actions, Book, OpenPass, legal_is_short, one_pass_more_is_legal, open_pass_fits,
-    settled_is_no_news,
+use cal_policy::laws::{
+    legal_is_short, one_pass_more_is_legal, open_pass_fits, settled_is_no_news,
 };
+use cal_policy::state::Board;
+use cal_policy::{Action, Actions, Book, OpenPass};
 use std::alloc::Global;
 use std::marker::Model;
 

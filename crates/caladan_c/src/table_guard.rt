@@ -2,7 +2,6 @@
 //! of them is not permitted.
 
 mod each;
-mod gone;
 
 ghost use Rattle.std.specs.Prelude.{◌≡◌, ◌⊎◌, ◌≤◌, Err, IfOk, IfErr, IfNone, OnErr, []};
 ghost use Rattle.std.specs.Prelude.{List, length};
@@ -23,8 +22,9 @@ use crate::told::judgement::tell_looks;
 use crate::walk::{Basis, take_looks};
 use cal_guard::{Guard, Refused, permitted_settled_is_no_news};
 use cal_machine::{Config, ConfigFault};
+use cal_policy::laws::open_pass_fits;
 use cal_policy::state::Board;
-use cal_policy::{Action, MOST_ACTIONS, OpenPass, open_pass_fits};
+use cal_policy::{Action, MOST_ACTIONS, OpenPass};
 use std::alloc::Global;
 use std::marker::Model;
 

@@ -11,16 +11,16 @@ use Rattle.std.proofs.BoxSteps.Form.{Bx}
 use Rattle.std.specs.contracts.alloc.Global as Heap
 use Rattle.std.specs.contracts.impls.GlobalAllocator.TheImpl.{ghosts, dict}
 use Rattle.std.proofs.alloc.Global.TheLaws as heap
-use Rattle.caladan_c.specs.contracts.scheduler.Scheduler as Scheduler
-use Rattle.caladan_c.proofs.scheduler.Scheduler.TheLaws as scheduler
+use Rattle.caladan_c.specs.contracts.handle.kept.Kept as Kept
+use Rattle.caladan_c.proofs.handle.kept.Kept.TheLaws as kept
 use Rattle.caladan_c.specs.contracts.handle.loose.Loose as Loose
 use Rattle.caladan_c.specs.contracts.handle.pointer.Pointer as Pointer
 
 abbrev pub E : Bx
-E = record { row = Scheduler.the_row; laws = scheduler.the_row_laws; al = record { row = Heap.the_row; laws = heap.the_row_laws; g = ghosts; d = dict; drops = impl [] tnil dnil } }
+E = record { row = Kept.the_row; laws = kept.the_row_laws; al = record { row = Heap.the_row; laws = heap.the_row_laws; g = ghosts; d = dict; drops = impl [] tnil dnil } }
 
 abbrev pub FromLoose : Slot 0
-FromLoose = plain (λ _. Loose.the_row Scheduler.the_row Heap.the_row ghosts)
+FromLoose = plain (λ _. Loose.the_row Kept.the_row Heap.the_row ghosts)
 
 abbrev pub FromPointer : Slot 0
 FromPointer = plain (λ _. Pointer.the_row)

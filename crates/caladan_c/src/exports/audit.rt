@@ -1,10 +1,9 @@
 //! The calls of an audit: it is opened, takes recorded passes, says whether all are legal, and is
 //! closed.
 
-ghost use Rattle.std.specs.Prelude.{◌≡◌, ◌≢◌, ◌⊎◌, IfOk, IfErr, OnErr, Err, None, List, [], length};
+ghost use Rattle.std.specs.Prelude.{◌≡◌, ◌≢◌, ◌⊎◌, IfOk, IfErr, OnErr, Err, None, List, length};
 ghost use Rattle.std.specs.Prelude.{true, false};
 ghost use Rattle.std.specs.Option.{is_some, ForSome, IsSomeAnd};
-ghost use Rattle.cal_machine.specs.Outcome.{Gives};
 ghost use Rattle.cal_machine.specs.Reading.{table_in};
 ghost use Rattle.cal_policy.specs.Verdict.{IsVerdict};
 ghost use Rattle.cal_policy.specs.declared.history.entry.PassEntry.{PassEntry};
@@ -16,46 +15,29 @@ ghost use Rattle.caladan_c.specs.declared.answer.Refusal.TheVariants.{Closed, Me
 ghost use Rattle.caladan_c.specs.declared.answer.Refusal.TheVariants.{NoJudgement, Open};
 ghost use Rattle.caladan_c.specs.declared.answer.Refusal.TheVariants.{WrongCount};
 ghost use Rattle.caladan_c.specs.declared.answer.Finding.TheVariants as findings;
+ghost use Rattle.caladan_c.specs.Kinds.{audit_in};
 
 use crate::answer::{Finding, Refusal};
 use crate::audit::Audit;
 use crate::found::Found;
 use crate::handed_in::HandedIn;
-use crate::handle::audit::AuditHandle;
+use crate::handle::Handle;
+use crate::handle::kept::Kept;
 use crate::recorded::entry_of;
 use crate::told::Told;
-use cal_machine::ConfigFault;
 use cal_policy::Verdict;
 use std::alloc::Global;
-
-/// A new audit on the heap.
-fn open(alloc: Global, table: &[u8]) -> Result<Box<Audit>, ConfigFault>
-    ensures table { Gives (λ opened. opened.value.table) result (table_in table.now) }
-    ensures new { IfOk result (λ opened. HasAudited opened.value []) }
-{
-    let audit = Audit::open(alloc, table)?;
-    Ok(Box::new(alloc, audit)?)
-}
 
 /// Opens an audit of the table that a text spells, in a closed handle: 0, or the table's fault, 1
 /// to 9.
 #[unsafe(no_mangle)]
-pub extern "C" fn caladan_audit_open(alloc: Global, table: &[u8], handle: &mut AuditHandle) -> u8
+pub extern "C" fn caladan_audit_open(alloc: Global, table: &[u8], handle: &mut Handle) -> u8
     ensures already { is_some handle.old.pointer.kept ≡ true → result ≡ refusal_number Open }
     ensures opened { is_some handle.old.pointer.kept ≡ false → result ≢ refusal_number Memory →
-        SaysAudit (table_in table.now) result handle.new.pointer.kept }
+        SaysAudit (table_in table.now) result (audit_in handle.new) }
     ensures refused { result ≢ 0 → handle.new ≡ handle.old }
 {
-    if handle.is_open() {
-        return Refusal::Open as u8;
-    }
-    match open(alloc, table) {
-        Ok(opened) => {
-            *handle = AuditHandle::of(opened);
-            0
-        }
-        Err(first) => first as u8,
-    }
+    opened!(Audit: handle, alloc; Audit::open(alloc, table))
 }
 
 impl Audit {
@@ -93,23 +75,23 @@ impl Audit {
 #[unsafe(no_mangle)]
 pub extern "C" fn caladan_audit_pass(
     alloc: Global,
-    handle: &mut AuditHandle,
+    handle: &mut Handle,
     now: u64,
     bandwidth: u64,
     looks: &[Found],
     judged: &[u8],
     actions: &[Told],
 ) -> u8
-    ensures closed { is_some handle.old.pointer.kept ≡ false → result ≡ refusal_number Closed }
-    ensures taken { result ≡ 0 → ForSome handle.old.pointer.kept (λ a.
-        IsSomeAnd handle.new.pointer.kept (TookRecorded a now bandwidth looks.now judged.now
+    ensures closed { is_some (audit_in handle.old) ≡ false → result ≡ refusal_number Closed }
+    ensures taken { result ≡ 0 → ForSome (audit_in handle.old) (λ a.
+        IsSomeAnd (audit_in handle.new) (TookRecorded a now bandwidth looks.now judged.now
         actions.now)) }
     ensures no_judgement { result ≡ refusal_number NoJudgement → AreNoJudgements looks.now
         judged.now }
     ensures no_action { result ≡ refusal_number NoAction → AreNoActions actions.now }
-    ensures wrong_count { ForSome handle.old.pointer.kept (λ _.
+    ensures wrong_count { ForSome (audit_in handle.old) (λ _.
         length looks.now ≢ length judged.now → result ≡ refusal_number WrongCount) }
-    ensures answers { ForSome handle.old.pointer.kept (λ _. length looks.now ≡ length judged.now →
+    ensures answers { ForSome (audit_in handle.old) (λ _. length looks.now ≡ length judged.now →
         (result ≡ 0) ⊎ (result ≡ refusal_number NoJudgement) ⊎ (result ≡ refusal_number NoAction) ⊎
         (result ≡ refusal_number Memory)) }
     ensures own { (result ≡ 0) ⊎ (result ≡ refusal_number Memory) ⊎
@@ -117,7 +99,7 @@ pub extern "C" fn caladan_audit_pass(
         (result ≡ refusal_number NoAction) ⊎ (result ≡ refusal_number NoJudgement) }
     ensures refused { result ≢ 0 → handle.new.pointer.kept ≡ handle.old.pointer.kept }
 {
-    did!(AuditHandle: handle, alloc;
+    did!(Audit: handle, alloc;
         kept => kept.next_recorded(alloc, HandedIn { now, bandwidth, looks }, judged, actions);
         _taken => ())
 }
@@ -125,23 +107,19 @@ pub extern "C" fn caladan_audit_pass(
 /// What the audit says of the passes so far: 0 each is legal; 20 one is not, and `pass` is the
 /// first that is not, counted from 0; 10 the handle is closed.
 #[unsafe(no_mangle)]
-pub extern "C" fn caladan_audit_verdict(
-    alloc: Global,
-    handle: &mut AuditHandle,
-    pass: &mut u64,
-) -> u8
-    ensures closed { is_some handle.old.pointer.kept ≡ false → result ≡ refusal_number Closed }
-    ensures legal { result ≡ 0 → ForSome handle.old.pointer.kept (λ a. (h : List PassEntry) →
+pub extern "C" fn caladan_audit_verdict(alloc: Global, handle: &mut Handle, pass: &mut u64) -> u8
+    ensures closed { is_some (audit_in handle.old) ≡ false → result ≡ refusal_number Closed }
+    ensures legal { result ≡ 0 → ForSome (audit_in handle.old) (λ a. (h : List PassEntry) →
         HasAudited a h → IsVerdict a.table h Legal) }
     ensures illegal { result ≡ finding_number findings.Illegal →
-        ForSome handle.old.pointer.kept (λ a. (h : List PassEntry) → HasAudited a h →
+        ForSome (audit_in handle.old) (λ a. (h : List PassEntry) → HasAudited a h →
         IsVerdict a.table h (Illegal pass.new)) }
-    ensures answers { ForSome handle.old.pointer.kept (λ _. (result ≡ 0) ⊎
+    ensures answers { ForSome (audit_in handle.old) (λ _. (result ≡ 0) ⊎
         (result ≡ finding_number findings.Illegal)) }
     ensures other { result ≢ finding_number findings.Illegal → pass.new ≡ pass.old }
     ensures same { handle.new.pointer.kept ≡ handle.old.pointer.kept }
 {
-    asked!(AuditHandle: handle, alloc; Refusal::Closed as u8; kept => kept.verdict();
+    asked!(Audit: handle, alloc; Refusal::Closed as u8; kept => kept.verdict();
         verdict => match verdict {
             Verdict::Legal => 0,
             Verdict::Illegal { pass: first } => {
@@ -153,10 +131,12 @@ pub extern "C" fn caladan_audit_verdict(
 
 /// Lets go of what the handle keeps: 0; 10 it is closed already.
 #[unsafe(no_mangle)]
-pub extern "C" fn caladan_audit_close(alloc: Global, handle: &mut AuditHandle) -> u8
-    ensures already { is_some handle.old.pointer.kept ≡ false → result ≡ refusal_number Closed }
-    ensures closed { is_some handle.old.pointer.kept ≡ true → result ≡ 0 }
-    ensures after { handle.new.pointer.kept ≡ None }
+pub extern "C" fn caladan_audit_close(alloc: Global, handle: &mut Handle) -> u8
+    ensures already { is_some (audit_in handle.old) ≡ false → result ≡ refusal_number Closed }
+    ensures closed { is_some (audit_in handle.old) ≡ true → result ≡ 0 }
+    ensures after { is_some (audit_in handle.old) ≡ true → handle.new.pointer.kept ≡ None }
+    ensures other { is_some (audit_in handle.old) ≡ false →
+        handle.new.pointer.kept ≡ handle.old.pointer.kept }
 {
-    let_go!(handle, alloc)
+    let_go!(Audit: handle, alloc)
 }

@@ -1,13 +1,13 @@
 //! The calls of a guard: it is opened, lets passes through whose actions somebody else chose, says
 //! who has what, and is closed.
 
+mod board;
 mod each;
 mod facts;
 
 ghost use Rattle.std.specs.Prelude.{◌≡◌, ◌≢◌, ◌⊎◌, ◌<◌, ◌≤◌, IfOk, IfErr, IfNone, OnErr, Err, None};
-ghost use Rattle.std.specs.Prelude.{[], length, true, false};
+ghost use Rattle.std.specs.Prelude.{length, true, false};
 ghost use Rattle.std.specs.Option.{is_some, ForSome, IfSome, IsSomeAnd};
-ghost use Rattle.cal_machine.specs.Outcome.{Gives};
 ghost use Rattle.cal_machine.specs.Reading.{table_in};
 ghost use Rattle.cal_policy.specs.Board.{kept_holder};
 ghost use Rattle.cal_policy.specs.History.{actions_of, holder_of};
@@ -15,9 +15,7 @@ ghost use Rattle.cal_policy.specs.Judgement.Judging.{IsInput};
 ghost use Rattle.cal_machine.specs.TableTasks.{threads_of_table};
 ghost use Rattle.caladan_c.specs.Answer.{refusal_number, finding_number};
 ghost use Rattle.caladan_c.specs.Found.{input_of_found, input_given};
-ghost use Rattle.cal_policy.specs.State.{IsStateAfter};
-ghost use Rattle.cal_guard.specs.Guarded.{board_in, AfterPermitted};
-ghost use Rattle.cal_guard.specs.Permitted.{IsPermittedHistory};
+ghost use Rattle.cal_guard.specs.Guarded.{AfterPermitted};
 ghost use Rattle.caladan_c.specs.GuardView.{SaysGuard, WentThrough, WasStopped};
 ghost use Rattle.caladan_c.specs.GuardView.{WasStoppedAt};
 ghost use Rattle.caladan_c.specs.Told.{AreJudgements, counts_of, told_holder_of};
@@ -26,49 +24,31 @@ ghost use Rattle.caladan_c.specs.declared.answer.Refusal.TheVariants.{Closed, Me
 ghost use Rattle.caladan_c.specs.declared.answer.Refusal.TheVariants.{NoRoom, NoSuch, Open, Unfit};
 ghost use Rattle.caladan_c.specs.declared.answer.Refusal.TheVariants.{WrongCount};
 ghost use Rattle.caladan_c.specs.declared.answer.Finding.TheVariants.{Stopped};
+ghost use Rattle.caladan_c.specs.Kinds.{guard_in};
 
 use crate::answer::{Finding, Refusal};
 use crate::found::Found;
 use crate::handed_in::HandedIn;
-use crate::handle::guard::GuardHandle;
+use crate::handle::Handle;
+use crate::handle::kept::Kept;
 use crate::table_guard::TableGuard;
 use crate::told::Told;
 use crate::told::counts::{Counts, counts_of_task};
 use crate::told::holder::{ToldHolder, holder_on, tell_holder};
 use crate::told::refused::{ToldRefused, tell_refused};
 use cal_guard::Refused;
-use cal_machine::ConfigFault;
 use std::alloc::Global;
-
-/// A new guard on the heap.
-fn open(alloc: Global, table: &[u8]) -> Result<Box<TableGuard>, ConfigFault>
-    ensures table { Gives (λ opened. opened.value.table) result (table_in table.now) }
-    ensures new { IfOk result (λ opened. IsPermittedHistory opened.value.table []
-        × IsStateAfter (board_in opened.value.guard) []) }
-{
-    let opened = TableGuard::open(alloc, table)?;
-    Ok(Box::new(alloc, opened)?)
-}
 
 /// Opens a guard of the table that a text spells, in a closed handle: 0, or the table's fault, 1 to
 /// 9.
 #[unsafe(no_mangle)]
-pub extern "C" fn caladan_guard_open(alloc: Global, table: &[u8], handle: &mut GuardHandle) -> u8
+pub extern "C" fn caladan_guard_open(alloc: Global, table: &[u8], handle: &mut Handle) -> u8
     ensures already { is_some handle.old.pointer.kept ≡ true → result ≡ refusal_number Open }
     ensures opened { is_some handle.old.pointer.kept ≡ false → result ≢ refusal_number Memory →
-        SaysGuard (table_in table.now) result handle.new.pointer.kept }
+        SaysGuard (table_in table.now) result (guard_in handle.new) }
     ensures refused { result ≢ 0 → handle.new ≡ handle.old }
 {
-    if handle.is_open() {
-        return Refusal::Open as u8;
-    }
-    match open(alloc, table) {
-        Ok(opened) => {
-            *handle = GuardHandle::of(opened);
-            0
-        }
-        Err(first) => first as u8,
-    }
+    opened!(Guard: handle, alloc; TableGuard::open(alloc, table))
 }
 
 impl TableGuard {
@@ -127,7 +107,7 @@ impl TableGuard {
 #[unsafe(no_mangle)]
 pub extern "C" fn caladan_guard_pass(
     alloc: Global,
-    handle: &mut GuardHandle,
+    handle: &mut Handle,
     now: u64,
     bandwidth: u64,
     looks: &[Found],
@@ -135,28 +115,28 @@ pub extern "C" fn caladan_guard_pass(
     actions: &[Told],
     refused: &mut ToldRefused,
 ) -> u8
-    ensures closed { is_some handle.old.pointer.kept ≡ false → result ≡ refusal_number Closed }
-    ensures through { result ≡ 0 → ForSome handle.old.pointer.kept (λ g.
+    ensures closed { is_some (guard_in handle.old) ≡ false → result ≡ refusal_number Closed }
+    ensures through { result ≡ 0 → ForSome (guard_in handle.old) (λ g.
         AfterPermitted g.table g.guard (λ h.
-        IsSomeAnd handle.new.pointer.kept (WentThrough g h (input_of_found g.table h now bandwidth
+        IsSomeAnd (guard_in handle.new) (WentThrough g h (input_of_found g.table h now bandwidth
         looks.now) actions.now))) }
-    ensures judged { result ≡ 0 → ForSome handle.old.pointer.kept (λ g.
+    ensures judged { result ≡ 0 → ForSome (guard_in handle.old) (λ g.
         AfterPermitted g.table g.guard (λ h.
         AreJudgements (input_of_found g.table h now bandwidth looks.now).seen judged.new)) }
-    ensures stopped { result ≡ finding_number Stopped → ForSome handle.old.pointer.kept (λ g.
+    ensures stopped { result ≡ finding_number Stopped → ForSome (guard_in handle.old) (λ g.
         AfterPermitted g.table g.guard (λ h.
         WasStoppedAt g h (input_of_found g.table h now bandwidth looks.now) actions.now
         refused.new)) }
-    ensures unfit { result ≡ refusal_number Unfit → ForSome handle.old.pointer.kept (λ g.
+    ensures unfit { result ≡ refusal_number Unfit → ForSome (guard_in handle.old) (λ g.
         AfterPermitted g.table g.guard (λ h.
         IsInput g.table h (input_of_found g.table h now bandwidth looks.now) → ⊥)) }
     ensures no_action { result ≡ refusal_number NoAction → AreNoActions actions.now }
-    ensures wrong_count { ForSome handle.old.pointer.kept (λ g.
+    ensures wrong_count { ForSome (guard_in handle.old) (λ g.
         length looks.now ≢ threads_of_table g.table → result ≡ refusal_number WrongCount) }
-    ensures no_room { ForSome handle.old.pointer.kept (λ g.
+    ensures no_room { ForSome (guard_in handle.old) (λ g.
         length looks.now ≡ threads_of_table g.table → length judged.old < threads_of_table g.table →
         result ≡ refusal_number NoRoom) }
-    ensures answers { ForSome handle.old.pointer.kept (λ g.
+    ensures answers { ForSome (guard_in handle.old) (λ g.
         length looks.now ≡ threads_of_table g.table → threads_of_table g.table ≤ length judged.old →
         (result ≡ 0) ⊎ (result ≡ finding_number Stopped) ⊎ (result ≡ refusal_number Unfit) ⊎
         (result ≡ refusal_number NoAction) ⊎ (result ≡ refusal_number Memory)) }
@@ -168,7 +148,7 @@ pub extern "C" fn caladan_guard_pass(
         (judged.new ≡ judged.old) }
     ensures told { result ≢ finding_number Stopped → refused.new ≡ refused.old }
 {
-    asked!(GuardHandle: handle, alloc; Refusal::Closed as u8;
+    asked!(Guard: handle, alloc; Refusal::Closed as u8;
         kept => kept.pass_told(HandedIn { now, bandwidth, looks }, judged, actions);
         answer => match answer {
             Ok(None) => 0,
@@ -185,21 +165,21 @@ pub extern "C" fn caladan_guard_pass(
 #[unsafe(no_mangle)]
 pub extern "C" fn caladan_guard_holder(
     alloc: Global,
-    handle: &mut GuardHandle,
+    handle: &mut Handle,
     core: u8,
     holder: &mut ToldHolder,
 ) -> u8
-    ensures closed { is_some handle.old.pointer.kept ≡ false → result ≡ refusal_number Closed }
-    ensures told { result ≡ 0 → ForSome handle.old.pointer.kept (λ g.
+    ensures closed { is_some (guard_in handle.old) ≡ false → result ≡ refusal_number Closed }
+    ensures told { result ≡ 0 → ForSome (guard_in handle.old) (λ g.
         AfterPermitted g.table g.guard (λ h.
         holder.new ≡ told_holder_of (kept_holder (holder_of (actions_of h) core)))) }
-    ensures there { ForSome handle.old.pointer.kept (λ g. core < g.table.cores → result ≡ 0) }
-    ensures no_core { ForSome handle.old.pointer.kept (λ g. g.table.cores ≤ core →
+    ensures there { ForSome (guard_in handle.old) (λ g. core < g.table.cores → result ≡ 0) }
+    ensures no_core { ForSome (guard_in handle.old) (λ g. g.table.cores ≤ core →
         result ≡ refusal_number NoSuch) }
     ensures refused { result ≢ 0 → holder.new ≡ holder.old }
     ensures same { handle.new.pointer.kept ≡ handle.old.pointer.kept }
 {
-    looked_up!(GuardHandle: handle, alloc; kept => holder_on(kept.config(), kept.board(), core);
+    looked_up!(Guard: handle, alloc; kept => holder_on(kept.config(), kept.board(), core);
         found => *holder = tell_holder(found))
 }
 
@@ -208,30 +188,32 @@ pub extern "C" fn caladan_guard_holder(
 #[unsafe(no_mangle)]
 pub extern "C" fn caladan_guard_task(
     alloc: Global,
-    handle: &mut GuardHandle,
+    handle: &mut Handle,
     task: usize,
     counts: &mut Counts,
 ) -> u8
-    ensures closed { is_some handle.old.pointer.kept ≡ false → result ≡ refusal_number Closed }
-    ensures told { result ≡ 0 → ForSome handle.old.pointer.kept (λ g.
+    ensures closed { is_some (guard_in handle.old) ≡ false → result ≡ refusal_number Closed }
+    ensures told { result ≡ 0 → ForSome (guard_in handle.old) (λ g.
         AfterPermitted g.table g.guard (λ h. counts.new ≡ counts_of g.table (actions_of h) task)) }
-    ensures there { ForSome handle.old.pointer.kept (λ g. task < length g.table.tasks →
+    ensures there { ForSome (guard_in handle.old) (λ g. task < length g.table.tasks →
         result ≡ 0) }
-    ensures no_task { ForSome handle.old.pointer.kept (λ g. length g.table.tasks ≤ task →
+    ensures no_task { ForSome (guard_in handle.old) (λ g. length g.table.tasks ≤ task →
         result ≡ refusal_number NoSuch) }
     ensures refused { result ≢ 0 → counts.new ≡ counts.old }
     ensures same { handle.new.pointer.kept ≡ handle.old.pointer.kept }
 {
-    looked_up!(GuardHandle: handle, alloc;
+    looked_up!(Guard: handle, alloc;
         kept => counts_of_task(kept.config(), kept.board(), task); found => *counts = found)
 }
 
 /// Lets go of what the handle keeps: 0; 10 it is closed already.
 #[unsafe(no_mangle)]
-pub extern "C" fn caladan_guard_close(alloc: Global, handle: &mut GuardHandle) -> u8
-    ensures already { is_some handle.old.pointer.kept ≡ false → result ≡ refusal_number Closed }
-    ensures closed { is_some handle.old.pointer.kept ≡ true → result ≡ 0 }
-    ensures after { handle.new.pointer.kept ≡ None }
+pub extern "C" fn caladan_guard_close(alloc: Global, handle: &mut Handle) -> u8
+    ensures already { is_some (guard_in handle.old) ≡ false → result ≡ refusal_number Closed }
+    ensures closed { is_some (guard_in handle.old) ≡ true → result ≡ 0 }
+    ensures after { is_some (guard_in handle.old) ≡ true → handle.new.pointer.kept ≡ None }
+    ensures other { is_some (guard_in handle.old) ≡ false →
+        handle.new.pointer.kept ≡ handle.old.pointer.kept }
 {
-    let_go!(handle, alloc)
+    let_go!(Guard: handle, alloc)
 }

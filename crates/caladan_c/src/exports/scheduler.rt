@@ -4,9 +4,8 @@ mod each;
 mod facts;
 
 ghost use Rattle.std.specs.Prelude.{◌≡◌, ◌≢◌, ◌⊎◌, ◌<◌, ◌≤◌, IfOk, IfErr, OnErr, Err, None};
-ghost use Rattle.std.specs.Prelude.{[], length, true, false};
+ghost use Rattle.std.specs.Prelude.{length, true, false};
 ghost use Rattle.std.specs.Option.{is_some, ForSome, IsSomeAnd};
-ghost use Rattle.cal_machine.specs.Outcome.{Gives};
 ghost use Rattle.cal_machine.specs.Reading.{table_in};
 ghost use Rattle.cal_policy.specs.Board.{kept_holder};
 ghost use Rattle.cal_policy.specs.History.{actions_of, holder_of};
@@ -15,75 +14,55 @@ ghost use Rattle.cal_machine.specs.TableTasks.{threads_of_table};
 ghost use Rattle.caladan_c.specs.Answer.{refusal_number};
 ghost use Rattle.caladan_c.specs.Found.{input_of_found, input_given};
 ghost use Rattle.caladan_c.specs.Opening.{SaysScheduler};
-ghost use Rattle.cal_policy.specs.Book.{board_in, AfterLegal};
-ghost use Rattle.cal_policy.specs.Pass.{IsLegal};
-ghost use Rattle.cal_policy.specs.State.{IsStateAfter};
+ghost use Rattle.cal_policy.specs.Book.{AfterLegal};
 ghost use Rattle.caladan_c.specs.Passing.{MadePass, HasRoomToTell, IsShort};
 ghost use Rattle.caladan_c.specs.Told.{AreTold, AreJudgements, counts_of, told_holder_of};
 ghost use Rattle.caladan_c.specs.declared.answer.Refusal.TheVariants.{Closed, Memory, NoRoom, Open};
 ghost use Rattle.caladan_c.specs.declared.answer.Refusal.TheVariants.{NoSuch, Unfit, WrongCount};
+ghost use Rattle.caladan_c.specs.Kinds.{scheduler_in};
 
 use crate::answer::Refusal;
 use crate::found::Found;
 use crate::handed_in::HandedIn;
-use crate::handle::scheduler::SchedulerHandle;
+use crate::handle::Handle;
+use crate::handle::kept::Kept;
 use crate::scheduler::Scheduler;
 use crate::told::counts::{Counts, counts_of_task};
 use crate::told::holder::{ToldHolder, holder_on, tell_holder};
 use crate::told::{Told, tell_all};
-use cal_machine::ConfigFault;
 use cal_policy::MOST_ACTIONS;
 use std::alloc::Global;
-
-/// A new scheduler on the heap.
-fn open(alloc: Global, table: &[u8]) -> Result<Box<Scheduler>, ConfigFault>
-    ensures table { Gives (λ opened. opened.value.table) result (table_in table.now) }
-    ensures new { IfOk result (λ opened. IsLegal opened.value.table []
-        × IsStateAfter (board_in opened.value.book) []) }
-{
-    let scheduler = Scheduler::open(alloc, table)?;
-    Ok(Box::new(alloc, scheduler)?)
-}
 
 /// Opens the table that a text spells, in a closed handle: 0, or the table's fault, 1 to 9. It
 /// takes all the memory that the passes need.
 #[unsafe(no_mangle)]
-pub extern "C" fn caladan_open(alloc: Global, table: &[u8], handle: &mut SchedulerHandle) -> u8
+pub extern "C" fn caladan_open(alloc: Global, table: &[u8], handle: &mut Handle) -> u8
     ensures already { is_some handle.old.pointer.kept ≡ true → result ≡ refusal_number Open }
     ensures opened { is_some handle.old.pointer.kept ≡ false → result ≢ refusal_number Memory →
-        SaysScheduler (table_in table.now) result handle.new.pointer.kept }
+        SaysScheduler (table_in table.now) result (scheduler_in handle.new) }
     ensures refused { result ≢ 0 → handle.new ≡ handle.old }
 {
-    if handle.is_open() {
-        return Refusal::Open as u8;
-    }
-    match open(alloc, table) {
-        Ok(opened) => {
-            *handle = SchedulerHandle::of(opened);
-            0
-        }
-        Err(fault) => fault as u8,
-    }
+    opened!(Scheduler: handle, alloc; Scheduler::open(alloc, table))
 }
 
 /// How many kernel threads the table has: each pass is given as many looks. 0 of a closed handle.
 #[unsafe(no_mangle)]
-pub extern "C" fn caladan_threads(alloc: Global, handle: &mut SchedulerHandle) -> usize
-    ensures closed { is_some handle.old.pointer.kept ≡ false → result ≡ 0 }
-    ensures count { ForSome handle.old.pointer.kept (λ s. result ≡ threads_of_table s.table) }
+pub extern "C" fn caladan_threads(alloc: Global, handle: &mut Handle) -> usize
+    ensures closed { is_some (scheduler_in handle.old) ≡ false → result ≡ 0 }
+    ensures count { ForSome (scheduler_in handle.old) (λ s. result ≡ threads_of_table s.table) }
     ensures same { handle.new.pointer.kept ≡ handle.old.pointer.kept }
 {
-    asked!(SchedulerHandle: handle, alloc; 0; kept => kept.threads(); threads => threads)
+    asked!(Scheduler: handle, alloc; 0; kept => kept.threads(); threads => threads)
 }
 
 /// The bandwidth figure above which a best-effort task loses a core. 0 of a closed handle.
 #[unsafe(no_mangle)]
-pub extern "C" fn caladan_bandwidth_limit(alloc: Global, handle: &mut SchedulerHandle) -> u64
-    ensures closed { is_some handle.old.pointer.kept ≡ false → result ≡ 0 }
-    ensures limit { ForSome handle.old.pointer.kept (λ s. result ≡ s.table.bandwidth_limit) }
+pub extern "C" fn caladan_bandwidth_limit(alloc: Global, handle: &mut Handle) -> u64
+    ensures closed { is_some (scheduler_in handle.old) ≡ false → result ≡ 0 }
+    ensures limit { ForSome (scheduler_in handle.old) (λ s. result ≡ s.table.bandwidth_limit) }
     ensures same { handle.new.pointer.kept ≡ handle.old.pointer.kept }
 {
-    asked!(SchedulerHandle: handle, alloc; 0; kept => kept.config().bandwidth_limit();
+    asked!(Scheduler: handle, alloc; 0; kept => kept.config().bandwidth_limit();
         limit => limit)
 }
 
@@ -134,7 +113,7 @@ impl Scheduler {
 #[unsafe(no_mangle)]
 pub extern "C" fn caladan_pass(
     alloc: Global,
-    handle: &mut SchedulerHandle,
+    handle: &mut Handle,
     now: u64,
     bandwidth: u64,
     looks: &[Found],
@@ -142,24 +121,24 @@ pub extern "C" fn caladan_pass(
     actions: &mut [Told],
     made: &mut usize,
 ) -> u8
-    ensures closed { is_some handle.old.pointer.kept ≡ false → result ≡ refusal_number Closed }
-    ensures passed { result ≡ 0 → ForSome handle.old.pointer.kept (λ s.
-        AfterLegal s.table s.book (λ h. IsSomeAnd handle.new.pointer.kept (λ after.
+    ensures closed { is_some (scheduler_in handle.old) ≡ false → result ≡ refusal_number Closed }
+    ensures passed { result ≡ 0 → ForSome (scheduler_in handle.old) (λ s.
+        AfterLegal s.table s.book (λ h. IsSomeAnd (scheduler_in handle.new) (λ after.
         MadePass s h (input_of_found s.table h now bandwidth looks.now) after × AreTold after.made
         made.new actions.new))) }
-    ensures judged { result ≡ 0 → ForSome handle.old.pointer.kept (λ s.
+    ensures judged { result ≡ 0 → ForSome (scheduler_in handle.old) (λ s.
         AfterLegal s.table s.book (λ h.
         AreJudgements (input_of_found s.table h now bandwidth looks.now).seen judged.new)) }
-    ensures unfit { result ≡ refusal_number Unfit → ForSome handle.old.pointer.kept (λ s.
+    ensures unfit { result ≡ refusal_number Unfit → ForSome (scheduler_in handle.old) (λ s.
         AfterLegal s.table s.book (λ h.
         IsInput s.table h (input_of_found s.table h now bandwidth looks.now) → ⊥)) }
-    ensures wrong_count { ForSome handle.old.pointer.kept (λ s.
+    ensures wrong_count { ForSome (scheduler_in handle.old) (λ s.
         length looks.now ≢ threads_of_table s.table → result ≡ refusal_number WrongCount) }
-    ensures no_room { ForSome handle.old.pointer.kept (λ s.
+    ensures no_room { ForSome (scheduler_in handle.old) (λ s.
         length looks.now ≡ threads_of_table s.table →
         IsShort (threads_of_table s.table) judged.old actions.old →
         result ≡ refusal_number NoRoom) }
-    ensures answers { ForSome handle.old.pointer.kept (λ s.
+    ensures answers { ForSome (scheduler_in handle.old) (λ s.
         length looks.now ≡ threads_of_table s.table →
         HasRoomToTell (threads_of_table s.table) judged.old actions.old →
         (result ≡ 0) ⊎ (result ≡ refusal_number Unfit)) }
@@ -170,7 +149,7 @@ pub extern "C" fn caladan_pass(
         × (actions.new ≡ actions.old) × (judged.new ≡ judged.old) × (made.new ≡ 0) }
 {
     *made = 0;
-    did!(SchedulerHandle: handle, alloc;
+    did!(Scheduler: handle, alloc;
         kept => kept.pass_told(HandedIn { now, bandwidth, looks }, judged, actions);
         count => *made = count)
 }
@@ -180,21 +159,21 @@ pub extern "C" fn caladan_pass(
 #[unsafe(no_mangle)]
 pub extern "C" fn caladan_holder(
     alloc: Global,
-    handle: &mut SchedulerHandle,
+    handle: &mut Handle,
     core: u8,
     holder: &mut ToldHolder,
 ) -> u8
-    ensures closed { is_some handle.old.pointer.kept ≡ false → result ≡ refusal_number Closed }
-    ensures told { result ≡ 0 → ForSome handle.old.pointer.kept (λ s.
+    ensures closed { is_some (scheduler_in handle.old) ≡ false → result ≡ refusal_number Closed }
+    ensures told { result ≡ 0 → ForSome (scheduler_in handle.old) (λ s.
         AfterLegal s.table s.book (λ h.
         holder.new ≡ told_holder_of (kept_holder (holder_of (actions_of h) core)))) }
-    ensures there { ForSome handle.old.pointer.kept (λ s. core < s.table.cores → result ≡ 0) }
-    ensures no_core { ForSome handle.old.pointer.kept (λ s. s.table.cores ≤ core →
+    ensures there { ForSome (scheduler_in handle.old) (λ s. core < s.table.cores → result ≡ 0) }
+    ensures no_core { ForSome (scheduler_in handle.old) (λ s. s.table.cores ≤ core →
         result ≡ refusal_number NoSuch) }
     ensures refused { result ≢ 0 → holder.new ≡ holder.old }
     ensures same { handle.new.pointer.kept ≡ handle.old.pointer.kept }
 {
-    looked_up!(SchedulerHandle: handle, alloc; kept => holder_on(kept.config(), kept.board(), core);
+    looked_up!(Scheduler: handle, alloc; kept => holder_on(kept.config(), kept.board(), core);
         found => *holder = tell_holder(found))
 }
 
@@ -203,30 +182,32 @@ pub extern "C" fn caladan_holder(
 #[unsafe(no_mangle)]
 pub extern "C" fn caladan_task(
     alloc: Global,
-    handle: &mut SchedulerHandle,
+    handle: &mut Handle,
     task: usize,
     counts: &mut Counts,
 ) -> u8
-    ensures closed { is_some handle.old.pointer.kept ≡ false → result ≡ refusal_number Closed }
-    ensures told { result ≡ 0 → ForSome handle.old.pointer.kept (λ s.
+    ensures closed { is_some (scheduler_in handle.old) ≡ false → result ≡ refusal_number Closed }
+    ensures told { result ≡ 0 → ForSome (scheduler_in handle.old) (λ s.
         AfterLegal s.table s.book (λ h. counts.new ≡ counts_of s.table (actions_of h) task)) }
-    ensures there { ForSome handle.old.pointer.kept (λ s. task < length s.table.tasks →
+    ensures there { ForSome (scheduler_in handle.old) (λ s. task < length s.table.tasks →
         result ≡ 0) }
-    ensures no_task { ForSome handle.old.pointer.kept (λ s. length s.table.tasks ≤ task →
+    ensures no_task { ForSome (scheduler_in handle.old) (λ s. length s.table.tasks ≤ task →
         result ≡ refusal_number NoSuch) }
     ensures refused { result ≢ 0 → counts.new ≡ counts.old }
     ensures same { handle.new.pointer.kept ≡ handle.old.pointer.kept }
 {
-    looked_up!(SchedulerHandle: handle, alloc;
+    looked_up!(Scheduler: handle, alloc;
         kept => counts_of_task(kept.config(), kept.board(), task); found => *counts = found)
 }
 
 /// Lets go of what the handle keeps: 0; 10 it is closed already.
 #[unsafe(no_mangle)]
-pub extern "C" fn caladan_close(alloc: Global, handle: &mut SchedulerHandle) -> u8
-    ensures already { is_some handle.old.pointer.kept ≡ false → result ≡ refusal_number Closed }
-    ensures closed { is_some handle.old.pointer.kept ≡ true → result ≡ 0 }
-    ensures after { handle.new.pointer.kept ≡ None }
+pub extern "C" fn caladan_close(alloc: Global, handle: &mut Handle) -> u8
+    ensures already { is_some (scheduler_in handle.old) ≡ false → result ≡ refusal_number Closed }
+    ensures closed { is_some (scheduler_in handle.old) ≡ true → result ≡ 0 }
+    ensures after { is_some (scheduler_in handle.old) ≡ true → handle.new.pointer.kept ≡ None }
+    ensures other { is_some (scheduler_in handle.old) ≡ false →
+        handle.new.pointer.kept ≡ handle.old.pointer.kept }
 {
-    let_go!(handle, alloc)
+    let_go!(Scheduler: handle, alloc)
 }

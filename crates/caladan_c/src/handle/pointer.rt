@@ -3,12 +3,12 @@
 ghost use Rattle.std.specs.Prelude.{◌≡◌, true, Option, Some, None};
 ghost use Rattle.std.specs.Coded.{coded_option};
 ghost use Rattle.std.specs.Option.{is_some};
-ghost use Rattle.caladan_c.specs.Standing.{Standing};
+ghost use Rattle.caladan_c.specs.declared.handle.kept.Kept.{Kept};
 ghost use Rattle.caladan_c.specs.Handles.{pointer_owns};
-ghost use Rattle.caladan_c.specs.contracts.scheduler.Scheduler.{the_row as kept_row};
+ghost use Rattle.caladan_c.specs.contracts.handle.kept.Kept.{the_row as kept_row};
 
+use super::kept::Kept;
 use super::loose::Loose;
-use crate::scheduler::Scheduler;
 use std::alloc::Global;
 use std::marker::Model;
 
@@ -18,7 +18,7 @@ use std::marker::Model;
 pub struct Pointer {
     at: *mut u8,
     alloc: Global,
-    pub ghost kept: { Option Standing } by { coded_option kept_row.coded },
+    pub ghost kept: { Option Kept } by { coded_option kept_row.coded },
 }
 
 impl Model for Pointer {
@@ -27,7 +27,7 @@ impl Model for Pointer {
 
 impl Pointer {
     /// A pointer to what a box owned.
-    pub fn of_loose(loose: Loose<Scheduler, Global>) -> Pointer
+    pub fn of_loose(loose: Loose<Kept, Global>) -> Pointer
         ensures { result.kept ≡ Some loose.value }
     {
         let Loose { ptr, alloc } = loose;
@@ -38,13 +38,13 @@ impl Pointer {
     }
 
     /// What it owns.
-    pub fn into_loose(self) -> Loose<Scheduler, Global>
+    pub fn into_loose(self) -> Loose<Kept, Global>
         requires { is_some self.kept ≡ true }
         ensures { self.kept ≡ Some result.value }
     {
         let Pointer { at, alloc } = self;
         Loose {
-            ptr: at as *mut Scheduler,
+            ptr: at as *mut Kept,
             alloc,
         }
     }

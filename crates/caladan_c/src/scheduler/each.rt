@@ -9,7 +9,9 @@ ghost use Rattle.cal_policy.specs.Book.{AfterLegal};
 use super::Scheduler;
 use crate::handed_in::HandedIn;
 use crate::walk::{Basis, take_each};
-use cal_policy::{legal_is_short, one_pass_more_is_legal, open_pass_fits, settled_is_no_news};
+use cal_policy::laws::{
+    legal_is_short, one_pass_more_is_legal, open_pass_fits, settled_is_no_news,
+};
 
 impl Scheduler {
     /// Makes the next pass, each look by itself: a look that is unfit, ahead or foreign is taken as

@@ -17,7 +17,7 @@ use crate::recorded::read_actions;
 use crate::told::Told;
 use crate::walk::{Basis, take_each};
 use cal_guard::{Refused, permitted_settled_is_no_news};
-use cal_policy::open_pass_fits;
+use cal_policy::laws::open_pass_fits;
 
 impl TableGuard {
     /// Lets the next pass through with the actions that C chose, each look by itself: a look that

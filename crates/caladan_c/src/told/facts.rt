@@ -5,7 +5,10 @@ ghost use Rattle.std.specs.Option.{is_some, IfSome};
 ghost use Rattle.cal_machine.specs.TableTasks.{threads_of_table};
 ghost use Rattle.cal_policy.specs.declared.history.entry.PassEntry.{PassEntry};
 ghost use Rattle.cal_policy.specs.State.{IsStateAfter};
-ghost use Rattle.caladan_c.specs.Facts.{machine_of, row_of, state_of, kind_number, found_shown};
+ghost use Rattle.cal_policy.specs.History.{looks_of};
+ghost use Rattle.cal_policy.specs.History.Looks.{kept_by};
+ghost use Rattle.caladan_c.specs.Facts.{machine_of, row_of, state_of, kind_number};
+ghost use Rattle.caladan_c.specs.Facts.{found_kept, found_shown};
 
 use crate::found::Found;
 use cal_machine::{Config, Kind};
@@ -122,6 +125,25 @@ pub fn state_of_thread(config: &Config, board: &Board, thread: usize) -> Option<
             task: config.task_of(thread) as u8,
             sent: board.sent(config, thread),
             taken: board.kept(config, thread).taken,
+        })
+    } else {
+        None
+    }
+}
+
+/// The kept record of a thread as a look, where the table has the thread. All but its words is 0.
+pub fn kept_of_thread(config: &Config, board: &Board, thread: usize) -> Option<Found>
+    ensures there { is_some result ≡ nat_lt thread (threads_of_table config.now) }
+    ensures kept { IfSome result (λ found. (h : List PassEntry) → IsStateAfter board.now h →
+        found ≡ found_kept (kept_by (looks_of h) thread)) }
+{
+    if thread < config.threads() {
+        Some(Found {
+            busy: 0,
+            room: 0,
+            number: 0,
+            second: 0,
+            rec: board.kept(config, thread),
         })
     } else {
         None

@@ -13,11 +13,13 @@ ghost use Rattle.caladan_c.specs.declared.answer.Refusal.TheVariants.{Closed, Me
 ghost use Rattle.caladan_c.specs.declared.answer.Refusal.TheVariants.{NoRoom, Unfit, WrongCount};
 ghost use Rattle.caladan_c.specs.declared.answer.Finding.TheVariants.{Stopped};
 ghost use Rattle.cal_guard.specs.Guarded.{AfterPermitted};
+ghost use Rattle.caladan_c.specs.Kinds.{guard_in};
 
 use crate::answer::{Finding, Refusal};
 use crate::found::Found;
 use crate::handed_in::HandedIn;
-use crate::handle::guard::GuardHandle;
+use crate::handle::Handle;
+use crate::handle::kept::Kept;
 use crate::input::first_unfit;
 use crate::table_guard::TableGuard;
 use crate::told::Told;
@@ -78,7 +80,7 @@ impl TableGuard {
 #[unsafe(no_mangle)]
 pub extern "C" fn caladan_guard_pass_each(
     alloc: Global,
-    handle: &mut GuardHandle,
+    handle: &mut Handle,
     now: u64,
     bandwidth: u64,
     looks: &[Found],
@@ -86,25 +88,25 @@ pub extern "C" fn caladan_guard_pass_each(
     actions: &[Told],
     refused: &mut ToldRefused,
 ) -> u8
-    ensures closed { is_some handle.old.pointer.kept ≡ false → result ≡ refusal_number Closed }
-    ensures through { result ≡ 0 → ForSome handle.old.pointer.kept (λ g.
+    ensures closed { is_some (guard_in handle.old) ≡ false → result ≡ refusal_number Closed }
+    ensures through { result ≡ 0 → ForSome (guard_in handle.old) (λ g.
         AfterPermitted g.table g.guard (λ h.
-        IsSomeAnd handle.new.pointer.kept (WentThrough g h (input_of_each g.table h now bandwidth
+        IsSomeAnd (guard_in handle.new) (WentThrough g h (input_of_each g.table h now bandwidth
         looks.now) actions.now))) }
     ensures judged { (result ≡ 0) ⊎ (result ≡ finding_number Stopped) →
-        ForSome handle.old.pointer.kept (λ g. AfterPermitted g.table g.guard (λ h.
+        ForSome (guard_in handle.old) (λ g. AfterPermitted g.table g.guard (λ h.
         AreSaid g.table.cores h looks.now judged.new)) }
-    ensures stopped { result ≡ finding_number Stopped → ForSome handle.old.pointer.kept (λ g.
+    ensures stopped { result ≡ finding_number Stopped → ForSome (guard_in handle.old) (λ g.
         AfterPermitted g.table g.guard (λ h.
         WasStoppedAt g h (input_of_each g.table h now bandwidth looks.now) actions.now
         refused.new)) }
     ensures no_action { result ≡ refusal_number NoAction → AreNoActions actions.now }
-    ensures wrong_count { ForSome handle.old.pointer.kept (λ g.
+    ensures wrong_count { ForSome (guard_in handle.old) (λ g.
         length looks.now ≢ threads_of_table g.table → result ≡ refusal_number WrongCount) }
-    ensures no_room { ForSome handle.old.pointer.kept (λ g.
+    ensures no_room { ForSome (guard_in handle.old) (λ g.
         length looks.now ≡ threads_of_table g.table → length judged.old < threads_of_table g.table →
         result ≡ refusal_number NoRoom) }
-    ensures answers { ForSome handle.old.pointer.kept (λ g.
+    ensures answers { ForSome (guard_in handle.old) (λ g.
         length looks.now ≡ threads_of_table g.table → threads_of_table g.table ≤ length judged.old →
         (result ≡ 0) ⊎ (result ≡ finding_number Stopped) ⊎ (result ≡ refusal_number NoAction) ⊎
         (result ≡ refusal_number Memory)) }
@@ -116,7 +118,7 @@ pub extern "C" fn caladan_guard_pass_each(
     ensures unjudged { result ≢ 0 → result ≢ finding_number Stopped → judged.new ≡ judged.old }
     ensures told { result ≢ finding_number Stopped → refused.new ≡ refused.old }
 {
-    asked!(GuardHandle: handle, alloc; Refusal::Closed as u8;
+    asked!(Guard: handle, alloc; Refusal::Closed as u8;
         kept => kept.pass_each_told(HandedIn { now, bandwidth, looks }, judged, actions);
         answer => match answer {
             Ok(None) => 0,
@@ -135,24 +137,24 @@ pub extern "C" fn caladan_guard_pass_each(
 #[unsafe(no_mangle)]
 pub extern "C" fn caladan_guard_first_unfit(
     alloc: Global,
-    handle: &mut GuardHandle,
+    handle: &mut Handle,
     looks: &[Found],
     thread: &mut usize,
 ) -> u8
-    ensures closed { is_some handle.old.pointer.kept ≡ false → result ≡ refusal_number Closed }
-    ensures first { result ≡ refusal_number Unfit → ForSome handle.old.pointer.kept (λ g.
+    ensures closed { is_some (guard_in handle.old) ≡ false → result ≡ refusal_number Closed }
+    ensures first { result ≡ refusal_number Unfit → ForSome (guard_in handle.old) (λ g.
         AfterPermitted g.table g.guard (λ h. IsFirstUnfit h looks.now thread.new)) }
-    ensures none { result ≡ 0 → ForSome handle.old.pointer.kept (λ g.
+    ensures none { result ≡ 0 → ForSome (guard_in handle.old) (λ g.
         AfterPermitted g.table g.guard (λ h. AllFit h looks.now)) }
-    ensures wrong_count { ForSome handle.old.pointer.kept (λ g.
+    ensures wrong_count { ForSome (guard_in handle.old) (λ g.
         length looks.now ≢ threads_of_table g.table → result ≡ refusal_number WrongCount) }
-    ensures answers { ForSome handle.old.pointer.kept (λ g.
+    ensures answers { ForSome (guard_in handle.old) (λ g.
         length looks.now ≡ threads_of_table g.table → (result ≡ 0) ⊎
         (result ≡ refusal_number Unfit)) }
     ensures other { result ≢ refusal_number Unfit → thread.new ≡ thread.old }
     ensures same { handle.new.pointer.kept ≡ handle.old.pointer.kept }
 {
-    asked!(GuardHandle: handle, alloc; Refusal::Closed as u8;
+    asked!(Guard: handle, alloc; Refusal::Closed as u8;
         kept => first_unfit(kept.config(), kept.board(), looks);
         answer => match answer {
             Ok(None) => 0,

@@ -11,11 +11,13 @@ ghost use Rattle.caladan_c.specs.Told.{AreTold};
 ghost use Rattle.caladan_c.specs.declared.answer.Refusal.TheVariants.{Closed, NoRoom, Unfit};
 ghost use Rattle.caladan_c.specs.declared.answer.Refusal.TheVariants.{WrongCount};
 ghost use Rattle.cal_policy.specs.Book.{AfterLegal};
+ghost use Rattle.caladan_c.specs.Kinds.{scheduler_in};
 
 use crate::answer::Refusal;
 use crate::found::Found;
 use crate::handed_in::HandedIn;
-use crate::handle::scheduler::SchedulerHandle;
+use crate::handle::Handle;
+use crate::handle::kept::Kept;
 use crate::input::first_unfit;
 use crate::scheduler::Scheduler;
 use crate::told::{Told, tell_all};
@@ -67,7 +69,7 @@ impl Scheduler {
 #[unsafe(no_mangle)]
 pub extern "C" fn caladan_pass_each(
     alloc: Global,
-    handle: &mut SchedulerHandle,
+    handle: &mut Handle,
     now: u64,
     bandwidth: u64,
     looks: &[Found],
@@ -75,20 +77,20 @@ pub extern "C" fn caladan_pass_each(
     actions: &mut [Told],
     made: &mut usize,
 ) -> u8
-    ensures closed { is_some handle.old.pointer.kept ≡ false → result ≡ refusal_number Closed }
-    ensures passed { result ≡ 0 → ForSome handle.old.pointer.kept (λ s.
-        AfterLegal s.table s.book (λ h. IsSomeAnd handle.new.pointer.kept (λ after.
+    ensures closed { is_some (scheduler_in handle.old) ≡ false → result ≡ refusal_number Closed }
+    ensures passed { result ≡ 0 → ForSome (scheduler_in handle.old) (λ s.
+        AfterLegal s.table s.book (λ h. IsSomeAnd (scheduler_in handle.new) (λ after.
         MadePass s h (input_of_each s.table h now bandwidth looks.now) after × AreTold after.made
         made.new actions.new))) }
-    ensures judged { result ≡ 0 → ForSome handle.old.pointer.kept (λ s.
+    ensures judged { result ≡ 0 → ForSome (scheduler_in handle.old) (λ s.
         AfterLegal s.table s.book (λ h. AreSaid s.table.cores h looks.now judged.new)) }
-    ensures wrong_count { ForSome handle.old.pointer.kept (λ s.
+    ensures wrong_count { ForSome (scheduler_in handle.old) (λ s.
         length looks.now ≢ threads_of_table s.table → result ≡ refusal_number WrongCount) }
-    ensures no_room { ForSome handle.old.pointer.kept (λ s.
+    ensures no_room { ForSome (scheduler_in handle.old) (λ s.
         length looks.now ≡ threads_of_table s.table →
         IsShort (threads_of_table s.table) judged.old actions.old →
         result ≡ refusal_number NoRoom) }
-    ensures answers { ForSome handle.old.pointer.kept (λ s.
+    ensures answers { ForSome (scheduler_in handle.old) (λ s.
         length looks.now ≡ threads_of_table s.table →
         HasRoomToTell (threads_of_table s.table) judged.old actions.old → result ≡ 0) }
     ensures own { (result ≡ 0) ⊎ (result ≡ refusal_number Closed) ⊎
@@ -97,7 +99,7 @@ pub extern "C" fn caladan_pass_each(
         × (actions.new ≡ actions.old) × (judged.new ≡ judged.old) × (made.new ≡ 0) }
 {
     *made = 0;
-    did!(SchedulerHandle: handle, alloc;
+    did!(Scheduler: handle, alloc;
         kept => kept.pass_each_told(HandedIn { now, bandwidth, looks }, judged, actions);
         count => *made = count)
 }
@@ -109,24 +111,24 @@ pub extern "C" fn caladan_pass_each(
 #[unsafe(no_mangle)]
 pub extern "C" fn caladan_first_unfit(
     alloc: Global,
-    handle: &mut SchedulerHandle,
+    handle: &mut Handle,
     looks: &[Found],
     thread: &mut usize,
 ) -> u8
-    ensures closed { is_some handle.old.pointer.kept ≡ false → result ≡ refusal_number Closed }
-    ensures first { result ≡ refusal_number Unfit → ForSome handle.old.pointer.kept (λ s.
+    ensures closed { is_some (scheduler_in handle.old) ≡ false → result ≡ refusal_number Closed }
+    ensures first { result ≡ refusal_number Unfit → ForSome (scheduler_in handle.old) (λ s.
         AfterLegal s.table s.book (λ h. IsFirstUnfit h looks.now thread.new)) }
-    ensures none { result ≡ 0 → ForSome handle.old.pointer.kept (λ s.
+    ensures none { result ≡ 0 → ForSome (scheduler_in handle.old) (λ s.
         AfterLegal s.table s.book (λ h. AllFit h looks.now)) }
-    ensures wrong_count { ForSome handle.old.pointer.kept (λ s.
+    ensures wrong_count { ForSome (scheduler_in handle.old) (λ s.
         length looks.now ≢ threads_of_table s.table → result ≡ refusal_number WrongCount) }
-    ensures answers { ForSome handle.old.pointer.kept (λ s.
+    ensures answers { ForSome (scheduler_in handle.old) (λ s.
         length looks.now ≡ threads_of_table s.table → (result ≡ 0) ⊎
         (result ≡ refusal_number Unfit)) }
     ensures other { result ≢ refusal_number Unfit → thread.new ≡ thread.old }
     ensures same { handle.new.pointer.kept ≡ handle.old.pointer.kept }
 {
-    asked!(SchedulerHandle: handle, alloc; Refusal::Closed as u8;
+    asked!(Scheduler: handle, alloc; Refusal::Closed as u8;
         kept => first_unfit(kept.config(), kept.board(), looks);
         answer => match answer {
             Ok(None) => 0,

@@ -1,6 +1,6 @@
 -- `into_loose` moves two fields of a pointer that keeps something, and what they own goes with them.
 use Rattle.caladan_c.proofs.HandleLemmas.Walking.{refl, sym, subst, ◌≡◌, true, Option, is_some, List, [], ◌∷◌, ◌++◌, Ura, Val, SProp, ent, id⊢, ftrue, fsep, Memory, Routine, WpFn, Tables, Logic, Fun, fact, tables, tables_of, WpFn-mono, Item, ‵, raw, ◌⊛◌, ◌$◌, ◌∵◌, !, qed, by, move, drop, use1, join, split, rewrite, fsplit, fjoin, suffices, done, whole, sub, agg, stop, fld, no_more, and_then, of_opd, returns, enter, alloc_all, pass_all, free_all, look_at, get, get_in, sets, yes, type_at, nothing, heard, triple_of, entered, says, Stays, stay_dropped, walk_of, ends_at, Goes-dropped, walk_Meets, D, B, word, box_typed, box_out, box_in}
-use Rattle.caladan_c.specs.contracts.scheduler.Scheduler as Scheduler
+use Rattle.caladan_c.specs.contracts.handle.kept.Kept as Kept
 use Rattle.caladan_c.specs.contracts.handle.pointer.Pointer as Pointer
 use Rattle.caladan_c.proofs.HandleLemmas.AsBox.{E, FromPointer as From, kept_of}
 use Rattle.caladan_c.specs.contracts.handle.pointer.Pointer.into_loose as F
@@ -25,7 +25,7 @@ module _ {M : Type 1} {𝓤 : Ura M} (𝓛 : Logic 𝓤) (at_mem : Memory → SP
       let v : D E = record { ptr = p.at; alloc = p.alloc; value = kept.0 } in
       let made : To.Denot = record { ptr = v.ptr; alloc = v.alloc; value = v.value } in
       split ! $ drop ! $ fsplit ! $
-      rewrite ! 0 (λ (k : Option Scheduler.the_row.Denot). ‵ (Pointer.the_row.own_val (record p { kept = k }) z.0.4.0)) kept.1 refl $ use1 𝓛 (‵ ((B E).own_val v z.0.4.0)) (id⊢ 𝓤 _) $
+      rewrite ! 0 (λ (k : Option Kept.the_row.Denot). ‵ (Pointer.the_row.own_val (record p { kept = k }) z.0.4.0)) kept.1 refl $ use1 𝓛 (‵ ((B E).own_val v z.0.4.0)) (id⊢ 𝓤 _) $
       box_out E ! v z.0.4.0 (λ b o hv e ws fa. box_in E ! v b o v.value e refl $ use1 𝓛 (‵ (To.own_val made (word E hv b o ∷ []))) (id⊢ 𝓤 _) $ move ! (1 ∷ 2 ∷ []) $ drop ! $ drop ! $
       let w = word E hv b o in
       let Γ : List (Item 𝓤) = ‵ (To.own_val made (w ∷ [])) ∷ [] in
