@@ -19,6 +19,9 @@ const char *host_why(int error) {
     case EPERM: return "the scheduler, or its folder, is another user's, or others may enter it";
     case HOST_ERROR + HOST_NO_RIGHTS: return "the scheduler may not interrupt this process, which has another user too";
     case HOST_ERROR + HOST_OTHER_NAMESPACE: return "this process is in another pid namespace than the scheduler";
+    case HOST_ERROR + HOST_OTHER_GROUP:
+        return "this process is in another scheduling group than one that it is to stand under, or "
+               "that is to stand under it: SCHED_IDLE says nothing there (cpu.idle; autogroups)";
     case HOST_ERROR + HOST_NO_MEMORY: return "the scheduler has no memory for a segment";
     case EBADMSG: return "what the scheduler handed out is no sealed segment";
     case EAGAIN: return "the scheduler does not answer";
@@ -29,7 +32,7 @@ const char *host_why(int error) {
 static int errno_of(uint32_t status) {
     if (status == HOST_TAKEN) return EBUSY;
     if (status == HOST_OTHER_USER) return EPERM;
-    return status <= HOST_NO_MEMORY ? HOST_ERROR + (int)status : EPROTO;
+    return status <= HOST_OTHER_GROUP ? HOST_ERROR + (int)status : EPROTO;
 }
 
 /* ---- the socket ---- */

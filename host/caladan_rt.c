@@ -14,6 +14,8 @@
 
 #define MOST_MISSES ((uint64_t)1 << 56) /* what a record may count */
 #define NAP 200000                      /* between two looks for work where there is no scheduler, in nanoseconds */
+/* how long one that dozes may take to be at work, in nanoseconds */
+#define WAKES ((uint64_t)30000)
 #define GATHER ((uint64_t)3000000000)   /* how long threads that are to wait may hold their Park off, in nanoseconds: less than a scheduler waits */
 enum { QUEUE = 1 << 13 };
 enum { NOT_YET, BEGUN, GIVEN_UP }; /* whether kernel threads may begin */
@@ -30,6 +32,10 @@ typedef struct kernel_thread {
     uint64_t words[CALADAN_WORDS];
     size_t head;
     _Atomic size_t count;
+    /* what is queued waits for one that dozes: before this tick that is no delay */
+    uint64_t awaited;
+    /* it sleeps on its core, or is about to: who takes this away wakes it */
+    _Atomic uint32_t dozes;
     /* the thread's own, and its signal handler's */
     _Alignas(CALADAN_LINE) bool working;
     caladan_request current;
@@ -50,7 +56,9 @@ struct caladan_rt {
     caladan_serve *serve;
     void *with;
     unsigned threads;
-    cpu_set_t allowed; /* where its threads may run while no scheduler says otherwise */
+    /* where its threads may run while no scheduler says otherwise, and in which class */
+    cpu_set_t allowed;
+    int class;
     _Atomic uint32_t begun;   /* a futex */
     _Atomic bool is_over;     /* the scheduler has ended, or gave the task up */
     _Atomic bool is_watched;  /* a thread waits for that, or has still to tell the others */
@@ -98,7 +106,8 @@ static void publish(kernel_thread *k, uint64_t now) {
 
 static void show_queue(kernel_thread *k) {
     k->words[QUEUED] = k->count != 0;
-    k->words[OLDEST] = k->count ? shown(k->rt, k->queue[k->head].arrived) : 0;
+    uint64_t from = k->count ? k->queue[k->head].arrived : 0;
+    k->words[OLDEST] = k->count ? shown(k->rt, from > k->awaited ? from : k->awaited) : 0;
 }
 
 static void show_pause(kernel_thread *k, bool paused) {
@@ -170,7 +179,7 @@ static void obey(kernel_thread *k) {
         follow_phase(k);
         take_commands(k);
         if (k->words[RUNNING] != 0) return;
-        futex_wait(&k->slot->doorbell, bell);
+        sleep_on_bell(k->slot, bell);
     }
 }
 
@@ -210,19 +219,36 @@ void caladan_rt_release(void) { release(self); }
 
 /* ---- requests ---- */
 
+/* Who is to be woken for a request of this thread's: the thread itself, else one that can steal
+ * it; NULL: nobody dozes, or the thread looks for work. Under the lock of its queue. */
+static kernel_thread *dozer_for(kernel_thread *k) {
+    caladan_rt *rt = k->rt;
+    bool looks = k->words[RUNNING] != CALADAN_PARK && !k->working && !atomic_load(&k->dozes);
+    for (unsigned i = 0; i < rt->threads && !looks; i++) {
+        kernel_thread *other = &rt->thread[(k->number + i) % rt->threads];
+        if (atomic_load(&other->dozes) && atomic_exchange(&other->dozes, 0)) return other;
+    }
+    return NULL;
+}
+
 bool caladan_rt_submit(caladan_rt *rt, unsigned thread, caladan_request request) {
     if (thread >= rt->threads) return false;
     kernel_thread *k = &rt->thread[thread], *caller = self;
     hold(caller);
     lock(k);
     bool fits = k->count < QUEUE;
+    kernel_thread *dozer = NULL;
     if (fits) {
+        uint64_t now = caladan_rt_now(rt);
         k->queue[(k->head + k->count) % QUEUE] = request;
         k->count++;
+        dozer = dozer_for(k);
+        if (dozer) k->awaited = now + WAKES;
         show_queue(k);
-        publish(k, caladan_rt_now(rt));
+        publish(k, now);
     }
     unlock(k);
+    if (dozer) ring_bell(dozer->slot);
     release(caller);
     return fits;
 }
@@ -284,11 +310,13 @@ static bool some_queued(caladan_rt *rt) {
 
 /* On no page any more, and on no core that somebody else may be granted. */
 static void let_go(kernel_thread *k) {
+    struct sched_param none = {0};
     lock(k);
     k->open = false;
     put_on(k, CALADAN_PARK, 0);
     unlock(k);
     sched_setaffinity(0, sizeof k->rt->allowed, &k->rt->allowed);
+    if (k->rt->segment->stands_under) sched_setscheduler(0, k->rt->class, &none); /* where it may */
 }
 
 static void wait_for_turn(kernel_thread *k) {
@@ -323,13 +351,16 @@ static void interrupt_each(caladan_rt *rt) {
     }
 }
 
-/* Sleeps until the scheduler closes the connection: it ended, or has given the task up. */
+/* Sleeps until the scheduler closes the connection: it ended, or has given the task up; or until
+ * the process itself has closed it. Its number may be another file's by then, of which nothing
+ * is read. */
 static void *watch(void *argument) {
     caladan_rt *rt = argument;
     struct pollfd file = {rt->connection, POLLIN, 0};
     char byte;
     do poll(&file, 1, -1);
-    while (recv(rt->connection, &byte, 1, MSG_DONTWAIT) != 0 && (file.revents & (POLLHUP | POLLERR)) == 0);
+    while ((file.revents & (POLLHUP | POLLERR | POLLNVAL)) == 0 &&
+           recv(rt->connection, &byte, 1, MSG_DONTWAIT) != 0);
     atomic_store(&rt->is_over, true);
     interrupt_each(rt);
     atomic_store(&rt->is_watched, false);
@@ -428,10 +459,25 @@ bool caladan_rt_attach_again(caladan_rt *rt) {
 static bool wait_for_work(kernel_thread *k) {
     bool found;
     release(k);
-    uint64_t until = caladan_rt_now(k->rt) + k->rt->idle_ns;
+    bool may_doze = atomic_load(&k->slot->may_doze) != 0; /* that costs less than to look on */
+    uint64_t until = caladan_rt_now(k->rt) + (may_doze ? 0 : k->rt->idle_ns);
     while (!(found = some_queued(k->rt)) && caladan_rt_now(k->rt) < until) host_pause();
     hold(k);
     return found;
+}
+
+/* Sleeps on its core, until a request or a word of the scheduler's comes; back with a core. What
+ * a Park is for is seen by the doorbell, which grows after it. */
+static void doze(kernel_thread *k) {
+    uint32_t bell = atomic_load(&k->slot->doorbell);
+    obey(k);
+    atomic_store(&k->dozes, 1);
+    /* who has queued a request finds this, or is found here */
+    atomic_thread_fence(memory_order_seq_cst);
+    bool may = atomic_load(&k->slot->may_doze) && !atomic_load(&k->rt->is_over);
+    if (may && !some_queued(k->rt)) sleep_on_bell(k->slot, bell);
+    atomic_store(&k->dozes, 0);
+    obey(k);
 }
 
 /* Gives the core up, unless a request came; back with one. */
@@ -468,7 +514,8 @@ static void *live(void *argument) {
             k->rt->serve(k->rt->with, k->number, k->current);
             hold(k);
         } else if (!wait_for_work(k)) {
-            yield_core(k);
+            if (atomic_load(&k->slot->may_doze)) doze(k);
+            else yield_core(k);
         }
     }
     return NULL;
@@ -491,6 +538,8 @@ int caladan_rt_processor(void) {
     uint64_t core = k ? k->words[RUNNING] : CALADAN_PARK; /* which the thread itself alone changes */
     return core - 1 < HOST_CORES ? k->rt->segment->processor[core - 1] : -1;
 }
+
+bool caladan_rt_stands_under(const caladan_rt *rt) { return rt->segment->stands_under != 0; }
 
 /* ---- the start ---- */
 
@@ -558,6 +607,7 @@ caladan_rt *caladan_rt_start(const char *name, unsigned task, uint64_t idle_ns, 
         rt->task = task, rt->connection = connection, rt->idle_ns = idle_ns;
         rt->serve = serve, rt->with = with;
         sched_getaffinity(0, sizeof rt->allowed, &rt->allowed);
+        rt->class = sched_getscheduler(0);
         rt = start_threads(rt);
     }
     if (rt) return rt;

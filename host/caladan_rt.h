@@ -2,29 +2,34 @@
  *
  * THIS C IS NOT PROVED.
  *
- * A process attaches as one task. It has a kernel thread for each core of the task's limit; one that has no
- * core sleeps. A kernel thread serves the requests of its own queue, then those of its siblings', and gives
- * its core up when it has found none for a while. A thread whose core is taken away stops anywhere in
- * `serve`, by a signal, and goes on there when it has a core again, often another one.
+ * A process attaches as one task. It has a kernel thread for each core of the task's limit; one
+ * that has no core sleeps. A kernel thread serves the requests of its own queue, then those of
+ * its siblings', and gives its core up when it has found none for a while. A thread whose core
+ * is taken away stops anywhere in `serve`, by a signal, and goes on there when it has a core
+ * again, often another one.
  *
- * So `serve` may not hold what a sibling needs to go on, nor be stopped where it may not be entered again:
- * malloc, stdio, locks. Between caladan_rt_hold and caladan_rt_release no core is taken away; keep that short,
- * since a thread that does not leave in time has its process killed. What blocks in the kernel keeps its core.
+ * So `serve` may not hold what a sibling needs to go on, nor be stopped where it may not be
+ * entered again: malloc, stdio, locks. Between caladan_rt_hold and caladan_rt_release no core is
+ * taken away; keep that short, since a thread that does not leave in time has its process
+ * killed. What blocks in the kernel keeps its core.
  *
- * What blocks in the kernel may come back from it with EINTR when the thread had to leave meanwhile: the handler is
- * one that lets calls go on (SA_RESTART), which poll, nanosleep and futex waits do not heed.
+ * What blocks in the kernel may come back from it with EINTR when the thread had to leave
+ * meanwhile: the handler is one that lets calls go on (SA_RESTART), which poll, nanosleep and
+ * futex waits do not heed.
  *
- * The runtime has the signal SIGURG to itself: caladan_rt_start refuses where the process has a handler of it already, and a
- * handler that comes later takes the runtime's word away. (Go's runtime has one, so no process of cgo can attach.)
+ * The runtime has the signal SIGURG to itself: caladan_rt_start refuses where the process has a
+ * handler of it already, and a handler that comes later takes the runtime's word away. (Go's
+ * runtime has one, so no process of cgo can attach.)
  *
- * A child that is forked has no kernel threads and no segment: it may call none of these functions, but exec or exit. A process
- * that closes all its files (closefrom, as daemons do) closes the connection too, and so gives its task up: it does that before
- * caladan_rt_start.
+ * A child that is forked has no kernel threads and no segment: it may call none of these
+ * functions, but exec or exit. A process that closes all its files (closefrom, as daemons do)
+ * has closed the connection too: it may lose its task by that, and what it opens next may have
+ * the connection's number. So it does that before caladan_rt_start.
  *
- * A process leaves by ending: then its cores are free, and another may attach as its task. When the scheduler ends, or
- * gives the task up, threads leave their processors within milliseconds, as caladan_rt_after says; caladan_rt_attach_again
- * goes on with the next scheduler of the name.
- */
+ * A process leaves by ending: then its cores are free, and another may attach as its task. When
+ * the scheduler ends, or gives the task up, threads leave their processors within milliseconds,
+ * as caladan_rt_after says; caladan_rt_attach_again goes on with the next scheduler of the name.
+ *  */
 #ifndef CALADAN_RT_H
 #define CALADAN_RT_H
 #include <stdbool.h>
@@ -39,8 +44,9 @@ typedef struct caladan_request {
 typedef struct caladan_rt caladan_rt;
 typedef void caladan_serve(void *with, unsigned thread, caladan_request request);
 
-/* Attaches to the scheduler of that name as that task. Kernel threads look for work for idle_ns before they
- * give up a core. NULL: errno says why, and caladan_rt_why in words. */
+/* Attaches to the scheduler of that name as that task. Kernel threads look for work for idle_ns
+ * before they give up a core (but not before they sleep on it, where the scheduler lets them).
+ * NULL: errno says why, and caladan_rt_why in words. */
 caladan_rt *caladan_rt_start(const char *name, unsigned task, uint64_t idle_ns, caladan_serve *serve, void *with);
 const char *caladan_rt_why(int error);
 
@@ -72,6 +78,11 @@ void caladan_rt_missed(uint64_t misses);
 /* The processor of the core that the calling kernel thread has; -1: it has none now, or is no kernel thread. It is still so
  * only until the core is taken away: see caladan_rt_hold. */
 int caladan_rt_processor(void);
+
+/* Whether the task stands under (caladand -u): its kernel threads are in SCHED_IDLE, a core is
+ * taken from them without a word, and one that did not run meanwhile may go on, while it holds
+ * its Park off, on the processor of the core that it has next. */
+bool caladan_rt_stands_under(const caladan_rt *rt);
 
 /* Holds off that the calling kernel thread's core is taken away. May be nested. */
 void caladan_rt_hold(void);

@@ -39,18 +39,69 @@ static void take_signals(void) {
     sigaction(SIGPIPE, &ignored, NULL);
 }
 
+/* Only a best-effort thread gives way to all others. */
+static void check_under(scheduler *s) {
+    char word[32];
+    for (unsigned t = 0; t < HOST_TASKS; t++) {
+        caladan_table_row row;
+        if ((s->options.under >> t & 1) == 0) continue;
+        snprintf(word, sizeof word, "-u: task %u", t);
+        if (t >= s->machine.tasks) fail(word, "the table has no such task");
+        caladan_table_task(&s->handle, t, &row);
+        if (row.kind == CALADAN_BEST_EFFORT) continue;
+        fail(word, "it is not best-effort, and only such a task can stand under");
+    }
+}
+
+/* The kernel keeps some time of each second for others, where one of these classes would take
+ * all of it. */
+static void warn_of_class(const scheduler *s) {
+    int class = sched_getscheduler(0);
+    if ((class != SCHED_FIFO && class != SCHED_RR) || s->options.gap) return;
+    complain("a scheduler that spins in SCHED_FIFO or SCHED_RR is put aside for 50 ms of each "
+             "second: use the normal class");
+}
+
+/* The table as it is recorded: where tasks stand under, a comment says what the record means
+ * then. */
+static char *recorded_table(const scheduler *s) {
+    static const char meaning[] =
+        "# No two threads of the normal class have one processor, and none of best effort has\n"
+        "# one that is banned. A thread that stands under may be on one that a latency-critical\n"
+        "# thread has; its rows are the scheduler's, and say where it is to be.\n";
+    size_t room = strlen(s->table) + sizeof meaning + HOST_TASKS * 32, at = 0;
+    char *text = malloc(room);
+    if (text == NULL) fail("-r", strerror(ENOMEM));
+    for (unsigned t = 0; t < s->machine.tasks; t++)
+        if (s->options.under >> t & 1)
+            at += (size_t)sprintf(text + at, "# Task %u stands under.\n", t);
+    snprintf(text + at, room - at, "%s%s", s->options.under ? meaning : "", s->table);
+    return text;
+}
+
+static void open_record(scheduler *s) {
+    const options *o = &s->options;
+    char *table = recorded_table(s);
+    s->record = record_open(o->folder, o->name, table, o->bytes, s->machine.threads, &s->others);
+    free(table);
+    printf("record: %s\n", record_path(s->record));
+    fflush(stdout);
+}
+
 static void begin(scheduler *s) {
     s->epoch = host_clock();
     s->table = text_of(s->options.table);
     uint8_t answer = caladan_open((const uint8_t *)s->table, strlen(s->table), &s->handle);
     if (answer != CALADAN_DONE) fail(s->options.table, caladan_answer_text(answer));
     caladan_table(&s->handle, &s->machine);
+    check_under(s);
     take_signals();
     take_processors(s);
     take_folder(s);
-    if (s->options.folder) s->record = record_open(s->options.folder, s->options.name, s->table, s->options.bytes, s->machine.threads, &s->others);
-    if (s->record) printf("record: %s\n", record_path(s->record)), fflush(stdout);
+    if (s->options.folder) open_record(s);
     if (!begin_lines(&s->others) || !begin_metrics(s)) fail("a clerk", "no thread can be begun");
+    if (!begin_moves(s)) fail("-m", "no thread can be begun");
+    warn_of_class(s);
     open_tasks(s); /* now that passes alone are to come: who finds a socket waits for no disk */
     tell_ready();
 }
@@ -92,7 +143,7 @@ static void run_piece(scheduler *s) {
         uint64_t from = now_of(s);
         make_pass(s);
         if (from - house > HOUSE) keep_house(s, from), house = from;
-        rest_until(s, from + s->options.gap);
+        if (!s->is_due) rest_until(s, from + s->options.gap);
     }
     end_piece(s);
 }
@@ -102,6 +153,7 @@ int main(int count, char **words) {
     s.options = read_options(count, words);
     begin(&s);
     while (!is_over(&s)) run_piece(&s);
+    wait_for_moves(&s);
     close_tasks(&s);
     if (s.options.folder) record_close();
     print_summary(&s);

@@ -10,9 +10,11 @@
 
 typedef struct options {
     const char *name, *table, *folder;
-    int own;
+    /* the scheduler's processor, and that of the thread that moves others; -1: none is named */
+    int own, mover;
     unsigned cpus;
     int cpu[HOST_CORES];
+    uint32_t under; /* the tasks that stand under, a bit each */
     uint64_t seconds, gap, window, passes, bytes, patience, wait; /* times in nanoseconds, but for seconds */
 } options;
 
@@ -28,6 +30,9 @@ typedef struct host_guest {
 typedef struct host_task {
     unsigned first, limit; /* its kernel threads */
     bool is_critical;
+    bool is_under;           /* its threads are in SCHED_IDLE: under.c */
+    uint8_t guaranteed, cap; /* in cores; the cap is the last one of this piece, else the limit */
+    uint64_t request;        /* how long a request may take before the core beside it is banned */
     int listener, memory;  /* memory -1: there was none, the segment is of the scheduler's own memory and is handed to nobody */
     host_segment *segment;
     pid_t pid;             /* 0: nobody has the segment */
@@ -37,32 +42,66 @@ typedef struct host_task {
     host_guest guest[HOST_GUESTS];
 } host_task;
 
-/* A kernel thread, as the scheduler knows it. */
-typedef struct host_thread {
-    unsigned task;
-    host_slot *slot;
-    caladan_sender sender;
-    unsigned core;        /* which it holds or leaves, plus one; or 0 */
-    pid_t pinned;         /* which kernel thread was pinned last, and to which core's processor; 0: none */
-    unsigned pinned_to;
-    int unpinned_for;     /* the errno with which it could not be, or 0 where it was no thread of the process */
-    uint64_t retry_at;    /* it could not be pinned, and is granted nothing until then */
-    uint64_t place, misses, from; /* what its page had at a time, since when it can have published, and missed, once a nanosecond */
-    bool is_doubted;      /* its last look was refused: it is granted nothing until one is kept */
-    bool is_mute;         /* it did not answer in time: nobody waits for it again until it does */
-    bool by_hand;         /* its page cannot show that it is gone: `gone` itself is given to the passes of this piece */
-    caladan_look gone;    /* what its page shows where nobody has published on it */
-} host_thread;
-
 /* A core whose thread was sent Park and is to leave it. */
 typedef struct leaving {
     bool is_set, again;    /* it was interrupted once more */
-    uint8_t thread;
+    unsigned core;
     uint64_t since, looks; /* by the scheduler's own clock, and by its count of looks */
 } leaving;
 
+/* A kernel thread of a process. While it has moves that are not done (moves.c), what stands before
+ * `handed` is the mover's. */
+typedef struct host_seat {
+    host_slot *slot;
+    caladan_sender sender;
+    pid_t pinned;        /* which one was pinned last; 0: none */
+    unsigned pinned_to;  /* and to which core's processor */
+    pid_t idle;          /* which one was put into SCHED_IDLE last; 0: none */
+    int unpinned_for;    /* the errno with which it could not be; 0: it is not the process's */
+    bool is_lost;        /* the last move could not pin it */
+    bool is_slow;        /* or that took long */
+    unsigned slow;       /* how often that took long, one after the other */
+    uint64_t handed;     /* its moves: how many were planned */
+    uint64_t settled;    /* and how many are known to be done */
+    _Atomic uint64_t done;
+    uint64_t left_at;    /* when it left a core: it may still be on its way to sleep; 0: never */
+    uint64_t retry_at;   /* it could not be pinned, and is granted nothing until then */
+    uint64_t place, misses; /* what its page had at a time */
+    uint64_t from;       /* since when it can have published, and missed, once a nanosecond */
+    bool is_doubted;     /* its last look was refused: it is granted nothing until one is kept */
+    bool is_mute;        /* it did not answer in time: nobody waits for it until it does */
+    leaving leaving;
+    /* What follows is of a task that stands under. */
+    unsigned target;     /* the core where it is to be, plus one; or 0 */
+    unsigned stands;     /* the one where it was sent, and was not seen to leave, plus one; or 0 */
+    bool is_told;        /* to leave that one */
+    uint64_t ordered;    /* the commands of its ring, also those that the mover has not sent yet */
+    caladan_look page;   /* the last record of its page that it can have published */
+} host_seat;
+
+/* How a thread that stands under is to leave the core that it has. */
+enum { HOST_STAYS, HOST_GIVES_WAY, HOST_LEAVES };
+
+/* A thread of the table. */
+typedef struct host_thread {
+    unsigned task;
+    host_seat seat;
+    unsigned core;      /* which it holds or leaves, plus one; or 0 */
+    uint64_t sent;      /* the commands that passes sent to it */
+    bool by_hand;       /* its page cannot show that it is gone: passes are given `gone` itself */
+    caladan_look gone;  /* what its page shows where nobody has published on it */
+    bool is_deferred;   /* its Run is sent when who stands under on its core has left */
+    /* What follows is of a task that stands under. */
+    uint8_t leaves;     /* one of the words above */
+    bool gave_up;       /* it left the core that it was granted, of its own accord */
+    caladan_look shown; /* the record that passes see */
+    uint64_t misses;    /* of those that came before what its page counts */
+} host_thread;
+
 typedef struct counts {
-    uint64_t passes, pieces, attached, ended, given_up, killed, written_off, refused, foreign_tids, unpinned, strayed, jumped, outran, worn;
+    uint64_t passes, pieces, attached, ended, given_up, killed, written_off, refused;
+    uint64_t foreign_tids, unpinned, slow_pins, strayed, jumped, outran, worn;
+    uint64_t given_way, notes, taken_off; /* of threads that stand under: under.c */
     uint64_t longest_gap; /* between two passes, in nanoseconds */
     uint64_t judged[CALADAN_WORD_FELL + 1], actions[CALADAN_GRANT + 1];
 } counts;
@@ -83,8 +122,9 @@ typedef struct scheduler {
     uint8_t judged[HOST_THREADS], sent_to[CALADAN_MOST_ACTIONS];
     caladan_action action[CALADAN_MOST_ACTIONS];
     size_t made, sent;
-    uint8_t on_core[HOST_CORES]; /* the thread that a core was granted to last */
-    leaving leaving[HOST_CORES];
+    unsigned on_core[HOST_CORES]; /* the thread that holds or leaves it, plus one; or 0 */
+    bool is_banned[HOST_CORES];
+    bool has_mover;
     uint64_t clock, ticked; /* patience.c: the time in which the scheduler worked, and when it was counted last */
     uint64_t looks;         /* how often all pages were looked at */
     uint64_t complained;
@@ -92,6 +132,7 @@ typedef struct scheduler {
     uint64_t figure, figure_misses, figure_at;
     uint32_t phase;
     bool is_closing;
+    bool is_due; /* the next pass is made at once: it frees a core that nobody has to leave */
     record *record; /* NULL: nothing is recorded */
     uint64_t passes; /* of this piece */
     uint64_t passed_at, metrics_at;
@@ -139,15 +180,44 @@ unsigned number_of(const scheduler *s, const host_task *task);
 /* patience.c */
 enum { LEAST_LOOKS = 16 }; /* the least number of looks at a process's pages before it is killed for what they show */
 void tick(scheduler *s, uint64_t now);
-void note_leaving(scheduler *s, unsigned core, uint8_t thread);
-void forget_leaving(scheduler *s, const host_task *task);
+void note_leaving(scheduler *s, size_t thread, unsigned core);
 void kill_the_deaf(scheduler *s); /* processes with a thread that does not leave its core in time */
 void kill_process(scheduler *s, host_task *task, const char *why);
 void write_off(scheduler *s, host_task *task);
 
 /* pass.c */
 void make_pass(scheduler *s);
+void stop_moving(scheduler *s);
+
+/* moves.c: threads are pinned, woken and interrupted; what a pass plans is done at its end */
+bool begin_moves(scheduler *s); /* with a thread that does it, where it has a processor */
+/* Run: it is pinned there, and woken. Park: it is interrupted, and put on the core `to` less one,
+ * unless that is 0. Nothing: it is sent Park in place of Run. */
+void plan_run(scheduler *s, size_t k, unsigned core);
+void plan_park(scheduler *s, size_t k, unsigned from, unsigned to);
+void plan_nothing(scheduler *s, size_t k);
+void carry_out(scheduler *s);
+void wait_for_moves(scheduler *s); /* until the mover has done what it was handed */
 void look_after_pin(scheduler *s); /* of one thread, in turn */
+void lift(scheduler *s, size_t k); /* out of SCHED_IDLE, where it may be, until its next Run */
+
+/* under.c: tasks that stand under */
+bool stands_under(const scheduler *s, size_t k);
+void under_begin(scheduler *s, size_t k); /* a piece begins */
+void under_bury(scheduler *s, size_t k);  /* its process is gone */
+/* Makes the look of the passes, by that of the page; NULL: nobody publishes there. */
+void under_look(scheduler *s, size_t k, const caladan_look *page, uint64_t now);
+void under_grant(scheduler *s, size_t k, unsigned core);
+void under_revoke(scheduler *s, size_t k, uint8_t cause);
+void under_free(scheduler *s, size_t k);
+void under_cap(scheduler *s, unsigned task, uint8_t cap);
+/* Whether nobody but that thread stands under there. */
+bool is_clear(const scheduler *s, unsigned core, size_t of);
+void under_settle(scheduler *s, uint64_t now); /* plans what follows from the actions of a pass */
+
+/* groups.c: whether a thread in SCHED_IDLE of one process gives way to those of another */
+bool gives_way(pid_t under, pid_t to);
+extern const char *groups_proc; /* /proc; a test has another one */
 
 /* pieces.c */
 void begin_piece(scheduler *s);

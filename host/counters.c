@@ -20,8 +20,11 @@ void print_summary(scheduler *s) {
     printf("\nprocesses: attached %" PRIu64 ", ended %" PRIu64 ", left %" PRIu64 ", refused %" PRIu64 ", killed %" PRIu64 ", written off %" PRIu64 "\n",
            c->attached, c->ended, c->given_up, c->refused, c->killed, c->written_off);
     printf("longest gap between passes %" PRIu64 " ns, lines lost %" PRIu64 "\n", c->longest_gap, lost_lines());
-    printf("threads: not the process's own %" PRIu64 ", not pinned %" PRIu64 ", strayed %" PRIu64 ", worn out %" PRIu64 "\n", c->foreign_tids, c->unpinned,
-           c->strayed, c->worn);
+    printf("threads: not the process's own %" PRIu64 ", not pinned %" PRIu64
+           ", pinned slowly %" PRIu64 ", strayed %" PRIu64 ", worn out %" PRIu64 "\n",
+           c->foreign_tids, c->unpinned, c->slow_pins, c->strayed, c->worn);
+    printf("standing under: gave way %" PRIu64 ", had their core back %" PRIu64
+           ", taken off %" PRIu64 "\n", c->given_way, c->notes, c->taken_off);
     latency_print(&s->latency, stdout);
 }
 
@@ -53,7 +56,9 @@ static void put_counts(FILE *out, const counts *c) {
                 {"left_total", c->given_up}, {"refused_total", c->refused}, {"killed_total", c->killed}, {"written_off_total", c->written_off},
                 {"places_too_far_total", c->jumped}, {"misses_too_many_total", c->outran},
                 {"foreign_threads_total", c->foreign_tids}, {"unpinned_total", c->unpinned},
-                {"strayed_total", c->strayed}};
+                {"strayed_total", c->strayed}, {"slow_pins_total", c->slow_pins},
+                {"gave_way_total", c->given_way},
+                {"had_back_total", c->notes}, {"taken_off_total", c->taken_off}};
     for (size_t i = 0; i < sizeof each / sizeof *each; i++) put_one(out, each[i].name, "counter", each[i].value);
 }
 

@@ -22,7 +22,7 @@
 
 /* Rises when what lies in a segment or what is said over the socket changes; pages have a version of their own. */
 #ifndef HOST_LAYOUT
-#define HOST_LAYOUT 3
+#define HOST_LAYOUT 4
 #endif
 #define HOST_VERSION ((uint64_t)HOST_LAYOUT << 32 | CALADAN_PAGES_VERSION)
 #define HOST_SIGNAL SIGURG /* by default it is ignored: a thread that has no handler for it takes no harm */
@@ -36,9 +36,14 @@ enum { TAKEN, RUNNING, QUEUED, OLDEST, STARTED, MISSES, STAMP, PAUSED, SINCE };
 typedef struct host_slot {
     caladan_page page;
     caladan_ring ring;
-    _Alignas(CALADAN_LINE) _Atomic uint32_t doorbell; /* the scheduler's: a futex; it grows when there is something to see */
-    _Alignas(CALADAN_LINE) _Atomic int32_t tid;       /* the runtime's: the kernel thread, or 0; written before a phase is read */
-    _Atomic uint32_t phase;                           /* the runtime's: the last phase that the thread acted on */
+    /* a futex; it grows when there is something to see */
+    _Alignas(CALADAN_LINE) _Atomic uint32_t doorbell;
+    /* the scheduler's: the thread may sleep on its core, which it keeps */
+    _Atomic uint32_t may_doze;
+    /* the runtime's: the kernel thread, or 0; written before a phase is read */
+    _Alignas(CALADAN_LINE) _Atomic int32_t tid;
+    _Atomic uint32_t phase;  /* the runtime's: the last phase that the thread acted on */
+    _Atomic uint32_t asleep; /* the runtime's: the thread sleeps on its doorbell, or is about to */
 } host_slot;
 
 /* A phase is twice the number of the piece of the record, from 1; or that plus one while the piece ends: then
@@ -47,6 +52,8 @@ typedef struct host_segment {
     uint64_t version; /* HOST_VERSION */
     uint64_t epoch;   /* tick 0 of the clock, in nanoseconds of CLOCK_MONOTONIC */
     uint32_t threads; /* 1 to HOST_LIMIT */
+    /* not 0: its threads are in SCHED_IDLE, and may be on a core that another task has */
+    uint32_t stands_under;
     int32_t processor[HOST_CORES]; /* of each core */
     _Alignas(CALADAN_LINE) _Atomic uint32_t phase;
     host_slot slot[HOST_LIMIT];
@@ -61,7 +68,10 @@ typedef struct host_word {
     int32_t process; /* as the process itself knows its number */
 } host_word;
 
-enum { HOST_DONE, HOST_TAKEN, HOST_OTHER_USER, HOST_OTHER_NAMESPACE, HOST_NO_RIGHTS, HOST_NO_MEMORY };
+enum {
+    HOST_DONE, HOST_TAKEN, HOST_OTHER_USER, HOST_OTHER_NAMESPACE, HOST_NO_RIGHTS, HOST_NO_MEMORY,
+    HOST_OTHER_GROUP
+};
 typedef struct host_answer {
     uint64_t version;
     uint32_t status;
@@ -105,9 +115,17 @@ static inline void futex_wait(_Atomic uint32_t *word, uint32_t while_it_is) {
 
 static inline void futex_wake_all(_Atomic uint32_t *word) { syscall(SYS_futex, word, FUTEX_WAKE, 1 << 30, NULL, NULL, 0); }
 
+/* Wakes the thread where it sleeps. It says so before it looks at the doorbell a last time, so
+ * that either it is seen here to sleep, or it sees there that the doorbell has grown. */
 static inline void ring_bell(host_slot *slot) {
     atomic_fetch_add(&slot->doorbell, 1);
+    if (!atomic_load(&slot->asleep)) return;
     syscall(SYS_futex, &slot->doorbell, FUTEX_WAKE, 1, NULL, NULL, 0);
+}
+static inline void sleep_on_bell(host_slot *slot, uint32_t while_it_is) {
+    atomic_store(&slot->asleep, 1);
+    futex_wait(&slot->doorbell, while_it_is);
+    atomic_store(&slot->asleep, 0);
 }
 
 /* Attaches as that task, and maps its segment. NULL: errno says why, and host_why in words. *connection stays

@@ -1,21 +1,32 @@
-/* load.c: two tasks to see the scheduler at work, and to measure. Built over caladan_rt.c it is `load`, over
- * plain_rt.c, where Linux alone decides, `load_plain`.
+/* load.c: two tasks to see the scheduler at work, and to measure. Built over caladan_rt.c it is
+ * `load`, over plain_rt.c, where Linux alone decides, `load_plain`.
  *
  *   load spin                 prints how many turns of the loop are a microsecond
- *   load lc -n NAME -u TASK [-s SECONDS] [-q REQUESTS_A_SECOND] [-m MICROSECONDS] [-i IDLE_NS] [-x CPU] [-k TURNS] [-c COUNTER]
- *   load be -n NAME -u TASK [-s SECONDS] [-i IDLE_NS] [-b] [-h] [-e WHAT] [-k TURNS] [-c COUNTER]
+ *   load lc -n NAME -u TASK [-s SECONDS] [-q REQUESTS_A_SECOND] [-m MICROSECONDS] [-i IDLE_NS]
+ *        [-x CPU] [-k TURNS] [-c COUNTER]
+ *   load be -n NAME -u TASK [-s SECONDS] [-i IDLE_NS] [-b] [-h] [-e WHAT] [-k TURNS] [-c
+ *        COUNTER]
  *
- * lc: requests come at times that are drawn beforehand (Poisson), whether earlier ones are served or not, and the
- * time of a request counts from there. A request is a number of turns of a loop, so that what does not run
- * does not count as work. With -x whoever hands requests in spins on that processor, else he sleeps. The first half
- * second is not measured. be: work without end, in pieces of 10 microseconds, which are counted in the file COUNTER;
- * -b: each piece reads 64 KiB of 256 MiB; -h: no core is left within a chunk of 100 pieces; -e: when the scheduler is over, its
- * threads wait, run, or attach again (wait, run, again; seek: run until it has attached again), and the process goes on. Both:
- * -a: the main thread has all signals blocked; -g: the process has a handler of SIGURG. lc reads that file, and says how many
- * pieces were done meanwhile.
+ * lc: requests come at times that are drawn beforehand (Poisson), whether earlier ones are
+ * served or not, and the time of a request counts from there. A request is a number of turns of
+ * a loop, so that what does not run does not count as work. With -x whoever hands requests in
+ * spins on that processor, else he sleeps. The first half second is not measured. be: work
+ * without end, in pieces of 10 microseconds, which are counted in the file COUNTER, by
+ * processor; -b: each piece reads 64 KiB of 256 MiB; -h: no core is left within a chunk of 100
+ * pieces; -e: when the scheduler is over, its threads wait, run, or attach again (wait, run,
+ * again; seek: run until it has attached again), and the process goes on. Both: -a: the main
+ * thread has all signals blocked; -g: the process has a handler of SIGURG; -z: it closes all its
+ * files when it has started; -f: it has a child that hands in a request, and the status is 4
+ * where the child is not ended for it by SIGSEGV. lc reads that file, and says how many pieces
+ * were done meanwhile.
  *
- * Each request and each piece looks whether it runs on the processor of its thread's core: two threads are never on one. The
- * first that does not is a line on standard error, and the status is 3 then. */
+ * Each request and each piece looks whether it runs on the processor of its thread's core: two
+ * threads are never on one. The first that does not is a line on standard error, and the status
+ * is 3 then. All loads of a run that are given the same file CALADAN_CLAIMS also claim the
+ * processor there, for as long as a piece takes, in which no core is left: the same line and
+ * status where somebody else claims it meanwhile. Threads of the normal class claim it from one
+ * another, best-effort ones too; so one that stands under may be under a latency-critical
+ * thread, and under no other. */
 #define _GNU_SOURCE
 #include "caladan_rt.h"
 #include <errno.h>
@@ -28,6 +39,7 @@
 #include <stdlib.h>
 #include <string.h>
 #include <sys/mman.h>
+#include <sys/wait.h>
 #include <time.h>
 #include <unistd.h>
 
@@ -44,7 +56,7 @@ static struct {
     unsigned task;
     double turns, microseconds, rate, seconds;
     int cpu;
-    bool bytes, holds, blocks, handles;
+    bool bytes, holds, blocks, handles, closes, forks;
     const char *after;
     uint64_t idle_ns;
 } options = {.microseconds = 20, .rate = 10000, .seconds = 1, .cpu = -1, .idle_ns = 5000};
@@ -91,11 +103,64 @@ static double turns_of_a_microsecond(void) {
 static _Atomic uint64_t strayed;
 
 /* Its core is not taken away meanwhile. */
-static void look_where_it_runs(void) {
+static bool is_where_it_is_to_be(int *here, int *of_core) {
     caladan_rt_hold();
-    int of_core = caladan_rt_processor(), here = of_core < 0 ? -1 : sched_getcpu();
-    if (here != of_core && atomic_fetch_add(&strayed, 1) == 0)
+    *of_core = caladan_rt_processor(), *here = *of_core < 0 ? -1 : sched_getcpu();
+    caladan_rt_release();
+    return *here == *of_core;
+}
+
+/* One that stands under may have been moved while it did not run; as soon as it holds nothing
+ * off, it knows. (With the thread sanitizer as soon as it sleeps: until then no signal is
+ * taken.) */
+static void look_where_it_runs(void) {
+    int here, of_core;
+    if (is_where_it_is_to_be(&here, &of_core)) return;
+    if (caladan_rt_stands_under(rt) && (usleep(1), is_where_it_is_to_be(&here, &of_core))) return;
+    if (atomic_fetch_add(&strayed, 1) == 0)
         fprintf(stderr, "load: task %u: a thread runs on processor %d, and has the core of processor %d\n", options.task, here, of_core);
+}
+
+/* ---- who else runs there ---- */
+
+enum { PROCESSORS = CPU_SETSIZE };
+
+/* Of each processor, who claims it, and the same of best-effort threads alone; 0: nobody. */
+static struct claims {
+    _Atomic uint32_t normal[PROCESSORS], best[PROCESSORS];
+} *claims;
+static bool is_best;
+
+static void open_claims(void) {
+    const char *path = getenv("CALADAN_CLAIMS");
+    int file = path ? open(path, O_RDWR | O_CREAT | O_CLOEXEC, 0600) : -1;
+    if (path == NULL) return;
+    if (file < 0 || ftruncate(file, sizeof *claims)) die(path, strerror(errno));
+    claims = mmap(NULL, sizeof *claims, PROT_READ | PROT_WRITE, MAP_SHARED, file, 0);
+    if (claims == MAP_FAILED) die(path, strerror(errno));
+}
+
+static void end_claim(_Atomic uint32_t *claim, uint32_t self, int here) {
+    if (atomic_exchange(claim, 0) == self || atomic_fetch_add(&strayed, 1)) return;
+    fprintf(stderr, "load: task %u: a thread runs on processor %d, and so does another one\n",
+            options.task, here);
+}
+
+/* Works for so many turns, and claims the processor meanwhile; no core is left then. One that
+ * does not run where its core is claims nothing: that is seen otherwise. */
+static void spin_alone(uint64_t turns) {
+    uint32_t self = (uint32_t)gettid();
+    int here, of_core;
+    caladan_rt_hold();
+    bool is_normal = !caladan_rt_stands_under(rt);
+    bool is_there = is_where_it_is_to_be(&here, &of_core) && here >= 0;
+    if (is_there && is_normal) atomic_store(&claims->normal[here], self);
+    if (is_there && is_best) atomic_store(&claims->best[here], self);
+    spin(turns);
+    /* one that stands under was moved: it may be, until it knows */
+    if (is_there && sched_getcpu() != here) is_there = false;
+    if (is_there && is_normal) end_claim(&claims->normal[here], self, here);
+    if (is_there && is_best) end_claim(&claims->best[here], self, here);
     caladan_rt_release();
 }
 
@@ -118,8 +183,10 @@ static void start(caladan_serve *serve) {
 
 static void serve_request(void *with, unsigned thread, caladan_request request) {
     (void)with, (void)thread;
+    uint64_t turns = (uint64_t)(options.turns * options.microseconds);
     look_where_it_runs();
-    spin((uint64_t)(options.turns * options.microseconds));
+    if (claims && request.what % 2 && options.microseconds <= 100) spin_alone(turns);
+    else spin(turns);
     took[request.what] = caladan_rt_now(rt) - request.arrived;
     look_where_it_runs();
 }
@@ -147,6 +214,18 @@ static void wait_until(uint64_t due) {
     }
 }
 
+/* How long the handing in of a request took, of those that are measured. */
+static struct {
+    uint64_t *nanoseconds;
+    size_t count;
+} handed;
+
+static void submit(unsigned thread, caladan_request request, bool is_measured) {
+    uint64_t from = clock_ns();
+    caladan_rt_submit(rt, thread, request);
+    if (is_measured) handed.nanoseconds[handed.count++] = clock_ns() - from;
+}
+
 /* Requests from `from` on: arrived[i] of each, `until` they end. Answers how many; *first: the first after `begin`. */
 static size_t hand_in(uint64_t *arrived, size_t room, uint64_t begin, uint64_t end, size_t *first, uint64_t *work) {
     uint64_t state = 88172645463325252u ^ (uint64_t)getpid() << 20;
@@ -160,9 +239,18 @@ static size_t hand_in(uint64_t *arrived, size_t room, uint64_t begin, uint64_t e
         wait_until(due);
         if (!began && due >= begin) *work = pieces(), *first = count, began = true;
         arrived[count] = due;
-        caladan_rt_submit(rt, (unsigned)(draw(&state) >> 20) % caladan_rt_threads(rt), (caladan_request){due, count});
+        unsigned thread = (unsigned)(draw(&state) >> 20) % caladan_rt_threads(rt);
+        submit(thread, (caladan_request){due, count}, began);
     }
     return count;
+}
+
+/* Of those in order, without the slowest one in a hundred, in which somebody else may have run. */
+static double mean_of_most(const uint64_t *times, size_t count) {
+    size_t most = count - count / 100;
+    double sum = 0;
+    for (size_t i = 0; i < most; i++) sum += (double)times[i];
+    return most ? sum / (double)most : 0;
 }
 
 /* Requests that are not served by now count with the time that they have waited. */
@@ -174,9 +262,13 @@ static void report(const uint64_t *arrived, size_t first, size_t count, uint64_t
         if (times[i] == 0) times[i] = now - arrived[first + i], unserved++;
     }
     qsort(times, n, sizeof *times, compare);
+    qsort(handed.nanoseconds, handed.count, sizeof *handed.nanoseconds, compare);
 #define AT(share) (n ? (double)times[(size_t)((double)(n - 1) * (share))] / 1000 : 0)
-    printf("{\"requests\": %zu, \"unserved\": %zu, \"p50\": %.1f, \"p90\": %.1f, \"p99\": %.1f, \"p999\": %.1f, \"max\": %.1f, \"be_cores\": %.4f}\n", n,
-           unserved, AT(0.5), AT(0.9), AT(0.99), AT(0.999), AT(1), (double)work * 1e-5 / options.seconds);
+    printf("{\"requests\": %zu, \"unserved\": %zu, ", n, unserved);
+    printf("\"p50\": %.1f, \"p90\": %.1f, \"p99\": %.1f, ", AT(0.5), AT(0.9), AT(0.99));
+    printf("\"p999\": %.1f, \"max\": %.1f, ", AT(0.999), AT(1));
+    printf("\"be_cores\": %.4f, \"submit_ns\": %.0f}\n", (double)work * 1e-5 / options.seconds,
+           mean_of_most(handed.nanoseconds, handed.count));
     free(times);
 }
 
@@ -185,7 +277,8 @@ static int latency_critical(void) {
     uint64_t *arrived = malloc(room * sizeof *arrived), work;
     cpu_set_t cpus;
     took = calloc(room, sizeof *took);
-    if (took == NULL || arrived == NULL) die("requests", strerror(errno));
+    handed.nanoseconds = calloc(room, sizeof(uint64_t));
+    if (!took || !arrived || !handed.nanoseconds) die("requests", strerror(errno));
     memset(arrived, 0, room * sizeof *arrived);
     start(serve_request);
     CPU_ZERO(&cpus);
@@ -221,12 +314,27 @@ static void serve_chunk(void *with, unsigned thread, caladan_request request) {
     if (options.holds) caladan_rt_hold();
     for (int i = 0; i < PIECES_OF_A_CHUNK; i++) {
         if (options.bytes) read_piece(thread);
+        else if (claims && i % 2) spin_alone((uint64_t)(options.turns * 10));
         else spin((uint64_t)(options.turns * 10));
         look_where_it_runs();
-        atomic_fetch_add_explicit(&counters[thread % COUNTERS].pieces, 1, memory_order_relaxed);
+        atomic_fetch_add(&counters[(unsigned)sched_getcpu() % COUNTERS].pieces, 1);
     }
     if (options.holds) caladan_rt_release();
     caladan_rt_submit(rt, thread, (caladan_request){caladan_rt_now(rt), request.what});
+}
+
+/* A child has no segment: who publishes there ends. */
+static void have_child(void) {
+    int status = 0;
+    pid_t child = fork();
+    if (child == 0) {
+        signal(SIGSEGV, SIG_DFL);
+        alarm(5);
+        caladan_rt_submit(rt, 0, (caladan_request){caladan_rt_now(rt), 0});
+        _exit(0);
+    }
+    if (child < 0 || waitpid(child, &status, 0) != child) die("a child", strerror(errno));
+    if (!WIFSIGNALED(status) || WTERMSIG(status) != SIGSEGV) _exit(4);
 }
 
 /* Where the process is to go on when the scheduler is over. */
@@ -243,8 +351,11 @@ static int best_effort(void) {
         madvise(buffer, BUFFER, MADV_HUGEPAGE);
         memset(buffer, 1, BUFFER);
     }
+    is_best = true;
     start(serve_chunk);
     for (unsigned i = 0; i < caladan_rt_threads(rt); i++) caladan_rt_submit(rt, i, (caladan_request){caladan_rt_now(rt), i});
+    if (options.closes) close_range(3, ~0u, 0);
+    if (options.forks) usleep(300000), have_child(); /* its threads have begun by then */
     uint64_t until = caladan_rt_now(rt) + (uint64_t)(options.seconds * 1e9);
     if (options.after && (!strcmp(options.after, "run") || !strcmp(options.after, "seek"))) caladan_rt_after(rt, CALADAN_RT_RUN);
     while (caladan_rt_now(rt) < until && goes_on()) usleep(20000);
@@ -266,6 +377,8 @@ static void read_option(int option) {
     case 'h': options.holds = true; break;
     case 'a': options.blocks = true; break;
     case 'g': options.handles = true; break;
+    case 'z': options.closes = true; break;
+    case 'f': options.forks = true; break;
     case 'e': options.after = optarg; break;
     default: exit(2);
     }
@@ -274,8 +387,10 @@ static void read_option(int option) {
 int main(int count, char **words) {
     const char *word = count > 1 ? words[1] : "";
     if (!strcmp(word, "spin")) return printf("%.2f\n", turns_of_a_microsecond()), 0;
-    for (int c; count > 1 && (c = getopt(count - 1, words + 1, "n:u:k:c:x:m:q:s:i:bhage:")) != -1;) read_option(c);
+    static const char letters[] = "n:u:k:c:x:m:q:s:i:bhagzfe:";
+    for (int c; count > 1 && (c = getopt(count - 1, words + 1, letters)) != -1;) read_option(c);
     if ((strcmp(word, "lc") && strcmp(word, "be")) || options.name == NULL) die("usage", "load spin | lc | be -n NAME -u TASK ..");
+    open_claims();
     if (options.turns == 0) options.turns = turns_of_a_microsecond();
     int file = options.counter ? open(options.counter, O_RDWR | O_CREAT, 0600) : -1;
     if (options.counter && (file < 0 || ftruncate(file, COUNTERS * sizeof(counter)))) die(options.counter, strerror(errno));

@@ -1,5 +1,5 @@
-/* misbehave.c: processes that do not keep their word, to see that only their own task suffers. Each ends after
- * SECONDS, if it is not killed before.
+/* misbehave.c: processes that do not keep their word, to see that only their own task suffers.
+ * Each ends after SECONDS, if it is not killed before.
  *
  *   misbehave NAME TASK SECONDS HOW
  *
@@ -15,6 +15,8 @@
  *   silent   connects twelve times at once, says nothing, and comes again where it is sent away
  *   closes   is given a core, closes its connection, and works on
  *   mixed    becomes nobody by half, as root alone can: its scheduler may not signal it
+ *   awake    hands over, at each Run, the number of one or the other of two threads that never
+ *            sleep, and leaves at once
  *   punches  would take the pages out of its segment again and again */
 #define _GNU_SOURCE
 #include <errno.h>
@@ -111,6 +113,29 @@ static void punch(void) {
         if (madvise(segment, sizeof *segment, MADV_REMOVE) == 0) exit(7);
 }
 
+static void *run_on(void *argument) {
+    atomic_store((_Atomic int32_t *)argument, (int32_t)syscall(SYS_gettid));
+    while (host_clock() < until) host_pause();
+    return NULL;
+}
+
+/* Who is pinned does not sleep: the kernel waits until it has moved. */
+static void stay_awake(host_slot *slot) {
+    static _Thread_local _Atomic int32_t tid[2];
+    caladan_publisher publisher;
+    uint64_t words[CALADAN_WORDS];
+    pthread_t other;
+    for (int i = 0; i < 2; i++)
+        if (pthread_create(&other, NULL, run_on, &tid[i])) exit(2);
+    for (unsigned i = 0; host_clock() < until; i++) {
+        while (atomic_load(&tid[i % 2]) == 0) host_pause();
+        atomic_store(&slot->tid, atomic_load(&tid[i % 2]));
+        if (!get_core(slot, &publisher, words)) return;
+        words[RUNNING] = words[STARTED] = 0;
+        caladan_publish(&publisher, words);
+    }
+}
+
 static int open_folder(const char *name) {
     char base[HOST_PATH], path[HOST_PATH + HOST_NAME + 2];
     if (!host_base(base)) exit(2);
@@ -155,6 +180,7 @@ static void *live(void *argument) {
     if (!strcmp(how, "wordy")) return talk(slot), NULL;
     if (!strcmp(how, "misses")) return miss(slot), NULL;
     if (!strcmp(how, "punches")) return punch(), NULL;
+    if (!strcmp(how, "awake")) return stay_awake(slot), NULL;
     if (!strcmp(how, "last_one") && slot != segment->slot) return sleep(1), NULL;
     if (!strncmp(how, "last", 4)) return atomic_store(&slot->page.version, UINT64_MAX - 1), sleep(1), NULL;
     if (!get_core(slot, &publisher, words)) return NULL;

@@ -18,6 +18,10 @@ static const char USAGE[] =
     "  -t TABLE    the file with the task table; its times are nanoseconds\n"
     "  -c CPUS     the processor of each core of the table, siblings in pairs, as 2,3 or 2-3\n"
     "  -o CPU      the processor of the scheduler; without it, any that it does not manage\n"
+    "  -m CPU      the processor of a thread that pins, wakes and interrupts others, and is busy;\n"
+    "              without it, the passes do so\n"
+    "  -u TASK,..  these best-effort tasks stand under: they are in SCHED_IDLE, and a core is\n"
+    "              taken from them at once\n"
     "  -s SECONDS  how long; without it, until SIGINT, SIGTERM or SIGHUP\n"
     "  -g NS       the least time from one pass to the next; without it, 0\n"
     "  -y NS       after a pass that sent commands, wait at most so long until they are acknowledged\n"
@@ -58,12 +62,20 @@ static void read_cpus(options *o, char *text) {
     }
 }
 
+/* The tasks that stand under: which they are is known to the table. */
+static void read_tasks(options *o, char *text) {
+    for (char *word; (word = strsep(&text, ","));)
+        o->under |= 1u << number(word, 0, HOST_TASKS - 1);
+}
+
 static void read_option(options *o, int option) {
     switch (option) {
     case 'n': o->name = optarg; break;
     case 't': o->table = optarg; break;
     case 'c': read_cpus(o, optarg); break;
     case 'o': o->own = (int)number(optarg, 0, CPU_SETSIZE - 1); break;
+    case 'm': o->mover = (int)number(optarg, 0, CPU_SETSIZE - 1); break;
+    case 'u': read_tasks(o, optarg); break;
     case 's': o->seconds = number(optarg, 1, 1000000000); break;
     case 'g': o->gap = number(optarg, 0, 999999999); break;
     case 'y': o->wait = number(optarg, 0, 1000000000); break;
@@ -80,8 +92,9 @@ static void read_option(options *o, int option) {
 
 options read_options(int count, char **words) {
     static const struct option longer[] = {{"help", no_argument, NULL, 'h'}, {"version", no_argument, NULL, 'V'}, {0}};
-    options o = {.own = -1, .passes = 1000000, .bytes = 60000000};
-    for (int c; (c = getopt_long(count, words, "n:t:c:o:s:g:y:k:w:r:p:b:hV", longer, NULL)) != -1;) read_option(&o, c);
+    options o = {.own = -1, .mover = -1, .passes = 1000000, .bytes = 60000000};
+    static const char letters[] = "n:t:c:o:m:u:s:g:y:k:w:r:p:b:hV";
+    for (int c; (c = getopt_long(count, words, letters, longer, NULL)) != -1;) read_option(&o, c);
     if (optind != count) fail(words[optind], "it is no option");
     if (o.name == NULL || o.table == NULL || o.cpus == 0) fail("usage", "caladand -n NAME -t TABLE -c CPUS [OPTION ..]; caladand --help says more");
     if (!host_is_name(o.name)) fail("-n", "a name has 1 to 64 letters, digits, '.', '_' and '-', and no '.' at the front");

@@ -1,40 +1,43 @@
 /* pass.c: one pass: looks at all pages, lets the library decide, and moves what it says. */
 #define _GNU_SOURCE
-#include <errno.h>
-#include <sched.h>
-#include <string.h>
 #include "caladand.h"
 
 #define MOST_LINES ((uint64_t)1 << 40)
-#define RETRY ((uint64_t)100000000)   /* how long a thread that could not be pinned is granted nothing, in nanoseconds */
-#define SELDOM ((uint64_t)1000000000) /* how often such is said */
+/* how long a thread that has left may be on its way to sleep, in nanoseconds */
+#define TO_SLEEP ((uint64_t)5000)
 
 /* ---- looking ---- */
 
-/* Whether a thread may be sent a command. While a piece ends none is: so the passes grant and revoke nothing, and only
- * free what is left. One that has not begun, that nobody looks at, or whose looks are refused, is granted nothing; but who
- * has a core can be told to leave it. */
+/* Whether a thread may be sent a command. While a piece ends none is: so the passes grant and
+ * revoke nothing, and only free what is left. One that has not begun, that nobody looks at, or
+ * whose looks are refused, is granted nothing; nor is one that has just left, since to pin it
+ * would take as long as it takes to sleep. But who has a core can be told to leave it. */
 static bool may_be_sent(const scheduler *s, const host_thread *thread, uint64_t now) {
+    const host_seat *seat = &thread->seat;
     if (s->is_closing || thread->by_hand || !s->task[thread->task].is_attached) return false;
-    return thread->core != 0 || (atomic_load(&thread->slot->tid) != 0 && !thread->is_doubted && now >= thread->retry_at);
+    if (thread->core != 0) return true;
+    bool sleeps = seat->left_at == 0 || now - seat->left_at >= TO_SLEEP;
+    bool is_there = sleeps && atomic_load(&seat->slot->tid) != 0;
+    return is_there && !seat->is_doubted && now >= seat->retry_at;
 }
 
 /* Nobody publishes more than once a nanosecond. A page that shows a place further on than that is taken as one that is
  * being written: so no page is ever at its last place, and each successor has places left. */
-static bool is_too_far(const host_thread *thread, const caladan_look *look, uint64_t now) {
+static bool is_too_far(const host_seat *seat, const caladan_look *look, uint64_t now) {
     uint64_t place = look->number;
     if (look->busy) place = (look->number > look->second ? look->number : look->second) / 2;
-    return place > thread->place && place - thread->place > now - thread->from;
+    return place > seat->place && place - seat->place > now - seat->from;
 }
 
 /* Nor does a thread miss more than a line a nanosecond. A page that shows more is taken in the same way: its successor,
  * which goes on from the misses that were kept, can still count. */
-static bool are_too_many(const host_thread *thread, const caladan_look *look, uint64_t now) {
-    return !look->busy && look->misses > thread->misses && look->misses - thread->misses > now - thread->from;
+static bool are_too_many(const host_seat *seat, const caladan_look *look, uint64_t now) {
+    bool are_more = !look->busy && look->misses > seat->misses;
+    return are_more && look->misses - seat->misses > now - seat->from;
 }
 
-static bool is_beyond(const host_thread *thread, const caladan_look *look, uint64_t now) {
-    return is_too_far(thread, look, now) || are_too_many(thread, look, now);
+static bool is_beyond(const host_seat *seat, const caladan_look *look, uint64_t now) {
+    return is_too_far(seat, look, now) || are_too_many(seat, look, now);
 }
 
 /* Whose page nobody may have published on: it shows what it showed when it was handed out. It is not looked at, since
@@ -42,36 +45,44 @@ static bool is_beyond(const host_thread *thread, const caladan_look *look, uint6
 static bool is_blank(const host_task *task) { return task->pid && !task->is_attached; }
 
 /* `now` is when the pass began; the clock is asked again only where that is too long ago. */
+static void look_at_page(scheduler *s, host_seat *seat, caladan_look *look, uint64_t now) {
+    caladan_observe(&seat->slot->page, look);
+    if (!is_beyond(seat, look, now) || !is_beyond(seat, look, now = now_of(s))) return;
+    if (is_too_far(seat, look, now)) s->counts.jumped++;
+    else s->counts.outran++;
+    *look = (caladan_look){.busy = 1, .number = 1, .second = 1};
+    seat->is_doubted = true;
+}
+
 static void look_at(scheduler *s, size_t k, uint64_t now) {
     host_thread *thread = &s->thread[k];
     caladan_look *look = &s->look[k];
     bool is_known = thread->by_hand || is_blank(&s->task[thread->task]);
     if (is_known) *look = thread->gone;
-    else caladan_observe(&thread->slot->page, look);
-    if (is_known || !is_beyond(thread, look, now) || !is_beyond(thread, look, now = now_of(s))) return;
-    if (is_too_far(thread, look, now)) s->counts.jumped++;
-    else s->counts.outran++;
-    *look = (caladan_look){.busy = 1, .number = 1, .second = 1};
-    thread->is_doubted = true;
+    else look_at_page(s, &thread->seat, look, now);
+    if (stands_under(s, k)) under_look(s, k, is_known ? NULL : look, now);
 }
 
+/* How many commands a thread was sent is counted here, and its kept record says how many of them
+ * it has taken. */
 static void look_at_each(scheduler *s) {
     uint64_t now = now_of(s);
     s->looks++;
     for (size_t k = 0; k < s->machine.threads; k++) {
-        caladan_thread_state state = {0, 0, 0};
+        const host_thread *thread = &s->thread[k];
         look_at(s, k, now);
-        caladan_thread(&s->handle, k, &state);
-        s->look[k].room = may_be_sent(s, &s->thread[k], now) && caladan_room(state.sent, state.taken);
+        bool has_room = caladan_room(thread->sent, s->shown[k].shown.taken);
+        s->look[k].room = has_room && may_be_sent(s, thread, now);
     }
 }
 
 static void note_judged(scheduler *s) {
     for (size_t k = 0; k < s->machine.threads; k++) {
+        host_seat *seat = &s->thread[k].seat;
         s->counts.judged[s->judged[k]]++;
-        if (s->judged[k] > CALADAN_BUSY) s->thread[k].is_doubted = true;
+        if (s->judged[k] > CALADAN_BUSY) seat->is_doubted = true;
         if (s->judged[k] != CALADAN_KEPT) continue;
-        s->thread[k].is_doubted = false;
+        if (!stands_under(s, k)) seat->is_doubted = false; /* else its page was judged before */
         s->shown[k].shown = s->look[k];
     }
 }
@@ -91,99 +102,86 @@ static uint64_t bandwidth(scheduler *s, uint64_t now) {
 
 /* ---- moving ---- */
 
-static void send_command(scheduler *s, uint8_t k, uint64_t command) {
-    caladan_ring_send(&s->thread[k].sender, command);
-    s->sent_to[s->sent++] = k;
-}
-
-static void say_unpinned(scheduler *s, uint8_t k, unsigned core, const char *then) {
-    const host_thread *thread = &s->thread[k];
-    uint64_t now = now_of(s);
-    if (s->complained && now - s->complained < SELDOM) return;
-    s->complained = now;
-    complain("thread %u (%d of process %d, task %u) cannot be pinned to processor %d, and %s: %s", k, atomic_load(&thread->slot->tid),
-             s->task[thread->task].pid, thread->task, s->options.cpu[core], then,
-             thread->unpinned_for ? strerror(thread->unpinned_for) : "it is no thread of that process");
-}
-
-/* The thread sleeps, and so wakes on the core's processor. False: it is not pinned there. */
-static bool pin(scheduler *s, uint8_t k, unsigned core) {
-    host_thread *thread = &s->thread[k];
-    pid_t tid = atomic_load(&thread->slot->tid);
-    cpu_set_t cpus;
-    if (thread->pinned == tid && thread->pinned_to == core && tid != 0) return true;
-    thread->pinned = 0;
-    thread->unpinned_for = 0;
-    CPU_ZERO(&cpus);
-    CPU_SET((size_t)s->options.cpu[core], &cpus);
-    if (!is_own_thread(&s->task[thread->task], tid)) s->counts.foreign_tids++;
-    else if (sched_setaffinity(tid, sizeof cpus, &cpus)) thread->unpinned_for = errno, s->counts.unpinned++;
-    else thread->pinned = tid, thread->pinned_to = core;
-    return thread->pinned != 0;
-}
-
-/* What was pinned is not so for ever: a cpuset grows narrower, a processor goes away, a process moves its threads. A thread
- * without a core is pinned again when it is granted one; one that has a core at once, or it is said. */
-void look_after_pin(scheduler *s) {
-    uint8_t k = s->looked_after = (uint8_t)((s->looked_after + 1u) % s->machine.threads);
-    host_thread *thread = &s->thread[k];
-    cpu_set_t cpus;
-    if (thread->pinned == 0 || sched_getaffinity(thread->pinned, sizeof cpus, &cpus)) return;
-    if (CPU_COUNT(&cpus) == 1 && CPU_ISSET((size_t)s->options.cpu[thread->pinned_to], &cpus)) return;
-    s->counts.strayed++;
-    thread->pinned = 0;
-    if (thread->core == 0 || pin(s, k, thread->core - 1)) return;
-    thread->retry_at = now_of(s) + RETRY;
-    say_unpinned(s, k, thread->core - 1, "runs elsewhere");
-}
-
-/* Who cannot be pinned is sent Park in place of Run: when it has taken that, its core is free. */
-static void move_in(scheduler *s, const caladan_action *a) {
+/* A latency-critical thread runs at once, whoever stands under on its core; a best-effort one
+ * when he has left. */
+static void give_core(scheduler *s, const caladan_action *a) {
     host_thread *thread = &s->thread[a->thread];
+    s->on_core[a->core] = a->thread + 1u;
+    thread->sent++;
+    if (stands_under(s, a->thread)) return under_grant(s, a->thread, a->core);
     thread->core = a->core + 1u;
-    s->on_core[a->core] = a->thread;
-    if (pin(s, a->thread, a->core)) {
-        send_command(s, a->thread, a->core + 1u);
-    } else {
-        say_unpinned(s, a->thread, a->core, "is parked again");
-        thread->retry_at = now_of(s) + RETRY;
-        send_command(s, a->thread, CALADAN_PARK);
-        note_leaving(s, a->core, a->thread);
-    }
-    ring_bell(thread->slot);
+    s->sent_to[s->sent++] = a->thread;
+    thread->is_deferred = !s->task[thread->task].is_critical && !is_clear(s, a->core, a->thread);
+    if (!thread->is_deferred) plan_run(s, a->thread, a->core);
 }
 
-static void move_out(scheduler *s, const caladan_action *a) {
-    uint8_t k;
-    if (caladan_revoked(&s->handle, a->core, &k)) return;
+/* One that was not sent its Run yet is sent two Parks. */
+static void take_core(scheduler *s, const caladan_action *a) {
+    size_t k = s->on_core[a->core] - 1u;
     host_thread *thread = &s->thread[k];
-    send_command(s, k, CALADAN_PARK);
-    interrupt(&s->task[thread->task], thread->slot);
-    note_leaving(s, a->core, k);
+    thread->sent++;
+    s->is_due |= stands_under(s, k) && a->cause == CALADAN_FOR_TASK;
+    if (stands_under(s, k)) return under_revoke(s, k, a->cause);
+    s->sent_to[s->sent++] = (uint8_t)k;
+    if (thread->is_deferred) plan_nothing(s, k);
+    thread->is_deferred = false;
+    plan_park(s, k, a->core, 0);
 }
 
-static void move_cores(scheduler *s) {
-    s->sent = 0;
-    for (size_t i = 0; i < s->made; i++) {
-        const caladan_action *a = &s->action[i];
-        s->counts.actions[a->kind]++;
-        if (a->kind == CALADAN_FREE) s->leaving[a->core].is_set = false, s->thread[s->on_core[a->core]].core = 0;
-        if (a->kind == CALADAN_REVOKE) move_out(s, a);
-        if (a->kind == CALADAN_GRANT) move_in(s, a);
+static void free_core(scheduler *s, const caladan_action *a, uint64_t now) {
+    size_t k = s->on_core[a->core] - 1u;
+    host_thread *thread = &s->thread[k];
+    s->on_core[a->core] = 0;
+    if (stands_under(s, k)) return under_free(s, k);
+    thread->core = 0;
+    thread->seat.leaving.is_set = false;
+    thread->seat.left_at = now;
+}
+
+static void note(scheduler *s, const caladan_action *a, uint64_t now) {
+    s->counts.actions[a->kind]++;
+    switch (a->kind) {
+    case CALADAN_FREE: return free_core(s, a, now);
+    case CALADAN_UNBAN: s->is_banned[a->core] = false; return;
+    case CALADAN_BAN: s->is_banned[a->core] = true; return;
+    case CALADAN_REVOKE: return take_core(s, a);
+    case CALADAN_CAP: return under_cap(s, a->task, a->cap);
+    default: return give_core(s, a);
     }
+}
+
+static void move_cores(scheduler *s, uint64_t now) {
+    s->sent = 0;
+    s->is_due = false;
+    for (size_t i = 0; i < s->made; i++) note(s, &s->action[i], now);
+    under_settle(s, now);
+    carry_out(s);
+}
+
+/* A piece is to end: who was not sent his Run yet is not sent it any more, and what was planned
+ * is done. */
+void stop_moving(scheduler *s) {
+    for (size_t k = 0; k < s->machine.threads; k++) {
+        host_thread *thread = &s->thread[k];
+        if (thread->is_deferred) plan_nothing(s, k);
+        thread->is_deferred = false;
+    }
+    carry_out(s);
+    wait_for_moves(s);
 }
 
 /* A thread takes microseconds to start, and a pass takes less: while the task still shows its delay, the next
  * pass would move a second core for the same request. One that did not answer in time is waited for once. */
 static void wait_for_answer(scheduler *s, host_thread *thread, uint64_t until) {
+    host_seat *seat = &thread->seat;
     caladan_look look;
-    for (;;) {
-        caladan_observe(&thread->slot->page, &look);
-        if (!look.busy && look.taken >= thread->sender.sent) break;
-        if (thread->is_mute) return;
-        thread->is_mute = now_of(s) >= until;
+    while (!thread->is_deferred) {
+        caladan_observe(&seat->slot->page, &look);
+        if (!look.busy && look.taken >= thread->sent) break;
+        if (seat->is_mute) return;
+        seat->is_mute = now_of(s) >= until;
     }
-    thread->is_mute = false;
+    seat->is_mute = false;
 }
 
 static void note_gap(scheduler *s, uint64_t now) {
@@ -200,7 +198,7 @@ void make_pass(scheduler *s) {
     uint8_t answer = caladan_pass_each(&s->handle, now, figure, s->look, count, s->judged, HOST_THREADS, s->action, CALADAN_MOST_ACTIONS, &s->made);
     if (answer != CALADAN_DONE) fail("a pass", caladan_answer_text(answer));
     tick(s, now);
-    move_cores(s);
+    move_cores(s, now);
     note_judged(s);
     latency_decided(&s->latency, now, s->shown, count, s->action, s->made);
     latency_looked(&s->latency, now, s->shown, count);

@@ -16,14 +16,9 @@ void tick(scheduler *s, uint64_t now) {
     s->ticked = now;
 }
 
-void note_leaving(scheduler *s, unsigned core, uint8_t thread) {
-    s->leaving[core] = (leaving){.is_set = true, .thread = thread, .since = s->clock, .looks = s->looks};
-}
-
-/* The task's process is gone: its successor owes nothing. */
-void forget_leaving(scheduler *s, const host_task *task) {
-    for (unsigned core = 0; core < s->machine.cores; core++)
-        if (&s->task[s->thread[s->leaving[core].thread].task] == task) s->leaving[core].is_set = false;
+void note_leaving(scheduler *s, size_t thread, unsigned core) {
+    leaving it = {.is_set = true, .core = core, .since = s->clock, .looks = s->looks};
+    s->thread[thread].seat.leaving = it;
 }
 
 void kill_process(scheduler *s, host_task *task, const char *why) {
@@ -44,23 +39,37 @@ void write_off(scheduler *s, host_task *task) {
     give_up(s, task);
 }
 
-static void kill_late(scheduler *s, unsigned core) {
-    leaving *it = &s->leaving[core];
+/* Who stands under a thread that works is given no time in which he could leave, unless he was put
+ * into the normal class. */
+static bool is_covered(const scheduler *s, size_t k) {
+    const host_seat *seat = &s->thread[k].seat;
+    unsigned above = s->on_core[seat->leaving.core];
+    if (!stands_under(s, k) || above == 0 || above - 1 == k) return false;
+    if (seat->handed == seat->settled && seat->idle == 0) return false;
+    return s->task[s->thread[above - 1].task].is_critical;
+}
+
+static void kill_late(scheduler *s, size_t k) {
+    host_seat *seat = &s->thread[k].seat;
+    leaving *it = &seat->leaving;
     char why[128];
+    if (is_covered(s, k)) it->since = s->clock, it->looks = s->looks;
     uint64_t waited = s->clock - it->since;
-    host_task *task = &s->task[s->thread[it->thread].task];
+    host_task *task = &s->task[s->thread[k].task];
     if (!it->again && waited >= (s->options.patience ? s->options.patience / 2 : LAST)) {
         it->again = true; /* a signal may have come while the thread could not take it */
-        interrupt(task, s->thread[it->thread].slot);
+        if (stands_under(s, k)) lift(s, k);
+        interrupt(task, seat->slot);
     }
     if (s->options.patience == 0 || waited < s->options.patience || s->looks - it->looks < LEAST_LOOKS) return;
-    snprintf(why, sizeof why, "thread %u did not leave core %u in %llu ms", it->thread, core, (unsigned long long)waited / 1000000);
+    snprintf(why, sizeof why, "thread %zu did not leave core %u in %llu ms", k, it->core,
+             (unsigned long long)waited / 1000000);
     kill_process(s, task, why);
 }
 
 void kill_the_deaf(scheduler *s) {
-    for (unsigned core = 0; core < s->machine.cores; core++)
-        if (s->leaving[core].is_set) kill_late(s, core);
+    for (size_t k = 0; k < s->machine.threads; k++)
+        if (s->thread[k].seat.leaving.is_set) kill_late(s, k);
     for (unsigned t = 0; t < s->machine.tasks; t++) {
         host_task *task = &s->task[t];
         if (task->killed_at && s->clock - task->killed_at >= LAST) write_off(s, task);

@@ -11,7 +11,7 @@
 static void set_phase(scheduler *s, uint32_t phase) {
     s->phase = phase;
     for (unsigned t = 0; t < s->machine.tasks; t++) atomic_store(&s->task[t].segment->phase, phase);
-    for (size_t k = 0; k < s->machine.threads; k++) ring_bell(s->thread[k].slot);
+    for (size_t k = 0; k < s->machine.threads; k++) ring_bell(s->thread[k].seat.slot);
 }
 
 bool is_piece_full(const scheduler *s) { return s->record && (s->passes >= s->options.passes || record_is_full(s->record)); }
@@ -23,17 +23,22 @@ static void clear_slot(host_slot *slot) {
     for (int i = 0; i < CALADAN_WORDS; i++) atomic_store(&slot->page.words[i], 0);
     atomic_store(&slot->ring.sent, 0);
     atomic_store(&slot->ring.taken, 0);
+    atomic_store(&slot->may_doze, 0);
 }
 
 static void begin_thread(scheduler *s, size_t k) {
     host_thread *thread = &s->thread[k];
-    clear_slot(thread->slot);
-    thread->sender = (caladan_sender){&thread->slot->ring, 0};
-    thread->by_hand = thread->is_doubted = thread->is_mute = false;
+    host_seat *seat = &thread->seat;
+    clear_slot(seat->slot);
+    seat->sender = (caladan_sender){&seat->slot->ring, 0};
+    seat->is_doubted = seat->is_mute = seat->leaving.is_set = false;
+    seat->place = seat->misses = seat->left_at = 0;
+    seat->from = now_of(s);
+    thread->by_hand = thread->is_deferred = false;
     thread->core = 0;
+    thread->sent = 0;
     thread->gone = (caladan_look){0};
-    thread->place = thread->misses = 0;
-    thread->from = now_of(s);
+    under_begin(s, k);
     memset(&s->shown[k].shown, 0, sizeof s->shown[k].shown);
 }
 
@@ -41,7 +46,9 @@ void begin_piece(scheduler *s) {
     if (!s->handle.open && caladan_open((const uint8_t *)s->table, strlen(s->table), &s->handle)) fail(s->options.table, "it cannot be opened again");
     for (size_t k = 0; k < s->machine.threads; k++) begin_thread(s, k);
     latency_begin_piece(&s->latency);
-    memset(s->leaving, 0, sizeof s->leaving);
+    memset(s->on_core, 0, sizeof s->on_core);
+    memset(s->is_banned, 0, sizeof s->is_banned);
+    for (unsigned t = 0; t < s->machine.tasks; t++) s->task[t].cap = (uint8_t)s->task[t].limit;
     s->figure = s->figure_misses = 0;
     s->figure_at = now_of(s);
     s->passes = 0;
@@ -61,7 +68,7 @@ static bool is_quiet(const scheduler *s, const host_slot *slot) {
 /* Whether each thread of the task has left, and says that it publishes no more. */
 static bool has_left(const scheduler *s, const host_task *task) {
     for (unsigned k = task->first; k < task->first + task->limit; k++)
-        if (s->thread[k].core || (task->pid && !is_quiet(s, s->thread[k].slot))) return false;
+        if (s->thread[k].core || (task->pid && !is_quiet(s, s->thread[k].seat.slot))) return false;
     return true;
 }
 
@@ -72,7 +79,14 @@ static bool have_all_left(const scheduler *s) {
 }
 
 static void interrupt_each(scheduler *s) {
-    for (size_t k = 0; k < s->machine.threads; k++) interrupt(&s->task[s->thread[k].task], s->thread[k].slot);
+    for (size_t k = 0; k < s->machine.threads; k++)
+        interrupt(&s->task[s->thread[k].task], s->thread[k].seat.slot);
+}
+
+/* Each that stands under and has not left is given the time to do so. */
+static void lift_each(scheduler *s) {
+    for (size_t k = 0; k < s->machine.threads; k++)
+        if (stands_under(s, k) && !is_quiet(s, s->thread[k].seat.slot)) lift(s, k);
 }
 
 /* Who has not left after the patience is killed, and written off when that did not help; `at_once`, without waiting. */
@@ -95,6 +109,7 @@ static void wait_some(scheduler *s, uint64_t from) {
  * what has not left in a second stays: then there is no record, and the run ends here. */
 void end_piece(scheduler *s) {
     uint64_t from = now_of(s), clock = s->clock, looks = s->looks, patience = s->options.patience ? s->options.patience : PATIENCE;
+    stop_moving(s);
     s->is_closing = true;
     set_phase(s, s->phase | 1);
     interrupt_each(s);
@@ -106,6 +121,7 @@ void end_piece(scheduler *s) {
         make_pass(s);     /* who left since the last look is not parted with */
         kill_the_deaf(s); /* and who was killed and does not end */
         bool is_late = s->clock - clock >= patience && s->looks - looks >= LEAST_LOOKS;
+        if (s->clock - clock >= patience / 2) lift_each(s);
         if (at_once || is_late) part_with_each(s, at_once);
         if (passes >= RECORD_END_PASSES || (s->options.patience == 0 && s->clock - clock >= patience)) break;
     }

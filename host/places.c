@@ -87,10 +87,14 @@ static void check_map(const options *o, unsigned cores, const cpu_set_t *allowed
         snprintf(word, sizeof word, "it names %u processors, and the table has %u cores", o->cpus, cores);
         fail("-c", word);
     }
+    if (o->mover >= 0 && !CPU_ISSET((size_t)o->mover, allowed))
+        fail("-m", "the processor is not there, or not allowed");
+    if (o->mover >= 0 && o->mover == o->own) fail("-m", "it is the scheduler's own processor");
     for (unsigned i = 0; i < o->cpus; i++) {
         snprintf(word, sizeof word, "processor %d", o->cpu[i]);
         if (!CPU_ISSET((size_t)o->cpu[i], allowed)) fail(word, "it is not there, or not allowed");
         if (o->cpu[i] == o->own) fail(word, "it is the scheduler's own");
+        if (o->cpu[i] == o->mover) fail(word, "it is that of -m");
         for (unsigned j = 0; j < i; j++)
             if (o->cpu[i] == o->cpu[j]) fail(word, "it is named twice");
     }
@@ -103,6 +107,7 @@ void take_processors(scheduler *s) {
     if (sched_getaffinity(0, sizeof allowed, &allowed)) fail("sched_getaffinity", strerror(errno));
     check_map(o, s->machine.cores, &allowed);
     for (unsigned i = 0; i < o->cpus; i++) CPU_CLR((size_t)o->cpu[i], &allowed);
+    if (o->mover >= 0 && CPU_COUNT(&allowed) > 1) CPU_CLR((size_t)o->mover, &allowed);
     own = allowed;
     if (o->own >= 0) {
         CPU_ZERO(&own);

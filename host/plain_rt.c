@@ -137,6 +137,7 @@ void caladan_rt_after(caladan_rt *rt, int what) { (void)rt, (void)what; }
 bool caladan_rt_attach_again(caladan_rt *rt) { return (void)rt, false; }
 void caladan_rt_missed(uint64_t misses) { (void)misses; }
 int caladan_rt_processor(void) { return -1; }
+bool caladan_rt_stands_under(const caladan_rt *rt) { return (void)rt, false; }
 void caladan_rt_hold(void) {}
 void caladan_rt_release(void) {}
 

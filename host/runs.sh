@@ -33,6 +33,7 @@ done
 export CALADAN_FOLDER=${in_memory:-$build}/run
 [ -d "$CALADAN_FOLDER" ] || mkdir -m 700 "$CALADAN_FOLDER"
 counter=$CALADAN_FOLDER/counter
+export CALADAN_CLAIMS=$CALADAN_FOLDER/claims # where loads claim the processors that they run on, each for itself
 # where: what the folder lies on, in words
 where() { [ -n "$in_memory" ] && echo "sockets and counters are in memory, below ${in_memory%/*}" || echo "sockets and counters are on a disk, which may hold loads up: there is no /dev/shm to write to"; }
 leave_memory() { [ -z "$in_memory" ] || rm -rf "$in_memory"; }

@@ -27,9 +27,11 @@ bool make_segment(scheduler *s, host_task *task) {
     task->segment->version = HOST_VERSION;
     task->segment->epoch = s->epoch;
     task->segment->threads = task->limit;
+    task->segment->stands_under = task->is_under;
     for (unsigned core = 0; core < s->machine.cores; core++) task->segment->processor[core] = s->options.cpu[core];
     atomic_store(&task->segment->phase, s->phase);
-    for (unsigned i = 0; i < task->limit; i++) s->thread[task->first + i].slot = &task->segment->slot[i];
+    for (unsigned i = 0; i < task->limit; i++)
+        s->thread[task->first + i].seat.slot = &task->segment->slot[i];
     return task->memory >= 0;
 }
 
@@ -51,37 +53,45 @@ bool close_segment(const host_task *task) {
 /* What the page of a thread must show from here on; or, where no page can, what each pass is given. */
 static void bury_thread(scheduler *s, size_t k) {
     host_thread *thread = &s->thread[k];
-    host_slot *slot = thread->slot;
-    thread->sender.ring = &slot->ring;
-    thread->pinned = 0;
-    thread->is_doubted = thread->is_mute = false;
-    thread->retry_at = 0;
+    host_seat *seat = &thread->seat;
+    seat->sender = (caladan_sender){&seat->slot->ring, stands_under(s, k) ? 0 : thread->sent};
+    seat->pinned = seat->idle = 0;
+    seat->is_doubted = seat->is_mute = thread->is_deferred = seat->leaving.is_set = false;
+    seat->retry_at = seat->left_at = 0;
+    seat->slow = 0;
+    seat->place = seat->misses = 0;
+    seat->from = now_of(s);
+    if (stands_under(s, k)) return under_bury(s, k);
     if (thread->by_hand) return;
     thread->gone = (caladan_look){.busy = 1, .number = 1, .second = 1};
-    thread->by_hand = caladan_gone(&s->handle, k, &thread->gone) != CALADAN_DONE || !caladan_bury(&slot->page, &slot->ring, &thread->gone);
-    atomic_store(&slot->ring.sent, thread->sender.sent);
-    atomic_store(&slot->ring.taken, thread->sender.sent);
-    thread->place = atomic_load(&slot->page.version) / 2;
-    thread->misses = thread->gone.misses;
-    thread->from = now_of(s);
+    thread->by_hand = caladan_gone(&s->handle, k, &thread->gone) != CALADAN_DONE ||
+                      !caladan_bury(&seat->slot->page, &seat->slot->ring, &thread->gone);
+    atomic_store(&seat->slot->ring.sent, thread->sent);
+    atomic_store(&seat->slot->ring.taken, thread->sent);
+    seat->place = atomic_load(&seat->slot->page.version) / 2;
+    seat->misses = thread->gone.misses;
     s->counts.worn += thread->by_hand;
 }
 
-/* Its threads are put back where the scheduler does not manage, if they are still there. */
+/* Its threads are put back where the scheduler does not manage, and into the normal class where
+ * they may be, if they are still there. */
 static void unpin_each(scheduler *s, const host_task *task) {
+    struct sched_param none = {0};
     for (unsigned k = task->first; k < task->first + task->limit; k++) {
-        pid_t tid = s->thread[k].pinned;
-        if (tid && CPU_COUNT(&s->others) && is_own_thread(task, tid)) sched_setaffinity(tid, sizeof s->others, &s->others);
+        pid_t tid = s->thread[k].seat.pinned;
+        if (tid == 0 || !is_own_thread(task, tid)) continue;
+        if (CPU_COUNT(&s->others)) sched_setaffinity(tid, sizeof s->others, &s->others);
+        if (task->is_under) sched_setscheduler(tid, SCHED_OTHER, &none);
     }
 }
 
 /* On a segment of its own, so that nobody who has the old one can write to its successor's pages. */
 void give_up(scheduler *s, host_task *task) {
+    wait_for_moves(s);
     unpin_each(s, task);
     drop_segment(task);
     make_segment(s, task);
     for (unsigned k = task->first; k < task->first + task->limit; k++) bury_thread(s, k);
-    forget_leaving(s, task);
     if (task->file >= 0) close(task->file);
     if (task->connection >= 0) close(task->connection);
     task->pid = 0, task->file = task->connection = -1;

@@ -23,8 +23,8 @@ bool is_own_thread(const host_task *task, pid_t tid) {
 /* The kernel refuses another process's thread. */
 void interrupt(const host_task *task, const host_slot *slot) {
     pid_t tid = atomic_load(&slot->tid);
+    ring_bell((host_slot *)slot); /* who is about to sleep does not; most do not sleep */
     if (tid > 0 && task->pid > 0) syscall(SYS_tgkill, task->pid, tid, HOST_SIGNAL);
-    ring_bell((host_slot *)slot);
 }
 
 /* ---- beginning and end ---- */
@@ -51,7 +51,10 @@ static void open_task(scheduler *s, unsigned t) {
     host_task *task = &s->task[t];
     caladan_table_row row;
     caladan_table_task(&s->handle, t, &row);
-    *task = (host_task){.first = row.first_thread, .limit = row.limit, .is_critical = row.kind == CALADAN_LATENCY_CRITICAL};
+    *task = (host_task){.first = row.first_thread, .limit = row.limit};
+    task->guaranteed = row.guaranteed, task->cap = row.limit, task->request = row.request;
+    task->is_critical = row.kind == CALADAN_LATENCY_CRITICAL;
+    task->is_under = s->options.under >> t & 1;
     task->memory = task->file = task->connection = -1;
     for (int i = 0; i < HOST_GUESTS; i++) task->guest[i].connection = -1;
     for (unsigned k = task->first; k < task->first + task->limit; k++) {
@@ -149,6 +152,18 @@ static uint32_t judge(const host_task *task, int connection, const host_word *wo
     return task->pid ? HOST_TAKEN : HOST_DONE;
 }
 
+/* Whether what is said of classes holds between it and each process that is attached: a
+ * best-effort one that stands under, and a latency-critical one. */
+static bool is_in_fit_group(const scheduler *s, const host_task *task, pid_t pid) {
+    for (unsigned t = 0; t < s->machine.tasks; t++) {
+        const host_task *other = &s->task[t];
+        if (other->pid == 0 || other == task) continue;
+        if (task->is_under && other->is_critical && !gives_way(pid, other->pid)) return false;
+        if (task->is_critical && other->is_under && !gives_way(other->pid, pid)) return false;
+    }
+    return true;
+}
+
 static void dismiss(scheduler *s, host_guest *guest, uint32_t status) {
     answer(guest->connection, status, -1);
     send_away(guest);
@@ -175,6 +190,7 @@ static void hand_over(scheduler *s, host_task *task, host_guest *guest, const ho
         give_up(s, task);
         status = task->memory < 0 ? HOST_NO_MEMORY : HOST_DONE;
     }
+    if (status == HOST_DONE && !is_in_fit_group(s, task, peer.pid)) status = HOST_OTHER_GROUP;
     if (status != HOST_DONE) return dismiss(s, guest, status);
     int file = file_of_peer(guest->connection, peer.pid);
     if (file < 0 || !have_rights(file, peer.pid) || !watch(s, task, file)) {

@@ -6,7 +6,7 @@ refuses() { # refuses WORDS COMMAND..: it prints one line with WORDS, ends with 
     local words=$1
     shift
     timeout -k 5 30 "$@" > "$build/out" 2> "$build/err"
-    [ $? = 2 ] && [ "$(wc -l < "$build/err")" = 1 ] && [ ! -s "$build/out" ] && grep -qF "$words" "$build/err"
+    [ $? = 2 ] && [ "$(wc -l < "$build/err")" = 1 ] && [ ! -s "$build/out" ] && grep -qF -- "$words" "$build/err"
     note $? "'$words' of $* ($(head -n 3 "$build/err"))"
 }
 daemon() { echo "$bin/caladand" -n "$name" -t "${2-$table}" -c "$1"; } # daemon CPUS [TABLE]: its words

@@ -1,12 +1,13 @@
 # crowd.sh: all ill-doers at once, beside an honest latency-critical and an honest best-effort process. Nothing is promised
-# of time, least of all where processes crowd on two processors, so the honest ones have room, and are asked to go on.
+# of time, least of all where processes crowd on two processors, so the honest ones have room, and are asked to go on. Two of
+# the ill-doers' tasks stand under.
 
 crowd() { # crowd SECONDS
     local seconds=$1 loops=() honest
     what="$1 seconds of ill-doers beside honest processes"
     table=$top/host/tables/crowd.toml
     rm -f "$counter" "$build/enough"
-    begin -k 2000 -g 500000 -p 10000
+    begin -k 2000 -g 500000 -p 10000 -u 3,5
     go $((seconds + 60)) "$bin/load" be -n "$name" -u 1 -k 200 -s $((seconds - 2)) -c "$counter"
     honest=$last
     ill 2 noise half last_one visits & loops+=($!)

@@ -40,6 +40,10 @@ void make_pass(scheduler *s) {
     s->thread[0].core = 0;
     atomic_store(&segment.slot[0].phase, s->phase);
 }
+void stop_moving(scheduler *s) { (void)s; }
+void lift(scheduler *s, size_t k) { (void)s, (void)k; }
+void under_begin(scheduler *s, size_t k) { (void)s, (void)k; }
+bool stands_under(const scheduler *s, size_t k) { (void)s, (void)k; return false; }
 void give_up(scheduler *s, host_task *task) { task->pid = 0, s->thread[0].core = 0; }
 void tend_each(scheduler *s) { (void)s; }
 void interrupt(const host_task *task, const host_slot *slot) { (void)task, (void)slot; }
@@ -61,9 +65,10 @@ static uint64_t end_one(uint64_t leaves, bool is_deaf) {
     kills = looks_made = looks_at_kill = 0;
     s.clock = s.ticked = now_of(&s);
     s.task[0] = (host_task){.limit = 1, .segment = &segment, .pid = 1, .file = 1, .is_attached = true};
-    s.thread[0] = (host_thread){.slot = &segment.slot[0], .core = 1};
+    s.thread[0] = (host_thread){.seat.slot = &segment.slot[0], .core = 1};
     atomic_store(&segment.slot[0].tid, 1);
-    if (is_deaf) s.leaving[0] = (leaving){.is_set = true, .since = s.clock - 2000000000};
+    leaving late = {.is_set = true, .since = s.clock - 2000000000};
+    if (is_deaf) s.thread[0].seat.leaving = late;
     uint64_t from = now_of(&s);
     leaves_at = leaves ? from + leaves : 0;
     end_piece(&s);

@@ -15,6 +15,14 @@ words() {
     refuses "it is no number in range" $(daemon 0,,1)
     refuses "it is no number in range" $(daemon 1-0)
     refuses "it is no option" $(daemon 0,1) word
+    refuses "task 0: it is not best-effort, and only such a task can stand under" $(daemon "$managed") -u 0
+    refuses "task 0: it is not best-effort" $(daemon "$managed") -u 1,0
+    refuses "task 2: the table has no such task" $(daemon "$managed") -u 1,2
+    refuses "it is no number in range" $(daemon "$managed") -u 16
+    refuses "it is no number in range" $(daemon "$managed") -u 1,
+    refuses "-m: the processor is not there" $(daemon "$managed") -m 1023
+    refuses "it is that of -m" $(daemon "$managed") -m "${managed#*,}"
+    [ "$count" -lt 3 ] || refuses "-m: it is the scheduler's own processor" $(daemon "$managed") "${own[@]}" -m "${own[1]}"
     refuses "unrecognized option" $(daemon 0,1) --nothing
     refuses "a name has 1 to 64 letters" "$bin/caladand" -n "" -t "$table" -c 0,1
     refuses "a name has 1 to 64 letters" $(name=a/b daemon 0,1)
@@ -90,7 +98,7 @@ other_users() {
     wait_for 20 is_there theirs; note $? "$what: their scheduler did not start: $(cat "$build/said")"
     refuses "is another user's" "$bin/load" lc -n theirs -u 0
     # theirs works, without a capability
-    as_other timeout 20 "$elsewhere/load" be -n theirs -u 1 -k 200 -s 1 -c "$elsewhere/base/counter" 2> "$build/err"
+    as_other env -u CALADAN_CLAIMS timeout 20 "$elsewhere/load" be -n theirs -u 1 -k 200 -s 1 -c "$elsewhere/base/counter" 2> "$build/err"
     [ -n "$(tr -d '\0' < "$elsewhere/base/counter" | head -c 1)" ]; note $? "$what: their own process got no core: $(cat "$build/err")"
     # who is theirs by half cannot be interrupted by them
     refuses "the scheduler may not interrupt this process" "$build/plain/misbehave" theirs 0 1 mixed
@@ -108,7 +116,7 @@ other_users() {
     # root's scheduler: they find no way in
     CALADAN_FOLDER=$base
     start -g 100000
-    refuses "Permission denied" setpriv --reuid 65534 --regid 65534 --clear-groups "$elsewhere/load" lc -n "$name" -u 0
+    refuses "Permission denied" env -u CALADAN_CLAIMS setpriv --reuid 65534 --regid 65534 --clear-groups "$elsewhere/load" lc -n "$name" -u 0
     stop
     # without a folder there is none
     refuses "there is neither CALADAN_FOLDER nor XDG_RUNTIME_DIR" setpriv --reuid 65534 --regid 65534 --clear-groups env -u CALADAN_FOLDER -u XDG_RUNTIME_DIR "$elsewhere/caladand" -n theirs -t "$elsewhere/mix.toml" -c "$managed"

@@ -1,0 +1,314 @@
+/* moves.c: how threads get to their cores and off them. A pass plans its moves, and carries them
+ * out at its end, in an order in which nobody waits for what can wait: first what a thread finds
+ * in its ring, of all threads that need not be pinned before; then latency-critical threads are
+ * woken, then others are interrupted, then the rest is woken.
+ *
+ * Where it has a processor, a thread of its own does it: the mover. It pins, which takes long
+ * where a thread does not sleep, and what comes after that in a ring. What a seat says for the
+ * mover is his while moves of it are not done. */
+#define _GNU_SOURCE
+#include <errno.h>
+#include <semaphore.h>
+#include <string.h>
+#include <sys/resource.h>
+#include "caladand.h"
+
+/* how long who could not be pinned is granted nothing, in ns */
+#define RETRY ((uint64_t)100000000)
+#define SELDOM ((uint64_t)1000000000) /* how often such is said, in nanoseconds */
+/* a pinning that waited, and took longer, was of a thread that ran, in ns */
+#define LONG ((uint64_t)5000)
+/* how long the mover looks for work before it sleeps, in ns */
+#define RESTLESS ((uint64_t)200000)
+enum { MOST_MOVES = 1024 }; /* four of each thread, and more cannot be under way */
+enum { RUN, PARK, NOTHING };
+enum { FIRST, THEN, LAST, RANKS };
+
+typedef struct move {
+    uint8_t thread, what, rank;
+    bool is_first, is_sent; /* none of the thread's is under way; its command is in the ring */
+    /* of a Run: where; of a Park: where the thread is put, plus one, or 0 */
+    unsigned core, to;
+} move;
+
+static struct {
+    move move[MOST_MOVES];
+    size_t count;
+    bool is_open; /* some that were handed on are not known to be done */
+} plan;
+
+static struct {
+    move move[MOST_MOVES];
+    atomic_size_t put, done;
+    atomic_bool is_asleep;
+    sem_t bell;
+} queue;
+
+/* ---- one move ---- */
+
+/* Whether it is where it is to be, and in the class in which it is to be. */
+static bool is_pinned(const scheduler *s, const host_thread *thread, unsigned core) {
+    const host_seat *seat = &thread->seat;
+    pid_t tid = atomic_load(&seat->slot->tid);
+    if (tid == 0 || seat->pinned != tid || seat->pinned_to != core) return false;
+    return !s->task[thread->task].is_under || seat->idle == tid;
+}
+
+static bool put_on(const scheduler *s, pid_t tid, unsigned core) {
+    cpu_set_t cpus;
+    CPU_ZERO(&cpus);
+    CPU_SET((size_t)s->options.cpu[core], &cpus);
+    return sched_setaffinity(tid, sizeof cpus, &cpus) == 0;
+}
+
+/* How often this thread has waited for something: who is put aside for another thread has not. */
+static long waits(void) {
+    struct rusage used;
+    return getrusage(RUSAGE_THREAD, &used) ? 0 : used.ru_nvcsw;
+}
+
+static bool put_under(host_seat *seat, pid_t tid) {
+    struct sched_param none = {0};
+    if (seat->idle == tid) return true;
+    if (sched_setscheduler(tid, SCHED_IDLE, &none)) return false;
+    seat->idle = tid;
+    return true;
+}
+
+/* The thread sleeps, and so wakes on the core's processor. False: it is not pinned there. */
+static bool pin(const scheduler *s, host_thread *thread, unsigned core) {
+    host_seat *seat = &thread->seat;
+    const host_task *task = &s->task[thread->task];
+    pid_t tid = atomic_load(&seat->slot->tid);
+    if (is_pinned(s, thread, core)) return true;
+    seat->pinned = seat->unpinned_for = 0;
+    seat->is_lost = true;
+    if (!is_own_thread(task, tid)) return false;
+    long before = waits();
+    uint64_t from = host_clock();
+    if ((task->is_under && !put_under(seat, tid)) || !put_on(s, tid, core)) {
+        seat->unpinned_for = errno;
+        return false;
+    }
+    if (host_clock() - from > LONG && waits() != before) seat->is_slow = true;
+    else seat->slow = 0;
+    seat->is_lost = false;
+    seat->pinned = tid;
+    seat->pinned_to = core;
+    return true;
+}
+
+/* Who cannot be pinned is sent Park in place of Run: when it has taken that, its core is free. */
+static uint64_t command_of(scheduler *s, const move *m) {
+    bool is_pinned_now = m->what == RUN && pin(s, &s->thread[m->thread], m->core);
+    return is_pinned_now ? m->core + 1u : CALADAN_PARK;
+}
+
+/* A thread that does not run, for another one works on its processor, is put elsewhere before it
+ * can answer. */
+static void put_elsewhere(const scheduler *s, host_thread *thread, unsigned core) {
+    host_seat *seat = &thread->seat;
+    if (!is_own_thread(&s->task[thread->task], seat->pinned)) return;
+    if (put_on(s, seat->pinned, core)) seat->pinned_to = core;
+}
+
+static void do_move(scheduler *s, const move *m) {
+    host_thread *thread = &s->thread[m->thread];
+    host_seat *seat = &thread->seat;
+    if (!m->is_sent) caladan_ring_send(&seat->sender, command_of(s, m));
+    if (m->what == PARK) interrupt(&s->task[thread->task], seat->slot);
+    else ring_bell(seat->slot);
+    if (m->to) put_elsewhere(s, thread, m->to - 1);
+    atomic_fetch_add(&seat->done, 1);
+}
+
+/* ---- the mover ---- */
+
+static void rest(void) {
+    uint64_t from = host_clock();
+    while (atomic_load(&queue.put) == atomic_load(&queue.done)) {
+        host_pause();
+        if (host_clock() - from < RESTLESS) continue;
+        atomic_store(&queue.is_asleep, true);
+        if (atomic_load(&queue.put) == atomic_load(&queue.done)) while (sem_wait(&queue.bell)) {}
+        atomic_store(&queue.is_asleep, false);
+    }
+}
+
+static void move_each(void *with) {
+    for (;;) {
+        rest();
+        size_t next = atomic_load(&queue.done);
+        do_move(with, &queue.move[next % MOST_MOVES]);
+        atomic_store(&queue.done, next + 1);
+    }
+}
+
+bool begin_moves(scheduler *s) {
+    cpu_set_t where;
+    if (s->options.mover < 0) return true;
+    CPU_ZERO(&where);
+    CPU_SET((size_t)s->options.mover, &where);
+    sem_init(&queue.bell, 0, 0);
+    s->has_mover = start_clerk(move_each, s, &where);
+    return s->has_mover;
+}
+
+/* There is always room: no thread has more than four moves under way, and one that is told once
+ * more is not moved. */
+static void hand_over(const move *m) {
+    size_t next = atomic_load(&queue.put);
+    queue.move[next % MOST_MOVES] = *m;
+    atomic_store(&queue.put, next + 1);
+    if (atomic_exchange(&queue.is_asleep, false)) sem_post(&queue.bell);
+}
+
+/* ---- what comes of it ---- */
+
+static void say_unpinned(scheduler *s, size_t k, const char *then, const char *why) {
+    const host_thread *thread = &s->thread[k];
+    uint64_t now = now_of(s);
+    if (s->complained && now - s->complained < SELDOM) return;
+    s->complained = now;
+    complain("thread %zu (%d of process %d, task %u) cannot be pinned to processor %d, and %s: %s",
+             k, atomic_load(&thread->seat.slot->tid), s->task[thread->task].pid, thread->task,
+             thread->core ? s->options.cpu[thread->core - 1] : -1, then, why);
+}
+
+static const char *why_unpinned(const host_seat *seat) {
+    return seat->unpinned_for ? strerror(seat->unpinned_for) : "it is no thread of that process";
+}
+
+static void settle_lost(scheduler *s, size_t k) {
+    host_thread *thread = &s->thread[k];
+    host_seat *seat = &thread->seat;
+    if (seat->unpinned_for) s->counts.unpinned++;
+    else s->counts.foreign_tids++;
+    seat->retry_at = now_of(s) + RETRY;
+    say_unpinned(s, k, "is parked again", why_unpinned(seat));
+    if (thread->core && !stands_under(s, k)) note_leaving(s, k, thread->core - 1);
+}
+
+/* Pinning waits for a thread that runs, where it should sleep. Once that may be so; twice, it is
+ * as one that cannot be pinned. */
+static void settle_slow(scheduler *s, size_t k) {
+    host_seat *seat = &s->thread[k].seat;
+    s->counts.slow_pins++;
+    if (++seat->slow < 2) return;
+    seat->slow = 0;
+    seat->retry_at = now_of(s) + RETRY;
+    say_unpinned(s, k, "is granted nothing for a while", "it takes long, since it does not sleep");
+}
+
+static void settle_seat(scheduler *s, size_t k) {
+    host_seat *seat = &s->thread[k].seat;
+    seat->settled = seat->handed;
+    if (seat->is_lost) seat->is_lost = false, settle_lost(s, k);
+    if (seat->is_slow) seat->is_slow = false, settle_slow(s, k);
+}
+
+static void settle_moves(scheduler *s) {
+    bool are_some = false;
+    for (size_t k = 0; plan.is_open && k < s->machine.threads; k++) {
+        const host_seat *seat = &s->thread[k].seat;
+        bool is_done = atomic_load(&seat->done) == seat->handed;
+        if (is_done && seat->settled != seat->handed) settle_seat(s, k);
+        are_some |= !is_done;
+    }
+    plan.is_open = are_some;
+}
+
+/* ---- planning ---- */
+
+static void add(scheduler *s, move m) {
+    host_seat *seat = &s->thread[m.thread].seat;
+    m.is_first = atomic_load(&seat->done) == seat->handed;
+    seat->handed++;
+    plan.move[plan.count++] = m;
+    plan.is_open = true;
+}
+
+static uint8_t rank_of(const scheduler *s, size_t k) {
+    return s->task[s->thread[k].task].is_critical ? FIRST : LAST;
+}
+
+void plan_run(scheduler *s, size_t k, unsigned core) {
+    add(s, (move){.thread = (uint8_t)k, .what = RUN, .rank = rank_of(s, k), .core = core});
+}
+
+void plan_nothing(scheduler *s, size_t k) {
+    add(s, (move){.thread = (uint8_t)k, .what = NOTHING, .rank = LAST});
+}
+
+void plan_park(scheduler *s, size_t k, unsigned from, unsigned to) {
+    add(s, (move){.thread = (uint8_t)k, .what = PARK, .rank = THEN, .to = to});
+    note_leaving(s, k, from);
+}
+
+/* A Run comes into the ring only when its thread is pinned: one that happens to be awake takes
+ * it at once. */
+static void send_what_can_be(scheduler *s) {
+    for (size_t i = 0; i < plan.count; i++) {
+        move *m = &plan.move[i];
+        host_thread *thread = &s->thread[m->thread];
+        if (!m->is_first || (m->what == RUN && !is_pinned(s, thread, m->core))) continue;
+        caladan_ring_send(&thread->seat.sender, m->what == RUN ? m->core + 1u : CALADAN_PARK);
+        m->is_sent = true;
+    }
+}
+
+void carry_out(scheduler *s) {
+    send_what_can_be(s);
+    for (int rank = FIRST; rank < RANKS; rank++)
+        for (size_t i = 0; i < plan.count; i++) {
+            if (plan.move[i].rank != rank) continue;
+            if (s->has_mover) hand_over(&plan.move[i]);
+            else do_move(s, &plan.move[i]);
+        }
+    plan.count = 0;
+    settle_moves(s);
+}
+
+void wait_for_moves(scheduler *s) {
+    if (s->has_mover) while (atomic_load(&queue.done) != atomic_load(&queue.put)) host_pause();
+    settle_moves(s);
+}
+
+/* Who stands under, and has to leave, may have no time to do so beside processes of others:
+ * where it may be, it is put into the normal class until it is sent a Run again. */
+void lift(scheduler *s, size_t k) {
+    host_seat *seat = &s->thread[k].seat;
+    struct sched_param none = {0};
+    const host_task *task = &s->task[s->thread[k].task];
+    if (seat->handed != seat->settled || !is_own_thread(task, seat->idle)) return;
+    if (sched_setscheduler(seat->idle, SCHED_OTHER, &none) == 0) seat->idle = 0;
+}
+
+/* ---- what was pinned is not so for ever ---- */
+
+static bool is_where_it_was_put(const scheduler *s, const host_thread *thread) {
+    const host_seat *seat = &thread->seat;
+    cpu_set_t cpus;
+    if (sched_getaffinity(seat->pinned, sizeof cpus, &cpus)) return true; /* it has ended */
+    if (seat->idle == seat->pinned && sched_getscheduler(seat->pinned) != SCHED_IDLE) return false;
+    return CPU_COUNT(&cpus) == 1 && CPU_ISSET((size_t)s->options.cpu[seat->pinned_to], &cpus);
+}
+
+/* A cpuset grows narrower, a processor goes away, a process moves its threads or changes their
+ * class. A thread without a core is pinned again when it is granted one; one that has a core at
+ * once, or it is said. */
+void look_after_pin(scheduler *s) {
+    uint8_t k = s->looked_after = (uint8_t)((s->looked_after + 1u) % s->machine.threads);
+    host_thread *thread = &s->thread[k];
+    host_seat *seat = &thread->seat;
+    if (seat->handed != seat->settled || seat->pinned == 0) return;
+    if (is_where_it_was_put(s, thread)) return;
+    s->counts.strayed++;
+    seat->pinned = seat->idle = 0;
+    unsigned core = stands_under(s, k) ? seat->stands : thread->core;
+    bool is_back = core == 0 || pin(s, thread, core - 1);
+    seat->is_lost = seat->is_slow = false; /* it ran, and was to */
+    if (is_back) return;
+    seat->retry_at = now_of(s) + RETRY;
+    say_unpinned(s, k, "runs elsewhere", why_unpinned(seat));
+}

@@ -1,0 +1,77 @@
+# moves.sh: who moves threads, and who makes that slow.
+
+mover() { # a thread of its own pins, wakes and interrupts
+    what="a scheduler with a mover, $main"
+    [ "$count" -ge 4 ] || { skip "$what, for want of four processors"; return; }
+    begin -k 2000 -g 10000 -p 5000 -m "${allowed[0]}" "$@"
+    go 90 "$bin/load" be -n "$name" -u 1 -k 200 -s 80
+    go 90 "$bin/load" lc -n "$name" -u 0 -k 200 -q 2000 -s 80
+    wait_for 80 has_pieces 2; note $? "$what: there are no two pieces"
+    end
+    above 1 grant
+    above 2 attached
+    exactly 0 killed
+}
+
+order_of_moves() { # see host/tests/moves_test.c
+    what="the order of moves"
+    timeout 60 "$bin/moves_test" > "$build/process.moves" 2>&1; note $? "$what: $(cat "$build/process.moves")"
+}
+
+awake() { # who has threads pinned that run is granted nothing for a while, each time after the second
+    what="a process whose threads do not sleep when they are pinned"
+    start -k 2000 -g 20000
+    go 30 "$bin/misbehave" "$name" 1 20 awake
+    wait_for 20 only_child_of $last
+    wait_for 20 counts slow_pins_total 2; note $? "$what: no pinning was slow"
+    lc -s 2 > "$build/process.lc" 2>&1
+    served "$build/process.lc"
+    ! counts slow_pins_total 400; note $? "$what: it slowed $(metric slow_pins_total) pinnings"
+    kill -9 "$child"
+    stop
+    says "is granted nothing for a while: it takes long, since it does not sleep"
+} 2> /dev/null
+
+first_in_first_out() { # a class in which the kernel puts aside who spins
+    what="a scheduler that spins in SCHED_FIFO"
+    chrt -f 1 true 2> /dev/null || { skip "$what, for want of rights, or of chrt"; return; }
+    wrap=(chrt -f 1)
+    start -s 1
+    wrap=()
+    wait $scheduler; note $? "$what: its status"
+    says "is put aside for 50 ms of each second"
+    what="a scheduler in the normal class"
+    start -g 100000
+    stop
+    ! grep -q "put aside" "$build/said"; note $? "$what: $(cat "$build/said")"
+}
+
+has_child() { # a child of a process that hands in a request ends, and harms nobody
+    what="the child of a process that is attached"
+    begin -k 2000 -g 100000
+    go 30 "$bin/load" be -n "$name" -u 1 -k 200 -s 2 -f
+    lc -s 1 > "$build/process.lc" 2>&1
+    served "$build/process.lc"
+    wait $last; note $? "$what: it did not end, or the process failed: $(cat "$build/process.$processes")"
+    end
+}
+
+closes_all() { # a process that closes all its files keeps its task and works, or loses it and notices that
+    local i
+    what="a process that closes all its files when it has started"
+    start -k 2000 -g 50000
+    for ((i = 0; i < 4; i++)); do
+        rm -f "$counter"
+        go 20 "$bin/load" be -n "$name" -u 1 -k 200 -s 15 -z -e wait -c "$counter"
+        wait_for 20 only_child_of $last
+        sleep 0.5
+        wait_for 5 keeps_or_notices "$child"; note $? "$what: it runs on without its task: $(grep -s State "/proc/$child/task/"*/status)"
+        kill -9 "$child"
+        wait $last
+        rm "$build/process.$processes" # threads that lost their cores may have seen it before they were told
+    done
+    works
+    stop
+    exactly 0 killed
+} 2> /dev/null
+keeps_or_notices() { { [ "$(metric 'attached{task="1"}')" = 1 ] && counts_on; } || is_asleep "$1"; } # keeps_or_notices PID
